@@ -1,0 +1,14 @@
+pub mod Runs
+pub mod Forms
+pub mod Wider
+pub mod Steps
+pub mod Cuts
+pub mod Stands
+pub mod Lefts
+pub mod Backlogs
+pub mod Scripts
+pub mod Texts
+pub mod Calls
+pub mod WritesLemmas
+pub mod Tables
+pub mod Plains

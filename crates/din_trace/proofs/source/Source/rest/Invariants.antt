@@ -1,0 +1,17 @@
+use Rattle.std.proofs.Common.{◌≡◌, ◌++◌, List, ℕ}
+use Rattle.din_trace.specs.Left.{Left, Script, Fate, Follows}
+use Rattle.din_trace.specs.Source.{HasLeft, room_of, limit_of, Takes}
+use Rattle.din_trace.proofs.source.Source.rest.Given as goal
+
+abbrev pub invariant-records : goal.invariant-records
+invariant-records g l = record {
+  limit_same : limit_of l.self ≡ limit_of l.initial.self;
+  given : List ℕ;
+  fate : Fate;
+  went : Takes g.R.ByteReader.remaining g.R.ByteReader.failures l.initial.self l.self given fate;
+  left : (first last : Script) (before : Left) → Follows fate given first last → HasLeft l.initial.self first before
+      → (more : Left) × (before ≡ record { records = l.records.items ++ more.records; fault = more.fault }) × HasLeft l.self last more;
+}
+
+abbrev pub decreases-records : goal.decreases-records
+decreases-records g l = room_of l.self

@@ -1,0 +1,46 @@
+-- What the bytes that a source holds leave, if its reader goes on by a script.
+use Rattle.std.specs.Prelude.{◌≡◌, ℕ, ◌+◌, ◌-◌, List, [], ◌++◌, length, take, drop, Some, None}
+use Rattle.din_trace.specs.declared.backlog.Backlog.{Backlog}
+use Rattle.din_trace.specs.declared.backlog.State.{State}
+use Rattle.din_trace.specs.declared.backlog.State.TheVariants as state
+use Rattle.din_trace.specs.declared.line_reader.LineReader.{LineReader}
+use Rattle.din_trace.specs.LineSoFar.{begun}
+use Rattle.din_trace.specs.Line.{ADDRESS_MAX}
+use Rattle.din_trace.specs.Text.{open_line}
+use Rattle.din_trace.specs.Standing.{Stands}
+use Rattle.din_trace.specs.Left.{Left, Script, text_left}
+
+-- the bytes that are held
+abbrev pub held : Backlog → List ℕ
+held b = take (b.filled - b.at) (drop b.at b.buffer.bytes)
+
+-- how many bytes came from the reader
+abbrev pub taken : Backlog → ℕ
+taken b = b.lines.bytes + (b.filled - b.at)
+
+-- a byte of room for each, and one for the line that has begun
+abbrev pub room_in : State → LineReader → ℕ → ℕ
+room_in state.Reading reader limit = limit - reader.bytes + begun reader.so_far
+room_in state.Ended reader limit = 0
+room_in (state.Failed f) reader limit = 0
+
+-- how many more records a backlog can give
+abbrev pub room : Backlog → ℕ
+room b = room_in b.state b.lines b.limit
+
+-- what a line reader leaves, under the limit, of the held bytes and then of what the script gives:
+-- what follows the text that it stands for
+abbrev pub ReadingLeft : LineReader → List ℕ → ℕ → Script → Left → Type 0
+ReadingLeft reader held limit script l = (text : List ℕ) × Stands reader text
+    × (l ≡ text_left ADDRESS_MAX reader.line (open_line text ++ (held ++ script.given))
+    (length (open_line text) + (limit - reader.bytes)) script.fails)
+
+-- what is left of a source that reads on, has ended or has failed
+abbrev pub HasLeftIn : State → LineReader → List ℕ → ℕ → Script → Left → Type 0
+HasLeftIn state.Reading reader held limit script l = ReadingLeft reader held limit script l
+HasLeftIn state.Ended reader held limit script l = l ≡ record { records = []; fault = None }
+HasLeftIn (state.Failed f) reader held limit script l = l ≡ record { records = []; fault = Some f }
+
+-- what is left of a source with this backlog
+abbrev pub HasLeft : Backlog → Script → Left → Type 0
+HasLeft b script l = HasLeftIn b.state b.lines (held b) b.limit script l

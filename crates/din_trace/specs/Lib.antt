@@ -1,0 +1,11 @@
+pub mod Line
+pub mod LineSoFar
+pub mod Text
+pub mod Laws
+pub mod Standing
+pub mod Left
+pub mod Device
+pub mod Backlog
+pub mod State
+pub mod Source
+pub mod Plain

@@ -1,0 +1,42 @@
+-- What contracts see of a source: its reader, how many bytes it took, and what it has left.
+use Rattle.std.specs.Prelude.{◌≡◌, ℕ, ◌+◌, false, List, length, Option}
+use Rattle.din_trace.specs.declared.source.Source.{Source}
+use Rattle.din_trace.specs.Left.{Left, Script, Fate, FateIs}
+use Rattle.din_trace.specs.State.{is_reading, Closes}
+use Rattle.din_trace.specs.Backlog as backlog
+
+-- its reader
+unfoldable pub reader_of : {R : Type 0} → Source R → R
+reader_of source = source.reader
+
+-- the most bytes that its text may have
+unfoldable pub limit_of : {R : Type 0} → Source R → ℕ
+limit_of source = source.backlog.limit
+
+-- how many bytes it has taken from its reader
+unfoldable pub taken_by : {R : Type 0} → Source R → ℕ
+taken_by source = backlog.taken source.backlog
+
+-- how many more records it can give at most
+unfoldable pub room_of : {R : Type 0} → Source R → ℕ
+room_of source = backlog.room source.backlog
+
+-- what it has left, if its reader does what the script says
+unfoldable pub HasLeft : {R : Type 0} → Source R → Script → Left → Type 0
+HasLeft source script l = backlog.HasLeft source.backlog script l
+
+-- it has ended or failed, and asks its reader no more
+unfoldable pub IsSettled : {R : Type 0} → Source R → Type 0
+IsSettled source = is_reading source.backlog.state ≡ false
+
+-- a reader that ended or failed settles it
+unfoldable pub Settles : {R : Type 0} → Fate → Source R → Type 0
+Settles fate source = Closes fate source.backlog.state
+
+-- calls took these bytes from the reader, and left it open, ended or failed
+pub record Takes {R : Type 0} (remaining : R → Option (List ℕ)) (failures : R → ℕ)
+    (old new : Source R) (given : List ℕ) (fate : Fate) : Type 0 where
+  pub reader : FateIs fate (remaining (reader_of old)) given (remaining (reader_of new))
+      (failures (reader_of old)) (failures (reader_of new))
+  pub settles : Settles fate new
+  pub taken : taken_by new ≡ taken_by old + length given

@@ -1,0 +1,88 @@
+-- The lines of a text, its records and its fault.
+use Rattle.std.specs.Prelude.{ℕ, ◌+◌, ◌==◌, nat_le, if◌then◌else◌, List, [], ◌∷◌, ◌++◌, length, take, Option, Some, None, Result, Ok, Err}
+use Rattle.din_trace.specs.declared.record.DinRecord.{DinRecord}
+use Rattle.din_trace.specs.declared.fault.TraceFault.{TraceFault}
+use Rattle.din_trace.specs.declared.fault.TraceFault.TheVariants.{Bad, TooLong, Read}
+use Rattle.din_trace.specs.Line.{Form, Blank, Din, Faulty, form}
+
+-- the lines that an LF ends, without it, and what follows the last LF
+pub record Cut : Type 0 where
+  pub ended : List (List ℕ)
+  pub rest : List ℕ
+
+-- a byte in front of a text that was cut so
+abbrev pub with_first : ℕ → List (List ℕ) → List ℕ → Cut
+with_first byte [] rest = record { ended = []; rest = byte ∷ rest }
+with_first byte (line ∷ ended) rest = record { ended = (byte ∷ line) ∷ ended; rest = rest }
+
+-- a text, cut at its LFs
+abbrev pub cut : List ℕ → Cut
+cut [] = record { ended = []; rest = [] }
+cut (byte ∷ text) =
+    if byte == 10 then record { ended = [] ∷ (cut text).ended; rest = (cut text).rest }
+    else with_first byte (cut text).ended (cut text).rest
+
+-- the lines whose LF is in the text
+abbrev pub ended_lines : List ℕ → List (List ℕ)
+ended_lines text = (cut text).ended
+
+-- what follows the last LF
+abbrev pub open_line : List ℕ → List ℕ
+open_line text = (cut text).rest
+
+-- a last line without LF, which counts if it is not empty
+abbrev pub last_line : List ℕ → List (List ℕ)
+last_line [] = []
+last_line (byte ∷ rest) = (byte ∷ rest) ∷ []
+
+-- the lines of a text
+abbrev pub lines : List ℕ → List (List ℕ)
+lines text = ended_lines text ++ last_line (open_line text)
+
+-- the record of a line of this form, if it holds one
+abbrev pub form_records : Form → List DinRecord
+form_records Blank = []
+form_records (Din r) = r ∷ []
+form_records (Faulty why) = []
+
+-- the records of lines
+abbrev pub line_records : ℕ → List (List ℕ) → List DinRecord
+line_records bound [] = []
+line_records bound (line ∷ lines) = form_records (form bound line) ++ line_records bound lines
+
+-- the records of a text, where addresses go up to the bound
+abbrev pub records : ℕ → List ℕ → List DinRecord
+records bound text = line_records bound (lines text)
+
+-- the fault of a line of this form and number, or else that of others
+abbrev pub form_fault : Form → ℕ → Option TraceFault → Option TraceFault
+form_fault Blank number others = others
+form_fault (Din r) number others = others
+form_fault (Faulty why) number others = Some (Bad number why)
+
+-- the fault of the first faulty one of the lines, numbered from this number, or else another
+abbrev pub first_fault : ℕ → ℕ → List (List ℕ) → Option TraceFault → Option TraceFault
+first_fault bound number [] otherwise = otherwise
+first_fault bound number (line ∷ lines) otherwise =
+    form_fault (form bound line) number (first_fault bound (number + 1) lines otherwise)
+
+-- the fault of a text: within the limit that of its lines, and else that of the lines whose LF is
+-- within the limit, or `TooLong`
+abbrev pub fault : ℕ → List ℕ → ℕ → Option TraceFault
+fault bound text limit =
+    if nat_le (length text) limit then first_fault bound 1 (lines text) None
+    else first_fault bound 1 (ended_lines (take limit text)) (Some TooLong)
+
+-- the fault of a reader that failed after it gave the text, which is within the limit
+abbrev pub failed_fault : ℕ → List ℕ → Option TraceFault
+failed_fault bound text = first_fault bound 1 (ended_lines text) (Some Read)
+
+-- what the end of a line of this form and number gives: its record, nothing, or its fault
+abbrev pub form_result : ℕ → Form → Result (Option DinRecord) TraceFault
+form_result number Blank = Ok None
+form_result number (Din r) = Ok (Some r)
+form_result number (Faulty why) = Err (Bad number why)
+
+-- what the end of this line gives
+abbrev pub line_result : ℕ → ℕ → List ℕ → Result (Option DinRecord) TraceFault
+line_result bound number line = form_result number (form bound line)

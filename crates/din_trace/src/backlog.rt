@@ -1,0 +1,322 @@
+//! The bytes that came from a reader and were not judged yet.
+
+ghost use Rattle.std.specs.Prelude.{
+  ◌≡◌,
+  ℕ,
+  ◌+◌,
+  ◌-◌,
+  ◌<◌,
+  ◌≤◌,
+  ◌^◌,
+  List,
+  [],
+  ◌∷◌,
+  ◌++◌,
+  true,
+  false,
+  length,
+  take,
+  IfSome,
+  IfNone,
+  IfOk,
+  OnOk,
+  OnErr,
+  IsErr,
+  IsSome,
+  Ok,
+  Err,
+  None,
+  Some,
+};
+ghost use Rattle.std.specs.Io.KnownBytes.{Consumes, Keeps, IsAtEnd};
+ghost use Rattle.din_trace.specs.Device.{once_more};
+ghost use Rattle.din_trace.specs.Line.{ADDRESS_MAX};
+ghost use Rattle.din_trace.specs.State.{is_sound, is_reading};
+ghost use Rattle.din_trace.specs.Left.{Left, Script, text_left, first_answer, behind_first};
+
+use crate::device::{ByteReader, DeviceFailed};
+use crate::fault::TraceFault;
+use crate::line_reader::LineReader;
+use crate::plain::plain_line;
+use crate::record::DinRecord;
+
+/// How many bytes a source holds at most.
+const ROOM: usize = 16 * 1024;
+
+/// Whether a source goes on.
+#[derive(Clone, Copy, Debug)]
+pub enum State {
+    /// It reads.
+    Reading,
+    /// Its reader has ended, and the last line was judged.
+    Ended,
+    /// It has met this fault.
+    Failed(TraceFault),
+}
+
+/// Room for the bytes of one call of a reader.
+#[derive(Drop)]
+pub struct Buffer {
+    bytes: [u8; ROOM],
+}
+
+impl Buffer {
+    /// Asks the reader for at most this many bytes, which come to stand at the front.
+    fn fill<R: ByteReader>(&mut self, reader: &mut R, room: usize) -> Result<usize, DeviceFailed>
+        requires some { 0 < room }
+        requires fits { room ≤ ROOM }
+        ensures bound { IfOk result (λ count. count ≤ room) }
+        ensures size { length self.new.bytes ≡ ROOM }
+        ensures bytes { IfOk result (λ count.
+            Consumes (R.remaining reader.old) (R.remaining reader.new) (take count self.new.bytes)) }
+        ensures end { IfOk result (λ count. count ≡ 0 → IsAtEnd (R.remaining reader.new)) }
+        ensures ok { OnOk result (R.failures reader.new ≡ R.failures reader.old) }
+        ensures err { OnErr result ((R.failures reader.new ≡ once_more (R.failures reader.old))
+            × Keeps (R.remaining reader.old) (R.remaining reader.new)) }
+    {
+        reader.fill(&mut self.bytes[..room])
+    }
+}
+
+/// What a source holds besides its reader.
+#[derive(Drop)]
+pub struct Backlog {
+    limit: u64,
+    lines: LineReader,
+    buffer: Buffer,
+    at: usize,
+    filled: usize,
+    state: State,
+    ghost limited: { limit ≤ 2 ^ 40 },
+    ghost ordered: { at ≤ filled },
+    ghost fits: { filled ≤ 16384 },
+    ghost within: { lines.bytes ≤ limit },
+    ghost last: { lines.bytes + (filled - at) ≤ limit + 1 },
+    ghost sound: { is_sound state lines.fault ≡ true },
+}
+
+#[tactic(auto, unfolding(crate::specs::Standing::StandsFor, crate::specs::Standing::HasNoFault, crate::specs::Standing::bytes_of, crate::specs::Standing::line_of, crate::specs::Standing::begun_of))]
+impl Backlog {
+    ghost use Rattle.din_trace.specs.Backlog.{HasLeft, held, taken, room};
+    ghost use Rattle.din_trace.specs.declared.backlog.State.{State};
+
+    pub fn new(limit: u64) -> Backlog
+        requires { limit ≤ 2 ^ 40 }
+        ensures left { (script : Script)
+            → HasLeft result script (text_left ADDRESS_MAX 1 script.given limit script.fails) }
+        ensures taken { taken result ≡ 0 }
+        ensures limit { result.limit ≡ limit }
+        ensures room { room result ≡ limit }
+    {
+        Backlog {
+            limit,
+            lines: LineReader::new(),
+            buffer: Buffer { bytes: [0; ROOM] },
+            at: 0,
+            filled: 0,
+            state: State::Reading,
+        }
+    }
+
+    /// Takes the next byte that is held.
+    fn step(&mut self) -> Option<Result<Option<DinRecord>, TraceFault>>
+        requires reading { self.old.state ≡ State.Reading }
+        requires some { self.old.at < self.old.filled }
+        ensures answer { IfSome result (λ answer. (script : Script) (l : Left)
+            → HasLeft self.old script l
+            → (answer ≡ first_answer l) × HasLeft self.new script (behind_first l)) }
+        ensures goes_on { IfNone result ((script : Script) (l : Left)
+            → HasLeft self.old script l → HasLeft self.new script l) }
+        ensures reading { IfNone result (self.new.state ≡ State.Reading) }
+        ensures nearer { IfNone result ((self.new.at ≡ self.old.at + 1)
+            × (self.new.filled ≡ self.old.filled)) }
+        ensures taken { taken self.new ≡ taken self.old }
+        ensures limit { self.new.limit ≡ self.old.limit }
+        ensures records { IfSome result (λ answer. IfOk answer (λ found. IsSome found
+            → room self.new < room self.old)) }
+        ensures room { room self.new ≤ room self.old }
+    {
+        if self.lines.bytes() == self.limit {
+            self.state = State::Failed(TraceFault::TooLong);
+            return Some(Err(TraceFault::TooLong));
+        }
+        let byte = self.buffer.bytes[self.at];
+        self.at += 1;
+        match self.lines.byte(byte) {
+            Ok(found) => match found {
+                Some(record) => Some(Ok(Some(record))),
+                None => None,
+            },
+            Err(fault) => {
+                self.state = State::Failed(fault);
+                Some(Err(fault))
+            }
+        }
+    }
+
+    /// The next answer that needs no further byte, if there is one. Else no byte is held.
+    pub fn answer(&mut self) -> Option<Result<Option<DinRecord>, TraceFault>>
+        ensures answer { IfSome result (λ answer. (script : Script) (l : Left)
+            → HasLeft self.old script l
+            → (answer ≡ first_answer l) × HasLeft self.new script (behind_first l)) }
+        ensures goes_on { IfNone result ((script : Script) (l : Left)
+            → HasLeft self.old script l → HasLeft self.new script l) }
+        ensures reading { IfNone result ((self.new.state ≡ State.Reading)
+            × (self.new.at ≡ self.new.filled)) }
+        ensures settled { is_reading self.old.state ≡ false → (IsSome result) × (self.new ≡ self.old) }
+        ensures dry { IfNone result ((l : Left)
+            → HasLeft self.old (record { given = []; fails = true }) l
+            → l ≡ record { records = []; fault = Some TraceFault.Read }) }
+        ensures taken { taken self.new ≡ taken self.old }
+        ensures limit { self.new.limit ≡ self.old.limit }
+        ensures records { IfSome result (λ answer. IfOk answer (λ found. IsSome found
+            → room self.new < room self.old)) }
+        ensures room { room self.new ≤ room self.old }
+    {
+        match self.state {
+            State::Reading => self.answer_held(),
+            State::Ended => Some(Ok(None)),
+            State::Failed(fault) => Some(Err(fault)),
+        }
+    }
+
+    /// The record of the next line, where that line is plain and is held whole.
+    fn plain(&mut self) -> Option<DinRecord>
+        requires reading { self.old.state ≡ State.Reading }
+        ensures answer { IfSome result (λ found. (script : Script) (l : Left)
+            → HasLeft self.old script l
+            → (Ok (Some found) ≡ first_answer l) × HasLeft self.new script (behind_first l)) }
+        ensures same { IfNone result (self.new ≡ self.old) }
+        ensures taken { taken self.new ≡ taken self.old }
+        ensures limit { self.new.limit ≡ self.old.limit }
+        ensures records { IfSome result (λ _. room self.new < room self.old) }
+    {
+        if !self.lines.is_empty() {
+            return None;
+        }
+        match plain_line(&self.buffer.bytes[self.at..self.filled]) {
+            Some((record, count)) => {
+                if count as u64 > self.limit - self.lines.bytes() {
+                    return None;
+                }
+                self.at += count;
+                self.lines.pass(count as u64);
+                Some(record)
+            }
+            None => None,
+        }
+    }
+
+    /// The next answer that the held bytes give, if they give one.
+    fn answer_held(&mut self) -> Option<Result<Option<DinRecord>, TraceFault>>
+        requires reading { self.old.state ≡ State.Reading }
+        ensures answer { IfSome result (λ answer. (script : Script) (l : Left)
+            → HasLeft self.old script l
+            → (answer ≡ first_answer l) × HasLeft self.new script (behind_first l)) }
+        ensures goes_on { IfNone result ((script : Script) (l : Left)
+            → HasLeft self.old script l → HasLeft self.new script l) }
+        ensures reading { IfNone result ((self.new.state ≡ State.Reading)
+            × (self.new.at ≡ self.new.filled)) }
+        ensures taken { taken self.new ≡ taken self.old }
+        ensures limit { self.new.limit ≡ self.old.limit }
+        ensures records { IfSome result (λ answer. IfOk answer (λ found. IsSome found
+            → room self.new < room self.old)) }
+        ensures room { room self.new ≤ room self.old }
+    {
+        if let Some(record) = self.plain() {
+            return Some(Ok(Some(record)));
+        }
+        'bytes: while self.at < self.filled {
+            if let Some(answer) = self.step() {
+                return Some(answer);
+            }
+        }
+        None
+    }
+
+    /// The answer where the reader has ended.
+    pub fn end(&mut self) -> Result<Option<DinRecord>, TraceFault>
+        requires reading { self.old.state ≡ State.Reading }
+        requires empty { self.old.at ≡ self.old.filled }
+        ensures answer { (l : Left) → HasLeft self.old (record { given = []; fails = false }) l
+            → (result ≡ first_answer l)
+            × ((script : Script) → HasLeft self.new script (behind_first l)) }
+        ensures taken { taken self.new ≡ taken self.old }
+        ensures limit { self.new.limit ≡ self.old.limit }
+        ensures records { IfOk result (λ found. IsSome found → room self.new < room self.old) }
+        ensures closed { is_reading self.new.state ≡ false }
+    {
+        match self.lines.end() {
+            Ok(found) => {
+                self.state = State::Ended;
+                Ok(found)
+            }
+            Err(fault) => {
+                self.state = State::Failed(fault);
+                Err(fault)
+            }
+        }
+    }
+
+    /// The answer where the reader has failed.
+    pub fn fail(&mut self) -> Result<Option<DinRecord>, TraceFault>
+        requires reading { self.old.state ≡ State.Reading }
+        requires empty { self.old.at ≡ self.old.filled }
+        ensures answer { (l : Left) → HasLeft self.old (record { given = []; fails = true }) l
+            → (result ≡ first_answer l)
+            × ((script : Script) → HasLeft self.new script (behind_first l)) }
+        ensures taken { taken self.new ≡ taken self.old }
+        ensures limit { self.new.limit ≡ self.old.limit }
+        ensures fails { IsErr result }
+        ensures closed { is_reading self.new.state ≡ false }
+    {
+        self.state = State::Failed(TraceFault::Read);
+        Err(TraceFault::Read)
+    }
+
+    /// Asks the reader for bytes, of which none is held: 0 is its end.
+    pub fn refill<R: ByteReader>(&mut self, reader: &mut R) -> Result<usize, DeviceFailed>
+        requires reading { self.old.state ≡ State.Reading }
+        requires empty { self.old.at ≡ self.old.filled }
+        ensures given { IfOk result (λ count. (given : List ℕ) × (length given ≡ count)
+            × Consumes (R.remaining reader.old) (R.remaining reader.new) given
+            × ((script : Script) (l : Left)
+            → HasLeft self.old (record { given = given ++ script.given; fails = script.fails }) l
+            → HasLeft self.new script l)) }
+        ensures end { IfOk result (λ count. count ≡ 0 → IsAtEnd (R.remaining reader.new)) }
+        ensures ok { OnOk result (R.failures reader.new ≡ R.failures reader.old) }
+        ensures err { OnErr result ((R.failures reader.new ≡ once_more (R.failures reader.old))
+            × Keeps (R.remaining reader.old) (R.remaining reader.new)) }
+        ensures same { OnErr result ((script : Script) (l : Left)
+            → HasLeft self.old script l → HasLeft self.new script l) }
+        ensures taken { IfOk result (λ count. taken self.new ≡ taken self.old + count) }
+        ensures taken_none { OnErr result (taken self.new ≡ taken self.old) }
+        ensures reading { self.new.state ≡ State.Reading }
+        ensures limit { self.new.limit ≡ self.old.limit }
+        ensures room { room self.new ≡ room self.old }
+        ensures held { IfOk result (λ count. self.new.filled ≡ self.new.at + count) }
+        ensures empty { OnErr result (self.new.at ≡ self.new.filled) }
+    {
+        let most = (self.limit + 1 - self.lines.bytes()).min(ROOM as u64) as usize;
+        self.at = 0;
+        self.filled = 0;
+        match self.buffer.fill(reader, most) {
+            Ok(count) => {
+                self.filled = count;
+                Ok(count)
+            }
+            Err(failed) => Err(failed),
+        }
+    }
+
+    /// Gives up for want of memory, and repeats that.
+    pub fn exhaust(&mut self)
+        ensures left { (script : Script)
+            → HasLeft self.new script (record { records = []; fault = Some TraceFault.Memory }) }
+        ensures closed { is_reading self.new.state ≡ false }
+        ensures taken { taken self.new ≡ taken self.old }
+        ensures limit { self.new.limit ≡ self.old.limit }
+    {
+        self.state = State::Failed(TraceFault::Memory);
+    }
+}

@@ -1,0 +1,141 @@
+//! A trace from any reader, record by record.
+
+ghost use Rattle.std.specs.Prelude.{
+  ◌≡◌,
+  ◌≢◌,
+  ◌⊎◌,
+  ℕ,
+  true,
+  false,
+  None,
+  Some,
+  ◌+◌,
+  ◌<◌,
+  ◌≤◌,
+  List,
+  [],
+  MatchResult,
+  IfOk,
+  IsSome,
+};
+ghost use Rattle.din_trace.specs.Line.{ADDRESS_MAX};
+ghost use Rattle.din_trace.specs.Left.{
+  Left,
+  Script,
+  Fate,
+  Follows,
+  text_left,
+  first_answer,
+  behind_first,
+};
+ghost use Rattle.din_trace.specs.Source.{
+  reader_of,
+  limit_of,
+  taken_by,
+  room_of,
+  HasLeft,
+  IsSettled,
+  Takes,
+};
+
+use crate::backlog::Backlog;
+use crate::device::{ByteReader, DeviceFailed};
+use crate::fault::TraceFault;
+use crate::line_reader::MAX_LIMIT;
+use crate::record::DinRecord;
+use std::alloc::Global;
+
+/// Reads a trace from a reader, and holds no more of it than one buffer of fixed size. It repeats
+/// the end, or the fault that it met, for ever.
+#[derive(Drop)]
+pub struct Source<R> {
+    reader: R,
+    backlog: Backlog,
+}
+
+#[tactic(auto, unfolding(crate::specs::Source::reader_of, crate::specs::Source::limit_of, crate::specs::Source::taken_by, crate::specs::Source::room_of, crate::specs::Source::HasLeft, crate::specs::Source::IsSettled, crate::specs::Source::Settles))]
+impl<R: ByteReader> Source<R> {
+    /// The trace that this reader gives, of at most `limit` bytes.
+    pub fn new(reader: R, limit: u64) -> Source<R>
+        requires { limit ≤ MAX_LIMIT }
+        ensures reader { reader_of result ≡ reader }
+        ensures limit { limit_of result ≡ limit }
+        ensures left { (script : Script)
+            → HasLeft result script (text_left ADDRESS_MAX 1 script.given limit script.fails) }
+        ensures taken { taken_by result ≡ 0 }
+        ensures room { room_of result ≡ limit }
+    {
+        Source {
+            reader,
+            backlog: Backlog::new(limit),
+        }
+    }
+
+    /// The next record, `None` at the end, or the fault. `TraceFault::Memory` is answered only
+    /// where an earlier `rest` answered it.
+    pub fn next(&mut self) -> Result<Option<DinRecord>, TraceFault>
+        // Whatever the reader does, this is the first of what was left, and the others stay left.
+        ensures reads { (given : List ℕ) × (fate : Fate)
+            × Takes R.remaining R.failures self.old self.new given fate
+            × ((before later : Script) (l : Left)
+            → Follows fate given before later → HasLeft self.old before l
+            → (result ≡ first_answer l) × HasLeft self.new later (behind_first l)) }
+        // The reader is asked only where no line that it gave whole has an answer left: if it
+        // failed at once, nothing would be left but that.
+        ensures lazy { (reader_of self.new ≡ reader_of self.old)
+            ⊎ ((l : Left) → HasLeft self.old (record { given = []; fails = true }) l
+            → l ≡ record { records = []; fault = Some TraceFault.Read }) }
+        ensures settled { IsSettled self.old → self.new ≡ self.old }
+        ensures limit { limit_of self.new ≡ limit_of self.old }
+        ensures bound { taken_by self.new ≤ limit_of self.new + 1 }
+        // So no more than `limit` records are answered, whatever the reader tells.
+        ensures records { IfOk result (λ found. IsSome found
+            → room_of self.new < room_of self.old) }
+    {
+        'asks: loop {
+            if let Some(answer) = self.backlog.answer() {
+                return answer;
+            }
+            match self.backlog.refill(&mut self.reader) {
+                Ok(count) => {
+                    if count == 0 {
+                        return self.backlog.end();
+                    }
+                }
+                Err(_) => return self.backlog.fail(),
+            }
+        }
+    }
+
+    /// All records that are left, or the fault. A fault that is met before a growth is refused is
+    /// the answer; after a refused growth the source repeats `TraceFault::Memory`.
+    pub fn rest(&mut self, alloc: Global) -> Result<Vec<DinRecord>, TraceFault>
+        ensures reads { (given : List ℕ) × (fate : Fate)
+            × Takes R.remaining R.failures self.old self.new given fate
+            × ((before later : Script) (l : Left)
+            → Follows fate given before later → HasLeft self.old before l
+            → MatchResult result
+            (λ records. (records.items ≡ l.records) × (l.fault ≡ None)
+            × HasLeft self.new later (record { records = []; fault = None }))
+            (λ fault. (fault ≢ TraceFault.Memory → l.fault ≡ Some fault)
+            × HasLeft self.new later (record { records = []; fault = Some fault }))) }
+        ensures bound { taken_by self.new ≤ limit_of self.new + 1 }
+        ensures limit { limit_of self.new ≡ limit_of self.old }
+    {
+        let mut records = Vec::new(alloc);
+        'records: loop {
+            match self.next() {
+                Ok(found) => match found {
+                    Some(next) => {
+                        if records.push(next).is_err() {
+                            self.backlog.exhaust();
+                            return Err(TraceFault::Memory);
+                        }
+                    }
+                    None => return Ok(records),
+                },
+                Err(fault) => return Err(fault),
+            }
+        }
+    }
+}

@@ -1,0 +1,44 @@
+//! A trace in memory.
+
+ghost use Rattle.std.specs.Prelude.{◌≡◌, ◌≢◌, ℕ, ◌≤◌, List, None, Some, IfOk, IfErr};
+ghost use Rattle.din_trace.specs.Line.{ADDRESS_MAX};
+ghost use Rattle.din_trace.specs.Text.{records, fault};
+
+use crate::device::{ByteReader, DeviceFailed};
+use crate::fault::TraceFault;
+use crate::line_reader::MAX_LIMIT;
+use crate::record::DinRecord;
+use crate::source::Source;
+use std::alloc::Global;
+
+/// A reader of bytes in memory, which never fails.
+#[derive(Drop)]
+struct Text<'a> {
+    rest: &'a [u8],
+}
+
+impl ByteReader for Text<'_> {
+    ghost remaining = { λ text. Some text.rest.now };
+
+    ghost failures = { λ _. 0 };
+
+    fn fill(&mut self, buffer: &mut [u8]) -> Result<usize, DeviceFailed> {
+        let count = buffer.len().min(self.rest.len());
+        let (front, back) = self.rest.split_at(count);
+        buffer[..count].copy_from_slice(front);
+        self.rest = back;
+        Ok(count)
+    }
+}
+
+/// The records of a text, of which at most `limit` bytes are allowed, or its fault.
+pub fn read_all(alloc: Global, text: &[u8], limit: u64) -> Result<Vec<DinRecord>, TraceFault>
+    requires { limit ≤ MAX_LIMIT }
+    ensures ok { IfOk result (λ found. (fault ADDRESS_MAX text.now limit ≡ None)
+        × (found.items ≡ records ADDRESS_MAX text.now)) }
+    ensures err { IfErr result (λ met. met ≢ TraceFault.Memory
+        → fault ADDRESS_MAX text.now limit ≡ Some met) }
+{
+    let mut source = Source::new(Text { rest: text }, limit);
+    source.rest(alloc)
+}
