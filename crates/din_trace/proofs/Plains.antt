@@ -1,5 +1,5 @@
 -- Whole lines at the front of some bytes.
-use Rattle.std.proofs.Common.{◌≡◌, ◌≢◌, ℕ, zero, suc, ◌+◌, ◌-◌, ◌*◌, ◌^◌, ◌<◌, ◌≤◌, Bool, true, false, eqb, cond, List, [], ◌∷◌, ◌++◌, length, drop, refl, sym, ap, ◌∙◌, arith, slice_index_or, append_assoc, length-append, inl, inr}
+use Rattle.std.proofs.Common.{◌≡◌, ◌≢◌, ℕ, zero, suc, ◌+◌, ◌-◌, ◌*◌, ◌^◌, ◌<◌, ◌≤◌, Bool, true, false, eqb, cond, List, [], ◌∷◌, ◌++◌, length, take, drop, refl, sym, ap, ◌∙◌, arith, slice_index_or, append_assoc, length-append, inl, inr}
 use Rattle.std.specs.Prelude.{nat_lt, nat_le, if◌then◌else◌, ◌==◌, ◌&&◌, ◌||◌}
 use Rattle.std.specs.Char.{digit_value}
 use Rattle.std.proofs.lemmas.Bool.{cases_Bool, cases_eq, eqb-true, lt-ltb, ne_eqb, false≢true}
@@ -8,7 +8,7 @@ use Rattle.std.proofs.lemmas.List.Sums.{fold-append}
 use Rattle.std.proofs.Math.Nat.{pow-le-pow_right, pow-succ'}
 use Rattle.din_trace.specs.Line.{is_blank, is_label, label_of, is_hex, hex_value, has_prefix, Each, StopsAt, IsComment, Din}
 use Rattle.din_trace.specs.Line.{ADDRESS_MAX}
-use Rattle.din_trace.specs.Plain.{BeginsWithLine}
+use Rattle.din_trace.specs.Plain.{BeginsWithLine, IsPrefix}
 use Rattle.std.specs.Prelude.{None, Some, Ok}
 use Rattle.std.proofs.lemmas.List.{append-nil}
 use Rattle.din_trace.specs.declared.record.DinRecord.{DinRecord}
@@ -85,6 +85,29 @@ no_blank : (digits tail : List ℕ) → Each is_hex digits → 0 < length digits
 no_blank [] tail hex some = absurd (omega arith)
 no_blank (byte ∷ digits) tail hex some = hex_not_blank byte hex.0
 
+-- what a prefix is for the definition of a line's parts
+record IsPart (prefix text : List ℕ) : Type 0 where
+  is : prefix ≡ cond (has_prefix (prefix ++ text)) (take 2 (prefix ++ text)) []
+  no_blank : StopsAt is_blank (prefix ++ text)
+  no_lf : AllByRecursion (λ byte. eqb byte 10 ≡ false) prefix
+
+x_no_lf : (b : ℕ) → (eqb b 120 || eqb b 88) ≡ true → eqb b 10 ≡ false
+x_no_lf b h = other_than (λ byte. eqb byte 120 || eqb byte 88) b 10 h refl
+
+and_first : (a b : Bool) → (a && b) ≡ true → (a ≡ true) × (b ≡ true)
+and_first true b h = (refl, h)
+and_first false b h = absurd (false≢true h)
+
+prefix_is_part : (prefix digits tail : List ℕ) → IsPrefix prefix → Each is_hex digits → 0 < length digits → AreCrs tail → IsPart prefix (digits ++ tail)
+unfolding is_blank
+prefix_is_part [] digits tail p hex some crs =
+    record { is = rw (no_prefix digits tail hex some crs) refl; no_blank = no_blank digits tail hex some; no_lf = tt }
+prefix_is_part (a ∷ []) digits tail p hex some crs = absurd p
+prefix_is_part (a ∷ b ∷ rest) digits tail p hex some crs =
+    let parts = and_first (eqb a 48) (eqb b 120 || eqb b 88) p.0 in
+    let zero_is : a ≡ 48 = eqb-true a 48 parts.0 in
+    rw p.1 (record { is = rw p.0 refl; no_blank = rw zero_is refl; no_lf = (rw zero_is refl, (x_no_lf b parts.1, tt)) })
+
 crs_stop : (tail : List ℕ) → AreCrs tail → StopsAt is_hex tail
 crs_stop [] crs = tt
 crs_stop (byte ∷ tail) crs = rw crs.0 cr_is_no_digit
@@ -93,37 +116,37 @@ crs_tail : (tail : List ℕ) → AreCrs tail → IsComment tail
 crs_tail [] crs = tt
 crs_tail (byte ∷ tail) crs = rw crs.0 cr_is_blank
 
--- a label, a space, digits and CRs
-pub begins_plain : (bytes : List ℕ) (digit : ℕ) (digits tail : List ℕ) (count : ℕ) → is_label digit ≡ true → Each is_hex digits → 0 < length digits → hex_value digits ≤ ADDRESS_MAX → AreCrs tail
-    → bytes ≡ digit ∷ 32 ∷ (digits ++ (tail ++ 10 ∷ drop count bytes)) → count ≡ length digits + length tail + 3
+no_lf-append : (xs ys : List ℕ) → AllByRecursion (λ byte. eqb byte 10 ≡ false) xs → AllByRecursion (λ byte. eqb byte 10 ≡ false) ys
+    → AllByRecursion (λ byte. eqb byte 10 ≡ false) (xs ++ ys)
+no_lf-append [] ys h k = k
+no_lf-append (x ∷ xs) ys h k = (h.0, no_lf-append xs ys h.1 k)
+
+-- a label, a space, a prefix or none, digits and CRs
+pub begins_plain : (bytes : List ℕ) (digit : ℕ) (prefix digits tail : List ℕ) (count : ℕ) → is_label digit ≡ true → IsPrefix prefix
+    → Each is_hex digits → 0 < length digits → hex_value digits ≤ ADDRESS_MAX → AreCrs tail
+    → bytes ≡ digit ∷ 32 ∷ (prefix ++ (digits ++ (tail ++ 10 ∷ drop count bytes))) → count ≡ length prefix + length digits + length tail + 3
     → BeginsWithLine bytes (record { label = label_of digit; addr = hex_value digits }) count
-begins_plain bytes digit digits tail count labeled hex some fits crs whole counted = record {
-  line = digit ∷ 32 ∷ (digits ++ tail);
-  whole = whole ∙ ap (λ (more : List ℕ). digit ∷ 32 ∷ more) (sym (append_assoc {A = ℕ} digits tail (10 ∷ drop count bytes)));
-  counted = simp length-append (omega (arith, counted));
-  one_line = (label_no_lf digit labeled, (refl, digits_no_lf digits tail hex crs));
-  holds = sym (form_is ADDRESS_MAX (digit ∷ 32 ∷ (digits ++ tail)) (Din (record { label = label_of digit; addr = hex_value digits })) (
-    digit,
-    digits,
-    tail,
+begins_plain bytes digit prefix digits tail count labeled is_prefix hex some fits crs whole counted =
+    let part = prefix_is_part prefix digits tail is_prefix hex some crs in
     record {
-      gap = 32 ∷ [];
-      prefix = [];
-      begins = record { lead = []; blanks = tt; whole = refl };
-      labeled = labeled;
-      blanks = (space_is_blank, tt);
-      some = omega arith;
-      all_blanks = no_blank digits tail hex some;
-      prefixed = rw (no_prefix digits tail hex some crs) refl;
-      hex = hex;
-      all_hex = crs_stop tail crs;
-    },
-    some,
-    fits,
-    crs_tail tail crs,
-    refl,
-  ));
-}
+      line = digit ∷ 32 ∷ (prefix ++ (digits ++ tail));
+      whole = whole ∙ ap (λ (more : List ℕ). digit ∷ 32 ∷ more) (simp append_assoc);
+      counted = simp length-append (omega (arith, counted));
+      one_line = (label_no_lf digit labeled, (refl, no_lf-append prefix (digits ++ tail) part.no_lf (digits_no_lf digits tail hex crs)));
+      holds = sym (form_is ADDRESS_MAX (digit ∷ 32 ∷ (prefix ++ (digits ++ tail))) (Din (record { label = label_of digit; addr = hex_value digits }))
+          (digit, digits, tail, record {
+            gap = 32 ∷ [];
+            prefix = prefix;
+            begins = record { lead = []; blanks = tt; whole = refl };
+            labeled = labeled;
+            blanks = (space_is_blank, tt);
+            some = omega arith;
+            all_blanks = part.no_blank;
+            prefixed = part.is;
+            hex = hex;
+            all_hex = crs_stop tail crs;
+          }, some, fits, crs_tail tail crs, refl));
+    }
 
 pub each-append : (digits : List ℕ) (byte : ℕ) → Each is_hex digits → is_hex byte ≡ true → Each is_hex (digits ++ byte ∷ [])
 each-append [] byte each is = (is, tt)

@@ -30,6 +30,7 @@ ghost use Rattle.std.specs.Prelude.{
 };
 ghost use Rattle.std.specs.Io.KnownBytes.{Consumes, Keeps, IsAtEnd};
 ghost use Rattle.din_trace.specs.Device.{once_more};
+ghost use Rattle.din_trace.specs.declared.backlog.TheConstants.{ROOM};
 ghost use Rattle.din_trace.specs.Line.{ADDRESS_MAX};
 ghost use Rattle.din_trace.specs.State.{is_sound, is_reading};
 ghost use Rattle.din_trace.specs.Left.{Left, Script, text_left, first_answer, behind_first};
@@ -61,7 +62,7 @@ pub struct Buffer {
 }
 
 impl Buffer {
-    /// Asks the reader for at most this many bytes, which come to stand at the front.
+    /// Asks the reader for at most `room` bytes, which come to stand at the front.
     fn fill<R: ByteReader>(&mut self, reader: &mut R, room: usize) -> Result<usize, DeviceFailed>
         requires some { 0 < room }
         requires fits { room ≤ ROOM }
@@ -81,15 +82,18 @@ impl Buffer {
 /// What a source holds besides its reader.
 #[derive(Drop)]
 pub struct Backlog {
+    /// The most bytes that the trace may have.
     limit: u64,
+    /// The lines, up to the bytes that wait.
     lines: LineReader,
     buffer: Buffer,
+    /// The bytes of the buffer that wait are those from `at` to `filled`.
     at: usize,
     filled: usize,
     state: State,
     ghost limited: { limit ≤ 2 ^ 40 },
     ghost ordered: { at ≤ filled },
-    ghost fits: { filled ≤ 16384 },
+    ghost fits: { filled ≤ ROOM },
     ghost within: { lines.bytes ≤ limit },
     ghost last: { lines.bytes + (filled - at) ≤ limit + 1 },
     ghost sound: { is_sound state lines.fault ≡ true },

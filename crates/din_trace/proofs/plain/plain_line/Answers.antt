@@ -22,7 +22,7 @@ digits-preserved c =
       to = omega (arith, c.digits-test.true);
       digits = now.digits ++ byte ∷ [];
       counted = simp length-append (omega (arith, now.counted));
-      whole = now.whole ∙ rw (drop_more bytes at 0 (omega (arith, c.digits-test.true, c.if-bytes-lt-WINDOW.false)))
+      whole = now.whole ∙ rw (drop_more bytes at 0 (omega (arith, c.digits-test.true, c.digits_start-start.ensures.bound, c.if-bytes-lt-WINDOW.false)))
           (sym (append_assoc {A = ℕ} now.digits (byte ∷ []) (drop (at + 1) bytes)));
       hex = each-append now.digits byte now.hex is.0;
       value = rw (value-append now.digits byte, is.1, now.value) refl;
@@ -38,28 +38,35 @@ first_two [] n = absurd (omega arith)
 first_two (a ∷ []) n = absurd (omega arith)
 first_two (a ∷ b ∷ bytes) n = refl
 
+-- the line from its front to its digits, and what follows these
+module _ (bytes : List ℕ) (start : ℕ) (prefix digits : List ℕ) where
+  pub whole_line : (at : ℕ) (tail more : List ℕ) → 22 ≤ length bytes → slice_index_or bytes 1 0 ≡ 32 → drop 2 bytes ≡ prefix ++ drop start bytes
+      → drop start bytes ≡ digits ++ drop at bytes → drop at bytes ≡ tail ++ 10 ∷ more
+      → bytes ≡ slice_index_or bytes 0 0 ∷ 32 ∷ (prefix ++ (digits ++ (tail ++ 10 ∷ more)))
+  whole_line at tail more long space behind whole rest =
+      first_two bytes (omega arith)
+      ∙ ap (λ (byte : ℕ). slice_index_or bytes 0 0 ∷ byte ∷ drop 2 bytes) space
+      ∙ ap (λ (text : List ℕ). slice_index_or bytes 0 0 ∷ 32 ∷ text) (behind ∙ ap (λ (text : List ℕ). prefix ++ text) (whole ∙ ap (λ (text : List ℕ). digits ++ text) rest))
+
 pub returns-in-10-clause-line : goal.returns-in-10-clause-line
 returns-in-10-clause-line c =
     let now = c.digits.invariant in
     let at = c.digits.at in
     let bytes = c.args.bytes.now in
-    let front = first_two bytes (omega (arith, c.if-bytes-lt-WINDOW.false)) in
-    let at_lf : drop at bytes ≡ 10 ∷ drop (at + 1) bytes = drop_more bytes at 0 (omega (arith, now.to, c.if-bytes-lt-WINDOW.false)) ∙ ap (λ (byte : ℕ). byte ∷ drop (at + 1) bytes) c.in-10.is in
-    let whole : bytes ≡ slice_index_or bytes 0 0 ∷ 32 ∷ (now.digits ++ ([] ++ 10 ∷ drop (at + 1) bytes)) =
-    front ∙ ap (λ (byte : ℕ). slice_index_or bytes 0 0 ∷ byte ∷ drop 2 bytes) c.if-bytes-ne32.false ∙ ap (λ (more : List ℕ). slice_index_or bytes 0 0 ∷ 32 ∷ more) (now.whole ∙ ap (λ (more : List ℕ). now.digits ++ more) at_lf) in
-    rw (c.in-Some.ensures.1, now.value) (begins_plain bytes (slice_index_or bytes 0 0) now.digits [] (at + 1) c.in-Some.ensures.0 now.hex (omega (arith, now.counted, now.from, c.if-at-eq2.false))
-    (rw now.value at (fits (length now.digits) c.digits.addr (omega (arith, now.counted, now.to)) now.small)) tt whole (omega (arith, now.counted)))
+    let start = c.digits_start-start.ensures.prefix in
+    let at_lf : drop at bytes ≡ 10 ∷ drop (at + 1) bytes = drop_more bytes at 0 (omega (arith, now.to, c.digits_start-start.ensures.bound, c.if-bytes-lt-WINDOW.false)) ∙ ap (λ (byte : ℕ). byte ∷ drop (at + 1) bytes) c.in-10.is in
+    rw (c.in-Some.ensures.1, now.value) (begins_plain bytes (slice_index_or bytes 0 0) start.0 now.digits [] (at + 1) c.in-Some.ensures.0 start.1 now.hex (omega (arith, now.counted, now.from, c.if-at-start.false))
+      (rw now.value at (fits (length now.digits) c.digits.addr (omega (arith, now.counted, now.to)) now.small)) tt
+      (whole_line bytes _ start.0 now.digits at [] (drop (at + 1) bytes) c.if-bytes-lt-WINDOW.false c.if-bytes-ne32.false start.2 now.whole at_lf) (omega (arith, now.counted, start.3)))
 
 pub returns-then-bytes-at-eq10-clause-line : goal.returns-then-bytes-at-eq10-clause-line
 returns-then-bytes-at-eq10-clause-line c =
     let now = c.digits.invariant in
     let at = c.digits.at in
     let bytes = c.args.bytes.now in
-    let front = first_two bytes (omega (arith, c.if-bytes-lt-WINDOW.false)) in
-    let at_cr : drop at bytes ≡ 13 ∷ drop (at + 1) bytes = drop_more bytes at 0 (omega (arith, now.to, c.if-bytes-lt-WINDOW.false)) ∙ ap (λ (byte : ℕ). byte ∷ drop (at + 1) bytes) c.in-13.is in
-    let at_lf : drop (at + 1) bytes ≡ 10 ∷ drop (at + 2) bytes = drop_more bytes (at + 1) 0 (omega (arith, now.to, c.if-bytes-lt-WINDOW.false)) ∙ ap (λ (byte : ℕ). byte ∷ drop (at + 1 + 1) bytes) c.if-bytes-at-eq10.true ∙ ap (λ (k : ℕ). 10 ∷ drop k bytes) (let two : at + 1 + 1 ≡ at + 2 = omega arith in two) in
-    let whole : bytes ≡ slice_index_or bytes 0 0 ∷ 32 ∷ (now.digits ++ ((13 ∷ []) ++ 10 ∷ drop (at + 2) bytes)) =
-    front ∙ ap (λ (byte : ℕ). slice_index_or bytes 0 0 ∷ byte ∷ drop 2 bytes) c.if-bytes-ne32.false
-    ∙ ap (λ (more : List ℕ). slice_index_or bytes 0 0 ∷ 32 ∷ more) (now.whole ∙ ap (λ (more : List ℕ). now.digits ++ more) (at_cr ∙ ap (λ (more : List ℕ). 13 ∷ more) at_lf)) in
-    rw (c.in-Some.ensures.1, now.value) (begins_plain bytes (slice_index_or bytes 0 0) now.digits (13 ∷ []) (at + 2) c.in-Some.ensures.0 now.hex (omega (arith, now.counted, now.from, c.if-at-eq2.false))
-    (rw now.value at (fits (length now.digits) c.digits.addr (omega (arith, now.counted, now.to)) now.small)) (refl, tt) whole (omega (arith, now.counted)))
+    let start = c.digits_start-start.ensures.prefix in
+    let at_cr : drop at bytes ≡ 13 ∷ drop (at + 1) bytes = drop_more bytes at 0 (omega (arith, now.to, c.digits_start-start.ensures.bound, c.if-bytes-lt-WINDOW.false)) ∙ ap (λ (byte : ℕ). byte ∷ drop (at + 1) bytes) c.in-13.is in
+    let at_lf : drop (at + 1) bytes ≡ 10 ∷ drop (at + 2) bytes = drop_more bytes (at + 1) 0 (omega (arith, now.to, c.digits_start-start.ensures.bound, c.if-bytes-lt-WINDOW.false)) ∙ ap (λ (byte : ℕ). byte ∷ drop (at + 1 + 1) bytes) c.if-bytes-at-eq10.true ∙ ap (λ (k : ℕ). 10 ∷ drop k bytes) (let two : at + 1 + 1 ≡ at + 2 = omega arith in two) in
+    rw (c.in-Some.ensures.1, now.value) (begins_plain bytes (slice_index_or bytes 0 0) start.0 now.digits (13 ∷ []) (at + 2) c.in-Some.ensures.0 start.1 now.hex (omega (arith, now.counted, now.from, c.if-at-start.false))
+      (rw now.value at (fits (length now.digits) c.digits.addr (omega (arith, now.counted, now.to)) now.small)) (refl, tt)
+      (whole_line bytes _ start.0 now.digits at (13 ∷ []) (drop (at + 2) bytes) c.if-bytes-lt-WINDOW.false c.if-bytes-ne32.false start.2 now.whole (at_cr ∙ ap (λ (more : List ℕ). 13 ∷ more) at_lf)) (omega (arith, now.counted, start.3)))
