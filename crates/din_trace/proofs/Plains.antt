@@ -133,19 +133,27 @@ begins_plain bytes digit prefix digits tail count labeled is_prefix hex some fit
       whole = whole ∙ ap (λ (more : List ℕ). digit ∷ 32 ∷ more) (simp append_assoc);
       counted = simp length-append (omega (arith, counted));
       one_line = (label_no_lf digit labeled, (refl, no_lf-append prefix (digits ++ tail) part.no_lf (digits_no_lf digits tail hex crs)));
-      holds = sym (form_is ADDRESS_MAX (digit ∷ 32 ∷ (prefix ++ (digits ++ tail))) (Din (record { label = label_of digit; addr = hex_value digits }))
-          (digit, digits, tail, record {
-            gap = 32 ∷ [];
-            prefix = prefix;
-            begins = record { lead = []; blanks = tt; whole = refl };
-            labeled = labeled;
-            blanks = (space_is_blank, tt);
-            some = omega arith;
-            all_blanks = part.no_blank;
-            prefixed = part.is;
-            hex = hex;
-            all_hex = crs_stop tail crs;
-          }, some, fits, crs_tail tail crs, refl));
+      holds = sym (form_is ADDRESS_MAX (digit ∷ 32 ∷ (prefix ++ (digits ++ tail))) (Din (record { label = label_of digit; addr = hex_value digits })) (
+        digit,
+        digits,
+        tail,
+        record {
+          gap = 32 ∷ [];
+          prefix = prefix;
+          begins = record { lead = []; blanks = tt; whole = refl };
+          labeled = labeled;
+          blanks = (space_is_blank, tt);
+          some = omega arith;
+          all_blanks = part.no_blank;
+          prefixed = part.is;
+          hex = hex;
+          all_hex = crs_stop tail crs;
+        },
+        some,
+        fits,
+        crs_tail tail crs,
+        refl,
+      ));
     }
 
 pub each-append : (digits : List ℕ) (byte : ℕ) → Each is_hex digits → is_hex byte ≡ true → Each is_hex (digits ++ byte ∷ [])

@@ -26,6 +26,8 @@ mod line_reader;
 mod plain;
 mod record;
 mod source;
+#[cfg(test)]
+mod tests;
 mod text;
 
 pub use device::{ByteReader, ByteWriter, DeviceFailed, FromRead, FromWrite};

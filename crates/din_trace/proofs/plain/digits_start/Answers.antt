@@ -17,7 +17,7 @@ returns-then-bytes-eq88-clause-prefix c =
     let bytes = c.args.bytes.now in
     let x : ℕ = slice_index_or bytes 3 0 in
     let is_x : (x == 120 || x == 88) ≡ true = elim c.if-bytes-eq120.branch [
-        | then-bytes-eq120 w ↦ rw w.if-bytes-eq120.true refl
-        | else-bytes-eq120 w ↦ rw (ne_eqb x 120 w.if-bytes-eq120.false) (sym w.value-is ∙ c.if-bytes-eq88.true)
-      ] in
+      | then-bytes-eq120 w ↦ rw w.if-bytes-eq120.true refl
+      | else-bytes-eq120 w ↦ rw (ne_eqb x 120 w.if-bytes-eq120.false) (sym w.value-is ∙ c.if-bytes-eq88.true)
+    ] in
     (slice_index_or bytes 2 0 ∷ x ∷ [], (rw c.if-bytes-eq48.true is_x, refl), third_and_fourth bytes c.requires, refl)

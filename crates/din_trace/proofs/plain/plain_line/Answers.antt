@@ -56,8 +56,8 @@ returns-in-10-clause-line c =
     let start = c.digits_start-start.ensures.prefix in
     let at_lf : drop at bytes ≡ 10 ∷ drop (at + 1) bytes = drop_more bytes at 0 (omega (arith, now.to, c.digits_start-start.ensures.bound, c.if-bytes-lt-WINDOW.false)) ∙ ap (λ (byte : ℕ). byte ∷ drop (at + 1) bytes) c.in-10.is in
     rw (c.in-Some.ensures.1, now.value) (begins_plain bytes (slice_index_or bytes 0 0) start.0 now.digits [] (at + 1) c.in-Some.ensures.0 start.1 now.hex (omega (arith, now.counted, now.from, c.if-at-start.false))
-      (rw now.value at (fits (length now.digits) c.digits.addr (omega (arith, now.counted, now.to)) now.small)) tt
-      (whole_line bytes _ start.0 now.digits at [] (drop (at + 1) bytes) c.if-bytes-lt-WINDOW.false c.if-bytes-ne32.false start.2 now.whole at_lf) (omega (arith, now.counted, start.3)))
+    (rw now.value at (fits (length now.digits) c.digits.addr (omega (arith, now.counted, now.to)) now.small)) tt
+    (whole_line bytes _ start.0 now.digits at [] (drop (at + 1) bytes) c.if-bytes-lt-WINDOW.false c.if-bytes-ne32.false start.2 now.whole at_lf) (omega (arith, now.counted, start.3)))
 
 pub returns-then-bytes-at-eq10-clause-line : goal.returns-then-bytes-at-eq10-clause-line
 returns-then-bytes-at-eq10-clause-line c =
@@ -68,5 +68,5 @@ returns-then-bytes-at-eq10-clause-line c =
     let at_cr : drop at bytes ≡ 13 ∷ drop (at + 1) bytes = drop_more bytes at 0 (omega (arith, now.to, c.digits_start-start.ensures.bound, c.if-bytes-lt-WINDOW.false)) ∙ ap (λ (byte : ℕ). byte ∷ drop (at + 1) bytes) c.in-13.is in
     let at_lf : drop (at + 1) bytes ≡ 10 ∷ drop (at + 2) bytes = drop_more bytes (at + 1) 0 (omega (arith, now.to, c.digits_start-start.ensures.bound, c.if-bytes-lt-WINDOW.false)) ∙ ap (λ (byte : ℕ). byte ∷ drop (at + 1 + 1) bytes) c.if-bytes-at-eq10.true ∙ ap (λ (k : ℕ). 10 ∷ drop k bytes) (let two : at + 1 + 1 ≡ at + 2 = omega arith in two) in
     rw (c.in-Some.ensures.1, now.value) (begins_plain bytes (slice_index_or bytes 0 0) start.0 now.digits (13 ∷ []) (at + 2) c.in-Some.ensures.0 start.1 now.hex (omega (arith, now.counted, now.from, c.if-at-start.false))
-      (rw now.value at (fits (length now.digits) c.digits.addr (omega (arith, now.counted, now.to)) now.small)) (refl, tt)
-      (whole_line bytes _ start.0 now.digits at (13 ∷ []) (drop (at + 2) bytes) c.if-bytes-lt-WINDOW.false c.if-bytes-ne32.false start.2 now.whole (at_cr ∙ ap (λ (more : List ℕ). 13 ∷ more) at_lf)) (omega (arith, now.counted, start.3)))
+    (rw now.value at (fits (length now.digits) c.digits.addr (omega (arith, now.counted, now.to)) now.small)) (refl, tt)
+    (whole_line bytes _ start.0 now.digits at (13 ∷ []) (drop (at + 2) bytes) c.if-bytes-lt-WINDOW.false c.if-bytes-ne32.false start.2 now.whole (at_cr ∙ ap (λ (more : List ℕ). 13 ∷ more) at_lf)) (omega (arith, now.counted, start.3)))
