@@ -12,3 +12,4 @@ pub mod Calls
 pub mod WritesLemmas
 pub mod Tables
 pub mod Plains
+pub mod Told

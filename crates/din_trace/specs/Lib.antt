@@ -9,3 +9,4 @@ pub mod Backlog
 pub mod State
 pub mod Source
 pub mod Plain
+pub mod Faults

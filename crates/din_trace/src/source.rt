@@ -17,6 +17,7 @@ ghost use Rattle.std.specs.Prelude.{
   MatchResult,
   IfOk,
   IsSome,
+  vec_len,
 };
 ghost use Rattle.din_trace.specs.Line.{ADDRESS_MAX};
 ghost use Rattle.din_trace.specs.Left.{
@@ -121,6 +122,7 @@ impl<R: ByteReader> Source<R> {
             × HasLeft self.new later (record { records = []; fault = Some fault }))) }
         ensures bound { taken_by self.new ≤ limit_of self.new + 1 }
         ensures limit { limit_of self.new ≡ limit_of self.old }
+        ensures few { IfOk result (λ records. vec_len records ≤ room_of self.old) }
     {
         let mut records = Vec::new(alloc);
         'records: loop {

@@ -1,8 +1,8 @@
-use Rattle.std.proofs.Common.{◌≡◌, [], ◌∷◌, ◌++◌, Option, Ok, refl, ap, ◌∙◌, subst}
+use Rattle.std.proofs.Common.{◌≡◌, ◌+◌, ◌<◌, [], ◌∷◌, ◌++◌, Option, Ok, refl, ap, ◌∙◌, subst, arith, vec_len}
 use Rattle.din_trace.specs.declared.record.DinRecord.{DinRecord}
 use Rattle.din_trace.specs.Left.{Open, behind_first}
 use Rattle.din_trace.specs.Source as words
-use Rattle.din_trace.specs.Source.{HasLeft, Takes}
+use Rattle.din_trace.specs.Source.{HasLeft, Takes, room_of}
 use Rattle.din_trace.proofs.Calls.{Calls, calls, no_calls}
 use Rattle.din_trace.proofs.Scripts.{closes-settled, rest-record, rest-end, rest-fault}
 use Rattle.din_trace.proofs.source.Source.rest.Goals as goal
@@ -19,6 +19,7 @@ composed g c =
 
 pub records-init : goal.records-init
 records-init g c = record {
+  few = omega (arith, c.new-records.ensures);
   limit_same = refl;
   given = [];
   fate = Open;
@@ -32,6 +33,10 @@ records-preserved g c =
     let all = composed g c₁ in
     let now = c.records.invariant in
     record {
+      few =
+          let fall : room_of c.next.new.self < room_of c.records.self = (rw c.in-Some.is at c.in-Ok.ensures.records) refl in
+          let longer : vec_len c.push.new.self ≡ vec_len c.records.records + 1 = rw c.if-is_err.ensures.negation at c.push.ensures.len in
+          omega arith;
       limit_same = c.next.ensures.limit ∙ now.limit_same;
       given = all.given;
       fate = all.fate;

@@ -1,10 +1,11 @@
-use Rattle.std.proofs.Common.{◌≡◌, ◌++◌, List, ℕ}
+use Rattle.std.proofs.Common.{◌≡◌, ◌++◌, ◌+◌, ◌≤◌, List, ℕ, vec_len}
 use Rattle.din_trace.specs.Left.{Left, Script, Fate, Follows}
 use Rattle.din_trace.specs.Source.{HasLeft, room_of, limit_of, Takes}
 use Rattle.din_trace.proofs.source.Source.rest.Given as goal
 
 abbrev pub invariant-records : goal.invariant-records
 invariant-records g l = record {
+  few : vec_len l.records + room_of l.self ≤ room_of l.initial.self;
   limit_same : limit_of l.self ≡ limit_of l.initial.self;
   given : List ℕ;
   fate : Fate;
