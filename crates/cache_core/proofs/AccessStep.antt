@@ -1,0 +1,91 @@
+-- What the parts of `Cache::access` tell, put together.
+use Rattle.std.proofs.Common.{◌≡◌, ◌≢◌, ℕ, zero, suc, pred, ◌*◌, ◌%◌, ◌<◌, Bool, cond, not, ◌&&◌, ◌||◌, nat_eq, List, ◌∷◌, map, Option, is_some, refl, ap, ◌∙◌, arith}
+use Rattle.std.specs.List.{find, list_any}
+use Rattle.std.specs.Map.{lookup}
+use Rattle.std.proofs.Math.Nat.{mod-lt}
+use Rattle.cache_core.specs.declared.access.Access.{Access}
+use Rattle.cache_core.specs.declared.policy.Policy.{Policy}
+use Rattle.cache_core.specs.declared.geometry.Geometry.{Geometry}
+use Rattle.cache_core.specs.declared.ways.Way.{Way}
+use Rattle.cache_core.specs.History.{Rules, History, access, block_of, is_write}
+use Rattle.cache_core.specs.Residents.{hits, renewals}
+use Rattle.cache_core.specs.Kinds.{known_blocks, shadow_of}
+use Rattle.cache_core.specs.Parts.{outcome_of}
+use Rattle.cache_core.specs.Geometry.{size_of, bsize_of, assoc_of}
+use Rattle.cache_core.specs.Order.{ways_of}
+use Rattle.cache_core.specs.Policy.{is_fifo}
+use Rattle.cache_core.specs.Row.{holds_block, next_row, pushed_out, row, outcome_made, row_of}
+use Rattle.cache_core.specs.Standing.{rules_from}
+use Rattle.cache_core.proofs.Lawful.{IsSane, sane_of}
+use Rattle.lru.specs.LruCache.{lru_cache, promoted, put_entries}
+use Rattle.cache_core.proofs.Shadow.{pair, in_shadow-is, after_see, shadow-step}
+use Rattle.cache_core.proofs.Steps.{outcome-is, rows-step}
+
+suc_pred : (n : ℕ) → 0 < n → n ≡ suc (pred n)
+suc_pred zero h = absurd (omega arith)
+suc_pred (suc n) h = refl
+
+module _ (g : Geometry) (p : Policy) (h : History) (x : Access) where
+  abbrev r : Rules
+  r = rules_from g p
+
+  abbrev b : ℕ
+  b = block_of r x
+
+  abbrev s : ℕ
+  s = b % r.sets
+
+  abbrev first : ℕ
+  first = b * bsize_of g
+
+  abbrev shown : History → List (ℕ × Unit {0})
+  shown k = map pair (ways_of (shadow_of r) 0 (renewals (shadow_of r) k))
+
+  facts : IsSane (size_of g) (bsize_of g) (assoc_of g)
+  facts = sane_of g
+
+  pos : 0 < bsize_of g
+  pos = let low = facts.block_low in omega arith
+
+  inside : s < r.sets
+  inside = mod-lt b facts.sets_pos
+
+  size : r.ways ≡ suc (pred (assoc_of g))
+  size = suc_pred (assoc_of g) facts.assoc_pos
+
+  abbrev found : List Way → Option Way
+  found xs = find (holds_block first) (row (assoc_of g) s xs)
+
+  module _ (xs : List Way) (rows : (t : ℕ) → t < r.sets → row (assoc_of g) t xs ≡ row_of r h t) where
+    pub answers : (hit known in_shadow : Bool) (back : Option ℕ) (entries : List (ℕ × Unit {0})) → hit ≡ is_some (found xs) → back ≡ pushed_out p.wback p.walloc first (is_write x) (row (assoc_of g) s xs) (found xs)
+        → known ≡ list_any (λ t. nat_eq t b) (known_blocks r h) → in_shadow ≡ is_some (lookup (nat_eq b) entries) → entries ≡ shown h
+        → outcome_made p.wback p.walloc (is_write x) hit back known in_shadow ≡ outcome_of r h x
+    answers hit known in_shadow back entries hit-is back-is known-is shadow-is entries-is =
+        let here = rows s inside in
+        let e1 : hit ≡ is_some (find (holds_block first) (row_of r h s)) = hit-is ∙ ap (λ l. is_some (find (holds_block first) l)) here in
+        let e2 : back ≡ pushed_out p.wback p.walloc first (is_write x) (row_of r h s) (find (holds_block first) (row_of r h s)) = back-is ∙ ap (λ l. pushed_out p.wback p.walloc first (is_write x) l (find (holds_block first) l)) here in
+        let e3 : in_shadow ≡ hits (shadow_of r) (renewals (shadow_of r) h) x = shadow-is ∙ ap (λ l. is_some (lookup (nat_eq b) l)) entries-is ∙ in_shadow-is r h x (pred r.blocks) (suc_pred r.blocks facts.blocks_pos) in
+        ap (λ t. outcome_made p.wback p.walloc (is_write x) t back known in_shadow) e1
+        ∙ ap (λ t. outcome_made p.wback p.walloc (is_write x) (is_some (find (holds_block first) (row_of r h s))) t known in_shadow) e2
+        ∙ ap (λ t. outcome_made p.wback p.walloc (is_write x) (is_some (find (holds_block first) (row_of r h s))) (pushed_out p.wback p.walloc first (is_write x) (row_of r h s) (find (holds_block first) (row_of r h s))) t in_shadow) known-is
+        ∙ ap (λ t. outcome_made p.wback p.walloc (is_write x) (is_some (find (holds_block first) (row_of r h s))) (pushed_out p.wback p.walloc first (is_write x) (row_of r h s) (find (holds_block first) (row_of r h s))) (list_any (λ t. nat_eq t b) (known_blocks r h)) t) e3
+        ∙ outcome-is r pos (pred (assoc_of g)) size h x
+
+    pub rows-after : (ys : List Way) → row (assoc_of g) s ys ≡ next_row p.wback p.walloc first (is_write x) (row (assoc_of g) s xs) (found xs) (is_fifo p) → ((t : ℕ) → t ≢ s → row (assoc_of g) t ys ≡ row (assoc_of g) t xs)
+        → (t : ℕ) → t < r.sets → row (assoc_of g) t ys ≡ row_of r (access x ∷ h) t
+    rows-after ys now others = rows-step r pos (pred (assoc_of g)) size h x xs ys rows now others inside
+
+  pub shadow-after : (in_shadow load : Bool) (cap : ℕ) (old new : List (ℕ × Unit {0}))
+      → new ≡ cond (not in_shadow && load) (put_entries nat_eq (lru_cache (promoted (nat_eq b) old) cap) b tt) (promoted (nat_eq b) old)
+      → in_shadow ≡ is_some (lookup (nat_eq b) old) → load ≡ (not (is_write x) || p.walloc) → cap ≡ r.blocks → old ≡ shown h → new ≡ shown (access x ∷ h)
+  shadow-after in_shadow load cap old new is in-is load-is cap-is old-is =
+      is
+      ∙ ap (λ t. cond (not t && load) (put_entries nat_eq (lru_cache (promoted (nat_eq b) old) cap) b tt) (promoted (nat_eq b) old)) in-is
+      ∙ ap (λ t. after_see b t cap old) load-is
+      ∙ ap (λ n. after_see b (not (is_write x) || p.walloc) n old) cap-is
+      ∙ ap (after_see b (not (is_write x) || p.walloc) r.blocks) old-is
+      ∙ shadow-step r h x (pred r.blocks) (suc_pred r.blocks facts.blocks_pos)
+
+  pub known-after : (had : ℕ → Bool) → ((q : ℕ) → had q ≡ list_any (λ t. nat_eq t q) (known_blocks r h)) → (q : ℕ) → (nat_eq b q || had q) ≡ list_any (λ t. nat_eq t q) (known_blocks r (access x ∷ h))
+  unfolding known_blocks
+  known-after had was q = ap (λ t. nat_eq b q || t) (was q)

@@ -1,0 +1,33 @@
+-- The three kinds of miss (Hill; Hill and Smith, 1989).
+use Rattle.std.specs.Prelude.{ℕ, Bool, true, false, if◌then◌else◌, ◌==◌, List, [], ◌∷◌, Option, Some, None}
+use Rattle.std.specs.List.{list_any}
+use Rattle.cache_core.specs.declared.access.Access.{Access}
+use Rattle.cache_core.specs.declared.access.MissKind.{MissKind}
+use Rattle.cache_core.specs.declared.access.MissKind.TheVariants.{Compulsory, Capacity, Conflict}
+use Rattle.cache_core.specs.History.{access, flush, History, Rules, block_of}
+use Rattle.cache_core.specs.Residents.{hits, renewals}
+
+-- the shadow: one LRU set of as many blocks as the cache has, with the same write allocation
+abbrev pub shadow_of : Rules → Rules
+shadow_of r = record r { sets = 1; ways = r.blocks; fifo = false }
+
+module _ (r : Rules) where
+  -- the blocks of all accesses, those before a flush too
+  unfoldable pub known_blocks : History → List ℕ
+  known_blocks [] = []
+  known_blocks (flush ∷ h) = known_blocks h
+  known_blocks (access x ∷ h) = block_of r x ∷ known_blocks h
+
+  -- a miss is compulsory at a block that was never accessed, capacity where the shadow misses too, else conflict
+  unfoldable pub kind_of_miss : History → Access → MissKind
+  kind_of_miss h x =
+      if list_any (λ b. b == block_of r x) (known_blocks h)
+      then (if hits (shadow_of r) (renewals (shadow_of r) h) x then Conflict else Capacity)
+      else Compulsory
+
+-- whether there is a kind, and it is k
+abbrev pub is_kind : MissKind → Option MissKind → Bool
+is_kind k None = false
+is_kind Compulsory (Some j) = elim j as (λ _. Bool) [ Compulsory ↦ true | _ ↦ false ]
+is_kind Capacity (Some j) = elim j as (λ _. Bool) [ Capacity ↦ true | _ ↦ false ]
+is_kind Conflict (Some j) = elim j as (λ _. Bool) [ Conflict ↦ true | _ ↦ false ]

@@ -1,0 +1,40 @@
+-- Laws over the definitions.
+use Rattle.std.specs.Prelude.{◌≡◌, ◌≢◌, ℕ, ◌+◌, ◌%◌, ◌≤◌, true, false, ◌==◌, [], ◌∷◌, length, Some}
+use Rattle.std.specs.List.{list_any}
+use Rattle.cache_core.specs.declared.access.Access.{Access}
+use Rattle.cache_core.specs.declared.access.MissKind.TheVariants.{Conflict}
+use Rattle.cache_core.specs.History.{access, flush, History, Rules, is_write}
+use Rattle.cache_core.specs.Residents.{is_resident, leaves, renewals}
+use Rattle.cache_core.specs.Order.{ways_of}
+use Rattle.cache_core.specs.Dirty.{dirty_blocks}
+use Rattle.cache_core.specs.Parts.{one_if, outcome_of, part_count}
+
+-- the blocks of a set by falling last use (FIFO: by falling load), cut at its ways, are its residents
+abbrev pub OrderedWaysAreResidents : Type 0
+OrderedWaysAreResidents = (r : Rules) (h : History) (b : ℕ) →
+    list_any (λ m. m == b) (ways_of r (b % r.sets) (renewals r h)) ≡ is_resident r (renewals r h) b
+
+abbrev pub AtMostOneLeaves : Type 0
+AtMostOneLeaves = (r : Rules) (h : History) (x : Access) (a b : ℕ) →
+    leaves r h x a ≡ true → leaves r h x b ≡ true → a ≡ b
+
+-- one LRU set of all blocks
+pub record IsOneLruSet (r : Rules) : Type 0 where
+  pub one_set : r.sets ≡ 1
+  pub all_blocks : r.ways ≡ r.blocks
+  pub lru : r.fifo ≡ false
+
+abbrev pub OneLruSetHasNoConflict : Type 0
+OneLruSetHasNoConflict = (r : Rules) → IsOneLruSet r → (h : History) (x : Access) →
+    (outcome_of r h x).kind ≢ Some Conflict
+
+-- the parts of an access and the blocks that are dirty after it are at most one more than the blocks dirty before it,
+-- or two more where it writes
+abbrev pub AccessesPay : Type 0
+AccessesPay = (r : Rules) (h : History) (x : Access) →
+    part_count (outcome_of r h x) + length (dirty_blocks r (access x ∷ h))
+    ≤ length (dirty_blocks r h) + (1 + one_if (is_write x))
+
+-- after a flush nothing is dirty
+abbrev pub FlushesPay : Type 0
+FlushesPay = (r : Rules) (h : History) → dirty_blocks r (flush ∷ h) ≡ []

@@ -1,0 +1,47 @@
+-- The code's side: a set as a map in order, and the row that it shows.
+use Rattle.std.specs.Prelude.{ℕ, Bool, true, ◌&&◌, ◌||◌, nat_eq, if◌then◌else◌, List, [], ◌∷◌, ◌++◌, take, map, filter, replicate, Option, Some, None}
+use Rattle.std.specs.Map.{lookup_entry, remove_entry, set_value}
+use Rattle.std.specs.Option.{option_map_or}
+use Rattle.std.specs.List.{flat_map}
+use Rattle.lru.specs.LruCache.{LruCache, lru_cache}
+use Rattle.cache_core.specs.declared.ways.Way.{Way}
+use Rattle.cache_core.specs.Row.{empty_way}
+
+-- the way of a block, by its first byte, and its mark
+abbrev pub way_of : ℕ × Bool → Way
+way_of e = record { first = e.0; held = true; dirty = e.1 }
+
+-- n ways that show the entries in order, and then hold nothing
+abbrev pub shown : ℕ → List (ℕ × Bool) → List Way
+shown n es = take n (map way_of es ++ replicate n empty_way)
+
+-- the entries after a use of a block, which goes first if it is there
+abbrev pub used_entries : ℕ → Bool → Bool → List (ℕ × Bool) → List (ℕ × Bool)
+used_entries b write_back write es =
+    option_map_or (λ e. (e.0, write_back && (write || e.1)) ∷ remove_entry (nat_eq b) es) (lookup_entry (nat_eq b) es) es
+
+-- the entries after an access to a block, which FIFO leaves where it stands
+abbrev pub touched_entries : ℕ → Bool → Bool → Bool → List (ℕ × Bool) → List (ℕ × Bool)
+touched_entries b write_back write fifo es =
+    if fifo then (if write_back && write then set_value (nat_eq b) es true else es) else used_entries b write_back write es
+
+-- the first byte of an entry's block, if it is dirty
+abbrev pub dirty_entry : ℕ × Bool → Option ℕ
+dirty_entry e = if e.1 then Some e.0 else None
+
+abbrev pub Entered : Type 0
+Entered = LruCache ℕ Bool
+
+abbrev pub cap_of : Entered → ℕ
+cap_of m = m.cap
+
+abbrev pub emptied : Entered → Entered
+emptied m = lru_cache [] m.cap
+
+-- the ways of the sets, one set after another
+abbrev pub flat : ℕ → List Entered → List Way
+flat n ms = flat_map (λ m. shown n m.entries) ms
+
+-- the first bytes of a set's dirty blocks
+abbrev pub dirty_keys_of : Entered → List ℕ
+dirty_keys_of m = map (λ e. e.0) (filter (λ e. e.1) m.entries)

@@ -1,0 +1,13 @@
+-- The residents of a set in order.
+use Rattle.std.specs.Prelude.{ℕ, List, take, if◌then◌else◌}
+use Rattle.cache_core.specs.History.{Rules}
+use Rattle.cache_core.specs.Residents.{in_set, distinct}
+
+module _ (r : Rules) where
+  -- the renewed blocks of set s by falling last use (FIFO: by falling load)
+  abbrev pub ranked : ℕ → List ℕ → List ℕ
+  ranked s ms = if r.fifo then in_set r s ms else distinct (in_set r s ms)
+
+  -- cut at the number of ways
+  abbrev pub ways_of : ℕ → List ℕ → List ℕ
+  ways_of s ms = take r.ways (ranked s ms)

@@ -1,0 +1,70 @@
+-- What a cache has to do with a history: the one bridge from the definitions to the code.
+use Rattle.std.specs.Prelude.{◌≡◌, ℕ, ◌*◌, ◌%◌, ◌<◌, Bool, false, ◌==◌, nat_eq, List, length, map, filter}
+use Rattle.std.specs.List.{list_any}
+use Rattle.std.specs.HashSet.{contains}
+use Rattle.cache_core.specs.declared.policy.Policy.{Policy}
+use Rattle.cache_core.specs.declared.counts.Counts.{Counts}
+use Rattle.cache_core.specs.declared.geometry.Geometry.{Geometry}
+use Rattle.cache_core.specs.declared.cache.Cache.{Cache}
+use Rattle.cache_core.specs.History.{Rules, History}
+use Rattle.cache_core.specs.Residents.{renewals, is_resident}
+use Rattle.cache_core.specs.Order.{ways_of}
+use Rattle.cache_core.specs.Kinds.{shadow_of, known_blocks}
+use Rattle.cache_core.specs.Counts.{counts_of}
+use Rattle.cache_core.specs.Geometry.{bsize_of, assoc_of, sets_of, blocks_of}
+use Rattle.cache_core.specs.Row.{row, row_of, is_held, first_of}
+use Rattle.cache_core.specs.Sets.{ways_in}
+use Rattle.cache_core.specs.Policy.{is_fifo}
+
+-- the rules of a cache of this shape and policy
+abbrev pub rules_from : Geometry → Policy → Rules
+rules_from g p = record {
+  block_size = bsize_of g;
+  sets = sets_of g;
+  ways = assoc_of g;
+  blocks = blocks_of g;
+  fifo = is_fifo p;
+  write_back = p.wback;
+  allocate = p.walloc;
+}
+
+unfoldable pub rules_of : Cache → Rules
+rules_of c = rules_from c.geometry c.policy
+
+-- how many accesses and flushes succeeded
+unfoldable pub served_of : Cache → ℕ
+served_of c = c.served
+
+unfoldable pub counts_kept : Cache → Counts
+counts_kept c = c.counts
+
+-- whether a call was refused memory
+unfoldable pub has_failed : Cache → Bool
+has_failed c = c.failed
+
+-- the first bytes of the blocks that set s holds, in the order of its ways
+unfoldable pub held_in : Cache → ℕ → List ℕ
+held_in c s = map first_of (filter is_held (row (assoc_of c.geometry) s (ways_in c.sets)))
+
+abbrev with_unit : ℕ → ℕ × Unit {0}
+with_unit b = (b, tt)
+
+-- the cache has not failed, and what it keeps is what the history gives
+pub record StandsFor (c : Cache) (h : History) : Type 0 where
+  pub working : has_failed c ≡ false
+  -- each set: its residents by falling last use (FIFO: by falling load), each with its mark
+  pub rows : (s : ℕ) → s < (rules_of c).sets → row (rules_of c).ways s (ways_in c.sets) ≡ row_of (rules_of c) h s
+  -- the shadow: its residents by falling last use
+  pub shadow : c.kinds.shadow.entries
+      ≡ map with_unit (ways_of (shadow_of (rules_of c)) 0 (renewals (shadow_of (rules_of c)) h))
+  pub known : (b : ℕ) → contains nat_eq c.kinds.known b ≡ list_any (λ t. nat_eq t b) (known_blocks (rules_of c) h)
+  pub counts : counts_kept c ≡ counts_of (rules_of c) h
+  pub served : served_of c ≡ length h
+
+-- the ways of each set hold its residents and nothing else, by falling last use (FIFO: by falling load)
+pub record HoldsResidents (c : Cache) (h : History) : Type 0 where
+  pub in_order : (s : ℕ) → s < (rules_of c).sets →
+      held_in c s ≡ map (λ b. b * (rules_of c).block_size) (ways_of (rules_of c) s (renewals (rules_of c) h))
+  pub residents : (b : ℕ) →
+      list_any (λ m. m == b) (ways_of (rules_of c) (b % (rules_of c).sets) (renewals (rules_of c) h))
+      ≡ is_resident (rules_of c) (renewals (rules_of c) h) b

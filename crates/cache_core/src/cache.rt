@@ -1,0 +1,222 @@
+//! One cache.
+
+ghost use Rattle.std.specs.Prelude.{◌≡◌, ◌≤◌, ◌+◌, true};
+ghost use Rattle.cache_core.specs.Counts.{AddUp};
+ghost use Rattle.cache_core.specs.Geometry.{sets_of, assoc_of, blocks_of};
+ghost use Rattle.cache_core.specs.Counting.{AreWithin};
+ghost use Rattle.cache_core.specs.Row.{outcome_made, dirty_count};
+ghost use Rattle.cache_core.specs.Sets.{ways_in, has_shape};
+
+use crate::access::{Access, MissKind, Outcome, writes};
+use crate::counts::{Counts, count_access, count_flush};
+use crate::geometry::Geometry;
+use crate::kinds::{Kinds, Seen};
+use crate::policy::{Policy, may_load};
+use crate::sets::{Sets, clear_sets, dirty_firsts, empty_sets, serve_set};
+use crate::ways::Served;
+use std::alloc::Global;
+
+/// How many accesses and flushes one cache serves.
+pub const MAX_EVENTS: u64 = 1 << 44;
+
+/// Memory was refused.
+#[derive(Clone, Copy, Debug, PartialEq, Eq)]
+pub struct NoMemory;
+
+/// A cache that serves accesses and flushes, one by one. After a refusal of memory it has failed.
+#[derive(Drop)]
+pub struct Cache {
+    alloc: Global,
+    geometry: Geometry,
+    policy: Policy,
+    sets: Sets,
+    kinds: Kinds,
+    counts: Counts,
+    served: u64,
+    failed: bool,
+    ghost room: { has_shape (sets_of geometry) (assoc_of geometry) sets ≡ true },
+    ghost shadow_room: { kinds.shadow.cap ≡ blocks_of geometry },
+    ghost bounded: { AreWithin counts served },
+    ghost sums: { AddUp counts.misses counts.compulsory counts.capacity counts.conflict },
+    ghost paid: { counts.written_back + dirty_count (ways_in sets) ≤ served },
+}
+
+/// What an access answers, from what its set and the history of blocks told.
+fn outcome_from(policy: Policy, write: bool, served: Served, seen: Seen) -> Outcome
+    ensures { result ≡ outcome_made policy.wback policy.walloc write
+        served.hit served.back seen.known seen.in_shadow }
+{
+    let kind = if seen.known {
+        if seen.in_shadow {
+            MissKind::Conflict
+        } else {
+            MissKind::Capacity
+        }
+    } else {
+        MissKind::Compulsory
+    };
+    let uses = !write || policy.walloc || served.hit;
+    Outcome {
+        hit: served.hit,
+        kind: if served.hit { None } else { Some(kind) },
+        back: served.back,
+        fetch: uses && !served.hit,
+        through: write && (!policy.wback || !uses),
+    }
+}
+
+impl Cache {
+    ghost use Rattle.std.specs.Prelude.{◌≡◌, ◌≢◌, ◌<◌, ◌≤◌, ◌+◌, ◌*◌, ◌^◌, ◌++◌, map, length, [], ◌∷◌, ℕ, true, false, IfOk, OnOk, OnErr, IsErr};
+    ghost use Rattle.cache_core.specs.History.{History, access as accessed, flush as flushed};
+    ghost use Rattle.cache_core.specs.Dirty.{dirty_blocks};
+    ghost use Rattle.cache_core.specs.Parts.{outcome_of};
+    ghost use Rattle.cache_core.specs.Counts.{counts_of, no_counts, none_by_class, KindsAddUp};
+    ghost use Rattle.cache_core.specs.Laws.{IsOneLruSet};
+    ghost use Rattle.cache_core.specs.Standing.{StandsFor, HoldsResidents, rules_of, rules_from, served_of, counts_kept, has_failed};
+
+    /// A cache that holds nothing and has counted nothing.
+    #[tactic(auto, unfolding(crate::specs::Standing::rules_of, crate::specs::Standing::served_of, crate::specs::Standing::counts_kept, crate::specs::Standing::has_failed))]
+    pub fn new(alloc: Global, geometry: Geometry, policy: Policy) -> Result<Cache, NoMemory>
+        ensures rules { IfOk result (λ cache. rules_of cache ≡ rules_from geometry policy) }
+        ensures stands { IfOk result (λ cache. StandsFor cache []) }
+        ensures counts { IfOk result (λ cache. counts_kept cache ≡ no_counts) }
+        ensures served { IfOk result (λ cache. served_of cache ≡ 0) }
+        ensures works { IfOk result (λ cache. has_failed cache ≡ false) }
+    {
+        let Ok(sets) = empty_sets(alloc, geometry.sets() as usize, geometry.assoc() as usize) else {
+            return Err(NoMemory);
+        };
+        let Ok(kinds) = Kinds::new(alloc, geometry.blocks()) else {
+            return Err(NoMemory);
+        };
+        Ok(Cache {
+            alloc,
+            geometry,
+            policy,
+            sets,
+            kinds,
+            counts: Counts::default(),
+            served: 0,
+            failed: false,
+        })
+    }
+
+    /// The counts of all accesses and flushes that succeeded, also after a refusal.
+    #[tactic(auto, unfolding(crate::specs::Standing::counts_kept))]
+    pub fn counts(&self) -> Counts
+        ensures kept { result ≡ counts_kept self.now }
+        ensures counted { (h : History) → StandsFor self.now h → result ≡ counts_of (rules_of self.now) h }
+        ensures kinds_add_up { KindsAddUp result }
+        ensures one_lru_set { (h : History) → StandsFor self.now h →
+            IsOneLruSet (rules_of self.now) → result.conflict ≡ none_by_class }
+    {
+        self.counts
+    }
+
+    /// How many accesses and flushes succeeded.
+    #[tactic(auto, unfolding(crate::specs::Standing::served_of))]
+    pub fn served(&self) -> u64
+        ensures served { result ≡ served_of self.now }
+        ensures all { (h : History) → StandsFor self.now h → result ≡ length h }
+    {
+        self.served
+    }
+
+    /// Whether a call was refused memory.
+    #[tactic(auto, unfolding(crate::specs::Standing::has_failed))]
+    pub fn failed(&self) -> bool
+        ensures { result ≡ has_failed self.now }
+    {
+        self.failed
+    }
+
+    /// Serves one access.
+    #[tactic(auto, unfolding(crate::specs::Standing::rules_of, crate::specs::Standing::served_of, crate::specs::Standing::counts_kept, crate::specs::Standing::has_failed))]
+    pub fn access(&mut self, access: Access) -> Result<Outcome, NoMemory>
+        requires { served_of self.old < MAX_EVENTS }
+        ensures outcome { IfOk result (λ outcome. (h : History) → StandsFor self.old h →
+            outcome ≡ outcome_of (rules_of self.old) h access) }
+        ensures stands { OnOk result ((h : History) → StandsFor self.old h →
+            StandsFor self.new (accessed access ∷ h)) }
+        // What the ways hold, by last use or last load, are the residents by reuse distance.
+        ensures residents { OnOk result ((h : History) → StandsFor self.old h →
+            HoldsResidents self.new (accessed access ∷ h)) }
+        ensures served { OnOk result (served_of self.new ≡ served_of self.old + 1) }
+        ensures works { OnOk result (has_failed self.new ≡ false) }
+
+        ensures fails { OnErr result (has_failed self.new ≡ true) }
+        ensures keeps { OnErr result ((counts_kept self.new ≡ counts_kept self.old)
+            × (served_of self.new ≡ served_of self.old)) }
+        ensures failed { has_failed self.old ≡ true → IsErr result }
+        ensures rules { rules_of self.new ≡ rules_of self.old }
+    {
+        if self.failed {
+            return Err(NoMemory);
+        }
+        let write = writes(access);
+        let block = self.geometry.block(access.addr);
+        let load = may_load(write, self.policy);
+        let Ok(seen) = self.kinds.see(block, load) else {
+            self.failed = true;
+            return Err(NoMemory);
+        };
+        let set = self.geometry.set(block);
+        let assoc = self.geometry.assoc();
+        let first = self.geometry.first_byte(block);
+        let Ok(served) = serve_set(
+            &mut self.sets,
+            set as usize,
+            assoc as usize,
+            self.policy,
+            first,
+            write,
+        ) else {
+            self.failed = true;
+            return Err(NoMemory);
+        };
+        let outcome = outcome_from(self.policy, write, served, seen);
+        count_access(&mut self.counts, access, outcome);
+        self.served += 1;
+        Ok(outcome)
+    }
+
+    /// Appends the first bytes of the dirty blocks, rising, and empties the cache and its shadow. Which blocks were ever
+    /// accessed stays known.
+    #[tactic(auto, unfolding(crate::specs::Standing::rules_of, crate::specs::Standing::served_of, crate::specs::Standing::counts_kept, crate::specs::Standing::has_failed))]
+    pub fn flush(&mut self, out: &mut Vec<u64>) -> Result<(), NoMemory>
+        requires { served_of self.old < MAX_EVENTS }
+        ensures appends { OnOk result ((h : History) → StandsFor self.old h →
+            out.new.items ≡ out.old.items
+            ++ map (λ b. b * (rules_of self.old).block_size)
+            (dirty_blocks (rules_of self.old) h)) }
+        ensures stands { OnOk result ((h : History) → StandsFor self.old h → StandsFor self.new (flushed ∷ h)) }
+        // Known without a history too: no more than the cache has ways.
+        ensures few { OnOk result (length out.new.items ≤ length out.old.items + 2 ^ 24) }
+        ensures served { OnOk result (served_of self.new ≡ served_of self.old + 1) }
+        ensures works { OnOk result (has_failed self.new ≡ false) }
+
+        ensures fails { OnErr result (has_failed self.new ≡ true) }
+        ensures keeps { OnErr result ((counts_kept self.new ≡ counts_kept self.old)
+            × (served_of self.new ≡ served_of self.old)
+            × (out.new.items ≡ out.old.items)) }
+        ensures failed { has_failed self.old ≡ true → IsErr result }
+        ensures rules { rules_of self.new ≡ rules_of self.old }
+    {
+        if self.failed {
+            return Err(NoMemory);
+        }
+        let Ok(firsts) = dirty_firsts(self.alloc, &self.sets) else {
+            self.failed = true;
+            return Err(NoMemory);
+        };
+        let Ok(()) = out.extend_from_slice(&firsts) else {
+            self.failed = true;
+            return Err(NoMemory);
+        };
+        count_flush(&mut self.counts, firsts.len() as u64);
+        clear_sets(&mut self.sets);
+        self.kinds.forget_shadow();
+        self.served += 1;
+        Ok(())
+    }
+}

@@ -1,0 +1,100 @@
+//! The counts of one cache.
+
+ghost use Rattle.std.specs.Prelude.{◌≡◌, ◌≤◌, ◌<◌, ◌^◌, ◌+◌};
+ghost use Rattle.cache_core.specs.Counts.{total_of, no_counts};
+ghost use Rattle.cache_core.specs.Counting.{with_one, with_access, with_flush, IsWithin, AreWithin};
+
+use crate::access::{Access, Class, MissKind, Outcome, has_kind};
+
+/// A count for each class of access.
+#[derive(Clone, Copy, Debug, Default, PartialEq, Eq)]
+pub struct PerClass {
+    pub instr: u64,
+    pub read: u64,
+    pub write: u64,
+    pub misc: u64,
+}
+
+/// All counts of one cache.
+#[derive(Clone, Copy, Debug, Default, PartialEq, Eq)]
+pub struct Counts {
+    /// The accesses.
+    pub fetches: PerClass,
+    /// The accesses that missed, and these by their kind.
+    pub misses: PerClass,
+    pub compulsory: PerClass,
+    pub capacity: PerClass,
+    pub conflict: PerClass,
+    /// The blocks that were brought in.
+    pub loaded: u64,
+    /// The dirty blocks that were written back, at flushes too.
+    pub written_back: u64,
+    /// The writes that were sent on.
+    pub sent_on: u64,
+    pub flushes: u64,
+}
+
+impl PerClass {
+    /// The sum of the four counts.
+    pub fn total(&self) -> u128
+        ensures sum { result ≡ total_of self.now }
+        ensures small { result < 2 ^ 66 }
+    {
+        u128::from(self.instr)
+            + u128::from(self.read)
+            + u128::from(self.write)
+            + u128::from(self.misc)
+    }
+}
+
+/// One more of the class of the access, where `counted`.
+fn count(per_class: &mut PerClass, access: Access, counted: bool)
+    requires { IsWithin per_class.old (2 ^ 44) }
+    ensures { per_class.new ≡ with_one access counted per_class.old }
+{
+    if counted {
+        match access.class {
+            Class::Instr => per_class.instr += 1,
+            Class::Read => per_class.read += 1,
+            Class::Write => per_class.write += 1,
+            Class::Misc => per_class.misc += 1,
+        }
+    }
+}
+
+/// Counts an access.
+pub(crate) fn count_access(counts: &mut Counts, access: Access, outcome: Outcome)
+    requires { AreWithin counts.old (2 ^ 44) }
+    ensures { counts.new ≡ with_access access outcome counts.old }
+{
+    count(&mut counts.fetches, access, true);
+    count(&mut counts.misses, access, !outcome.hit);
+    count(
+        &mut counts.compulsory,
+        access,
+        has_kind(MissKind::Compulsory, outcome.kind),
+    );
+    count(
+        &mut counts.capacity,
+        access,
+        has_kind(MissKind::Capacity, outcome.kind),
+    );
+    count(
+        &mut counts.conflict,
+        access,
+        has_kind(MissKind::Conflict, outcome.kind),
+    );
+    counts.loaded += outcome.fetch as u64;
+    counts.written_back += outcome.back.is_some() as u64;
+    counts.sent_on += outcome.through as u64;
+}
+
+/// Counts a flush that wrote some blocks back.
+pub(crate) fn count_flush(counts: &mut Counts, written: u64)
+    requires room { counts.old.written_back + written < 2 ^ 64 }
+    requires flushes { counts.old.flushes < 2 ^ 44 }
+    ensures { counts.new ≡ with_flush written counts.old }
+{
+    counts.written_back += written;
+    counts.flushes += 1;
+}

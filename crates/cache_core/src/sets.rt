@@ -1,0 +1,103 @@
+//! All sets of a cache, in the form that suits their number of ways.
+
+ghost use Rattle.std.specs.Prelude.{◌≡◌, ◌<◌, ◌≤◌, ◌≢◌, ◌+◌, ◌*◌, ◌^◌, ℕ, List, true, is_some, length, map, filter, nat_eq, replicate, vec_len, IfOk, OnErr};
+ghost use Rattle.std.specs.List.{dedup};
+ghost use Rattle.std.specs.List.Sorted.{IsPermutation, IsSorted};
+ghost use Rattle.std.specs.Ordering.{nat_cmp};
+ghost use Rattle.cache_core.specs.Parts.{one_if};
+ghost use Rattle.cache_core.specs.Row.{row, dirty_count, empty_way, is_dirty_way, first_of};
+ghost use Rattle.cache_core.specs.Sets.{ways_in, has_shape};
+ghost use Rattle.cache_core.specs.Serving.{ServesRow};
+
+use crate::maps::Maps;
+use crate::policy::Policy;
+use crate::ways::{Served, Way, clear_ways, dirty_ways, empty_ways, serve};
+use std::alloc::{AllocError, Global};
+
+/// The most ways that a set has as a row. Measured: up to here the scan of a row is no slower than a look-up in a map.
+const MOST_IN_A_ROW: usize = 64;
+
+/// The sets of a cache: rows of few ways that lie one after another, or a map for each set of many ways.
+#[derive(Drop)]
+pub(crate) enum Sets {
+    Rows(Vec<Way>),
+    Maps(Maps),
+}
+
+/// Sets that hold nothing.
+pub(crate) fn empty_sets(alloc: Global, count: usize, assoc: usize) -> Result<Sets, AllocError>
+    requires ways { 0 < assoc }
+    requires fits { count * assoc < 2 ^ 64 }
+    ensures empty { IfOk result (λ sets. ways_in sets ≡ replicate (count * assoc) empty_way) }
+    ensures shape { IfOk result (λ sets. has_shape count assoc sets ≡ true) }
+{
+    if assoc <= MOST_IN_A_ROW {
+        let ways = empty_ways(alloc, count * assoc)?;
+        return Ok(Sets::Rows(ways));
+    }
+    let maps = Maps::new(alloc, count, assoc)?;
+    Ok(Sets::Maps(maps))
+}
+
+/// One access to a set.
+pub(crate) fn serve_set(
+    sets: &mut Sets,
+    set: usize,
+    assoc: usize,
+    policy: Policy,
+    first: u64,
+    write: bool,
+) -> Result<Served, AllocError>
+    requires { (count : ℕ) × (has_shape count assoc sets.old ≡ true) × (set < count) }
+    ensures served { IfOk result (λ served. ServesRow policy first write
+        (row assoc set (ways_in sets.old)) (row assoc set (ways_in sets.new)) served) }
+    ensures others { (s : ℕ) → s ≢ set → row assoc s (ways_in sets.new) ≡ row assoc s (ways_in sets.old) }
+    ensures paid { IfOk result (λ served.
+        dirty_count (ways_in sets.new) + one_if (is_some served.back)
+        ≤ dirty_count (ways_in sets.old) + 1) }
+    ensures keeps { OnErr result (ways_in sets.new ≡ ways_in sets.old) }
+    ensures shape { (count : ℕ) → has_shape count assoc sets.old ≡ true → has_shape count assoc sets.new ≡ true }
+{
+    match sets {
+        Sets::Rows(ways) => Ok(serve(ways, set, assoc, policy, first, write)),
+        Sets::Maps(maps) => maps.serve(set, policy, first, write),
+    }
+}
+
+/// The first bytes of the dirty blocks, as they lie.
+fn dirty_in(alloc: Global, sets: &Sets) -> Result<Vec<u64>, AllocError>
+    ensures { IfOk result (λ v. v.items ≡ map first_of (filter is_dirty_way (ways_in sets.now))) }
+{
+    match sets {
+        Sets::Rows(ways) => dirty_ways(alloc, ways),
+        Sets::Maps(maps) => maps.dirty(alloc),
+    }
+}
+
+/// The first bytes of the dirty blocks, rising.
+pub(crate) fn dirty_firsts(alloc: Global, sets: &Sets) -> Result<Vec<u64>, AllocError>
+    ensures firsts { IfOk result (λ v. (ys : List ℕ)
+        × IsPermutation (map first_of (filter is_dirty_way (ways_in sets.now))) ys
+        × IsSorted nat_cmp ys
+        × (v.items ≡ dedup nat_eq ys)) }
+    ensures few { IfOk result (λ v.
+        vec_len v ≤ length (map first_of (filter is_dirty_way (ways_in sets.now)))) }
+{
+    let mut firsts = dirty_in(alloc, sets)?;
+    firsts.sort_unstable();
+    firsts.dedup();
+    Ok(firsts)
+}
+
+/// Lets all blocks go.
+pub(crate) fn clear_sets(sets: &mut Sets)
+    ensures empty { (count assoc : ℕ) → has_shape count assoc sets.old ≡ true →
+        ways_in sets.new ≡ replicate (count * assoc) empty_way }
+    ensures shape { (count assoc : ℕ) → has_shape count assoc sets.old ≡ true →
+        has_shape count assoc sets.new ≡ true }
+{
+    match sets {
+        Sets::Rows(ways) => clear_ways(ways),
+        Sets::Maps(maps) => maps.clear(),
+    }
+}

@@ -1,0 +1,184 @@
+//! Sets of few ways: each a row of ways in order, the block that was used last (FIFO: loaded last) first, and empty
+//! ways behind the blocks. The rows lie one after another.
+
+ghost use Rattle.std.specs.Prelude.{◌≡◌, ◌≢◌, ◌≤◌, ◌+◌, ◌*◌, ℕ, length, is_some, false, IfOk, map, filter, replicate, vec_len};
+ghost use Rattle.std.specs.List.{find};
+ghost use Rattle.std.specs.Option.{option_map_or};
+ghost use Rattle.cache_core.specs.Parts.{one_if};
+ghost use Rattle.cache_core.specs.Row.{holds_block, shifted, leaving, changed, dirtied, row, empty_way, is_dirty_way, first_of, dirty_count};
+ghost use Rattle.cache_core.specs.Serving.{ServesRow};
+
+use crate::policy::{Policy, Repl};
+use std::alloc::{AllocError, Global};
+
+/// One way of a set: a block that it holds, by its first byte, or nothing.
+#[derive(Clone, Copy, Debug, PartialEq, Eq)]
+pub(crate) struct Way {
+    pub first: u64,
+    pub held: bool,
+    pub dirty: bool,
+}
+
+/// What an access to a set found, and the first byte of the dirty block that it pushed out.
+#[derive(Clone, Copy, Debug, PartialEq, Eq)]
+pub(crate) struct Served {
+    pub hit: bool,
+    pub back: Option<u64>,
+}
+
+/// A way that holds nothing.
+fn no_way() -> Way
+    ensures { result ≡ empty_way }
+{
+    Way {
+        first: 0,
+        held: false,
+        dirty: false,
+    }
+}
+
+/// Ways that hold nothing.
+pub(crate) fn empty_ways(alloc: Global, count: usize) -> Result<Vec<Way>, AllocError>
+    ensures { IfOk result (λ v. (v.items ≡ replicate count empty_way) × (vec_len v ≡ count)) }
+{
+    vec![in alloc; no_way(); count]
+}
+
+/// The way that holds the block.
+fn find_way(row: &[Way], first: u64) -> Option<Way>
+    ensures { result ≡ find (holds_block first) row.now }
+{
+    row.iter()
+        .copied()
+        .find(|way| way.held && way.first == first)
+}
+
+fn was_dirty(found: Option<Way>) -> bool
+    ensures { result ≡ option_map_or (λ w. w.dirty) found false }
+{
+    match found {
+        Some(way) => way.dirty,
+        None => false,
+    }
+}
+
+/// Puts `front` first and moves each way one place back, up to the one that holds the block, or up to the last. The way
+/// that leaves is the answer.
+fn bring_front(row: &mut [Way], first: u64, front: Way) -> Way
+    ensures row { row.new ≡ shifted (holds_block first) front row.old }
+    ensures leaves { result ≡ leaving (holds_block first) front row.old }
+{
+    let mut carried = front;
+    for way in row.iter_mut() {
+        let here = *way;
+        *way = carried;
+        if here.held && here.first == first {
+            return here;
+        }
+        carried = here;
+    }
+    carried
+}
+
+/// Marks the block's way.
+fn mark_dirty(row: &mut [Way], first: u64)
+    ensures { row.new ≡ changed (holds_block first) dirtied row.old }
+{
+    for way in row.iter_mut() {
+        if way.held && way.first == first {
+            way.dirty = true;
+            return;
+        }
+    }
+}
+
+/// One access to the row of its set.
+fn serve_row(row: &mut [Way], policy: Policy, first: u64, write: bool) -> Served
+    ensures { ServesRow policy first write row.old row.new result }
+{
+    let found = find_way(row, first);
+    let dirty = policy.wback && (write || was_dirty(found));
+    if let Some(_) = found {
+        match policy.repl {
+            Repl::Fifo => {
+                if policy.wback && write {
+                    mark_dirty(row, first);
+                }
+            }
+            Repl::Lru => {
+                let _left = bring_front(
+                    row,
+                    first,
+                    Way {
+                        first,
+                        held: true,
+                        dirty,
+                    },
+                );
+            }
+        }
+        return Served {
+            hit: true,
+            back: None,
+        };
+    }
+    if write && !policy.walloc {
+        return Served {
+            hit: false,
+            back: None,
+        };
+    }
+    let left = bring_front(
+        row,
+        first,
+        Way {
+            first,
+            held: true,
+            dirty,
+        },
+    );
+    Served {
+        hit: false,
+        back: if left.held && left.dirty {
+            Some(left.first)
+        } else {
+            None
+        },
+    }
+}
+
+/// One access to a set.
+pub(crate) fn serve(
+    ways: &mut [Way],
+    set: usize,
+    assoc: usize,
+    policy: Policy,
+    first: u64,
+    write: bool,
+) -> Served
+    requires { (set + 1) * assoc ≤ length ways.old }
+    ensures served { ServesRow policy first write (row assoc set ways.old) (row assoc set ways.new) result }
+    ensures others { (s : ℕ) → s ≢ set → row assoc s ways.new ≡ row assoc s ways.old }
+    ensures paid { dirty_count ways.new + one_if (is_some result.back) ≤ dirty_count ways.old + 1 }
+{
+    let start = set * assoc;
+    let end = start + assoc;
+    serve_row(&mut ways[start..end], policy, first, write)
+}
+
+/// The first bytes of the dirty blocks, as they lie.
+pub(crate) fn dirty_ways(alloc: Global, ways: &[Way]) -> Result<Vec<u64>, AllocError>
+    ensures { IfOk result (λ v. v.items ≡ map first_of (filter is_dirty_way ways.now)) }
+{
+    ways.iter()
+        .filter(|way| way.held && way.dirty)
+        .map(|way| way.first)
+        .collect(alloc)
+}
+
+/// Lets all blocks go.
+pub(crate) fn clear_ways(ways: &mut [Way])
+    ensures { ways.new ≡ replicate (length ways.old) empty_way }
+{
+    ways.fill(no_way());
+}
