@@ -1,0 +1,3 @@
+pub mod FaultText
+pub mod FirstRun
+pub mod Report
