@@ -40,6 +40,8 @@ use crate::fault::TraceFault;
 use crate::line_reader::LineReader;
 use crate::plain::plain_line;
 use crate::record::DinRecord;
+use std::fmt;
+use std::fmt::{Debug, Formatter, Write};
 
 /// How many bytes a source holds at most.
 const ROOM: usize = 16 * 1024;
@@ -79,8 +81,15 @@ impl Buffer {
     }
 }
 
+/// Its bytes are not for people.
+impl Debug for Buffer {
+    fn fmt<W: Write>(&self, f: &mut Formatter<W>) -> fmt::Result {
+        f.debug_struct("Buffer").finish_non_exhaustive()
+    }
+}
+
 /// What a source holds besides its reader.
-#[derive(Drop)]
+#[derive(Debug, Drop)]
 pub struct Backlog {
     /// The most bytes that the trace may have.
     limit: u64,

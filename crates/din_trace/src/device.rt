@@ -2,6 +2,7 @@
 
 ghost use Rattle.std.specs.Prelude.{◌≡◌, ℕ, Option, List, [], None};
 ghost use Rattle.din_trace.specs.Device.{
+  once_more,
   Reads,
   Writes,
   unread_bytes,
@@ -15,6 +16,14 @@ use std::io::{Read, Write};
 /// The device has failed.
 #[derive(Clone, Copy, Debug, PartialEq, Eq)]
 pub struct DeviceFailed;
+
+/// Counts one failure more.
+fn counted(failures: &mut u64) -> DeviceFailed
+    ensures { failures.new ≡ once_more failures.old }
+{
+    *failures = failures.wrapping_add(1);
+    DeviceFailed
+}
 
 /// A reader of bytes.
 pub trait ByteReader {
@@ -57,10 +66,7 @@ impl<R: Read> ByteReader for FromRead<R> {
     fn fill(&mut self, buffer: &mut [u8]) -> Result<usize, DeviceFailed> {
         match self.inner.read(buffer) {
             Ok(count) => Ok(count),
-            Err(_) => {
-                self.failures = self.failures.wrapping_add(1);
-                Err(DeviceFailed)
-            }
+            Err(_) => Err(counted(&mut self.failures)),
         }
     }
 }
@@ -109,20 +115,14 @@ impl<W: Write> ByteWriter for FromWrite<W> {
     fn put(&mut self, bytes: &[u8]) -> Result<(), DeviceFailed> {
         match self.inner.write_all(bytes) {
             Ok(()) => Ok(()),
-            Err(_) => {
-                self.failures = self.failures.wrapping_add(1);
-                Err(DeviceFailed)
-            }
+            Err(_) => Err(counted(&mut self.failures)),
         }
     }
 
     fn flush(&mut self) -> Result<(), DeviceFailed> {
         match self.inner.flush() {
             Ok(()) => Ok(()),
-            Err(_) => {
-                self.failures = self.failures.wrapping_add(1);
-                Err(DeviceFailed)
-            }
+            Err(_) => Err(counted(&mut self.failures)),
         }
     }
 }

@@ -48,7 +48,7 @@ use std::alloc::Global;
 
 /// Reads a trace from a reader, and holds no more of it than one buffer of fixed size. It repeats
 /// the end, or the fault that it met, for ever.
-#[derive(Drop)]
+#[derive(Debug, Drop)]
 pub struct Source<R> {
     reader: R,
     backlog: Backlog,

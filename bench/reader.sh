@@ -1,0 +1,83 @@
+#!/usr/bin/env bash
+# How fast traces are read: reader_bench calls Source::next for each record and does nothing else.
+#
+#   bench/reader.sh [RECORDS]        10,000,000 records, if no number is given
+#
+# Each trace is made with a fixed seed in a temporary folder. `wc -l` reads the same file in the same
+# run, so that the machine of the day falls out. Times are the best of five, in seconds.
+set -euo pipefail
+records=${1:-10000000}
+top=$(cd "$(dirname "$0")/.." && pwd)
+program=$top/crates/reader_bench/out/reader_bench
+folder=$(mktemp -d)
+trap 'rm -rf "$folder"' EXIT
+
+# rt run builds the program where it isn't there, or isn't that of the sources.
+(cd "$top/crates/reader_bench" && rt run --jobs 1 < stdin > "$folder/build.log" 2>&1) || {
+    cat "$folder/build.log" >&2
+    exit 1
+}
+
+# make FORM RECORDS: a trace of loads, stores and fetches, of 6 to 12 digits, in one of four forms.
+make() {
+    awk -v form="$1" -v records="$2" 'BEGIN {
+        srand(1)
+        for (i = 0; i < records; i++) {
+            label = int(5 * rand())
+            high = int(65536 * rand() ^ 3)
+            low = int(16777216 * rand())
+            if (high == 0) address = sprintf("%06x", low)
+            else address = sprintf("%x%06x", high, low)
+            if (form == "simple") print label " " address
+            else if (form == "prefix") print label " 0x" address
+            else if (form == "cr-lf") printf "%s %s\r\n", label, address
+            else print label "  " address " comment"
+        }
+    }'
+}
+
+# best COMMAND.. < TRACE: the best of five times.
+best() {
+    python3 - "$@" <<'PYTHON'
+import subprocess, sys, time
+
+best = None
+for _ in range(5):
+    with open(sys.argv[1]) as trace:
+        begin = time.perf_counter()
+        subprocess.run(sys.argv[2:], stdin=trace, stdout=subprocess.DEVNULL, check=True)
+        seconds = time.perf_counter() - begin
+    best = seconds if best is None else min(best, seconds)
+print(f"{best:.3f}")
+PYTHON
+}
+
+# instructions TRACE: how many the processor takes for it.
+instructions() {
+    valgrind --tool=callgrind --callgrind-out-file=/dev/null "$program" < "$1" 2>&1 > /dev/null |
+        awk '/Collected/ { print $4 }'
+}
+
+printf '%-8s %9s %9s %9s %14s %14s\n' form megabytes next 'wc -l' 'records/s' 'next / wc -l'
+for form in simple prefix cr-lf spaced; do
+    trace=$folder/$form
+    make $form "$records" > "$trace"
+    next=$(best "$trace" "$program")
+    lines=$(best "$trace" wc -l)
+    awk -v form=$form -v bytes="$(stat -c %s "$trace")" -v next_="$next" -v lines="$lines" \
+        -v records="$records" 'BEGIN {
+        printf "%-8s %9.0f %9s %9s %14.0f %14.1f\n", form, bytes / 1e6, next_, lines,
+            records / next_, next_ / lines
+    }'
+    rm "$trace"
+done
+
+if command -v valgrind > /dev/null; then
+    : > "$folder/empty"
+    start=$(instructions "$folder/empty")
+    for form in simple prefix cr-lf spaced; do
+        make $form 100000 > "$folder/$form"
+        all=$(instructions "$folder/$form")
+        echo "$form: $(((all - start) / 100000)) instructions a record"
+    done
+fi
