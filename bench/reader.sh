@@ -18,17 +18,14 @@ trap 'rm -rf "$folder"' EXIT
     exit 1
 }
 
-# make FORM RECORDS: a trace of loads, stores and fetches, of 6 to 12 digits, in one of four forms.
+# make FORM RECORDS: a trace with labels 0 to 4 and addresses of 6 to 8 digits, in one of four forms.
 make() {
     awk -v form="$1" -v records="$2" 'BEGIN {
         srand(1)
         for (i = 0; i < records; i++) {
             label = int(5 * rand())
-            high = int(65536 * rand() ^ 3)
-            low = int(16777216 * rand())
-            if (high == 0) address = sprintf("%06x", low)
-            else address = sprintf("%x%06x", high, low)
-            if (form == "simple") print label " " address
+            address = sprintf("%0" (6 + int(3 * rand())) "x", int(16777216 * rand()))
+            if (form == "plain") print label " " address
             else if (form == "prefix") print label " 0x" address
             else if (form == "cr-lf") printf "%s %s\r\n", label, address
             else print label "  " address " comment"
@@ -59,7 +56,7 @@ instructions() {
 }
 
 printf '%-8s %9s %9s %9s %14s %14s\n' form megabytes next 'wc -l' 'records/s' 'next / wc -l'
-for form in simple prefix cr-lf spaced; do
+for form in plain prefix cr-lf spaced; do
     trace=$folder/$form
     make $form "$records" > "$trace"
     next=$(best "$trace" "$program")
@@ -75,7 +72,7 @@ done
 if command -v valgrind > /dev/null; then
     : > "$folder/empty"
     start=$(instructions "$folder/empty")
-    for form in simple prefix cr-lf spaced; do
+    for form in plain prefix cr-lf spaced; do
         make $form 100000 > "$folder/$form"
         all=$(instructions "$folder/$form")
         echo "$form: $(((all - start) / 100000)) instructions a record"

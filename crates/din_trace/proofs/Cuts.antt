@@ -6,12 +6,18 @@ use Rattle.din_trace.specs.Line.{Form, Blank, Din, Faulty, form}
 use Rattle.din_trace.specs.Text.{cut, with_first, form_fault, first_fault}
 
 with_first-ended : (byte : ℕ) (ended : List (List ℕ)) (rest : List ℕ)
-    → with_first byte (ended ++ rest ∷ []) [] ≡ record { ended = (with_first byte ended rest).ended ++ (with_first byte ended rest).rest ∷ []; rest = [] }
+    → with_first byte (ended ++ rest ∷ []) []
+    ≡ record {
+      ended =
+          (with_first byte ended rest).ended ++ (with_first byte ended rest).rest ∷ [];
+      rest = [];
+    }
 with_first-ended byte [] rest = refl
 with_first-ended byte (line ∷ ended) rest = refl
 
 -- an LF ends the line
-pub cut-ended : (text : List ℕ) → cut (text ++ 10 ∷ []) ≡ record { ended = (cut text).ended ++ (cut text).rest ∷ []; rest = [] }
+pub cut-ended : (text : List ℕ)
+    → cut (text ++ 10 ∷ []) ≡ record { ended = (cut text).ended ++ (cut text).rest ∷ []; rest = [] }
 cut-ended [] = refl
 cut-ended (byte ∷ text) =
     elim (cases_Bool (eqb byte 10)) [
@@ -20,59 +26,87 @@ cut-ended (byte ∷ text) =
     ]
 
 with_first-longer : (byte last : ℕ) (ended : List (List ℕ)) (rest : List ℕ)
-    → with_first byte ended (rest ++ last ∷ []) ≡ record { ended = (with_first byte ended rest).ended; rest = (with_first byte ended rest).rest ++ last ∷ [] }
+    → with_first byte ended (rest ++ last ∷ [])
+    ≡ record {
+      ended = (with_first byte ended rest).ended;
+      rest =
+          (with_first byte ended rest).rest ++ last ∷ [];
+    }
 with_first-longer byte last [] rest = refl
 with_first-longer byte last (line ∷ ended) rest = refl
 
 -- another byte makes it longer
-pub cut-longer : (text : List ℕ) (last : ℕ) → eqb last 10 ≡ false → cut (text ++ last ∷ []) ≡ record { ended = (cut text).ended; rest = (cut text).rest ++ last ∷ [] }
+pub cut-longer : (text : List ℕ) (last : ℕ) → eqb last 10 ≡ false
+    → cut (text ++ last ∷ [])
+    ≡ record { ended = (cut text).ended; rest = (cut text).rest ++ last ∷ [] }
 cut-longer [] last h = rw h refl
 cut-longer (byte ∷ text) last h =
     elim (cases_Bool (eqb byte 10)) [
       | inl e ↦ rw (e, cut-longer text last h) refl
-      | inr e ↦ rw (e, cut-longer text last h) (with_first-longer byte last (cut text).ended (cut text).rest)
+      | inr e ↦ rw (e, cut-longer text last h)
+          (with_first-longer byte last (cut text).ended (cut text).rest)
     ]
 
-pub others_none : (f : Form) (number : ℕ) (others : Option TraceFault) → form_fault f number others ≡ None → others ≡ None
+pub others_none : (f : Form) (number : ℕ) (others : Option TraceFault)
+    → form_fault f number others ≡ None → others ≡ None
 others_none Blank number others none = none
 others_none (Din r) number others none = none
 others_none (Faulty why) number others none = absurd cc
 
-pub form_fault-none : (f : Form) (number : ℕ) (others now : Option TraceFault) → form_fault f number others ≡ None → now ≡ None → form_fault f number now ≡ None
+pub form_fault-none : (f : Form) (number : ℕ) (others now : Option TraceFault)
+    → form_fault f number others ≡ None → now ≡ None → form_fault f number now ≡ None
 form_fault-none Blank number others now none is = is
 form_fault-none (Din r) number others now none is = is
 form_fault-none (Faulty why) number others now none is = absurd cc
 
-form_fault-alone : (f : Form) (number : ℕ) → form_fault f 0 None ≡ None → form_fault f number None ≡ None
+form_fault-alone : (f : Form) (number : ℕ) → form_fault f 0 None ≡ None
+    → form_fault f number None ≡ None
 form_fault-alone Blank number h = refl
 form_fault-alone (Din r) number h = refl
 form_fault-alone (Faulty why) number h = absurd cc
 
-pub first_fault-append : (bound number : ℕ) (ls : List (List ℕ)) (line : List ℕ) → first_fault bound number ls None ≡ None → form_fault (form bound line) 0 None ≡ None → first_fault bound number (ls ++ line ∷ []) None ≡ None
+pub first_fault-append : (bound number : ℕ) (ls : List (List ℕ)) (line : List ℕ)
+    → first_fault bound number ls None ≡ None → form_fault (form bound line) 0 None ≡ None
+    → first_fault bound number (ls ++ line ∷ []) None ≡ None
 first_fault-append bound number [] line none h = form_fault-alone (form bound line) number h
 first_fault-append bound number (l ∷ ls) line none h =
-    form_fault-none (form bound l) number (first_fault bound (number + 1) ls None) (first_fault bound (number + 1) (ls ++ line ∷ []) None) none
-    (first_fault-append bound (number + 1) ls line (others_none (form bound l) number (first_fault bound (number + 1) ls None) none) h)
+    form_fault-none (form bound l) number (first_fault bound (number + 1) ls None)
+    (first_fault bound (number + 1) (ls ++ line ∷ []) None) none
+    (first_fault-append bound (number + 1) ls line
+    (others_none (form bound l) number (first_fault bound (number + 1) ls None) none) h)
 
 with_first-more : (byte : ℕ) (ended more : List (List ℕ)) (line rest : List ℕ)
-    → with_first byte (ended ++ line ∷ more) rest ≡ record { ended = (with_first byte ended line).ended ++ (with_first byte ended line).rest ∷ more; rest = rest }
+    → with_first byte (ended ++ line ∷ more) rest
+    ≡ record {
+      ended =
+          (with_first byte ended line).ended ++ (with_first byte ended line).rest ∷ more;
+      rest = rest;
+    }
 with_first-more byte [] more line rest = refl
 with_first-more byte (first ∷ ended) more line rest = refl
 
 -- a text with an LF in it
-pub cut-append : (text rest : List ℕ) → cut (text ++ 10 ∷ rest) ≡ record { ended = (cut text).ended ++ (cut text).rest ∷ (cut rest).ended; rest = (cut rest).rest }
+pub cut-append : (text rest : List ℕ)
+    → cut (text ++ 10 ∷ rest)
+    ≡ record {
+      ended = (cut text).ended ++ (cut text).rest ∷ (cut rest).ended;
+      rest =
+          (cut rest).rest;
+    }
 cut-append [] rest = refl
 cut-append (byte ∷ text) rest =
     elim (cases_Bool (eqb byte 10)) [
       | inl e ↦ rw (e, cut-append text rest) refl
-      | inr e ↦ rw (e, cut-append text rest) (with_first-more byte (cut text).ended (cut rest).ended (cut text).rest (cut rest).rest)
+      | inr e ↦ rw (e, cut-append text rest)
+          (with_first-more byte (cut text).ended (cut rest).ended (cut text).rest (cut rest).rest)
     ]
 
 -- no LF is in the text
 abbrev pub IsOpen : List ℕ → Type 0
 IsOpen text = cut text ≡ record { ended = []; rest = text }
 
-with_first-open : (byte : ℕ) (ended : List (List ℕ)) (rest : List ℕ) → eqb byte 10 ≡ false → IsOpen rest → IsOpen (with_first byte ended rest).rest
+with_first-open : (byte : ℕ) (ended : List (List ℕ)) (rest : List ℕ) → eqb byte 10 ≡ false
+    → IsOpen rest → IsOpen (with_first byte ended rest).rest
 with_first-open byte [] rest e h = rw (e, h) refl
 with_first-open byte (line ∷ ended) rest e h = h
 

@@ -14,8 +14,11 @@ use Rattle.din_trace.specs.Text.{ended_lines, open_line, form_fault, form_result
 use Rattle.din_trace.specs.Standing.{Stands}
 use Rattle.din_trace.proofs.Cuts.{cut-ended, cut-longer, first_fault-append}
 
-pub stands-longer : (old new : LineReader) (text : List ℕ) (byte : ℕ) → byte ≢ 10 → new.fault ≡ None → new.line ≡ old.line
-    → ((rest : List ℕ) → form_from ADDRESS_MAX old.so_far (byte ∷ rest) ≡ form_from ADDRESS_MAX new.so_far rest) → begun new.so_far ≡ 1
+pub stands-longer : (old new : LineReader) (text : List ℕ) (byte : ℕ) → byte ≢ 10 → new.fault ≡ None
+    → new.line ≡ old.line
+    → ((rest : List ℕ) → form_from ADDRESS_MAX old.so_far (byte ∷ rest)
+    ≡ form_from ADDRESS_MAX new.so_far rest)
+    → begun new.so_far ≡ 1
     → Stands old text → Stands new (text ++ byte ∷ [])
 stands-longer old new text byte other unfaulted line next begun_is s =
     let grown = cut-longer text byte (ne_eqb byte 10 other) in
@@ -29,22 +32,27 @@ stands-longer old new text byte other unfaulted line next begun_is s =
     })
 
 -- what is answered at the end of a line
-pub answered : (f : Form) (number : ℕ) (found : Option DinRecord) → form_answer f ≡ Ok found → (form_result number f ≡ Ok found) × (form_fault f 0 None ≡ None)
+pub answered : (f : Form) (number : ℕ) (found : Option DinRecord) → form_answer f ≡ Ok found
+    → (form_result number f ≡ Ok found) × (form_fault f 0 None ≡ None)
 answered Blank number found e = (cc, refl)
 answered (Din r) number found e = (cc, refl)
 answered (Faulty why) number found e = absurd cc
 
-pub refused : (f : Form) (number : ℕ) (why : Why) → form_answer f ≡ Err why → form_result number f ≡ Err (Bad number why)
+pub refused : (f : Form) (number : ℕ) (why : Why) → form_answer f ≡ Err why
+    → form_result number f ≡ Err (Bad number why)
 refused Blank number why e = absurd cc
 refused (Din r) number why e = absurd cc
 refused (Faulty w) number why e = cc
 
 -- the line so far has the form that the reader makes of its end
-pub stands-form : (r : LineReader) (text : List ℕ) → Stands r text → form ADDRESS_MAX (open_line text) ≡ form_from ADDRESS_MAX r.so_far []
+pub stands-form : (r : LineReader) (text : List ℕ) → Stands r text
+    → form ADDRESS_MAX (open_line text) ≡ form_from ADDRESS_MAX r.so_far []
 stands-form r text s = ap (form ADDRESS_MAX) (sym (append-nil (open_line text))) ∙ s.goes_on []
 
-pub stands-ended : (old new : LineReader) (text : List ℕ) → new.fault ≡ None → new.line ≡ old.line + 1 → new.so_far ≡ so_far.Empty
-    → form_fault (form ADDRESS_MAX (open_line text)) 0 None ≡ None → Stands old text → Stands new (text ++ 10 ∷ [])
+pub stands-ended : (old new : LineReader) (text : List ℕ) → new.fault ≡ None
+    → new.line ≡ old.line + 1 → new.so_far ≡ so_far.Empty
+    → form_fault (form ADDRESS_MAX (open_line text)) 0 None ≡ None → Stands old text
+    → Stands new (text ++ 10 ∷ [])
 stands-ended old new text unfaulted line empty fine s =
     rw cut-ended (record {
       sound = first_fault-append ADDRESS_MAX 1 (ended_lines text) (open_line text) s.sound fine;

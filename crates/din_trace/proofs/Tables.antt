@@ -13,7 +13,9 @@ all_below test (suc n) = if test n then all_below test n else false
 
 -- the table is right at a byte
 abbrev is_right : ℕ → Bool
-is_right byte = if nat_lt (slice_index_or DIGITS byte 0) 16 then digit_value byte == slice_index_or DIGITS byte 0 else nat_le 16 (digit_value byte)
+is_right byte =
+    if nat_lt
+    (slice_index_or DIGITS byte 0) 16 then digit_value byte == slice_index_or DIGITS byte 0 else nat_le 16 (digit_value byte)
 
 each_right : all_below is_right 256 ≡ true
 each_right = refl
@@ -29,16 +31,23 @@ passes test (suc n) all k below =
       | inr e ↦ absurd (false≢true (rw e at all))
     ]
 
-from_table : (byte value : ℕ) → (if nat_lt value 16 then digit_value byte == value else nat_le 16 (digit_value byte)) ≡ true
-    → (value < 16 → (is_hex byte ≡ true) × (digit_value byte ≡ value)) × (16 ≤ value → is_hex byte ≡ false)
+from_table : (byte value : ℕ)
+    → (if nat_lt value 16 then digit_value byte == value else nat_le 16 (digit_value byte)) ≡ true
+    → (value < 16 → (is_hex byte ≡ true) × (digit_value byte ≡ value))
+    × (16 ≤ value → is_hex byte ≡ false)
 unfolding is_hex
 from_table byte value right = (
   (λ below.
-      let is : digit_value byte ≡ value = eqb-true (digit_value byte) value (rw (lt-ltb value 16 below) at right) in
+      let is : digit_value byte ≡ value =
+      eqb-true (digit_value byte) value (rw (lt-ltb value 16 below) at right) in
       (rw is (lt-ltb value 16 below), is)),
-  (λ above. le-ltb (digit_value byte) 16 (leb-true 16 (digit_value byte) (rw (le-ltb value 16 above) at right))),
+  (λ above. le-ltb (digit_value byte) 16
+      (leb-true 16 (digit_value byte) (rw (le-ltb value 16 above) at right))),
 )
 
-pub digit_right : (byte : ℕ) → byte < 256 → (slice_index_or DIGITS byte 0 < 16 → (is_hex byte ≡ true) × (digit_value byte ≡ slice_index_or DIGITS byte 0))
+pub digit_right : (byte : ℕ) → byte < 256
+    → (slice_index_or DIGITS byte 0 < 16 → (is_hex byte ≡ true)
+    × (digit_value byte ≡ slice_index_or DIGITS byte 0))
     × (16 ≤ slice_index_or DIGITS byte 0 → is_hex byte ≡ false)
-digit_right byte below = from_table byte (slice_index_or DIGITS byte 0) (passes is_right 256 each_right byte below)
+digit_right byte below =
+    from_table byte (slice_index_or DIGITS byte 0) (passes is_right 256 each_right byte below)

@@ -7,47 +7,62 @@ use Rattle.din_trace.specs.declared.fault.TraceFault.TheVariants.{Bad, TooLong, 
 use Rattle.din_trace.specs.declared.fault.Why.{Why}
 use Rattle.din_trace.specs.Laws.{LeavesText}
 use Rattle.din_trace.specs.Line.{Form, Blank, Din, Faulty, form}
-use Rattle.din_trace.specs.Text.{lines, ended_lines, form_records, line_records, records, form_fault, first_fault, fault, failed_fault}
+use Rattle.din_trace.specs.Text.{lines, ended_lines, form_records, line_records, records, form_fault, first_fault, fault}
 use Rattle.din_trace.specs.Left.{Left, form_left, lines_left, text_left}
 use Rattle.din_trace.proofs.Cuts.{others_none}
 
-form_left-fault : (f : Form) (number : ℕ) (others : Left) → (form_left f number others).fault ≡ form_fault f number others.fault
+form_left-fault : (f : Form) (number : ℕ) (others : Left)
+    → (form_left f number others).fault ≡ form_fault f number others.fault
 form_left-fault Blank number others = refl
 form_left-fault (Din r) number others = refl
 form_left-fault (Faulty why) number others = refl
 
-lines_left-fault : (bound number : ℕ) (ls : List (List ℕ)) (otherwise : Option TraceFault) → (lines_left bound number ls otherwise).fault ≡ first_fault bound number ls otherwise
+lines_left-fault : (bound number : ℕ) (ls : List (List ℕ)) (otherwise : Option TraceFault)
+    → (lines_left bound number ls otherwise).fault ≡ first_fault bound number ls otherwise
 lines_left-fault bound number [] otherwise = refl
 lines_left-fault bound number (line ∷ ls) otherwise =
     form_left-fault (form bound line) number (lines_left bound (number + 1) ls otherwise)
     ∙ ap (form_fault (form bound line) number) (lines_left-fault bound (number + 1) ls otherwise)
 
-form_left-records : (f : Form) (number : ℕ) (others : Left) (fault : Option TraceFault) → form_fault f number fault ≡ None → (form_left f number others).records ≡ form_records f ++ others.records
+form_left-records : (f : Form) (number : ℕ) (others : Left) (fault : Option TraceFault)
+    → form_fault f number fault ≡ None
+    → (form_left f number others).records ≡ form_records f ++ others.records
 form_left-records Blank number others fault none = refl
 form_left-records (Din r) number others fault none = refl
 form_left-records (Faulty why) number others fault none = absurd cc
 
-lines_left-records : (bound number : ℕ) (ls : List (List ℕ)) → first_fault bound number ls None ≡ None → (lines_left bound number ls None).records ≡ line_records bound ls
+lines_left-records : (bound number : ℕ) (ls : List (List ℕ))
+    → first_fault bound number ls None ≡ None
+    → (lines_left bound number ls None).records ≡ line_records bound ls
 lines_left-records bound number [] none = refl
 lines_left-records bound number (line ∷ ls) none =
-    form_left-records (form bound line) number (lines_left bound (number + 1) ls None) (first_fault bound (number + 1) ls None) none
-    ∙ ap (λ rs. form_records (form bound line) ++ rs) (lines_left-records bound (number + 1) ls (others_none (form bound line) number (first_fault bound (number + 1) ls None) none))
+    form_left-records (form bound line) number (lines_left bound (number + 1) ls None)
+    (first_fault bound (number + 1) ls None) none
+    ∙ ap (λ rs. form_records (form bound line) ++ rs)
+    (lines_left-records bound (number + 1) ls
+    (others_none (form bound line) number (first_fault bound (number + 1) ls None) none))
 
-first_fault-some : (bound : ℕ) (f : TraceFault) (number : ℕ) (ls : List (List ℕ)) → first_fault bound number ls (Some f) ≡ None → ⊥
+first_fault-some : (bound : ℕ) (f : TraceFault) (number : ℕ) (ls : List (List ℕ))
+    → first_fault bound number ls (Some f) ≡ None → ⊥
 first_fault-some bound f number [] none = cc
-first_fault-some bound f number (line ∷ ls) none = first_fault-some bound f (number + 1) ls (others_none (form bound line) number (first_fault bound (number + 1) ls (Some f)) none)
+first_fault-some bound f number (line ∷ ls) none =
+    first_fault-some bound f (number + 1) ls
+    (others_none (form bound line) number (first_fault bound (number + 1) ls (Some f)) none)
 
 -- a fault of no line is that of what comes behind the lines
 module _ (f : TraceFault) (no_line : (number : ℕ) (why : Why) → Bad number why ≡ f → ⊥) where
-  fault_behind : (of : Form) (number : ℕ) (others : Option TraceFault) → form_fault of number others ≡ Some f → others ≡ Some f
+  fault_behind : (of : Form) (number : ℕ) (others : Option TraceFault)
+      → form_fault of number others ≡ Some f → others ≡ Some f
   fault_behind Blank number others e = e
   fault_behind (Din r) number others e = e
   fault_behind (Faulty why) number others e = absurd (no_line number why cc)
 
-  first_fault-behind : (bound number : ℕ) (ls : List (List ℕ)) (otherwise : Option TraceFault) → first_fault bound number ls otherwise ≡ Some f → otherwise ≡ Some f
+  first_fault-behind : (bound number : ℕ) (ls : List (List ℕ)) (otherwise : Option TraceFault)
+      → first_fault bound number ls otherwise ≡ Some f → otherwise ≡ Some f
   first_fault-behind bound number [] otherwise e = e
   first_fault-behind bound number (line ∷ ls) otherwise e =
-      first_fault-behind bound (number + 1) ls otherwise (fault_behind (form bound line) number (first_fault bound (number + 1) ls otherwise) e)
+      first_fault-behind bound (number + 1) ls otherwise
+      (fault_behind (form bound line) number (first_fault bound (number + 1) ls otherwise) e)
 
 module _ (bound : ℕ) (text : List ℕ) (limit : ℕ) where
   pub text_left-fault : (text_left bound 1 text limit false).fault ≡ fault bound text limit
@@ -57,43 +72,64 @@ module _ (bound : ℕ) (text : List ℕ) (limit : ℕ) where
         | inr e ↦ rw e (lines_left-fault bound 1 (ended_lines (take limit text)) (Some TooLong))
       ]
 
-  pub text_left-records : fault bound text limit ≡ None → (text_left bound 1 text limit false).records ≡ records bound text
+  pub text_left-records : fault bound text limit ≡ None
+      → (text_left bound 1 text limit false).records ≡ records bound text
   text_left-records none =
       elim (cases_Bool (nat_le (length text) limit)) [
         | inl e ↦ rw e (lines_left-records bound 1 (lines text) (rw e at none))
-        | inr e ↦ absurd (first_fault-some bound TooLong 1 (ended_lines (take limit text)) (rw e at none))
+        | inr e ↦ absurd
+            (first_fault-some bound TooLong 1 (ended_lines (take limit text)) (rw e at none))
       ]
 
   -- a fault of no line: what the text leaves behind its lines
-  behind_lines : (fails : Bool) (f : TraceFault) → ((number : ℕ) (why : Why) → Bad number why ≡ f → ⊥) → (text_left bound 1 text limit fails).fault ≡ Some f
-      → (if nat_le (length text) limit then (if fails then Some Read else None) else Some TooLong) ≡ Some f
+  behind_lines : (fails : Bool) (f : TraceFault)
+      → ((number : ℕ) (why : Why) → Bad number why ≡ f → ⊥)
+      → (text_left bound 1 text limit fails).fault ≡ Some f
+      → (if nat_le (length text) limit then (if fails then Some Read else None) else Some TooLong)
+      ≡ Some f
   behind_lines fails f no_line is =
       elim (cases_Bool (nat_le (length text) limit)) [
-        | inl e ↦ rw e (elim fails as (λ b. (text_left bound 1 text limit b).fault ≡ Some f → (if b then Some Read else None) ≡ Some f) [
-          | true ↦ λ h. first_fault-behind f no_line bound 1 (ended_lines text) (Some Read) (sym (lines_left-fault bound 1 (ended_lines text) (Some Read)) ∙ (rw e at h))
-          | false ↦ λ h. first_fault-behind f no_line bound 1 (lines text) None (sym (lines_left-fault bound 1 (lines text) None) ∙ (rw e at h))
-        ] is)
-        | inr e ↦ rw e (first_fault-behind f no_line bound 1 (ended_lines (take limit text)) (Some TooLong)
-            (sym (lines_left-fault bound 1 (ended_lines (take limit text)) (Some TooLong)) ∙ (rw e at is)))
+        | inl e ↦ rw e
+            (elim fails as (λ b. (text_left bound 1 text limit b).fault ≡ Some f
+            → (if b then Some Read else None) ≡ Some f) [
+              | true ↦ λ h. first_fault-behind f no_line bound 1 (ended_lines text) (Some Read)
+                  (sym (lines_left-fault bound 1 (ended_lines text) (Some Read)) ∙ (rw e at h))
+              | false ↦ λ h. first_fault-behind f no_line bound 1 (lines text) None
+                  (sym (lines_left-fault bound 1 (lines text) None) ∙ (rw e at h))
+            ] is)
+        | inr e ↦ rw e
+            (first_fault-behind f no_line bound 1 (ended_lines (take limit text)) (Some TooLong)
+            (sym (lines_left-fault bound 1 (ended_lines (take limit text)) (Some TooLong))
+            ∙ (rw e at is)))
       ]
 
   fails_never_none : (text_left bound 1 text limit true).fault ≡ None → ⊥
   fails_never_none is =
       elim (cases_Bool (nat_le (length text) limit)) [
-        | inl e ↦ first_fault-some bound Read 1 (ended_lines text) (sym (lines_left-fault bound 1 (ended_lines text) (Some Read)) ∙ (rw e at is))
-        | inr e ↦ first_fault-some bound TooLong 1 (ended_lines (take limit text)) (sym (lines_left-fault bound 1 (ended_lines (take limit text)) (Some TooLong)) ∙ (rw e at is))
+        | inl e ↦ first_fault-some bound Read 1 (ended_lines text)
+            (sym (lines_left-fault bound 1 (ended_lines text) (Some Read)) ∙ (rw e at is))
+        | inr e ↦ first_fault-some bound TooLong 1 (ended_lines (take limit text))
+            (sym (lines_left-fault bound 1 (ended_lines (take limit text)) (Some TooLong))
+            ∙ (rw e at is))
       ]
 
   never_read : (text_left bound 1 text limit false).fault ≡ Some Read → ⊥
   never_read is =
       let behind = behind_lines false Read (λ number why e. cc) is in
-      elim (cases_Bool (nat_le (length text) limit)) [ inl e ↦ let h = rw e at behind in cc | inr e ↦ let h = rw e at behind in cc ]
+      elim (cases_Bool (nat_le (length text) limit)) [
+        | inl e ↦ let h =
+            rw e at behind in cc
+        | inr e ↦ let h = rw e at behind in cc
+      ]
 
-  only_too_long : (fails : Bool) → (text_left bound 1 text limit fails).fault ≡ Some TooLong → limit < length text
+  only_too_long : (fails : Bool) → (text_left bound 1 text limit fails).fault ≡ Some TooLong
+      → limit < length text
   only_too_long fails is =
       let behind = behind_lines fails TooLong (λ number why e. cc) is in
       elim (cases_Bool (nat_le (length text) limit)) [
-        | inl e ↦ absurd (elim fails as (λ b. (if b then Some Read else None) ≡ Some TooLong → ⊥) [ true ↦ λ h. cc | false ↦ λ h. cc ] (rw e at behind))
+        | inl e ↦ absurd
+            (elim fails as (λ b. (if b then Some Read else None) ≡ Some TooLong
+            → ⊥) [ true ↦ λ h. cc | false ↦ λ h. cc ] (rw e at behind))
         | inr e ↦ leb-false (length text) limit e
       ]
 
@@ -101,7 +137,8 @@ module _ (bound : ℕ) (text : List ℕ) (limit : ℕ) where
   never_memory fails is =
       let behind = behind_lines fails Memory (λ number why e. cc) is in
       elim (cases_Bool (nat_le (length text) limit)) [
-        | inl e ↦ elim fails as (λ b. (if b then Some Read else None) ≡ Some Memory → ⊥) [ true ↦ λ h. cc | false ↦ λ h. cc ] (rw e at behind)
+        | inl e ↦ elim fails as (λ b. (if b then Some Read else None) ≡ Some Memory
+            → ⊥) [ true ↦ λ h. cc | false ↦ λ h. cc ] (rw e at behind)
         | inr e ↦ let h = rw e at behind in cc
       ]
 
@@ -109,7 +146,9 @@ module _ (bound : ℕ) (text : List ℕ) (limit : ℕ) where
   leaves_text = record {
     fault_is = text_left-fault;
     records_are = text_left-records;
-    failed_is = λ h. rw (le-leb (length text) limit h) (lines_left-fault bound 1 (ended_lines text) (Some Read));
+    failed_is =
+        λ h. rw (le-leb (length text) limit h)
+        (lines_left-fault bound 1 (ended_lines text) (Some Read));
     fails = fails_never_none;
     read = never_read;
     too_long = only_too_long;

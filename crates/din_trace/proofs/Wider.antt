@@ -11,26 +11,38 @@ use Rattle.din_trace.proofs.Cuts.{others_none, form_fault-none}
 
 module _ (small great : ℕ) (le : small ≤ great) where
   -- a line that isn't faulty keeps its form
-  form-wider : (line : List ℕ) (f : Form) → form small line ≡ f → HasForm small line f → (number : ℕ) (others : Option TraceFault) → form_fault f number others ≡ None → form great line ≡ f
+  form-wider : (line : List ℕ) (f : Form) → form small line ≡ f → HasForm small line f
+      → (number : ℕ) (others : Option TraceFault) → form_fault f number others ≡ None
+      → form great line ≡ f
   form-wider line Blank is h number others none = sym (form_is great line Blank h)
   form-wider line (Din r) is (digit, digits, rest, a, n, fits, t, e) number others none =
       sym (form_is great line (Din r) (digit, digits, rest, a, n, omega arith, t, e))
   form-wider line (Faulty why) is h number others none = absurd cc
 
-  lines-wider : (number : ℕ) (ls : List (List ℕ)) → first_fault small number ls None ≡ None → (first_fault great number ls None ≡ None) × (line_records great ls ≡ line_records small ls)
+  lines-wider : (number : ℕ) (ls : List (List ℕ)) → first_fault small number ls None ≡ None
+      → (first_fault great number ls None ≡ None) × (line_records great ls ≡ line_records small ls)
   lines-wider number [] none = (refl, refl)
   lines-wider number (line ∷ ls) none =
-      let same : form great line ≡ form small line = form-wider line (form small line) refl (has_form small line) number (first_fault small (number + 1) ls None) none in
-      let rest = lines-wider (number + 1) ls (others_none (form small line) number (first_fault small (number + 1) ls None) none) in (
-        rw same (form_fault-none (form small line) number (first_fault small (number + 1) ls None) (first_fault great (number + 1) ls None) none rest.0),
+      let same : form great line ≡ form small line =
+      form-wider line (form small line) refl (has_form small line) number
+      (first_fault small (number + 1) ls None) none in
+      let rest =
+      lines-wider (number + 1) ls
+      (others_none (form small line) number (first_fault small (number + 1) ls None) none) in (
+        rw same (form_fault-none (form small line) number (first_fault small (number + 1) ls None)
+            (first_fault great (number + 1) ls None) none rest.0),
         rw (same, rest.1) refl,
       )
 
-  first_fault-some : (f : TraceFault) (number : ℕ) (ls : List (List ℕ)) → first_fault small number ls (Some f) ≡ None → ⊥
+  first_fault-some : (f : TraceFault) (number : ℕ) (ls : List (List ℕ))
+      → first_fault small number ls (Some f) ≡ None → ⊥
   first_fault-some f number [] none = cc
-  first_fault-some f number (line ∷ ls) none = first_fault-some f (number + 1) ls (others_none (form small line) number (first_fault small (number + 1) ls (Some f)) none)
+  first_fault-some f number (line ∷ ls) none =
+      first_fault-some f (number + 1) ls
+      (others_none (form small line) number (first_fault small (number + 1) ls (Some f)) none)
 
-  pub wider : (text : List ℕ) (limit : ℕ) → fault small text limit ≡ None → (fault great text limit ≡ None) × (records great text ≡ records small text)
+  pub wider : (text : List ℕ) (limit : ℕ) → fault small text limit ≡ None
+      → (fault great text limit ≡ None) × (records great text ≡ records small text)
   wider text limit none =
       elim (cases_Bool (nat_le (length text) limit)) [
         | inl e ↦ rw e (lines-wider 1 (lines text) (rw e at none))

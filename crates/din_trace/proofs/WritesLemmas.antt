@@ -4,21 +4,31 @@ use Rattle.std.specs.Io.KnownBytes.{Appends}
 use Rattle.din_trace.specs.Device.{Writes, once_more}
 
 -- bytes appended twice
-pub appends_twice : (x y z : Option (List ℕ)) (a b : List ℕ) → Appends x y a → Appends y z b → Appends x z (a ++ b)
+pub appends_twice : (x y z : Option (List ℕ)) (a b : List ℕ) → Appends x y a → Appends y z b
+    → Appends x z (a ++ b)
 appends_twice None y z a b h k = tt
 appends_twice (Some x) None z a b h k = absurd h
 appends_twice (Some x) (Some y) None a b h k = absurd k
 appends_twice (Some x) (Some y) (Some z) a b h k = rw (k, h, append_assoc)
 
-module _ {W S E F : Type 0} {contents : W → Option (List ℕ)} {failures : W → ℕ} {old mid new : W} where
+module _ {W S E F : Type 0} {contents : W → Option (List ℕ)} {failures : W
+    → ℕ} {old mid new : W} where
   -- a call that answered `Ok`, and then another
   pub writes_then : {T : Type 0} {x : T} (s : Result S F) (a b : List ℕ)
-      → Writes {E = E} contents failures old mid (Ok x) a → Writes contents failures mid new s b → Writes contents failures old new s (a ++ b)
+      → Writes {E = E} contents failures old mid (Ok x) a → Writes contents failures mid new s b
+      → Writes contents failures old new s (a ++ b)
   writes_then (Ok y) a b h k =
-      record { ok = appends_twice (contents old) (contents mid) (contents new) a b h.ok k.ok; kept = k.kept ∙ h.kept; failed = tt }
-  writes_then (Err y) a b h k = record { ok = tt; kept = tt; failed = k.failed ∙ ap once_more h.kept }
+      record {
+        ok = appends_twice (contents old) (contents mid) (contents new) a b h.ok k.ok;
+        kept =
+            k.kept ∙ h.kept;
+        failed = tt;
+      }
+  writes_then (Err y) a b h k =
+      record { ok = tt; kept = tt; failed = k.failed ∙ ap once_more h.kept }
 
 module _ {W S F : Type 0} {contents : W → Option (List ℕ)} {failures : W → ℕ} {old new : W} where
   -- the same text, in other words
-  pub writes_as : (s : Result S F) (a b : List ℕ) → a ≡ b → Writes contents failures old new s a → Writes contents failures old new s b
+  pub writes_as : (s : Result S F) (a b : List ℕ) → a ≡ b → Writes contents failures old new s a
+      → Writes contents failures old new s b
   writes_as s a b e h = rw (← e) h

@@ -3,7 +3,7 @@
 //! A line is a label, a gap of blanks and a hexadecimal address; what follows behind a blank is a
 //! comment. `LineReader` reads a trace byte by byte, and stores no line. `Source` reads one from any
 //! `ByteReader`, and holds one buffer of it. The rooms: `device` has the readers and writers, `line`
-//! one line as it is read, `plain` the lines of the simple form that most traces consist of, which
+//! one line as it is read, `plain` the plain lines that most traces consist of, which
 //! are read in one go, `backlog` the bytes that wait in a source, `text` a trace in memory.
 //!
 //! Proved, of every trace and however its reader cuts it: the records and the fault are those that

@@ -1,4 +1,4 @@
-//! Lines of the simple form that most traces have throughout, each read in one go.
+//! Plain lines, of which most traces consist, each read in one go.
 
 ghost use Rattle.std.specs.Prelude.{◌≡◌, ℕ, ◌+◌, ◌<◌, ◌≤◌, List, ◌++◌, IfSome, length, drop};
 ghost use Rattle.din_trace.specs.Plain.{BeginsWithLine, IsPrefix};

@@ -8,11 +8,13 @@ use Rattle.din_trace.proofs.Scripts.{known-script}
 use Rattle.din_trace.proofs.Texts.{text_left-fault, text_left-records}
 use Rattle.din_trace.proofs.text.read_all.Goals as goal
 
-ok_from : {T E : Type 0} (r : Result T E) (P R : T → Type 0) (Q : E → Type 0) → MatchResult r P Q → ((x : T) → P x → R x) → IfOk r R
+ok_from : {T E : Type 0} (r : Result T E) (P R : T → Type 0) (Q : E → Type 0) → MatchResult r P Q
+    → ((x : T) → P x → R x) → IfOk r R
 ok_from (Ok x) P R Q h f = f x h
 ok_from (Err e) P R Q h f = tt
 
-err_from : {T E : Type 0} (r : Result T E) (P : T → Type 0) (Q R : E → Type 0) → MatchResult r P Q → ((e : E) → Q e → R e) → IfErr r R
+err_from : {T E : Type 0} (r : Result T E) (P : T → Type 0) (Q R : E → Type 0) → MatchResult r P Q
+    → ((e : E) → Q e → R e) → IfErr r R
 err_from (Ok x) P Q R h f = tt
 err_from (Err e) P Q R h f = f e h
 
@@ -22,10 +24,14 @@ returns-clause-ok c =
     let all = c.new-source.result.reader.rest.now in
     let reads = c.rest.ensures.reads in
     let later = known-script reads.1 all _ reads.0 0 0 reads.2.reader refl in
-    let told = reads.3 (record { given = all; fails = false }) later.0 (text_left ADDRESS_MAX 1 all c.args.limit false) later.1 (c.new-source.ensures.left (record { given = all; fails = false })) in
+    let told =
+    reads.3 (record { given = all; fails = false }) later.0
+    (text_left ADDRESS_MAX 1 all c.args.limit false) later.1
+    (c.new-source.ensures.left (record { given = all; fails = false })) in
     let is : all ≡ c.args.text.now = rw c.new-source.ensures.reader refl in
     ok_from c.rest.result _ _ _ told (λ found h.
-    let none : fault ADDRESS_MAX all c.args.limit ≡ None = sym (text_left-fault ADDRESS_MAX all c.args.limit) ∙ h.1 in
+    let none : fault ADDRESS_MAX all c.args.limit ≡ None =
+    sym (text_left-fault ADDRESS_MAX all c.args.limit) ∙ h.1 in
     rw (← is) (none, h.0 ∙ text_left-records ADDRESS_MAX all c.args.limit none))
 
 pub returns-clause-err : goal.returns-clause-err
@@ -34,6 +40,10 @@ returns-clause-err c =
     let all = c.new-source.result.reader.rest.now in
     let reads = c.rest.ensures.reads in
     let later = known-script reads.1 all _ reads.0 0 0 reads.2.reader refl in
-    let told = reads.3 (record { given = all; fails = false }) later.0 (text_left ADDRESS_MAX 1 all c.args.limit false) later.1 (c.new-source.ensures.left (record { given = all; fails = false })) in
+    let told =
+    reads.3 (record { given = all; fails = false }) later.0
+    (text_left ADDRESS_MAX 1 all c.args.limit false) later.1
+    (c.new-source.ensures.left (record { given = all; fails = false })) in
     let is : all ≡ c.args.text.now = rw c.new-source.ensures.reader refl in
-    err_from c.rest.result _ _ _ told (λ why h other. rw (← is) (sym (text_left-fault ADDRESS_MAX all c.args.limit) ∙ h.0 other))
+    err_from c.rest.result _ _ _ told
+    (λ why h other. rw (← is) (sym (text_left-fault ADDRESS_MAX all c.args.limit) ∙ h.0 other))

@@ -7,12 +7,16 @@ use Rattle.din_trace.proofs.backlog.Backlog.end.Goals as goal
 use Rattle.din_trace.proofs.backlog.Backlog.end.Goals.{After-end}
 
 -- what the end left
-after : (c : After-end) (l : Left) → HasLeft c.args.self.now (record { given = []; fails = false }) l → AfterEnd l c.end.result
+after : (c : After-end) (l : Left)
+    → HasLeft c.args.self.now (record { given = []; fails = false }) l → AfterEnd l c.end.result
 unfolding words.StandsFor words.HasNoFault words.bytes_of words.line_of words.begun_of
 after c l left =
     let b = c.args.self.now in
-    after-end b.lines b.limit l c.end.result (λ text s e. (c.end.ensures.empty text s e).0) (λ text s n. (c.end.ensures.ends text s n).0)
-    (rw (held-none b.buffer.bytes b.at b.filled c.requires.empty) at (reading-left b.state c.requires.reading b.lines (held b) b.limit (record { given = []; fails = false }) l left))
+    after-end b.lines b.limit l c.end.result (λ text s e. (c.end.ensures.empty text s e).0)
+    (λ text s n. (c.end.ensures.ends text s n).0)
+    (rw (held-none b.buffer.bytes b.at b.filled c.requires.empty) at
+    (reading-left b.state c.requires.reading b.lines (held b) b.limit
+    (record { given = []; fails = false }) l left))
 
 pub returns-in-Ok-clause-answer : goal.returns-in-Ok-clause-answer
 unfolding words.StandsFor words.HasNoFault words.bytes_of words.line_of words.begun_of
@@ -23,5 +27,6 @@ returns-in-Ok-clause-answer c l left =
 pub returns-in-Err-clause-answer : goal.returns-in-Err-clause-answer
 unfolding words.StandsFor words.HasNoFault words.bytes_of words.line_of words.begun_of
 returns-in-Err-clause-answer c l left =
-    let next = rw c.in-Err.is at (after (goal.at.returns-in-Err-clause-answer c).After-end l left) in
+    let next =
+    rw c.in-Err.is at (after (goal.at.returns-in-Err-clause-answer c).After-end l left) in
     (next.0, λ _. next.1)

@@ -12,10 +12,18 @@ returns-else-count-self-clause-answer c script l left =
     let b = c.args.self.now in
     let count = c.in-Some.count in
     let bytes = b.buffer.bytes in
-    let size : b.filled - b.at ≡ count + (b.filled - (b.at + count)) = omega (arith, c.in-Some.ensures.count.1) in
+    let size : b.filled - b.at ≡ count + (b.filled - (b.at + count)) =
+    omega (arith, c.in-Some.ensures.count.1) in
     let moved : drop count (held b) ≡ take (b.filled - (b.at + count)) (drop (b.at + count) bytes) =
-    rw (size, drop-take count (b.filled - (b.at + count)) (drop b.at bytes), drop-drop count b.at bytes) refl in
-    let after = after-plain b.lines c.pass.new.self (held b) c.in-Some.record count b.limit script l c.in-Some.ensures.line
+    rw (
+      size,
+      drop-take count (b.filled - (b.at + count))
+          (drop b.at bytes),
+      drop-drop count b.at bytes,
+    ) refl in
+    let after =
+    after-plain b.lines c.pass.new.self
+    (held b) c.in-Some.record count b.limit script l c.in-Some.ensures.line
     (record {
       empty = c.is_empty.ensures c.if-not-is_empty.false;
       line = c.pass.ensures.line;
@@ -23,5 +31,8 @@ returns-else-count-self-clause-answer c script l left =
       so_far = c.pass.ensures.so_far;
       fault = c.pass.ensures.fault;
     }) (omega (arith, c.if-count-self.false))
-    (reading-left b.state c.requires.reading b.lines (held b) b.limit script l left) in
-    (after.0, left-reading b.state c.requires.reading c.pass.new.self _ b.limit script _ (rw moved at after.1))
+    (reading-left b.state c.requires.reading b.lines (held b) b.limit script l left) in (
+      after.0,
+      left-reading b.state c.requires.reading c.pass.new.self _ b.limit script _
+          (rw moved at after.1),
+    )

@@ -1,4 +1,4 @@
-use Rattle.std.proofs.Common.{◌≡◌, ◌+◌, [], ◌++◌, length-append, ap, ◌∙◌, arith, inl, inr, true, false}
+use Rattle.std.proofs.Common.{◌≡◌, [], ◌++◌, length-append, ap, ◌∙◌, arith, inl, inr, true, false}
 use Rattle.std.proofs.lemmas.Bool.{false≢true}
 use Rattle.din_trace.specs.State.{is_reading}
 use Rattle.din_trace.specs.Device.{once_more}
@@ -16,13 +16,20 @@ asks-preserved g c =
     record {
       started = elim now.started [ inl e ↦ inr (rw e at c.in_default.ensures.dry) | inr h ↦ inr h ];
       room_less = omega (arith, c.answer.ensures.room, c.refill.ensures.room, now.room_less);
-      settled = λ is. let e : is_reading c.asks.self.backlog.state ≡ false = rw (now.settled is) is in absurd (false≢true (c.in_default.ensures.settled e).0);
+      settled = λ is. let e : is_reading c.asks.self.backlog.state ≡ false =
+          rw (now.settled is) is in absurd (false≢true (c.in_default.ensures.settled e).0);
       limit_same = omega (arith, c.in_default.ensures.limit, c.refill.ensures.limit);
       failures_same = c.in-Ok.ensures.ok ∙ now.failures_same;
       given = now.given ++ more.0;
-      consumed = consumes-append (g.R.ByteReader.remaining c.args.self.now.reader) (g.R.ByteReader.remaining c.asks.self.reader) (g.R.ByteReader.remaining c.refill.new.reader) now.given more.0 now.consumed more.2;
+      consumed =
+          consumes-append (g.R.ByteReader.remaining c.args.self.now.reader)
+          (g.R.ByteReader.remaining c.asks.self.reader)
+          (g.R.ByteReader.remaining c.refill.new.reader) now.given more.0 now.consumed more.2;
       count = simp length-append (omega (arith, c.in-Ok.ensures.taken, more.1));
-      left_same = λ script left h. more.3 script left (c.in_default.ensures.goes_on (record { given = more.0 ++ script.given; fails = script.fails }) left
+      left_same =
+          λ script left h. more.3 script left
+          (c.in_default.ensures.goes_on
+          (record { given = more.0 ++ script.given; fails = script.fails }) left
           (now.left_same (record { given = more.0 ++ script.given; fails = script.fails }) left
           (left-regrouped c.args.self.now.backlog script.fails left now.given more.0 script.given h)));
     }
@@ -35,15 +42,21 @@ returns-in-Err-clause-reads g c =
       Failed,
       record {
         reader = (
-          consumes-kept (g.R.ByteReader.remaining c.args.self.now.reader) (g.R.ByteReader.remaining c.asks.self.reader) (g.R.ByteReader.remaining c.refill.new.reader) now.given now.consumed c.in-Err.ensures.err.1,
+          consumes-kept (g.R.ByteReader.remaining c.args.self.now.reader)
+              (g.R.ByteReader.remaining c.asks.self.reader)
+              (g.R.ByteReader.remaining c.refill.new.reader) now.given now.consumed c.in-Err.ensures.err.1,
           c.in-Err.ensures.err.0 ∙ ap once_more now.failures_same,
         );
         settles = c.fail.ensures.closed;
         taken = omega (arith, c.in-Err.ensures.taken_none, now.count);
       },
       λ before later l is left.
-          let then = c.fail.ensures.answer l (c.in-Err.ensures.same (record { given = []; fails = true }) l (c.in_default.ensures.goes_on (record { given = []; fails = true }) l
-          (now.left_same (record { given = []; fails = true }) l (left-closed c.args.self.now.backlog true l now.given before is left)))) in
+          let then =
+          c.fail.ensures.answer l
+          (c.in-Err.ensures.same (record { given = []; fails = true }) l
+          (c.in_default.ensures.goes_on (record { given = []; fails = true }) l
+          (now.left_same (record { given = []; fails = true }) l
+          (left-closed c.args.self.now.backlog true l now.given before is left)))) in
           (then.0, then.1 later),
     )
 
@@ -57,7 +70,10 @@ returns-then-count-eq0-clause-reads g c =
       Ended,
       record {
         reader = (
-          consumes-none (g.R.ByteReader.remaining c.args.self.now.reader) (g.R.ByteReader.remaining c.asks.self.reader) (g.R.ByteReader.remaining c.refill.new.reader) now.given now.consumed (rw none at more.2),
+          consumes-none (g.R.ByteReader.remaining c.args.self.now.reader)
+              (g.R.ByteReader.remaining c.asks.self.reader)
+              (g.R.ByteReader.remaining c.refill.new.reader) now.given now.consumed
+              (rw none at more.2),
           c.in-Ok.ensures.end c.if-count-eq0.true,
           c.in-Ok.ensures.ok ∙ now.failures_same,
         );
@@ -66,7 +82,10 @@ returns-then-count-eq0-clause-reads g c =
       },
       λ before later l is left.
           let held = c.in_default.ensures.goes_on (record { given = []; fails = false }) l
-          (now.left_same (record { given = []; fails = false }) l (left-closed c.args.self.now.backlog false l now.given before is left)) in
-          let then = c.end.ensures.answer l (more.3 (record { given = []; fails = false }) l (rw none held)) in
+          (now.left_same (record { given = []; fails = false }) l
+          (left-closed c.args.self.now.backlog false l now.given before is left)) in
+          let then =
+          c.end.ensures.answer l
+          (more.3 (record { given = []; fails = false }) l (rw none held)) in
           (then.0, then.1 later),
     )

@@ -8,15 +8,22 @@ use Rattle.din_trace.proofs.source.Source.next.Given as goal
 
 abbrev pub invariant-asks : goal.invariant-asks
 invariant-asks g l = record {
-  started : (l.self ≡ l.initial.self) ⊎ ((left : Left) → HasLeft l.initial.self.backlog (record { given = []; fails = true }) left → left ≡ record { records = []; fault = Some Read });
+  started : (l.self ≡ l.initial.self) ⊎ ((left : Left)
+      → HasLeft l.initial.self.backlog (record { given = []; fails = true }) left → left
+      ≡ record { records = []; fault = Some Read });
   room_less : room l.self.backlog ≤ room l.initial.self.backlog;
   settled : is_reading l.initial.self.backlog.state ≡ false → l.self ≡ l.initial.self;
   limit_same : l.self.backlog.limit ≡ l.initial.self.backlog.limit;
-  failures_same : g.R.ByteReader.failures l.self.reader ≡ g.R.ByteReader.failures l.initial.self.reader;
+  failures_same : g.R.ByteReader.failures l.self.reader
+      ≡ g.R.ByteReader.failures l.initial.self.reader;
   given : List ℕ;
-  consumed : Consumes (g.R.ByteReader.remaining l.initial.self.reader) (g.R.ByteReader.remaining l.self.reader) given;
+  consumed : Consumes (g.R.ByteReader.remaining l.initial.self.reader)
+      (g.R.ByteReader.remaining l.self.reader) given;
   count : taken l.self.backlog ≡ taken l.initial.self.backlog + length given;
-  left_same : (script : Script) (left : Left) → HasLeft l.initial.self.backlog (record { given = given ++ script.given; fails = script.fails }) left → HasLeft l.self.backlog script left;
+  left_same : (script : Script) (left : Left)
+      → HasLeft l.initial.self.backlog
+      (record { given = given ++ script.given; fails = script.fails }) left
+      → HasLeft l.self.backlog script left;
 }
 
 abbrev pub decreases-asks : goal.decreases-asks

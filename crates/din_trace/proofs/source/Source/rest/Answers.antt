@@ -10,7 +10,8 @@ use Rattle.din_trace.proofs.source.Source.rest.Goals.{After-next}
 use Rattle.din_trace.proofs.source.Source.rest.Given.{Over}
 
 -- the calls so far and this one
-composed : (g : Over) (c : After-next g) → Calls g.R.ByteReader.remaining g.R.ByteReader.failures c.args.self.now c.next.new.self
+composed : (g : Over) (c : After-next g)
+    → Calls g.R.ByteReader.remaining g.R.ByteReader.failures c.args.self.now c.next.new.self
     c.records.invariant.given c.next.ensures.reads.0 c.records.invariant.fate c.next.ensures.reads.1
 composed g c =
     let now = c.records.invariant in
@@ -24,7 +25,12 @@ records-init g c = record {
   given = [];
   fate = Open;
   went = no_calls g.R.ByteReader.remaining g.R.ByteReader.failures c.args.self.now;
-  left = λ first last before is left. (before, rw c.new-records.ensures.items refl, subst (λ script. HasLeft c.args.self.now script before) is left);
+  left = λ first last before is left. (
+    before,
+    rw c.new-records.ensures.items refl,
+    subst
+        (λ script. HasLeft c.args.self.now script before) is left,
+  );
 }
 
 pub records-preserved : goal.records-preserved
@@ -45,9 +51,11 @@ records-preserved g c =
           let mid = all.between first last is in
           let more = now.left first mid.0 before mid.1 left in
           let after = c.next.ensures.reads.3 mid.0 last more.0 mid.2 more.2 in
-          let pushed : c.push.new.self.items ≡ c.records.records.items ++ c.in-Some.next ∷ [] = rw c.if-is_err.ensures.negation at c.push.ensures.items in (
+          let pushed : c.push.new.self.items ≡ c.records.records.items ++ c.in-Some.next ∷ [] =
+          rw c.if-is_err.ensures.negation at c.push.ensures.items in (
             behind_first more.0,
-            rw pushed (rest-record c.records.records.items before more.0 c.next.result more.1 after.0 c.in-Some.next (c.in-Ok.is ∙ ap (λ (found : Option DinRecord). Ok found) c.in-Some.is)),
+            rw pushed
+                (rest-record c.records.records.items before more.0 c.next.result more.1 after.0 c.in-Some.next (c.in-Ok.is ∙ ap (λ (found : Option DinRecord). Ok found) c.in-Some.is)),
             after.1,
           );
     }
@@ -58,7 +66,13 @@ returns-then-is_err-clause-reads g c =
     let all = composed g (goal.at.returns-then-is_err-clause-reads g c).After-next in (
       all.given,
       all.fate,
-      record { reader = all.went.reader; settles = closes-settled all.fate c.exhaust.new.self.state c.exhaust.ensures.closed; taken = c.exhaust.ensures.taken ∙ all.went.taken },
+      record {
+        reader = all.went.reader;
+        settles =
+            closes-settled all.fate c.exhaust.new.self.state c.exhaust.ensures.closed;
+        taken =
+            c.exhaust.ensures.taken ∙ all.went.taken;
+      },
       λ before later l is left. ((λ h. absurd (h refl)), c.exhaust.ensures.left later),
     )
 
@@ -73,7 +87,9 @@ returns-in-None-clause-reads g c =
           let mid = all.between first last is in
           let more = now.left first mid.0 before mid.1 left in
           let after = c.next.ensures.reads.3 mid.0 last more.0 mid.2 more.2 in
-          let end = rest-end c.records.records.items before more.0 c.next.result more.1 after.0 (c.in-Ok.is ∙ ap (λ (found : Option DinRecord). Ok found) c.in-None.is) in
+          let end =
+          rest-end c.records.records.items before more.0 c.next.result more.1 after.0
+          (c.in-Ok.is ∙ ap (λ (found : Option DinRecord). Ok found) c.in-None.is) in
           (end.0, end.1, subst (HasLeft c.next.new.self last) end.2 after.1),
     )
 
@@ -88,6 +104,7 @@ returns-in-Err-clause-reads g c =
           let mid = all.between first last is in
           let more = now.left first mid.0 before mid.1 left in
           let after = c.next.ensures.reads.3 mid.0 last more.0 mid.2 more.2 in
-          let end = rest-fault c.records.records.items before more.0 c.next.result more.1 after.0 c.in-Err.fault c.in-Err.is in
+          let end =
+          rest-fault c.records.records.items before more.0 c.next.result more.1 after.0 c.in-Err.fault c.in-Err.is in
           (λ _. end.0, subst (HasLeft c.next.new.self last) end.1 after.1),
     )

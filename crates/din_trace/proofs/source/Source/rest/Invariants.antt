@@ -10,8 +10,11 @@ invariant-records g l = record {
   given : List ℕ;
   fate : Fate;
   went : Takes g.R.ByteReader.remaining g.R.ByteReader.failures l.initial.self l.self given fate;
-  left : (first last : Script) (before : Left) → Follows fate given first last → HasLeft l.initial.self first before
-      → (more : Left) × (before ≡ record { records = l.records.items ++ more.records; fault = more.fault }) × HasLeft l.self last more;
+  left : (first last : Script) (before : Left) → Follows fate given first last
+      → HasLeft l.initial.self first before
+      → (more : Left)
+      × (before ≡ record { records = l.records.items ++ more.records; fault = more.fault })
+      × HasLeft l.self last more;
 }
 
 abbrev pub decreases-records : goal.decreases-records
