@@ -1,5 +1,7 @@
 -- What is left after one more byte.
-use Rattle.std.proofs.Common.{◌≡◌, ◌≢◌, ℕ, suc, ◌+◌, ◌-◌, ◌<◌, ◌≤◌, true, false, List, [], ◌∷◌, ◌++◌, length, Option, Some, None, Result, Ok, Err, refl, ap, ◌∙◌, arith, inl, inr, length-append}
+use Rattle.std.proofs.Common.{◌≡◌, ◌≢◌, ℕ, suc, ◌+◌, ◌-◌, ◌<◌, ◌≤◌, true, false, List, [], ◌∷◌}
+use Rattle.std.proofs.Common.{◌++◌, length, Option, Some, None, Result, Ok, Err, refl, ap, ◌∙◌}
+use Rattle.std.proofs.Common.{arith, inl, inr, length-append}
 use Rattle.std.specs.Prelude.{OnOk}
 use Rattle.std.proofs.Common.{take, drop, get_or}
 use Rattle.std.proofs.lemmas.Bool.{cases_eq, ne_eqb}
@@ -15,11 +17,13 @@ use Rattle.din_trace.specs.declared.line_reader.LineReader.{LineReader}
 use Rattle.din_trace.specs.Line.{Form, Blank, Din, Faulty, form}
 use Rattle.din_trace.specs.Line.{ADDRESS_MAX}
 use Rattle.din_trace.specs.Text.{Cut, cut, open_line, last_line, line_result, form_result}
-use Rattle.din_trace.specs.Left.{Left, Script, form_left, lines_left, text_left, first_answer, behind_first}
+use Rattle.din_trace.specs.Left.{Left, Script, form_left, lines_left, text_left, first_answer}
+use Rattle.din_trace.specs.Left.{behind_first}
 use Rattle.din_trace.specs.Standing.{Stands}
 use Rattle.din_trace.specs.Backlog.{ReadingLeft, HasLeftIn}
 use Rattle.din_trace.proofs.Cuts.{cut-ended, cut-longer, open_line-open}
-use Rattle.din_trace.proofs.Lefts.{text_left-longer, text_left-line, text_left-past, text_left-failed, text_left-ended}
+use Rattle.din_trace.proofs.Lefts.{text_left-longer, text_left-line, text_left-past}
+use Rattle.din_trace.proofs.Lefts.{text_left-failed, text_left-ended}
 
 -- what the answer of a line reader leaves
 abbrev pub AfterByte : LineReader → List ℕ → ℕ → Script → Left

@@ -1,5 +1,6 @@
 -- Each line has exactly one form.
-use Rattle.std.proofs.Common.{◌≡◌, ℕ, ◌<◌, ◌≤◌, true, false, List, [], ◌∷◌, ◌++◌, length, refl, sym, ap, ◌∙◌, subst, inl, inr, arith}
+use Rattle.std.proofs.Common.{◌≡◌, ℕ, ◌<◌, ◌≤◌, true, false, List, [], ◌∷◌, ◌++◌, length, refl, sym}
+use Rattle.std.proofs.Common.{ap, ◌∙◌, subst, inl, inr, arith}
 use Rattle.std.specs.Prelude.{nat_lt}
 use Rattle.std.proofs.lemmas.Bool.{cases_Bool, ltb-true, ltb-false, lt-ltb, le-ltb}
 use Rattle.std.proofs.lemmas.Bool.Decides.{nat_tests}
@@ -7,8 +8,13 @@ use Rattle.std.proofs.lemmas.List.{append-nil}
 use Rattle.din_trace.specs.declared.record.Label.{Label}
 use Rattle.din_trace.specs.declared.record.DinRecord.{DinRecord}
 use Rattle.din_trace.specs.declared.fault.Why.TheVariants as why
-use Rattle.din_trace.specs.Line.{is_blank, is_label, label_of, is_hex, hex_value, Each, StopsAt, Begins, HasParts, Form, Blank, Din, Faulty, HasForm, IsComment, front, after, after_prefix, form, label_form, gap_form, address_form, digits_form, tail_form}
-use Rattle.din_trace.proofs.Runs.{after-append, front-append, after-each, front-append-after, Each-front, StopsAt-after, prefix_of, prefix_of-append, after_prefix-append}
+use Rattle.din_trace.specs.Line.{is_blank, is_label, label_of, is_hex, hex_value, Each, StopsAt}
+use Rattle.din_trace.specs.Line.{Begins, HasParts, Form, Blank, Din, Faulty, HasForm, IsComment}
+use Rattle.din_trace.specs.Line.{front, after, after_prefix, form, label_form, gap_form}
+use Rattle.din_trace.specs.Line.{address_form, digits_form, tail_form}
+use Rattle.din_trace.proofs.Runs.{after-append, front-append, after-each, front-append-after}
+use Rattle.din_trace.proofs.Runs.{Each-front, StopsAt-after, prefix_of, prefix_of-append}
+use Rattle.din_trace.proofs.Runs.{after_prefix-append}
 
 -- a digit 0 to 4 is no blank
 pub label_not_blank : (byte : ℕ) → is_label byte ≡ true → is_blank byte ≡ false

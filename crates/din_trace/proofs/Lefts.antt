@@ -1,5 +1,7 @@
 -- What a text leaves after a byte of it.
-use Rattle.std.proofs.Common.{◌≡◌, ℕ, suc, ◌+◌, ◌-◌, ◌<◌, ◌≤◌, leb, Bool, true, false, cond, List, [], ◌∷◌, ◌++◌, length, take, Some, None, refl, ap, ◌∙◌, append_assoc, length-append, arith, inl, inr}
+use Rattle.std.proofs.Common.{◌≡◌, ℕ, suc, ◌+◌, ◌-◌, ◌<◌, ◌≤◌, leb, Bool, true, false, cond, List}
+use Rattle.std.proofs.Common.{[], ◌∷◌, ◌++◌, length, take, Some, None, refl, ap, ◌∙◌, append_assoc}
+use Rattle.std.proofs.Common.{length-append, arith, inl, inr}
 use Rattle.std.specs.Prelude.{nat_le}
 use Rattle.std.proofs.lemmas.Bool.{cases_Bool, le-leb, lt-leb, leb-true, leb-false}
 use Rattle.std.proofs.lemmas.List.{append-nil}

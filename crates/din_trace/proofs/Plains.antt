@@ -1,12 +1,15 @@
 -- Whole lines at the front of some bytes.
-use Rattle.std.proofs.Common.{◌≡◌, ℕ, suc, ◌+◌, ◌-◌, ◌*◌, ◌^◌, ◌<◌, ◌≤◌, Bool, true, false, eqb, cond, List, [], ◌∷◌, ◌++◌, length, take, drop, refl, sym, ap, ◌∙◌, arith, append_assoc, length-append, inl, inr}
+use Rattle.std.proofs.Common.{◌≡◌, ℕ, suc, ◌+◌, ◌-◌, ◌*◌, ◌^◌, ◌<◌, ◌≤◌, Bool, true, false, eqb}
+use Rattle.std.proofs.Common.{cond, List, [], ◌∷◌, ◌++◌, length, take, drop, refl, sym, ap, ◌∙◌}
+use Rattle.std.proofs.Common.{arith, append_assoc, length-append, inl, inr}
 use Rattle.std.specs.Prelude.{nat_lt, nat_le, ◌&&◌, ◌||◌}
 use Rattle.std.specs.Char.{digit_value}
 use Rattle.std.proofs.lemmas.Bool.{cases_eq, eqb-true, ne_eqb, false≢true}
 use Rattle.std.specs.List.{AllByRecursion}
 use Rattle.std.proofs.lemmas.List.Sums.{fold-append}
 use Rattle.std.proofs.Math.Nat.{pow-le-pow_right, pow-succ'}
-use Rattle.din_trace.specs.Line.{is_blank, is_label, label_of, is_hex, hex_value, has_prefix, Each, StopsAt, IsComment, Din}
+use Rattle.din_trace.specs.Line.{is_blank, is_label, label_of, is_hex, hex_value, has_prefix, Each}
+use Rattle.din_trace.specs.Line.{StopsAt, IsComment, Din}
 use Rattle.din_trace.specs.Line.{ADDRESS_MAX}
 use Rattle.din_trace.specs.Plain.{BeginsWithLine, IsPrefix}
 use Rattle.std.specs.Prelude.{Some, Ok}
@@ -156,7 +159,8 @@ pub begins_plain : (bytes : List ℕ) (digit : ℕ) (prefix digits tail : List �
     → bytes ≡ digit ∷ 32 ∷ (prefix ++ (digits ++ (tail ++ 10 ∷ drop count bytes)))
     → count ≡ length prefix + length digits + length tail + 3
     → BeginsWithLine bytes (record { label = label_of digit; addr = hex_value digits }) count
-begins_plain bytes digit prefix digits tail count labeled is_prefix hex some fits crs whole counted =
+begins_plain bytes digit prefix digits tail count labeled is_prefix hex some fits crs whole counted
+    =
     let part = prefix_is_part prefix digits tail is_prefix hex some crs in
     record {
       line = digit ∷ 32 ∷ (prefix ++ (digits ++ tail));

@@ -1,9 +1,12 @@
 -- What a reader gave in two calls.
-use Rattle.std.proofs.Common.{◌≡◌, ℕ, ◌+◌, Bool, true, false, List, [], ◌∷◌, ◌++◌, length, drop, Option, Some, None, Result, Ok, Err, refl, sym, ap, ◌∙◌, subst, append_assoc, length-append, arith}
+use Rattle.std.proofs.Common.{◌≡◌, ℕ, ◌+◌, Bool, true, false, List, [], ◌∷◌, ◌++◌, length, drop}
+use Rattle.std.proofs.Common.{Option, Some, None, Result, Ok, Err, refl, sym, ap, ◌∙◌, subst}
+use Rattle.std.proofs.Common.{append_assoc, length-append, arith}
 use Rattle.std.specs.Io.KnownBytes.{Consumes, Keeps}
 use Rattle.std.proofs.lemmas.List.{append-nil}
 use Rattle.din_trace.specs.Device.{once_more}
-use Rattle.din_trace.specs.Left.{Left, Script, Fate, Open, Ended, Failed, Follows, FateIs, first_answer, behind_first, records_answer}
+use Rattle.din_trace.specs.Left.{Left, Script, Fate, Open, Ended, Failed, Follows, FateIs}
+use Rattle.din_trace.specs.Left.{first_answer, behind_first, records_answer}
 use Rattle.din_trace.specs.State.{is_reading, Closes}
 use Rattle.din_trace.specs.declared.record.DinRecord.{DinRecord}
 use Rattle.din_trace.specs.declared.fault.TraceFault.{TraceFault}

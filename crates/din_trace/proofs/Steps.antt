@@ -1,12 +1,14 @@
 -- What one more byte makes of a line.
-use Rattle.std.proofs.Common.{◌≡◌, ℕ, ◌+◌, ◌*◌, ◌<◌, ◌≤◌, true, false, cond, List, [], ◌∷◌, refl, arith}
+use Rattle.std.proofs.Common.{◌≡◌, ℕ, ◌+◌, ◌*◌, ◌<◌, ◌≤◌, true, false, cond, List, [], ◌∷◌, refl}
+use Rattle.std.proofs.Common.{arith}
 use Rattle.std.specs.Prelude.{nat_lt}
 use Rattle.std.specs.Char.{digit_value}
 use Rattle.std.proofs.lemmas.Bool.{lt-ltb, ne_eqb}
 use Rattle.din_trace.specs.declared.record.Label.{Label}
 use Rattle.din_trace.specs.declared.fault.Why.TheVariants as why
 use Rattle.din_trace.specs.declared.line.LineSoFar.TheVariants as so_far
-use Rattle.din_trace.specs.Line.{is_blank, is_label, label_of, is_hex, Faulty, front, after, form, gap_form}
+use Rattle.din_trace.specs.Line.{is_blank, is_label, label_of, is_hex, Faulty, front, after, form}
+use Rattle.din_trace.specs.Line.{gap_form}
 use Rattle.din_trace.specs.LineSoFar.{form_from, value_form, more_digits}
 use Rattle.din_trace.proofs.Forms.{label_not_blank}
 

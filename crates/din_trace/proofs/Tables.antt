@@ -1,8 +1,10 @@
 -- The table of digits is right.
-use Rattle.std.proofs.Common.{◌≡◌, ℕ, zero, suc, ◌<◌, ◌≤◌, Bool, true, false, refl, arith, slice_index_or, inl, inr}
+use Rattle.std.proofs.Common.{◌≡◌, ℕ, zero, suc, ◌<◌, ◌≤◌, Bool, true, false, refl, arith}
+use Rattle.std.proofs.Common.{slice_index_or, inl, inr}
 use Rattle.std.specs.Prelude.{nat_lt, nat_le, if◌then◌else◌, ◌==◌}
 use Rattle.std.specs.Char.{digit_value}
-use Rattle.std.proofs.lemmas.Bool.{cases_Bool, cases_eq, eqb-true, lt-ltb, le-ltb, leb-true, false≢true}
+use Rattle.std.proofs.lemmas.Bool.{cases_Bool, cases_eq, eqb-true, lt-ltb, le-ltb, leb-true}
+use Rattle.std.proofs.lemmas.Bool.{false≢true}
 use Rattle.din_trace.specs.declared.digits.TheConstants.{DIGITS}
 use Rattle.din_trace.specs.Line.{is_hex}
 
@@ -15,7 +17,8 @@ all_below test (suc n) = if test n then all_below test n else false
 abbrev is_right : ℕ → Bool
 is_right byte =
     if nat_lt
-    (slice_index_or DIGITS byte 0) 16 then digit_value byte == slice_index_or DIGITS byte 0 else nat_le 16 (digit_value byte)
+    (slice_index_or DIGITS byte 0) 16 then digit_value byte == slice_index_or DIGITS byte 0 else
+    nat_le 16 (digit_value byte)
 
 each_right : all_below is_right 256 ≡ true
 each_right = refl

@@ -1,5 +1,6 @@
 -- What a text leaves.
-use Rattle.std.proofs.Common.{◌≡◌, ℕ, ◌+◌, ◌<◌, Bool, true, false, List, [], ◌∷◌, ◌++◌, length, take, Option, Some, None, refl, sym, ap, ◌∙◌, inl, inr}
+use Rattle.std.proofs.Common.{◌≡◌, ℕ, ◌+◌, ◌<◌, Bool, true, false, List, [], ◌∷◌, ◌++◌, length}
+use Rattle.std.proofs.Common.{take, Option, Some, None, refl, sym, ap, ◌∙◌, inl, inr}
 use Rattle.std.specs.Prelude.{nat_le, if◌then◌else◌}
 use Rattle.std.proofs.lemmas.Bool.{cases_Bool, le-leb, leb-false}
 use Rattle.din_trace.specs.declared.fault.TraceFault.{TraceFault}
@@ -7,7 +8,8 @@ use Rattle.din_trace.specs.declared.fault.TraceFault.TheVariants.{Bad, TooLong, 
 use Rattle.din_trace.specs.declared.fault.Why.{Why}
 use Rattle.din_trace.specs.Laws.{LeavesText}
 use Rattle.din_trace.specs.Line.{Form, Blank, Din, Faulty, form}
-use Rattle.din_trace.specs.Text.{lines, ended_lines, form_records, line_records, records, form_fault, first_fault, fault}
+use Rattle.din_trace.specs.Text.{lines, ended_lines, form_records, line_records, records}
+use Rattle.din_trace.specs.Text.{form_fault, first_fault, fault}
 use Rattle.din_trace.specs.Left.{Left, form_left, lines_left, text_left}
 use Rattle.din_trace.proofs.Cuts.{others_none}
 

@@ -1,11 +1,13 @@
 -- What is read under a bound on addresses is read alike under a greater one.
-use Rattle.std.proofs.Common.{◌≡◌, ℕ, ◌+◌, ◌≤◌, List, [], ◌∷◌, length, take, Option, Some, None, refl, sym, inl, inr, arith}
+use Rattle.std.proofs.Common.{◌≡◌, ℕ, ◌+◌, ◌≤◌, List, [], ◌∷◌, length, take, Option, Some, None}
+use Rattle.std.proofs.Common.{refl, sym, inl, inr, arith}
 use Rattle.std.specs.Prelude.{nat_le}
 use Rattle.std.proofs.lemmas.Bool.{cases_Bool}
 use Rattle.din_trace.specs.declared.fault.TraceFault.{TraceFault}
 use Rattle.din_trace.specs.declared.fault.TraceFault.TheVariants.{TooLong}
 use Rattle.din_trace.specs.Line.{Form, Blank, Din, Faulty, HasForm, form}
-use Rattle.din_trace.specs.Text.{lines, ended_lines, line_records, records, form_fault, first_fault, fault}
+use Rattle.din_trace.specs.Text.{lines, ended_lines, line_records, records, form_fault, first_fault}
+use Rattle.din_trace.specs.Text.{fault}
 use Rattle.din_trace.proofs.Forms.{has_form, form_is}
 use Rattle.din_trace.proofs.Cuts.{others_none, form_fault-none}
 

@@ -1,5 +1,6 @@
 -- What one call of a device did: to the bytes that it tells, and to the count of its failures.
-use Rattle.std.specs.Prelude.{◌≡◌, ℕ, ◌+◌, ◌%◌, ◌^◌, ◌≤◌, List, length, Option, Result, IfOk, OnOk, OnErr}
+use Rattle.std.specs.Prelude.{◌≡◌, ℕ, ◌+◌, ◌%◌, ◌^◌, ◌≤◌, List, length, Option, Result, IfOk, OnOk}
+use Rattle.std.specs.Prelude.{OnErr}
 use Rattle.std.specs.Io.KnownBytes.{ReadConsumes, Appends}
 use Rattle.din_trace.specs.declared.device.FromRead.{FromRead}
 use Rattle.din_trace.specs.declared.device.FromWrite.{FromWrite}
@@ -34,8 +35,8 @@ unfoldable pub read_failures : {R : Type 0} → FromRead R → ℕ
 read_failures reader = reader.failures
 
 -- what a writer made from one of std's holds, and how many times it has failed
-unfoldable pub written_bytes : {W : Type 0} → (W → Option (List ℕ)) → FromWrite W → Option (List ℕ)
-written_bytes contents writer = contents writer.inner
+unfoldable pub held_bytes : {W : Type 0} → (W → Option (List ℕ)) → FromWrite W → Option (List ℕ)
+held_bytes contents writer = contents writer.inner
 
 unfoldable pub write_failures : {W : Type 0} → FromWrite W → ℕ
 write_failures writer = writer.failures

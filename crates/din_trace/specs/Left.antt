@@ -1,5 +1,6 @@
 -- What a source has left, by what its reader will do.
-use Rattle.std.specs.Prelude.{◌≡◌, ℕ, ◌+◌, nat_le, if◌then◌else◌, List, [], ◌∷◌, ◌++◌, length, take, drop, Option, Some, None, Bool, true, false, Result, Ok, Err}
+use Rattle.std.specs.Prelude.{◌≡◌, ℕ, ◌+◌, nat_le, if◌then◌else◌, List, [], ◌∷◌, ◌++◌, length, take}
+use Rattle.std.specs.Prelude.{drop, Option, Some, None, Bool, true, false, Result, Ok, Err}
 use Rattle.std.specs.Io.KnownBytes.{Consumes, IsAtEnd}
 use Rattle.din_trace.specs.declared.record.DinRecord.{DinRecord}
 use Rattle.din_trace.specs.declared.fault.TraceFault.{TraceFault}
@@ -40,7 +41,8 @@ fault_answer None = Ok None
 fault_answer (Some fault) = Err fault
 
 -- the answer where these records are left, and then this fault or the end
-abbrev pub records_answer : List DinRecord → Option TraceFault → Result (Option DinRecord) TraceFault
+abbrev pub records_answer : List DinRecord → Option TraceFault
+    → Result (Option DinRecord) TraceFault
 records_answer [] fault = fault_answer fault
 records_answer (r ∷ records) fault = Ok (Some r)
 

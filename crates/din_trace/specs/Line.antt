@@ -1,5 +1,7 @@
 -- The forms of a line of a din trace. A line is its bytes, without the LF.
-use Rattle.std.specs.Prelude.{◌≡◌, ℕ, ◌+◌, ◌-◌, ◌*◌, ◌^◌, ◌<◌, ◌≤◌, Bool, true, false, ◌||◌, ◌&&◌, ◌==◌, nat_le, nat_lt, if◌then◌else◌, List, [], ◌∷◌, ◌++◌, length, take, drop, fold}
+use Rattle.std.specs.Prelude.{◌≡◌, ℕ, ◌+◌, ◌-◌, ◌*◌, ◌^◌, ◌<◌, ◌≤◌, Bool, true, false, ◌||◌, ◌&&◌}
+use Rattle.std.specs.Prelude.{◌==◌, nat_le, nat_lt, if◌then◌else◌, List, [], ◌∷◌, ◌++◌, length}
+use Rattle.std.specs.Prelude.{take, drop, fold}
 use Rattle.std.specs.Char.{digit_value}
 use Rattle.std.specs.List.{AllByRecursion}
 use Rattle.din_trace.specs.declared.record.Label.{Label}
@@ -100,8 +102,8 @@ abbrev pub HasForm : ℕ → List ℕ → Form → Type 0
 HasForm bound line Blank = Each is_blank line
 -- digits of a value within the bound, then nothing, or a blank and anything
 HasForm bound line (Din r) = (digit : ℕ) × (digits rest : List ℕ)
-    × HasParts line digit digits rest × (0 < length digits) × (hex_value digits ≤ bound) × IsComment rest
-    × (r ≡ record { label = label_of digit; addr = hex_value digits })
+    × HasParts line digit digits rest × (0 < length digits) × (hex_value digits ≤ bound)
+    × IsComment rest × (r ≡ record { label = label_of digit; addr = hex_value digits })
 -- the first byte is neither a blank nor a digit 0 to 4
 HasForm bound line (Faulty why.Label) = (byte : ℕ) × (rest : List ℕ)
     × Begins line byte rest × (is_blank byte ≡ false) × (is_label byte ≡ false)

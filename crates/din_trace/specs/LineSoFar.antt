@@ -1,5 +1,6 @@
 -- The form of a line, by the part of it that was read.
-use Rattle.std.specs.Prelude.{ℕ, ◌+◌, ◌*◌, nat_lt, if◌then◌else◌, List, ◌∷◌, Option, Some, None, Result, Ok, Err, fold}
+use Rattle.std.specs.Prelude.{ℕ, ◌+◌, ◌*◌, nat_lt, if◌then◌else◌, List, ◌∷◌, Option, Some, None}
+use Rattle.std.specs.Prelude.{Result, Ok, Err, fold}
 use Rattle.std.specs.Char.{digit_value}
 use Rattle.din_trace.specs.declared.record.Label.{Label}
 use Rattle.din_trace.specs.declared.record.DinRecord.{DinRecord}
@@ -7,7 +8,8 @@ use Rattle.din_trace.specs.declared.fault.Why.{Why}
 use Rattle.din_trace.specs.declared.fault.Why.TheVariants as why
 use Rattle.din_trace.specs.declared.line.LineSoFar.{LineSoFar}
 use Rattle.din_trace.specs.declared.line.LineSoFar.TheVariants as so_far
-use Rattle.din_trace.specs.Line.{Form, Blank, Din, Faulty, is_blank, is_hex, front, after, after_prefix, form, gap_form, address_form, tail_form}
+use Rattle.din_trace.specs.Line.{Form, Blank, Din, Faulty, is_blank, is_hex, front, after}
+use Rattle.din_trace.specs.Line.{after_prefix, form, gap_form, address_form, tail_form}
 
 -- by the label, the value of the digits and what follows them
 abbrev pub value_form : ℕ → Label → ℕ → List ℕ → Form

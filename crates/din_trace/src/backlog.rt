@@ -1,33 +1,8 @@
 //! The bytes that came from a reader and were not judged yet.
 
-ghost use Rattle.std.specs.Prelude.{
-  ◌≡◌,
-  ℕ,
-  ◌+◌,
-  ◌-◌,
-  ◌<◌,
-  ◌≤◌,
-  ◌^◌,
-  List,
-  [],
-  ◌∷◌,
-  ◌++◌,
-  true,
-  false,
-  length,
-  take,
-  IfSome,
-  IfNone,
-  IfOk,
-  OnOk,
-  OnErr,
-  IsErr,
-  IsSome,
-  Ok,
-  Err,
-  None,
-  Some,
-};
+ghost use Rattle.std.specs.Prelude.{◌≡◌, ℕ, ◌+◌, ◌-◌, ◌<◌, ◌≤◌, ◌^◌, List, [], ◌∷◌, ◌++◌, true};
+ghost use Rattle.std.specs.Prelude.{false, length, take, IfSome, IfNone, IfOk, OnOk, OnErr, IsErr};
+ghost use Rattle.std.specs.Prelude.{IsSome, Ok, Err, None, Some};
 ghost use Rattle.std.specs.Io.KnownBytes.{Consumes, Keeps, IsAtEnd};
 ghost use Rattle.din_trace.specs.Device.{once_more};
 ghost use Rattle.din_trace.specs.declared.backlog.TheConstants.{ROOM};
@@ -70,8 +45,8 @@ impl Buffer {
         requires fits { room ≤ ROOM }
         ensures bound { IfOk result (λ count. count ≤ room) }
         ensures size { length self.new.bytes ≡ ROOM }
-        ensures bytes { IfOk result (λ count.
-            Consumes (R.remaining reader.old) (R.remaining reader.new) (take count self.new.bytes)) }
+        ensures bytes { IfOk result (λ count. Consumes
+            (R.remaining reader.old) (R.remaining reader.new) (take count self.new.bytes)) }
         ensures end { IfOk result (λ count. count ≡ 0 → IsAtEnd (R.remaining reader.new)) }
         ensures ok { OnOk result (R.failures reader.new ≡ R.failures reader.old) }
         ensures err { OnErr result ((R.failures reader.new ≡ once_more (R.failures reader.old))
@@ -176,7 +151,8 @@ impl Backlog {
             → HasLeft self.old script l → HasLeft self.new script l) }
         ensures reading { IfNone result ((self.new.state ≡ State.Reading)
             × (self.new.at ≡ self.new.filled)) }
-        ensures settled { is_reading self.old.state ≡ false → (IsSome result) × (self.new ≡ self.old) }
+        ensures settled { is_reading self.old.state ≡ false
+            → IsSome result × (self.new ≡ self.old) }
         ensures dry { IfNone result ((l : Left)
             → HasLeft self.old (record { given = []; fails = true }) l
             → l ≡ record { records = []; fault = Some TraceFault.Read }) }

@@ -1,15 +1,8 @@
 //! Where bytes come from, and where they go.
 
 ghost use Rattle.std.specs.Prelude.{◌≡◌, ℕ, Option, List, [], None};
-ghost use Rattle.din_trace.specs.Device.{
-  once_more,
-  Reads,
-  Writes,
-  unread_bytes,
-  read_failures,
-  written_bytes,
-  write_failures,
-};
+ghost use Rattle.din_trace.specs.Device.{once_more, Reads, Writes, unread_bytes, read_failures};
+ghost use Rattle.din_trace.specs.Device.{held_bytes, write_failures};
 
 use std::io::{Read, Write};
 
@@ -95,20 +88,20 @@ pub struct FromWrite<W> {
     failures: u64,
 }
 
-#[tactic(auto, unfolding(crate::specs::Device::written_bytes, crate::specs::Device::write_failures))]
+#[tactic(auto, unfolding(crate::specs::Device::held_bytes, crate::specs::Device::write_failures))]
 impl<W: Write> FromWrite<W> {
     /// A writer that holds what this one holds, and has not failed yet.
     pub fn new(inner: W) -> FromWrite<W>
-        ensures contents { written_bytes W.contents result ≡ W.contents inner }
+        ensures contents { held_bytes W.contents result ≡ W.contents inner }
         ensures failures { write_failures result ≡ 0 }
     {
         FromWrite { inner, failures: 0 }
     }
 }
 
-#[tactic(auto, unfolding(crate::specs::Device::written_bytes, crate::specs::Device::write_failures))]
+#[tactic(auto, unfolding(crate::specs::Device::held_bytes, crate::specs::Device::write_failures))]
 impl<W: Write> ByteWriter for FromWrite<W> {
-    ghost contents = { written_bytes W.contents };
+    ghost contents = { held_bytes W.contents };
 
     ghost failures = { write_failures };
 

@@ -1,21 +1,18 @@
 //! Reads traces in the din format: from bytes to records, or to the first fault with its line.
 //!
-//! A line is a label, a gap of blanks and a hexadecimal address; what follows behind a blank is a
-//! comment. `LineReader` reads a trace byte by byte, and stores no line. `Source` reads one from any
-//! `ByteReader`, and holds one buffer of it. The rooms: `device` has the readers and writers, `line`
-//! one line as it is read, `plain` the plain lines that most traces consist of, which
-//! are read in one go, `backlog` the bytes that wait in a source, `text` a trace in memory.
+//! A line is a label, a gap of blanks and a hexadecimal address; what follows behind a blank is
+//! a comment. `LineReader` reads a trace byte by byte, and stores no line. `Source` reads one from
+//! any `ByteReader`, and holds one buffer of it. The rooms: `device` has the readers and writers,
+//! `line` one line as it is read, `plain` the plain lines of which most traces consist, read in one
+//! go, `backlog` the bytes that wait in a source, and `text` a trace in memory.
 //!
 //! Proved, of every trace and however its reader cuts it: the records and the fault are those that
-//! `specs/Line` and `specs/Text` define of the bytes. A fault is repeated for ever, no more than one
-//! byte past the limit is asked for, and none while a line that was given whole is not answered.
+//! `specs/Line` and `specs/Text` define of the bytes. A fault is repeated for ever, no more than
+//! one byte past the limit is asked for, and none while a line that was given whole is unanswered.
 #![tactic(auto)]
 
-ghost use Rattle.din_trace.specs.Laws.{
-  EachLineHasOneForm,
-  WiderAddressesKeepRecords,
-  SourceHasItsTextLeft,
-};
+ghost use Rattle.din_trace.specs.Laws.{EachLineHasOneForm, WiderAddressesKeepRecords};
+ghost use Rattle.din_trace.specs.Laws.{SourceHasItsTextLeft};
 
 mod backlog;
 mod device;

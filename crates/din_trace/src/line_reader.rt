@@ -1,26 +1,7 @@
 //! A trace, byte by byte.
 
-ghost use Rattle.std.specs.Prelude.{
-  ◌≡◌,
-  ◌≢◌,
-  ℕ,
-  length,
-  ◌+◌,
-  ◌≤◌,
-  ◌<◌,
-  ◌^◌,
-  List,
-  [],
-  ◌∷◌,
-  ◌++◌,
-  None,
-  OnOk,
-  OnErr,
-  IfOk,
-  IsSome,
-  IfErr,
-  IsTrue,
-};
+ghost use Rattle.std.specs.Prelude.{◌≡◌, ◌≢◌, ℕ, length, ◌+◌, ◌≤◌, ◌<◌, ◌^◌, List, [], ◌∷◌, ◌++◌};
+ghost use Rattle.std.specs.Prelude.{None, OnOk, OnErr, IfOk, IsSome, IfErr, IsTrue};
 ghost use Rattle.din_trace.specs.Line.{ADDRESS_MAX};
 ghost use Rattle.din_trace.specs.LineSoFar.{begun};
 ghost use Rattle.din_trace.specs.Text.{ended_lines, open_line, first_fault, line_result};
@@ -45,14 +26,8 @@ pub struct LineReader {
 
 #[tactic(auto, unfolding(crate::specs::Standing::StandsFor, crate::specs::Standing::HasFailed, crate::specs::Standing::HasNoFault, crate::specs::Standing::bytes_of, crate::specs::Standing::line_of, crate::specs::Standing::begun_of))]
 impl LineReader {
-    ghost use Rattle.din_trace.specs.Standing.{
-      StandsFor,
-      HasFailed,
-      HasNoFault,
-      bytes_of,
-      line_of,
-      begun_of,
-    };
+    ghost use Rattle.din_trace.specs.Standing.{StandsFor, HasFailed, HasNoFault, bytes_of, line_of};
+    ghost use Rattle.din_trace.specs.Standing.{begun_of};
     ghost use Rattle.din_trace.specs.declared.fault.TraceFault.{TraceFault};
     ghost use Rattle.din_trace.specs.declared.fault.Why.{Why};
 

@@ -7,11 +7,11 @@ use crate::digits::digit;
 use crate::line::label;
 use crate::record::DinRecord;
 
-/// The most bytes that such a line takes with its end: a label, a space, a prefix, 16 digits, CR LF.
+/// The most bytes that such a line takes: a label, a space, a prefix, 16 digits, CR LF.
 const WINDOW: usize = 22;
 
-/// The record of the line at the front, and how many bytes the line takes with its LF, where it is a
-/// label, a space, `0x` or not, and up to 16 digits, ended by LF or CR LF. Any other line is `None`.
+/// The record of the line at the front, and how many bytes the line takes with its LF, where it is
+/// a label, a space, `0x` or not, and up to 16 digits, ended by LF or CR LF. Else `None`.
 pub fn plain_line(bytes: &[u8]) -> Option<(DinRecord, usize)>
     ensures line { IfSome result (λ found. BeginsWithLine bytes.now found.0 found.1) }
     ensures count { IfSome result (λ found. (0 < found.1) × (found.1 ≤ length bytes.now)) }

@@ -1,43 +1,12 @@
 //! A trace from any reader, record by record.
 
-ghost use Rattle.std.specs.Prelude.{
-  ◌≡◌,
-  ◌≢◌,
-  ◌⊎◌,
-  ℕ,
-  true,
-  false,
-  None,
-  Some,
-  ◌+◌,
-  ◌<◌,
-  ◌≤◌,
-  List,
-  [],
-  MatchResult,
-  IfOk,
-  IsSome,
-  vec_len,
-};
+ghost use Rattle.std.specs.Prelude.{◌≡◌, ◌≢◌, ◌⊎◌, ℕ, true, false, None, Some, ◌+◌, ◌<◌, ◌≤◌, List};
+ghost use Rattle.std.specs.Prelude.{[], MatchResult, IfOk, IsSome, vec_len};
 ghost use Rattle.din_trace.specs.Line.{ADDRESS_MAX};
-ghost use Rattle.din_trace.specs.Left.{
-  Left,
-  Script,
-  Fate,
-  Follows,
-  text_left,
-  first_answer,
-  behind_first,
-};
-ghost use Rattle.din_trace.specs.Source.{
-  reader_of,
-  limit_of,
-  taken_by,
-  room_of,
-  HasLeft,
-  IsSettled,
-  Takes,
-};
+ghost use Rattle.din_trace.specs.Left.{Left, Script, Fate, Follows, text_left, first_answer};
+ghost use Rattle.din_trace.specs.Left.{behind_first};
+ghost use Rattle.din_trace.specs.Source.{reader_of, limit_of, taken_by, room_of, HasLeft};
+ghost use Rattle.din_trace.specs.Source.{IsSettled, Takes};
 
 use crate::backlog::Backlog;
 use crate::device::{ByteReader, DeviceFailed};

@@ -1,6 +1,8 @@
-use Rattle.std.proofs.Common.{◌≡◌, ℕ, ◌+◌, ◌-◌, ◌^◌, ◌≤◌, List, [], ◌∷◌, ◌++◌, length, drop, refl, sym, ap, ◌∙◌, arith, append_assoc, length-append, slice_index_or}
+use Rattle.std.proofs.Common.{◌≡◌, ℕ, ◌+◌, ◌-◌, ◌^◌, ◌≤◌, List, [], ◌∷◌, ◌++◌, length, drop, refl}
+use Rattle.std.proofs.Common.{sym, ap, ◌∙◌, arith, append_assoc, length-append, slice_index_or}
 use Rattle.std.proofs.lemmas.List.{drop_more}
-use Rattle.din_trace.proofs.Plains.{begins_plain, each-append, value-append, few_digits, most_digits, one_digit_more}
+use Rattle.din_trace.proofs.Plains.{begins_plain, each-append, value-append, few_digits}
+use Rattle.din_trace.proofs.Plains.{most_digits, one_digit_more}
 use Rattle.din_trace.proofs.plain.plain_line.Goals as goal
 
 pub overflow_mul-addr : goal.overflow_mul-addr
@@ -27,8 +29,12 @@ digits-preserved c =
       counted = simp length-append (omega (arith, now.counted));
       whole = now.whole
           ∙ rw (drop_more bytes at 0
-          (omega
-          (arith, c.digits-test.true, c.digits_start-start.ensures.bound, c.if-bytes-lt-WINDOW.false)))
+          (omega (
+            arith,
+            c.digits-test.true,
+            c.digits_start-start.ensures.bound,
+            c.if-bytes-lt-WINDOW.false,
+          )))
           (sym (append_assoc {A = ℕ} now.digits (byte ∷ []) (drop (at + 1) bytes)));
       hex = each-append now.digits byte now.hex is.0;
       value = rw (value-append now.digits byte, is.1, now.value) refl;

@@ -2,7 +2,8 @@ use Rattle.std.proofs.Common.{◌+◌, ◌-◌, refl, sym, arith, take, drop, ge
 use Rattle.din_trace.specs.Left.{Left, Script}
 use Rattle.din_trace.specs.Standing as words
 use Rattle.din_trace.specs.Backlog.{HasLeft, held}
-use Rattle.din_trace.proofs.Backlogs.{AfterByte, after-byte, after-past, held-first, none_from_sound, reading-left, left-reading}
+use Rattle.din_trace.proofs.Backlogs.{AfterByte, after-byte, after-past, held-first}
+use Rattle.din_trace.proofs.Backlogs.{none_from_sound, reading-left, left-reading}
 use Rattle.din_trace.proofs.backlog.Backlog.step.Goals as goal
 use Rattle.din_trace.proofs.backlog.Backlog.step.Goals.{After-byte}
 
@@ -11,7 +12,8 @@ after : (c : After-byte) (script : Script) (l : Left) → HasLeft c.args.self.no
     → AfterByte c.byte.new.self
     (take (c.args.self.now.filled - (c.args.self.now.at + 1))
     (drop
-    (c.args.self.now.at + 1) c.args.self.now.buffer.bytes)) c.args.self.now.limit script l c.byte.result
+    (c.args.self.now.at + 1) c.args.self.now.buffer.bytes)) c.args.self.now.limit script l
+    c.byte.result
 unfolding words.StandsFor words.HasNoFault words.bytes_of words.line_of words.begun_of
 after c script l left =
     let b = c.args.self.now in

@@ -5,7 +5,8 @@ use Rattle.din_trace.specs.Device.{once_more}
 use Rattle.std.proofs.lemmas.List.{nil_from_length}
 use Rattle.din_trace.specs.Left.{Ended, Failed}
 use Rattle.din_trace.specs.Source as words
-use Rattle.din_trace.proofs.Scripts.{consumes-append, consumes-none, consumes-kept, left-regrouped, left-closed}
+use Rattle.din_trace.proofs.Scripts.{consumes-append, consumes-none, consumes-kept, left-regrouped}
+use Rattle.din_trace.proofs.Scripts.{left-closed}
 use Rattle.din_trace.proofs.source.Source.next.Goals as goal
 
 pub asks-preserved : goal.asks-preserved
@@ -31,7 +32,8 @@ asks-preserved g c =
           (c.in_default.ensures.goes_on
           (record { given = more.0 ++ script.given; fails = script.fails }) left
           (now.left_same (record { given = more.0 ++ script.given; fails = script.fails }) left
-          (left-regrouped c.args.self.now.backlog script.fails left now.given more.0 script.given h)));
+          (left-regrouped c.args.self.now.backlog script.fails left now.given more.0 script.given
+          h)));
     }
 
 pub returns-in-Err-clause-reads : goal.returns-in-Err-clause-reads
@@ -44,7 +46,8 @@ returns-in-Err-clause-reads g c =
         reader = (
           consumes-kept (g.R.ByteReader.remaining c.args.self.now.reader)
               (g.R.ByteReader.remaining c.asks.self.reader)
-              (g.R.ByteReader.remaining c.refill.new.reader) now.given now.consumed c.in-Err.ensures.err.1,
+              (g.R.ByteReader.remaining c.refill.new.reader) now.given now.consumed
+              c.in-Err.ensures.err.1,
           c.in-Err.ensures.err.0 ∙ ap once_more now.failures_same,
         );
         settles = c.fail.ensures.closed;

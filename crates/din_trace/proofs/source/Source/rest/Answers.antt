@@ -16,7 +16,8 @@ composed : (g : Over) (c : After-next g)
 composed g c =
     let now = c.records.invariant in
     let next = c.next.ensures.reads in
-    calls g.R.ByteReader.remaining g.R.ByteReader.failures c.args.self.now c.records.self c.next.new.self now.given next.0 now.fate next.1 now.went next.2 c.next.ensures.settled
+    calls g.R.ByteReader.remaining g.R.ByteReader.failures c.args.self.now c.records.self
+    c.next.new.self now.given next.0 now.fate next.1 now.went next.2 c.next.ensures.settled
 
 pub records-init : goal.records-init
 records-init g c = record {
@@ -55,7 +56,9 @@ records-preserved g c =
           rw c.if-is_err.ensures.negation at c.push.ensures.items in (
             behind_first more.0,
             rw pushed
-                (rest-record c.records.records.items before more.0 c.next.result more.1 after.0 c.in-Some.next (c.in-Ok.is ∙ ap (λ (found : Option DinRecord). Ok found) c.in-Some.is)),
+                (rest-record c.records.records.items before more.0 c.next.result more.1 after.0
+                c.in-Some.next (c.in-Ok.is ∙ ap (λ (found : Option DinRecord). Ok found)
+                c.in-Some.is)),
             after.1,
           );
     }
@@ -105,6 +108,7 @@ returns-in-Err-clause-reads g c =
           let more = now.left first mid.0 before mid.1 left in
           let after = c.next.ensures.reads.3 mid.0 last more.0 mid.2 more.2 in
           let end =
-          rest-fault c.records.records.items before more.0 c.next.result more.1 after.0 c.in-Err.fault c.in-Err.is in
+          rest-fault c.records.records.items before more.0 c.next.result more.1 after.0
+          c.in-Err.fault c.in-Err.is in
           (λ _. end.0, subst (HasLeft c.next.new.self last) end.1 after.1),
     )
