@@ -1,5 +1,5 @@
 -- What the parts of `Cache::access` tell, put together.
-use Rattle.std.proofs.Common.{◌≡◌, ◌≢◌, ℕ, zero, suc, pred, ◌*◌, ◌%◌, ◌<◌, Bool, cond, not, ◌&&◌, ◌||◌, nat_eq, List, ◌∷◌, map, Option, is_some, refl, ap, ◌∙◌, arith}
+use Rattle.std.proofs.Common.{◌≡◌, ◌≢◌, ℕ, zero, suc, pred, ◌*◌, ◌%◌, ◌<◌, Bool, cond, not, ◌&&◌, ◌||◌, nat_eq, List, ◌∷◌, map, Option, is_some, refl, ap, ◌∙◌, arith, true, false, sym}
 use Rattle.std.specs.List.{find, list_any}
 use Rattle.std.specs.Map.{lookup}
 use Rattle.std.proofs.Math.Nat.{mod-lt}
@@ -19,7 +19,10 @@ use Rattle.cache_core.specs.Standing.{rules_from}
 use Rattle.cache_core.proofs.Lawful.{IsSane, sane_of}
 use Rattle.lru.specs.LruCache.{lru_cache, promoted, put_entries}
 use Rattle.cache_core.proofs.Shadow.{pair, in_shadow-is, after_see, shadow-step}
-use Rattle.cache_core.proofs.Steps.{outcome-is, rows-step}
+use Rattle.cache_core.proofs.Again.{known-stays}
+use Rattle.cache_core.proofs.Known.{renewals-known}
+use Rattle.cache_core.proofs.Victim.{resident-marked}
+use Rattle.cache_core.proofs.Steps.{outcome-is, hit-is as row-hit, rows-step}
 
 suc_pred : (n : ℕ) → 0 < n → n ≡ suc (pred n)
 suc_pred zero h = absurd (omega arith)
@@ -56,36 +59,79 @@ module _ (g : Geometry) (p : Policy) (h : History) (x : Access) where
   abbrev found : List Way → Option Way
   found xs = find (holds_block first) (row (assoc_of g) s xs)
 
-  module _ (xs : List Way) (rows : (t : ℕ) → t < r.sets → row (assoc_of g) t xs ≡ row_of r h t) where
-    pub answers : (hit known in_shadow : Bool) (back : Option ℕ) (entries : List (ℕ × Unit {0})) → hit ≡ is_some (found xs) → back ≡ pushed_out p.wback p.walloc first (is_write x) (row (assoc_of g) s xs) (found xs)
-        → known ≡ list_any (λ t. nat_eq t b) (known_blocks r h) → in_shadow ≡ is_some (lookup (nat_eq b) entries) → entries ≡ shown h
+  -- a block that hits was accessed before
+  was-known : hits r (renewals r h) x ≡ true → list_any (λ t. nat_eq t b) (known_blocks r h) ≡ true
+  was-known e = renewals-known r h b (resident-marked r (renewals r h) b e)
+
+  or-known : (hit known : Bool) → (hit ≡ true → known ≡ true) → (hit || known) ≡ known
+  or-known true known e = sym (e refl)
+  or-known false known e = refl
+
+  module _ (xs : List Way) (rows : (t : ℕ) → t < r.sets
+      → row (assoc_of g) t xs ≡ row_of r h t) where
+    pub answers : (hit known in_shadow : Bool) (back : Option ℕ) (entries : List (ℕ × Unit {0}))
+        → hit ≡ is_some (found xs) → back
+        ≡ pushed_out p.wback p.walloc first (is_write x) (row (assoc_of g) s xs) (found xs)
+        → known ≡ (hit || list_any (λ t. nat_eq t b) (known_blocks r h))
+        → in_shadow ≡ is_some (lookup (nat_eq b) entries) → entries ≡ shown h
         → outcome_made p.wback p.walloc (is_write x) hit back known in_shadow ≡ outcome_of r h x
     answers hit known in_shadow back entries hit-is back-is known-is shadow-is entries-is =
         let here = rows s inside in
-        let e1 : hit ≡ is_some (find (holds_block first) (row_of r h s)) = hit-is ∙ ap (λ l. is_some (find (holds_block first) l)) here in
-        let e2 : back ≡ pushed_out p.wback p.walloc first (is_write x) (row_of r h s) (find (holds_block first) (row_of r h s)) = back-is ∙ ap (λ l. pushed_out p.wback p.walloc first (is_write x) l (find (holds_block first) l)) here in
-        let e3 : in_shadow ≡ hits (shadow_of r) (renewals (shadow_of r) h) x = shadow-is ∙ ap (λ l. is_some (lookup (nat_eq b) l)) entries-is ∙ in_shadow-is r h x (pred r.blocks) (suc_pred r.blocks facts.blocks_pos) in
+        let e1 : hit ≡ is_some (find (holds_block first) (row_of r h s)) = hit-is
+        ∙ ap (λ l. is_some (find (holds_block first) l)) here in
+        let e2 : back ≡ pushed_out p.wback p.walloc first (is_write x) (row_of r h s)
+        (find (holds_block first) (row_of r h s)) = back-is
+        ∙ ap (λ l. pushed_out p.wback p.walloc first (is_write x) l
+        (find (holds_block first) l)) here in
+        let e4 : hit ≡ hits r (renewals r h) x = e1 ∙ row-hit r pos (pred (assoc_of g)) size h x in
+        let e5 : known ≡ list_any (λ t. nat_eq t b) (known_blocks r h) = known-is
+        ∙ or-known hit _ (λ q. was-known (sym e4 ∙ q)) in
+        let e3 : in_shadow ≡ hits (shadow_of r) (renewals (shadow_of r) h) x = shadow-is
+        ∙ ap (λ l. is_some (lookup (nat_eq b) l)) entries-is
+        ∙ in_shadow-is r h x (pred r.blocks) (suc_pred r.blocks facts.blocks_pos) in
         ap (λ t. outcome_made p.wback p.walloc (is_write x) t back known in_shadow) e1
-        ∙ ap (λ t. outcome_made p.wback p.walloc (is_write x) (is_some (find (holds_block first) (row_of r h s))) t known in_shadow) e2
-        ∙ ap (λ t. outcome_made p.wback p.walloc (is_write x) (is_some (find (holds_block first) (row_of r h s))) (pushed_out p.wback p.walloc first (is_write x) (row_of r h s) (find (holds_block first) (row_of r h s))) t in_shadow) known-is
-        ∙ ap (λ t. outcome_made p.wback p.walloc (is_write x) (is_some (find (holds_block first) (row_of r h s))) (pushed_out p.wback p.walloc first (is_write x) (row_of r h s) (find (holds_block first) (row_of r h s))) (list_any (λ t. nat_eq t b) (known_blocks r h)) t) e3
+        ∙ ap (λ t. outcome_made p.wback p.walloc (is_write x)
+        (is_some (find (holds_block first) (row_of r h s))) t known in_shadow) e2
+        ∙ ap (λ t. outcome_made p.wback p.walloc (is_write x)
+        (is_some (find (holds_block first) (row_of r h s)))
+        (pushed_out p.wback p.walloc first (is_write x) (row_of r h s)
+        (find (holds_block first) (row_of r h s))) t in_shadow) e5
+        ∙ ap (λ t. outcome_made p.wback p.walloc (is_write x)
+        (is_some (find (holds_block first) (row_of r h s)))
+        (pushed_out p.wback p.walloc first (is_write x) (row_of r h s)
+        (find (holds_block first) (row_of r h s)))
+        (list_any (λ t. nat_eq t b) (known_blocks r h)) t) e3
         ∙ outcome-is r pos (pred (assoc_of g)) size h x
 
-    pub rows-after : (ys : List Way) → row (assoc_of g) s ys ≡ next_row p.wback p.walloc first (is_write x) (row (assoc_of g) s xs) (found xs) (is_fifo p) → ((t : ℕ) → t ≢ s → row (assoc_of g) t ys ≡ row (assoc_of g) t xs)
+    pub rows-after : (ys : List Way)
+        → row (assoc_of g) s ys ≡ next_row p.wback p.walloc first (is_write x)
+        (row (assoc_of g) s xs) (found xs) (is_fifo p)
+        → ((t : ℕ) → t ≢ s → row (assoc_of g) t ys ≡ row (assoc_of g) t xs)
         → (t : ℕ) → t < r.sets → row (assoc_of g) t ys ≡ row_of r (access x ∷ h) t
-    rows-after ys now others = rows-step r pos (pred (assoc_of g)) size h x xs ys rows now others inside
+    rows-after ys now others = rows-step r pos (pred (assoc_of g)) size h x xs ys rows now others
+        inside
 
   pub shadow-after : (in_shadow load : Bool) (cap : ℕ) (old new : List (ℕ × Unit {0}))
-      → new ≡ cond (not in_shadow && load) (put_entries nat_eq (lru_cache (promoted (nat_eq b) old) cap) b tt) (promoted (nat_eq b) old)
-      → in_shadow ≡ is_some (lookup (nat_eq b) old) → load ≡ (not (is_write x) || p.walloc) → cap ≡ r.blocks → old ≡ shown h → new ≡ shown (access x ∷ h)
+      → new ≡ cond (not in_shadow && load)
+      (put_entries nat_eq (lru_cache (promoted (nat_eq b) old) cap) b tt)
+      (promoted (nat_eq b) old)
+      → in_shadow ≡ is_some (lookup (nat_eq b) old) → load ≡ (not (is_write x) || p.walloc)
+      → cap ≡ r.blocks → old ≡ shown h → new ≡ shown (access x ∷ h)
   shadow-after in_shadow load cap old new is in-is load-is cap-is old-is =
       is
-      ∙ ap (λ t. cond (not t && load) (put_entries nat_eq (lru_cache (promoted (nat_eq b) old) cap) b tt) (promoted (nat_eq b) old)) in-is
+      ∙ ap (λ t. cond (not t && load)
+      (put_entries nat_eq (lru_cache (promoted (nat_eq b) old) cap) b tt)
+      (promoted (nat_eq b) old)) in-is
       ∙ ap (λ t. after_see b t cap old) load-is
       ∙ ap (λ n. after_see b (not (is_write x) || p.walloc) n old) cap-is
       ∙ ap (after_see b (not (is_write x) || p.walloc) r.blocks) old-is
       ∙ shadow-step r h x (pred r.blocks) (suc_pred r.blocks facts.blocks_pos)
 
-  pub known-after : (had : ℕ → Bool) → ((q : ℕ) → had q ≡ list_any (λ t. nat_eq t q) (known_blocks r h)) → (q : ℕ) → (nat_eq b q || had q) ≡ list_any (λ t. nat_eq t q) (known_blocks r (access x ∷ h))
+  pub known-after : (hit : Bool) (had : ℕ → Bool) → hit ≡ hits r (renewals r h) x
+      → ((q : ℕ) → had q ≡ list_any (λ t. nat_eq t q) (known_blocks r h)) → (q : ℕ)
+      → (not hit && nat_eq b q || had q)
+      ≡ list_any (λ t. nat_eq t q) (known_blocks r (access x ∷ h))
   unfolding known_blocks
-  known-after had was q = ap (λ t. nat_eq b q || t) (was q)
+  known-after true had hit-is was q = known-stays had b q (was b ∙ was-known (sym hit-is))
+      ∙ ap (λ t. nat_eq b q || t) (was q)
+  known-after false had hit-is was q = ap (λ t. nat_eq b q || t) (was q)

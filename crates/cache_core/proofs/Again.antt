@@ -15,13 +15,16 @@ last-is (Some x) b h = ap Some (eqb-true x b h)
 self : (b : ℕ) → nat_eq b b ≡ true
 self b = eq-eqb b b refl
 
-pub first-there : (es : Shown) (b : ℕ) → slice_get es 0 ≡ Some (b, tt) → is_some (lookup (nat_eq b) es) ≡ true
+pub first-there : (es : Shown) (b : ℕ) → slice_get es 0 ≡ Some (b, tt)
+    → is_some (lookup (nat_eq b) es) ≡ true
 first-there [] b h = cc
-first-there (e ∷ es) b h = let same : e ≡ (b, tt) = cc in let at : nat_eq b e.0 ≡ true = ap (λ z. nat_eq b z.0) same ∙ self b in rw at refl
+first-there (e ∷ es) b h = let same : e ≡ (b, tt) = cc in let at : nat_eq b e.0 ≡ true =
+    ap (λ z. nat_eq b z.0) same ∙ self b in rw at refl
 
 pub first-stays : (es : Shown) (b : ℕ) → slice_get es 0 ≡ Some (b, tt) → promoted (nat_eq b) es ≡ es
 first-stays [] b h = cc
-first-stays (e ∷ es) b h = let same : e ≡ (b, tt) = cc in let at : nat_eq b e.0 ≡ true = ap (λ z. nat_eq b z.0) same ∙ self b in rw at refl
+first-stays (e ∷ es) b h = let same : e ≡ (b, tt) = cc in let at : nat_eq b e.0 ≡ true =
+    ap (λ z. nat_eq b z.0) same ∙ self b in rw at refl
 
 -- a known block adds nothing
 pub known-stays : (known : ℕ → Bool) (b q : ℕ) → known b ≡ true → known q ≡ (eqb b q || known q)
@@ -33,30 +36,38 @@ known-stays known b q h = (elim (eqb b q) as (λ t. eqb b q ≡ t → known q �
 pub known-now : (b : ℕ) (t : Bool) → (eqb b b || t) ≡ true
 known-now b t = ap (λ z. z || t) (self b)
 
-pub promoted-first : (es : Shown) (b : ℕ) → is_some (lookup (nat_eq b) es) ≡ true → slice_get (promoted (nat_eq b) es) 0 ≡ Some (b, tt)
-promoted-first es b h = (elim (lookup_entry (nat_eq b) es) as (λ o. lookup_entry (nat_eq b) es ≡ o → slice_get (promoted (nat_eq b) es) 0 ≡ Some (b, tt)) [
-  | Some e ↦ λ q. rw q (ap (λ z. Some (z, tt)) (found es e q))
-  | None ↦ λ q. let no : true ≡ false = sym h ∙ entry es ∙ ap is_some q in cc
-]) refl where
-  entry : (fs : Shown) → is_some (lookup (nat_eq b) fs) ≡ is_some (lookup_entry (nat_eq b) fs)
-  entry [] = refl
-  entry (f ∷ fs) = (elim (nat_eq b f.0) as (λ t. is_some (cond t (Some f.1) (lookup (nat_eq b) fs)) ≡ is_some (cond t (Some f) (lookup_entry (nat_eq b) fs))) [ true ↦ refl | false ↦ entry fs ])
+pub promoted-first : (es : Shown) (b : ℕ) → is_some (lookup (nat_eq b) es) ≡ true
+    → slice_get (promoted (nat_eq b) es) 0 ≡ Some (b, tt)
+promoted-first es b h = (elim (lookup_entry (nat_eq b) es) as (λ o. lookup_entry (nat_eq b) es ≡ o
+    → slice_get (promoted (nat_eq b) es) 0 ≡ Some (b, tt)) [
+      | Some e ↦ λ q. rw q (ap (λ z. Some (z, tt)) (found es e q))
+      | None ↦ λ q. let no : true ≡ false = sym h ∙ entry es ∙ ap is_some q in cc
+    ]) refl where
+      entry : (fs : Shown) → is_some (lookup (nat_eq b) fs) ≡ is_some (lookup_entry (nat_eq b) fs)
+      entry [] = refl
+      entry (f ∷ fs) = (elim (nat_eq b f.0) as (λ t. is_some (cond t (Some f.1) (lookup (nat_eq b) fs))
+          ≡ is_some (cond t (Some f) (lookup_entry (nat_eq b) fs))) [ true ↦ refl | false ↦ entry fs ])
 
-  found : (fs : Shown) (e : ℕ × Unit {0}) → lookup_entry (nat_eq b) fs ≡ Some e → e.0 ≡ b
-  found [] e h = cc
-  found (f ∷ fs) e h = (elim (eqb b f.0) as (λ t. eqb b f.0 ≡ t → cond t (Some f) (lookup_entry (nat_eq b) fs) ≡ Some e → e.0 ≡ b) [
-    | true ↦ λ q g. let same : f ≡ e = cc in sym (eqb-true b f.0 q ∙ ap (λ z. z.0) same)
-    | false ↦ λ q g. found fs e g
-  ]) refl h
+      found : (fs : Shown) (e : ℕ × Unit {0}) → lookup_entry (nat_eq b) fs ≡ Some e → e.0 ≡ b
+      found [] e h = cc
+      found (f ∷ fs) e h = (elim (eqb b f.0) as (λ t. eqb b f.0 ≡ t
+          → cond t (Some f) (lookup_entry (nat_eq b) fs) ≡ Some e → e.0 ≡ b) [
+            | true ↦ λ q g. let same : f ≡ e = cc in sym (eqb-true b f.0 q ∙ ap (λ z. z.0) same)
+            | false ↦ λ q g. found fs e g
+          ]) refl h
 
-pub put-first : (es : Shown) (cap b : ℕ) → slice_get (put_entries nat_eq (lru_cache es cap) b tt) 0 ≡ Some (b, tt)
-put-first es cap b = (elim (lookup_entry (nat_eq b) es) as (λ o. lookup_entry (nat_eq b) es ≡ o → slice_get (option_map_or (λ e. (e.0, tt) ∷ remove_entry (nat_eq b) es) o ((b, tt) ∷ take (cap - 1) es)) 0 ≡ Some (b, tt)) [
-  | Some e ↦ λ q. ap (λ z. Some (z, tt)) (found es e q)
-  | None ↦ λ q. refl
-]) refl where
-  found : (fs : Shown) (e : ℕ × Unit {0}) → lookup_entry (nat_eq b) fs ≡ Some e → e.0 ≡ b
-  found [] e h = cc
-  found (f ∷ fs) e h = (elim (eqb b f.0) as (λ t. eqb b f.0 ≡ t → cond t (Some f) (lookup_entry (nat_eq b) fs) ≡ Some e → e.0 ≡ b) [
-    | true ↦ λ q g. let same : f ≡ e = cc in sym (eqb-true b f.0 q ∙ ap (λ z. z.0) same)
-    | false ↦ λ q g. found fs e g
-  ]) refl h
+pub put-first : (es : Shown) (cap b : ℕ)
+    → slice_get (put_entries nat_eq (lru_cache es cap) b tt) 0 ≡ Some (b, tt)
+put-first es cap b = (elim (lookup_entry (nat_eq b) es) as (λ o. lookup_entry (nat_eq b) es ≡ o
+    → slice_get (option_map_or (λ e. (e.0, tt) ∷ remove_entry (nat_eq b) es) o
+    ((b, tt) ∷ take (cap - 1) es)) 0 ≡ Some (b, tt)) [
+      | Some e ↦ λ q. ap (λ z. Some (z, tt)) (found es e q)
+      | None ↦ λ q. refl
+    ]) refl where
+      found : (fs : Shown) (e : ℕ × Unit {0}) → lookup_entry (nat_eq b) fs ≡ Some e → e.0 ≡ b
+      found [] e h = cc
+      found (f ∷ fs) e h = (elim (eqb b f.0) as (λ t. eqb b f.0 ≡ t
+          → cond t (Some f) (lookup_entry (nat_eq b) fs) ≡ Some e → e.0 ≡ b) [
+            | true ↦ λ q g. let same : f ≡ e = cc in sym (eqb-true b f.0 q ∙ ap (λ z. z.0) same)
+            | false ↦ λ q g. found fs e g
+          ]) refl h

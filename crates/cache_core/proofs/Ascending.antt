@@ -38,25 +38,35 @@ below-less w x [] l b = tt
 below-less w x (y ∷ ys) l b = (let lt = b.0 in omega arith, below-less w x ys l b.1)
 
 pub not-itself : (x : ℕ) (ys : List ℕ) → IsBelow x ys → has ys x ≡ false
-not-itself x ys b = false_from_ne_true (has ys x) (λ h. let lt = below-has x ys b x h in absurd (omega arith))
+not-itself x ys b = false_from_ne_true (has ys x) (λ h. let lt = below-has x ys b x h in
+    absurd (omega arith))
 
 pub same-rising : (xs ys : List ℕ) → Rises xs → Rises ys → ((z : ℕ) → has xs z ≡ has ys z) → xs ≡ ys
 same-rising [] [] a b same = refl
-same-rising [] (y ∷ ys) a b same = absurd (false≢true (same y ∙ or_left (eqb y y) (has ys y) (eq-eqb y y refl)))
-same-rising (x ∷ xs) [] a b same = absurd (false≢true (sym (same x) ∙ or_left (eqb x x) (has xs x) (eq-eqb x x refl)))
+same-rising [] (y ∷ ys) a b same =
+    absurd (false≢true (same y ∙ or_left (eqb y y) (has ys y) (eq-eqb y y refl)))
+same-rising (x ∷ xs) [] a b same =
+    absurd (false≢true (sym (same x) ∙ or_left (eqb x x) (has xs x) (eq-eqb x x refl)))
 same-rising (x ∷ xs) (y ∷ ys) a b same =
-    let in_y : (eqb y x || has ys x) ≡ true = sym (same x) ∙ or_left (eqb x x) (has xs x) (eq-eqb x x refl) in
-    let in_x : (eqb x y || has xs y) ≡ true = same y ∙ or_left (eqb y y) (has ys y) (eq-eqb y y refl) in
+    let in_y : (eqb y x || has ys x) ≡ true = sym (same x)
+    ∙ or_left (eqb x x) (has xs x) (eq-eqb x x refl) in
+    let in_x : (eqb x y || has xs y) ≡ true = same y
+    ∙ or_left (eqb y y) (has ys y) (eq-eqb y y refl) in
     let head : x ≡ y = elim (or_cases (eqb y x) (has ys x) in_y) [
       | inl e ↦ sym (eqb-true y x e)
       | inr t ↦ elim (or_cases (eqb x y) (has xs y) in_x) [
         | inl e ↦ eqb-true x y e
-        | inr u ↦ let up = below-has y ys b.0 x t in let down = below-has x xs a.0 y u in absurd (omega arith)
+        | inr u ↦ let up = below-has y ys b.0 x t in let down = below-has x xs a.0 y u in
+            absurd (omega arith)
       ]
     ] in
-    let tails : (z : ℕ) → has xs z ≡ has ys z = λ z. (elim (eqb x z) as (λ t. eqb x z ≡ t → has xs z ≡ has ys z) [
-      | true ↦ λ e. let here : x ≡ z = eqb-true x z e in subst (λ v. has xs v ≡ false) here (not-itself x xs a.0) ∙ sym (subst (λ v. has ys v ≡ false) (sym head ∙ here) (not-itself y ys b.0))
-      | false ↦ λ e. let whole : (eqb x z || has xs z) ≡ (eqb y z || has ys z) = same z in let other : eqb y z ≡ false = subst (λ v. eqb v z ≡ false) head e in
+    let tails : (z : ℕ) → has xs z ≡ has ys z = λ z.
+    (elim (eqb x z) as (λ t. eqb x z ≡ t → has xs z ≡ has ys z) [
+      | true ↦ λ e. let here : x ≡ z = eqb-true x z e in
+          subst (λ v. has xs v ≡ false) here (not-itself x xs a.0)
+          ∙ sym (subst (λ v. has ys v ≡ false) (sym head ∙ here) (not-itself y ys b.0))
+      | false ↦ λ e. let whole : (eqb x z || has xs z) ≡ (eqb y z || has ys z) = same z in
+          let other : eqb y z ≡ false = subst (λ v. eqb v z ≡ false) head e in
           sym (ap (λ t. t || has xs z) e) ∙ whole ∙ ap (λ t. t || has ys z) other
     ]) refl in
     ap (λ v. v ∷ xs) head ∙ ap (λ l. y ∷ l) (same-rising xs ys a.1 b.1 tails)
@@ -64,20 +74,25 @@ same-rising (x ∷ xs) (y ∷ ys) a b same =
 -- the definition's list rises
 below-place : (w x : ℕ) (ys : List ℕ) → w < x → IsBelow w ys → IsBelow w (place x ys)
 below-place w x [] l b = (l, tt)
-below-place w x (y ∷ ys) l b = (elim (ltb x y) as (λ t. IsBelow w (cond t (x ∷ y ∷ ys) (cond (eqb x y) (y ∷ ys) (y ∷ place x ys)))) [
-  | true ↦ (l, b)
-  | false ↦ (elim (eqb x y) as (λ t. IsBelow w (cond t (y ∷ ys) (y ∷ place x ys))) [ true ↦ b | false ↦ (b.0, below-place w x ys l b.1) ])
-])
+below-place w x (y ∷ ys) l b =
+    (elim (ltb x y) as (λ t. IsBelow w
+    (cond t (x ∷ y ∷ ys) (cond (eqb x y) (y ∷ ys) (y ∷ place x ys)))) [
+      | true ↦ (l, b)
+      | false ↦ (elim (eqb x y) as (λ t. IsBelow w (cond t (y ∷ ys) (y ∷ place x ys)))
+          [ true ↦ b | false ↦ (b.0, below-place w x ys l b.1) ])
+    ])
 
 rises-place : (x : ℕ) (ys : List ℕ) → Rises ys → Rises (place x ys)
 rises-place x [] r = (tt, tt)
-rises-place x (y ∷ ys) r = (elim (ltb x y) as (λ t. ltb x y ≡ t → Rises (cond t (x ∷ y ∷ ys) (cond (eqb x y) (y ∷ ys) (y ∷ place x ys)))) [
-  | true ↦ λ e. let l = ltb-true x y e in ((l, below-less x y ys l r.0), r)
-  | false ↦ λ e. (elim (eqb x y) as (λ t. eqb x y ≡ t → Rises (cond t (y ∷ ys) (y ∷ place x ys))) [
-    | true ↦ λ f. r
-    | false ↦ λ f. let le = ltb-false x y e in let ne = eqb-false x y f in (below-place y x ys (omega arith) r.0, rises-place x ys r.1)
-  ]) refl
-]) refl
+rises-place x (y ∷ ys) r = (elim (ltb x y) as (λ t. ltb x y ≡ t
+    → Rises (cond t (x ∷ y ∷ ys) (cond (eqb x y) (y ∷ ys) (y ∷ place x ys)))) [
+      | true ↦ λ e. let l = ltb-true x y e in ((l, below-less x y ys l r.0), r)
+      | false ↦ λ e. (elim (eqb x y) as (λ t. eqb x y ≡ t → Rises (cond t (y ∷ ys) (y ∷ place x ys))) [
+        | true ↦ λ f. r
+        | false ↦ λ f. let le = ltb-false x y e in let ne = eqb-false x y f in
+            (below-place y x ys (omega arith) r.0, rises-place x ys r.1)
+      ]) refl
+    ]) refl
 
 pub rises-rising : (xs : List ℕ) → Rises (rising xs)
 rises-rising [] = tt
@@ -95,13 +110,18 @@ once-more false c = refl
 
 has-place : (x : ℕ) (ys : List ℕ) (z : ℕ) → has (place x ys) z ≡ (eqb x z || has ys z)
 has-place x [] z = refl
-has-place x (y ∷ ys) z = (elim (ltb x y) as (λ t. has (cond t (x ∷ y ∷ ys) (cond (eqb x y) (y ∷ ys) (y ∷ place x ys))) z ≡ (eqb x z || has (y ∷ ys) z)) [
-  | true ↦ refl
-  | false ↦ (elim (eqb x y) as (λ t. eqb x y ≡ t → has (cond t (y ∷ ys) (y ∷ place x ys)) z ≡ (eqb x z || has (y ∷ ys) z)) [
-    | true ↦ λ e. once-more (eqb y z) (has ys z) ∙ ap (λ v. eqb v z || (eqb y z || has ys z)) (sym (eqb-true x y e))
-    | false ↦ λ e. ap (λ t. eqb y z || t) (has-place x ys z) ∙ swap-left (eqb y z) (eqb x z) (has ys z)
-  ]) refl
-])
+has-place x (y ∷ ys) z = (elim (ltb x y) as (λ t.
+    has (cond t (x ∷ y ∷ ys) (cond (eqb x y) (y ∷ ys) (y ∷ place x ys))) z
+    ≡ (eqb x z || has (y ∷ ys) z)) [
+      | true ↦ refl
+      | false ↦ (elim (eqb x y) as (λ t. eqb x y ≡ t
+          → has (cond t (y ∷ ys) (y ∷ place x ys)) z ≡ (eqb x z || has (y ∷ ys) z)) [
+            | true ↦ λ e. once-more (eqb y z) (has ys z)
+                ∙ ap (λ v. eqb v z || (eqb y z || has ys z)) (sym (eqb-true x y e))
+            | false ↦ λ e. ap (λ t. eqb y z || t) (has-place x ys z)
+                ∙ swap-left (eqb y z) (eqb x z) (has ys z)
+          ]) refl
+    ])
 
 pub has-rising : (xs : List ℕ) (z : ℕ) → has (rising xs) z ≡ has xs z
 has-rising [] z = refl
@@ -109,7 +129,11 @@ has-rising (x ∷ xs) z = has-place x (rising xs) z ∙ ap (λ t. eqb x z || t) 
 
 below-times : (n x : ℕ) (ys : List ℕ) → 0 < n → IsBelow x ys → IsBelow (x * n) (map (λ b. b * n) ys)
 below-times n x [] p b = tt
-below-times n x (y ∷ ys) p b = (let l = b.0 in let m : (x + 1) * n ≤ y * n = mul-le-mul_right n (omega arith) in omega arith, below-times n x ys p b.1)
+below-times n x (y ∷ ys) p b = (
+  let l = b.0 in let m : (x + 1) * n ≤ y * n = mul-le-mul_right n (omega arith) in
+      omega arith,
+  below-times n x ys p b.1,
+)
 
 pub rises-times : (n : ℕ) (xs : List ℕ) → 0 < n → Rises xs → Rises (map (λ b. b * n) xs)
 rises-times n [] p r = tt
@@ -133,7 +157,8 @@ has-contains xs z c = has-at xs z c.0 c.1 c.2
 
 pub has-permutation : (xs ys : List ℕ) (z : ℕ) → IsPermutation xs ys → has ys z ≡ has xs z
 has-permutation xs ys z p = same_test (has ys z) (has xs z)
-    (λ h. has-contains xs z (Contains-permutation ys xs z (IsPermutation-sym xs ys p) (contains-has ys z h)))
+    (λ h. has-contains xs z (Contains-permutation ys xs z (IsPermutation-sym xs ys p)
+    (contains-has ys z h)))
     (λ h. has-contains ys z (Contains-permutation xs ys z p (contains-has xs z h)))
 
 pub has-dedup : (xs : List ℕ) (z : ℕ) → has (dedup eqb xs) z ≡ has xs z
@@ -142,13 +167,14 @@ has-dedup xs z = same_test (has (dedup eqb xs) z) (has xs z)
     (λ h. has-contains (dedup eqb xs) z (Contains-dedup_nat xs z (contains-has xs z h)))
 
 less-is : (x y : ℕ) → nat_cmp x y ≡ Less → x < y
-less-is x y e = (elim (ltb x y) as (λ t. ltb x y ≡ t → cond t Less (cond (eqb x y) Equal Greater) ≡ Less → x < y) [
-  | true ↦ λ q g. ltb-true x y q
-  | false ↦ λ q g. absurd (never (eqb x y) g)
-]) refl e where
-  never : (t : Bool) → cond t Equal Greater ≡ Less → ⊥
-  never true h = cc
-  never false h = cc
+less-is x y e = (elim (ltb x y) as (λ t. ltb x y ≡ t
+    → cond t Less (cond (eqb x y) Equal Greater) ≡ Less → x < y) [
+      | true ↦ λ q g. ltb-true x y q
+      | false ↦ λ q g. absurd (never (eqb x y) g)
+    ]) refl e where
+      never : (t : Bool) → cond t Equal Greater ≡ Less → ⊥
+      never true h = cc
+      never false h = cc
 
 below-from : (x : ℕ) (ys : List ℕ) → AllByRecursion (λ y. nat_cmp x y ≡ Less) ys → IsBelow x ys
 below-from x [] a = tt
@@ -161,4 +187,5 @@ rises-from (x ∷ xs) s = (below-from x xs s.0, rises-from xs s.1)
 
 -- what a sort and `dedup` leave
 pub rises-dedup : (xs : List ℕ) → IsSorted nat_cmp xs → Rises (dedup eqb xs)
-rises-dedup xs s = rises-from (dedup eqb xs) (sorted_from_strictly_increasing (dedup eqb xs) (IsStrictlyIncreasing-dedup xs s))
+rises-dedup xs s = rises-from (dedup eqb xs)
+    (sorted_from_strictly_increasing (dedup eqb xs) (IsStrictlyIncreasing-dedup xs s))

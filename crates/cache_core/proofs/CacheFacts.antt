@@ -21,10 +21,19 @@ one_if-le false = omega arith
 one_more : (b : Bool) (k n : ℕ) → k ≤ n → one_if b + k ≤ n + 1
 one_more b k n h = let one = one_if-le b in omega arith
 
-pub IsWithin-with_one : (x : Access) (t : Bool) (p : PerClass) (n : ℕ) → IsWithin p n → IsWithin (with_one x t p) (n + 1)
-IsWithin-with_one x t p n h = record { instr = one_more _ p.instr n h.instr; read = one_more _ p.read n h.read; write = one_more _ p.write n h.write; misc = one_more _ p.misc n h.misc }
+pub IsWithin-with_one : (x : Access) (t : Bool) (p : PerClass) (n : ℕ) → IsWithin p n
+    → IsWithin (with_one x t p) (n + 1)
+IsWithin-with_one x t p n h = record {
+  instr = one_more _ p.instr n h.instr;
+  read =
+      one_more _ p.read n h.read;
+  write = one_more _ p.write n h.write;
+  misc =
+      one_more _ p.misc n h.misc;
+}
 
-pub AreWithin-with_access : (x : Access) (o : Outcome) (c : Counts) (n : ℕ) → AreWithin c n → AreWithin (with_access x o c) (n + 1)
+pub AreWithin-with_access : (x : Access) (o : Outcome) (c : Counts) (n : ℕ) → AreWithin c n
+    → AreWithin (with_access x o c) (n + 1)
 AreWithin-with_access x o c n h = record {
   fetches = IsWithin-with_one x _ c.fetches n h.fetches;
   misses = IsWithin-with_one x _ c.misses n h.misses;
@@ -39,12 +48,15 @@ AreWithin-with_access x o c n h = record {
 
 -- a set's ways lie among all ways
 pub set_inside : (b sets assoc : ℕ) → 0 < sets → (b % sets + 1) * assoc ≤ sets * assoc
-set_inside b sets assoc pos = let lt : b % sets < sets = mod-lt b pos in mul-le-mul_right assoc (omega arith)
+set_inside b sets assoc pos = let lt : b % sets < sets = mod-lt b pos in
+    mul-le-mul_right assoc (omega arith)
 
 IsWithin-more : (p : PerClass) (n : ℕ) → IsWithin p n → IsWithin p (n + 1)
-IsWithin-more p n h = let a = h.instr in let b = h.read in let c = h.write in let d = h.misc in record { instr = omega arith; read = omega arith; write = omega arith; misc = omega arith }
+IsWithin-more p n h = let a = h.instr in let b = h.read in let c = h.write in let d = h.misc in
+    record { instr = omega arith; read = omega arith; write = omega arith; misc = omega arith }
 
-pub AreWithin-with_flush : (k : ℕ) (c : Counts) (n : ℕ) → c.written_back + k ≤ n → AreWithin c n → AreWithin (with_flush k c) (n + 1)
+pub AreWithin-with_flush : (k : ℕ) (c : Counts) (n : ℕ) → c.written_back + k ≤ n → AreWithin c n
+    → AreWithin (with_flush k c) (n + 1)
 AreWithin-with_flush k c n le h = record {
   fetches = IsWithin-more c.fetches n h.fetches;
   misses = IsWithin-more c.misses n h.misses;
@@ -58,36 +70,58 @@ AreWithin-with_flush k c n le h = record {
 }
 
 -- a miss has one kind and a hit none
-one_kind : (a b c m k : Bool) → one_if a + one_if b + one_if c ≡ one_if m → one_if (k && a) + one_if (k && b) + one_if (k && c) ≡ one_if (k && m)
+one_kind : (a b c m k : Bool) → one_if a + one_if b + one_if c ≡ one_if m
+    → one_if (k && a) + one_if (k && b) + one_if (k && c) ≡ one_if (k && m)
 one_kind a b c m true h = h
 one_kind a b c m false h = refl
 
-one_class : (a b c m : ℕ) (i j k l : ℕ) → i + j + k ≡ l → a + b + c ≡ m → (i + a) + (j + b) + (k + c) ≡ l + m
+one_class : (a b c m : ℕ) (i j k l : ℕ) → i + j + k ≡ l → a + b + c ≡ m
+    → (i + a) + (j + b) + (k + c) ≡ l + m
 one_class a b c m i j k l h g = omega arith
 
 -- what adds up in each class adds up in total
-pub in_total : (whole a b c : PerClass) → a.instr + b.instr + c.instr ≡ whole.instr → a.read + b.read + c.read ≡ whole.read
-    → a.write + b.write + c.write ≡ whole.write → a.misc + b.misc + c.misc ≡ whole.misc → AddUp whole a b c
-in_total whole a b c i r w m = record { instr = i; read = r; write = w; misc = m; total = omega arith }
+pub in_total : (whole a b c : PerClass) → a.instr + b.instr + c.instr ≡ whole.instr
+    → a.read + b.read + c.read ≡ whole.read
+    → a.write + b.write + c.write ≡ whole.write → a.misc + b.misc + c.misc ≡ whole.misc
+    → AddUp whole a b c
+in_total whole a b c i r w m =
+    record { instr = i; read = r; write = w; misc = m; total = omega arith }
 
-AddUp-with_one : (x : Access) (a b c m : Bool) (whole p q s : PerClass) → one_if a + one_if b + one_if c ≡ one_if m → AddUp whole p q s → AddUp (with_one x m whole) (with_one x a p) (with_one x b q) (with_one x c s)
+AddUp-with_one : (x : Access) (a b c m : Bool) (whole p q s : PerClass)
+    → one_if a + one_if b + one_if c ≡ one_if m → AddUp whole p q s
+    → AddUp (with_one x m whole) (with_one x a p) (with_one x b q) (with_one x c s)
 AddUp-with_one x a b c m whole p q s h g = in_total _ _ _ _
-    (one_class p.instr q.instr s.instr whole.instr _ _ _ _ (one_kind a b c m (is_instr x) h) g.instr)
+    (one_class p.instr q.instr s.instr whole.instr _ _ _ _ (one_kind a b c m (is_instr x) h)
+    g.instr)
     (one_class p.read q.read s.read whole.read _ _ _ _ (one_kind a b c m (is_read x) h) g.read)
-    (one_class p.write q.write s.write whole.write _ _ _ _ (one_kind a b c m (is_write x) h) g.write)
+    (one_class p.write q.write s.write whole.write _ _ _ _ (one_kind a b c m (is_write x) h)
+    g.write)
     (one_class p.misc q.misc s.misc whole.misc _ _ _ _ (one_kind a b c m (is_misc x) h) g.misc)
 
-kinds-made : (wb a w hit known in_shadow : Bool) (back : Option ℕ) → let o = outcome_made wb a w hit back known in_shadow in one_if (is_kind Compulsory o.kind) + one_if (is_kind Capacity o.kind) + one_if (is_kind Conflict o.kind) ≡ one_if (not o.hit)
+kinds-made : (wb a w hit known in_shadow : Bool) (back : Option ℕ)
+    → let o = outcome_made wb a w hit back known in_shadow in
+    one_if (is_kind Compulsory o.kind) + one_if (is_kind Capacity o.kind)
+    + one_if (is_kind Conflict o.kind) ≡ one_if (not o.hit)
 kinds-made wb a w true known in_shadow back = refl
 kinds-made wb a w false true true back = refl
 kinds-made wb a w false true false back = refl
 kinds-made wb a w false false in_shadow back = refl
 
-pub KindsAddUp-with_access : (x : Access) (wb a w hit known in_shadow : Bool) (back : Option ℕ) (c : Counts) → KindsAddUp c → KindsAddUp (with_access x (outcome_made wb a w hit back known in_shadow) c)
-KindsAddUp-with_access x wb a w hit known in_shadow back c h = AddUp-with_one x _ _ _ _ c.misses c.compulsory c.capacity c.conflict (kinds-made wb a w hit known in_shadow back) h
+pub KindsAddUp-with_access : (x : Access) (wb a w hit known in_shadow : Bool) (back : Option ℕ)
+    (c : Counts) → KindsAddUp c → KindsAddUp
+    (with_access x (outcome_made wb a w hit back known in_shadow) c)
+KindsAddUp-with_access x wb a w hit known in_shadow back c h =
+    AddUp-with_one x _ _ _ _ c.misses c.compulsory c.capacity c.conflict
+    (kinds-made wb a w hit known in_shadow back) h
 
 none-within : IsWithin none_by_class 0
-none-within = record { instr = omega arith; read = omega arith; write = omega arith; misc = omega arith }
+none-within = record {
+  instr = omega arith;
+  read = omega arith;
+  write = omega arith;
+  misc =
+      omega arith;
+}
 
 pub AreWithin-none : AreWithin no_counts 0
 AreWithin-none = record {

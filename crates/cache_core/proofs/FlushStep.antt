@@ -14,8 +14,12 @@ use Rattle.cache_core.specs.Standing.{rules_from}
 use Rattle.cache_core.proofs.Lawful.{IsSane, sane_of}
 use Rattle.cache_core.proofs.Flushed.{flushed-is}
 
-pub flush-list : (g : Geometry) (p : Policy) (h : History) (xs : List Way) → length xs ≡ sets_of g * assoc_of g → ((t : ℕ) → t < (rules_from g p).sets → row (assoc_of g) t xs ≡ row_of (rules_from g p) h t)
-    → (v : List ℕ) → (ys : List ℕ) × IsPermutation (map first_of (filter is_dirty_way xs)) ys × IsSorted nat_cmp ys × (v ≡ dedup nat_eq ys) → v ≡ map (λ b. b * bsize_of g) (dirty_blocks (rules_from g p) h)
+pub flush-list : (g : Geometry) (p : Policy) (h : History) (xs : List Way)
+    → length xs ≡ sets_of g * assoc_of g
+    → ((t : ℕ) → t < (rules_from g p).sets → row (assoc_of g) t xs ≡ row_of (rules_from g p) h t)
+    → (v : List ℕ) → (ys : List ℕ) × IsPermutation (map first_of (filter is_dirty_way xs)) ys
+    × IsSorted nat_cmp ys × (v ≡ dedup nat_eq ys)
+    → v ≡ map (λ b. b * bsize_of g) (dirty_blocks (rules_from g p) h)
 flush-list g p h xs long rows v f =
     let facts : IsSane (size_of g) (bsize_of g) (assoc_of g) = sane_of g in
     let pos : 0 < bsize_of g = (let low = facts.block_low in omega arith) in

@@ -14,18 +14,22 @@ module _ (r : Rules) (h : History) where
   empty-held (suc n) zero = refl
   empty-held (suc n) (suc k) = empty-held n k
 
-  held-shown : (n k : ℕ) (ms : List ℕ) → map first_of (filter is_held (take n (map (way_at r h) ms ++ replicate k empty_way))) ≡ map (λ b. b * r.block_size) (take n ms)
+  held-shown : (n k : ℕ) (ms : List ℕ)
+      → map first_of (filter is_held (take n (map (way_at r h) ms ++ replicate k empty_way)))
+      ≡ map (λ b. b * r.block_size) (take n ms)
   held-shown zero k ms = refl
   held-shown (suc n) k [] = ap (map first_of) (empty-held (suc n) k)
   held-shown (suc n) k (m ∷ ms) = ap (λ l. m * r.block_size ∷ l) (held-shown n k ms)
 
-  held-row_of : (s : ℕ) → map first_of (filter is_held (row_of r h s)) ≡ map (λ b. b * r.block_size) (take r.ways (ranked r s (renewals r h)))
+  held-row_of : (s : ℕ) → map first_of (filter is_held (row_of r h s))
+      ≡ map (λ b. b * r.block_size) (take r.ways (ranked r s (renewals r h)))
   unfolding row_of
   held-row_of s = held-shown r.ways r.ways (ranked r s (renewals r h))
 
 pub holds-residents : (c : Cache) (h : History) → StandsFor c h → HoldsResidents c h
 unfolding held_in rules_of
 holds-residents c h st = record {
-  in_order = λ s below. ap (λ l. map first_of (filter is_held l)) (st.rows s below) ∙ held-row_of (rules_of c) h s;
+  in_order = λ s below. ap (λ l. map first_of (filter is_held l)) (st.rows s below)
+      ∙ held-row_of (rules_of c) h s;
   residents = λ b. has-ways_of (rules_of c) (renewals (rules_of c) h) b;
 }

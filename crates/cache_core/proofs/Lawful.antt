@@ -11,7 +11,8 @@ use Rattle.cache_core.specs.Lawful.{refusal_of}
 use Rattle.cache_core.specs.Geometry.{size_of, bsize_of, assoc_of}
 use Rattle.cache_core.proofs.PowerOfTwo.{power_is, ones_zero}
 
-passed : {F : Type 0} (t : Bool) (fault : F) (rest : Option F) → cond t (Some fault) rest ≡ None → (t ≡ false) × (rest ≡ None)
+passed : {F : Type 0} (t : Bool) (fault : F) (rest : Option F) → cond t (Some fault) rest ≡ None
+    → (t ≡ false) × (rest ≡ None)
 passed true fault rest h = cc
 passed false fault rest h = (refl, h)
 
@@ -26,7 +27,8 @@ pub record IsLawful (size bsize assoc : ℕ) : Type 0 where
   pub assoc_power : is_power_of_two assoc ≡ true
   pub assoc_fits : assoc ≤ size / bsize
 
-pub lawful_is : (size bsize assoc : ℕ) → refusal_of size bsize assoc ≡ None → IsLawful size bsize assoc
+pub lawful_is : (size bsize assoc : ℕ) → refusal_of size bsize assoc ≡ None
+    → IsLawful size bsize assoc
 unfolding refusal_of
 lawful_is size bsize assoc h =
     let a = passed (not (is_power_of_two size)) _ _ h in
@@ -51,7 +53,8 @@ lawful_is size bsize assoc h =
     }
 
 -- a power of two below 2 ^ 64, by its trailing zeros
-pub power_of_zeros : (n : ℕ) → n < 2 ^ 64 → is_power_of_two n ≡ true → n ≡ 2 ^ count_trailing_zeros 64 n
+pub power_of_zeros : (n : ℕ) → n < 2 ^ 64 → is_power_of_two n ≡ true
+    → n ≡ 2 ^ count_trailing_zeros 64 n
 power_of_zeros n h p = power_is 64 n h (eqb-true (ones n) 1 p)
 
 pub zeros-lt : (n : ℕ) → 0 < n → n < 2 ^ 64 → count_trailing_zeros 64 n < 64
@@ -70,7 +73,8 @@ module _ (size bsize assoc : ℕ) (law : IsLawful size bsize assoc) where
 
   -- a set is no longer than the cache
   pub set_fits : bsize * assoc ≤ size
-  set_fits = subst (λ n. n ≤ size) (mul_comm assoc bsize) ((le-div_iff_mul-le block_pos).0 law.assoc_fits)
+  set_fits = subst (λ n. n ≤ size) (mul_comm assoc bsize)
+      ((le-div_iff_mul-le block_pos).0 law.assoc_fits)
 
   pub set_pos : 0 < bsize * assoc
   set_pos = mul-pos block_pos assoc_pos
@@ -81,7 +85,8 @@ module _ (size bsize assoc : ℕ) (law : IsLawful size bsize assoc) where
   pub ways_fit : size / (bsize * assoc) * assoc ≤ 2 ^ 24
   ways_fit =
       let whole = div-mul-le_self size (bsize * assoc) in
-      let wide : assoc ≤ bsize * assoc = subst (λ n. assoc ≤ n) (mul_comm assoc bsize) (le-mul_of_pos_right assoc block_pos) in
+      let wide : assoc ≤ bsize * assoc =
+      subst (λ n. assoc ≤ n) (mul_comm assoc bsize) (le-mul_of_pos_right assoc block_pos) in
       let all = mul-le-mul_left (size / (bsize * assoc)) wide in
       let high = law.size_high in
       omega arith

@@ -6,6 +6,7 @@ pub mod Flat
 pub mod FlushStep
 pub mod Flushed
 pub mod Held
+pub mod Known
 pub mod Lawful
 pub mod MapStep
 pub mod Masks

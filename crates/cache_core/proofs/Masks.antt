@@ -29,7 +29,9 @@ module _ (size bsize assoc : ℕ) (ok : refusal_of size bsize assoc ≡ None) wh
   pub set_is : bsize * assoc ≡ 2 ^ k
   set_is =
       let high = law.block_high in let low = assoc_high in
-      ap (λ n. n * assoc) (power_of_zeros bsize (omega arith) law.block_power) ∙ ap (λ n. 2 ^ zeros bsize * n) (power_of_zeros assoc (omega arith) law.assoc_power) ∙ sym (pow-add 2 (zeros bsize) (zeros assoc))
+      ap (λ n. n * assoc) (power_of_zeros bsize (omega arith) law.block_power)
+      ∙ ap (λ n. 2 ^ zeros bsize * n) (power_of_zeros assoc (omega arith) law.assoc_power)
+      ∙ sym (pow-add 2 (zeros bsize) (zeros assoc))
 
   size_is : size ≡ 2 ^ zeros size
   size_is = let high = law.size_high in power_of_zeros size (omega arith) law.size_power
@@ -37,19 +39,24 @@ module _ (size bsize assoc : ℕ) (ok : refusal_of size bsize assoc ≡ None) wh
   within : k ≤ zeros size
   within = elim (cases_lt (zeros size) k) [
     | inr le ↦ le
-    | inl lt ↦ let more : 2 ^ zeros size < 2 ^ k = pow-lt lt in let fits = set_fits size bsize assoc law in let a = set_is in let b = size_is in absurd (omega arith)
+    | inl lt ↦ let more : 2 ^ zeros size < 2 ^ k = pow-lt lt in let fits =
+        set_fits size bsize assoc law in let a = set_is in let b = size_is in absurd (omega arith)
   ]
 
   pub shift_fits : k < 64
   shift_fits = elim (cases_lt k 64) [
     | inl lt ↦ lt
-    | inr le ↦ let more : 2 ^ 64 ≤ 2 ^ k = pow_mono le in let a = set_is in let b = facts.set_high in absurd (omega arith)
+    | inr le ↦ let more : 2 ^ 64 ≤ 2 ^ k = pow_mono le in let a = set_is in let b =
+        facts.set_high in absurd (omega arith)
   ]
 
   pub sets_is : size / (bsize * assoc) ≡ 2 ^ (zeros size - k)
   sets_is =
       let sum : zeros size ≡ (zeros size - k) + k = let w = within in omega arith in
-      ap (λ n. n / (bsize * assoc)) (size_is ∙ ap (λ e. 2 ^ e) sum ∙ pow-add 2 (zeros size - k) k) ∙ ap (λ n. 2 ^ (zeros size - k) * 2 ^ k / n) set_is ∙ mul-div_cancel (2 ^ (zeros size - k)) (pow_pos k)
+      ap (λ n. n / (bsize * assoc)) (size_is ∙ ap (λ e. 2 ^ e) sum ∙ pow-add 2 (zeros size - k) k)
+      ∙ ap (λ n. 2 ^ (zeros size - k) * 2 ^ k / n) set_is
+      ∙ mul-div_cancel (2 ^ (zeros size - k)) (pow_pos k)
 
   pub masked : (b : ℕ) → bit_and b (size / (bsize * assoc) - 1) ≡ b % (size / (bsize * assoc))
-  masked b = ap (λ n. bit_and b (n - 1)) sets_is ∙ and_mask b (zeros size - k) ∙ ap (λ n. b % n) (sym sets_is)
+  masked b = ap (λ n. bit_and b (n - 1)) sets_is ∙ and_mask b (zeros size - k)
+      ∙ ap (λ n. b % n) (sym sets_is)

@@ -12,7 +12,8 @@ take_none zero = refl
 take_none (suc n) = refl
 
 ranked-none : (r : Rules) (s : ℕ) → ranked r s [] ≡ []
-ranked-none r s = (elim r.fifo as (λ t. cond {A = List ℕ} t [] [] ≡ []) [ true ↦ refl | false ↦ refl ])
+ranked-none r s = (elim r.fifo as (λ t. cond {A = List ℕ} t [] [] ≡ [])
+    [ true ↦ refl | false ↦ refl ])
 
 pub ways_of-none : (r : Rules) (s : ℕ) → ways_of r s [] ≡ []
 ways_of-none r s = ap (take r.ways) (ranked-none r s) ∙ take_none r.ways
@@ -20,12 +21,18 @@ ways_of-none r s = ap (take r.ways) (ranked-none r s) ∙ take_none r.ways
 module _ (r : Rules) (h : History) (none : renewals r h ≡ []) where
   row_of-none : (s : ℕ) → row_of r h s ≡ replicate r.ways empty_way
   unfolding row_of
-  row_of-none s = ap (λ l. take r.ways (map (way_at r h) (ranked r s l) ++ replicate r.ways empty_way)) none ∙ ap (λ l. take r.ways (map (way_at r h) l ++ replicate r.ways empty_way)) (ranked-none r s) ∙ take-replicate r.ways r.ways empty_way (omega arith)
+  row_of-none s = ap (λ l. take r.ways
+      (map (way_at r h) (ranked r s l) ++ replicate r.ways empty_way)) none
+      ∙ ap (λ l. take r.ways (map (way_at r h) l ++ replicate r.ways empty_way)) (ranked-none r s)
+      ∙ take-replicate r.ways r.ways empty_way (omega arith)
 
-  pub rows-none : (t : ℕ) → t < r.sets → row r.ways t (replicate (r.sets * r.ways) empty_way) ≡ row_of r h t
+  pub rows-none : (t : ℕ) → t < r.sets
+      → row r.ways t (replicate (r.sets * r.ways) empty_way) ≡ row_of r h t
   rows-none t below =
       let fits : (t + 1) * r.ways ≤ r.sets * r.ways = mul-le-mul_right r.ways (omega arith) in
-      ap (take r.ways) (drop-replicate (t * r.ways) (r.sets * r.ways) empty_way) ∙ take-replicate r.ways (r.sets * r.ways - t * r.ways) empty_way (omega arith) ∙ sym (row_of-none t)
+      ap (take r.ways) (drop-replicate (t * r.ways) (r.sets * r.ways) empty_way)
+      ∙ take-replicate r.ways (r.sets * r.ways - t * r.ways) empty_way (omega arith)
+      ∙ sym (row_of-none t)
 
 pub renewals-start : (r : Rules) → renewals r [] ≡ []
 unfolding renewals

@@ -17,10 +17,13 @@ module _ (r : Rules) (one : IsOneLruSet r) where
       ∙ ap (λ k. record r { ways = k; fifo = false }) (sym one.all_blocks)
       ∙ ap (λ k. record r { fifo = k }) (sym one.lru)
 
-  hits-same : (h : History) (x : Access) → hits (shadow_of r) (renewals (shadow_of r) h) x ≡ hits r (renewals r h) x
+  hits-same : (h : History) (x : Access)
+      → hits (shadow_of r) (renewals (shadow_of r) h) x ≡ hits r (renewals r h) x
   hits-same h x = ap (λ q. hits q (renewals q h) x) shadow-same
 
-  kinds : (known in_shadow hit : Bool) → in_shadow ≡ hit → is_kind Conflict (cond hit None (Some (cond known (cond in_shadow Conflict Capacity) Compulsory))) ≡ false
+  kinds : (known in_shadow hit : Bool) → in_shadow ≡ hit
+      → is_kind Conflict (cond hit None
+      (Some (cond known (cond in_shadow Conflict Capacity) Compulsory))) ≡ false
   kinds known in_shadow true e = refl
   kinds true true false e = cc
   kinds true false false e = refl
@@ -28,7 +31,8 @@ module _ (r : Rules) (one : IsOneLruSet r) where
 
   never : (h : History) (x : Access) → is_kind Conflict (outcome_of r h x).kind ≡ false
   unfolding outcome_of kind_of_miss
-  never h x = kinds (list_any (λ b. b == block_of r x) (known_blocks r h)) (hits (shadow_of r) (renewals (shadow_of r) h) x) (hits r (renewals r h) x) (hits-same h x)
+  never h x = kinds (list_any (λ b. b == block_of r x) (known_blocks r h))
+      (hits (shadow_of r) (renewals (shadow_of r) h) x) (hits r (renewals r h) x) (hits-same h x)
 
   pub no-conflict : (h : History) (x : Access) → (outcome_of r h x).kind ≡ Some Conflict → ⊥
   no-conflict h x e = let no : false ≡ true = sym (never h x) ∙ ap (is_kind Conflict) e in cc
@@ -42,12 +46,25 @@ module _ (r : Rules) (one : IsOneLruSet r) where
   none-tallied test (flush ∷ h) = none-tallied test h
   none-tallied test (access x ∷ h) = let rest = none-tallied test h in
       ap (λ t. one_if (test x && t) + conflicts test h) (never h x)
-      ∙ (elim (test x) as (λ t. one_if (t && false) + conflicts test h ≡ 0) [ true ↦ omega arith | false ↦ omega arith ])
+      ∙ (elim (test x) as (λ t. one_if (t && false) + conflicts test h ≡ 0)
+      [ true ↦ omega arith | false ↦ omega arith ])
 
   pub none-counted : (h : History) → (counts_of r h).conflict ≡ none_by_class
   unfolding counts_of
   none-counted h =
-      ap (λ k. record none_by_class { instr = k; read = conflicts is_read h; write = conflicts is_write h; misc = conflicts is_misc h }) (none-tallied is_instr h)
-      ∙ ap (λ k. record none_by_class { read = k; write = conflicts is_write h; misc = conflicts is_misc h }) (none-tallied is_read h)
-      ∙ ap (λ k. record none_by_class { write = k; misc = conflicts is_misc h }) (none-tallied is_write h)
+      ap (λ k. record none_by_class {
+        instr = k;
+        read = conflicts is_read h;
+        write =
+            conflicts is_write h;
+        misc = conflicts is_misc h;
+      }) (none-tallied is_instr h)
+      ∙ ap (λ k. record none_by_class {
+        read = k;
+        write = conflicts is_write h;
+        misc =
+            conflicts is_misc h;
+      }) (none-tallied is_read h)
+      ∙ ap (λ k. record none_by_class { write = k; misc = conflicts is_misc h })
+      (none-tallied is_write h)
       ∙ ap (λ k. record none_by_class { misc = k }) (none-tallied is_misc h)

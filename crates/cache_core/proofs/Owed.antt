@@ -19,28 +19,34 @@ use Rattle.cache_core.proofs.Victim.{resident-marked, elsewhere, front-is, later
 -- numbers that stand once, all in another list, are at most as many as that list has
 length-filter_le : (p : ℕ → Bool) (ys : List ℕ) → length (filter p ys) ≤ length ys
 length-filter_le p [] = omega arith
-length-filter_le p (y ∷ ys) = (elim (p y) as (λ t. length (cond t (y ∷ filter p ys) (filter p ys)) ≤ length (y ∷ ys)) [
-  | true ↦ let le = length-filter_le p ys in omega arith
-  | false ↦ let le = length-filter_le p ys in omega arith
-])
+length-filter_le p (y ∷ ys) = (elim (p y) as (λ t.
+    length (cond t (y ∷ filter p ys) (filter p ys)) ≤ length (y ∷ ys)) [
+      | true ↦ let le = length-filter_le p ys in omega arith
+      | false ↦ let le = length-filter_le p ys in omega arith
+    ])
 
 length-without : (x : ℕ) (ys : List ℕ) → has ys x ≡ true → length (without x ys) + 1 ≤ length ys
 length-without x [] h = cc
-length-without x (y ∷ ys) h = (elim (eqb y x) as (λ t. (t || has ys x) ≡ true → length (cond (not t) (y ∷ without x ys) (without x ys)) + 1 ≤ length (y ∷ ys)) [
-  | true ↦ λ g. let le = length-filter_le (λ n. not (eqb n x)) ys in omega arith
-  | false ↦ λ g. let le = length-without x ys g in omega arith
-]) h
+length-without x (y ∷ ys) h = (elim (eqb y x) as (λ t. (t || has ys x) ≡ true
+    → length (cond (not t) (y ∷ without x ys) (without x ys)) + 1 ≤ length (y ∷ ys)) [
+      | true ↦ λ g. let le = length-filter_le (λ n. not (eqb n x)) ys in omega arith
+      | false ↦ λ g. let le = length-without x ys g in omega arith
+    ]) h
 
-pub as_many : (xs ys : List ℕ) → IsOnce xs → ((z : ℕ) → has xs z ≡ true → has ys z ≡ true) → length xs ≤ length ys
+pub as_many : (xs ys : List ℕ) → IsOnce xs → ((z : ℕ) → has xs z ≡ true → has ys z ≡ true)
+    → length xs ≤ length ys
 as_many [] ys once inside = omega arith
 as_many (x ∷ xs) ys once inside =
     let le = length-without x ys (inside x (or_left (eqb x x) (has xs x) (eq-eqb x x refl))) in
-    let rest = as_many xs (without x ys) once.1 (λ z h. has-filter (λ n. not (eqb n x)) z (ap not (apart z h)) ys ∙ inside z (or_right (eqb x z) (has xs z) h)) in
+    let rest = as_many xs (without x ys) once.1 (λ z h.
+    has-filter (λ n. not (eqb n x)) z (ap not (apart z h)) ys
+    ∙ inside z (or_right (eqb x z) (has xs z) h)) in
     omega arith
   where
     apart : (z : ℕ) → has xs z ≡ true → eqb z x ≡ false
     apart z h = (elim (eqb z x) as (λ t. eqb z x ≡ t → t ≡ false) [
-      | true ↦ λ e. absurd (false≢true (sym once.0 ∙ subst (λ v. has xs v ≡ true) (eqb-true z x e) h))
+      | true ↦ λ e. absurd (false≢true (sym once.0
+          ∙ subst (λ v. has xs v ≡ true) (eqb-true z x e) h))
       | false ↦ λ e. refl
     ]) refl
 
@@ -50,31 +56,41 @@ rises-once (x ∷ xs) r = (not-itself x xs r.0, rises-once xs r.1)
 
 take-mono : (m y : ℕ) (l : List ℕ) → has (take m l) y ≡ true → has (take (suc m) l) y ≡ true
 take-mono m y l h = let p = and_parts (has l y) (ltb _ m) (sym (has-take m l y) ∙ h) in
-    has-take (suc m) l y ∙ and_from (has l y) (ltb _ (suc m)) p.0 (lt-ltb _ (suc m) (let lt = ltb-true _ m p.1 in omega arith))
+    has-take (suc m) l y ∙ and_from (has l y) (ltb _ (suc m)) p.0
+    (lt-ltb _ (suc m) (let lt = ltb-true _ m p.1 in omega arith))
 
 find-passes : (p : ℕ → Bool) (xs : List ℕ) (v : ℕ) → find p xs ≡ Some v → p v ≡ true
 find-passes p [] v e = cc
-find-passes p (x ∷ xs) v e = (elim (p x) as (λ t. p x ≡ t → cond t (Some x) (find p xs) ≡ Some v → p v ≡ true) [
-  | true ↦ λ q g. let same : x ≡ v = cc in subst (λ z. p z ≡ true) same q
-  | false ↦ λ q g. find-passes p xs v g
-]) refl e
+find-passes p (x ∷ xs) v e = (elim (p x) as (λ t. p x ≡ t → cond t (Some x) (find p xs) ≡ Some v
+    → p v ≡ true) [
+      | true ↦ λ q g. let same : x ≡ v = cc in subst (λ z. p z ≡ true) same q
+      | false ↦ λ q g. find-passes p xs v g
+    ]) refl e
 
 module _ (r : Rules) (h : History) where
-  dirty-parts : (y : ℕ) → is_dirty r h y ≡ true → (r.write_back ≡ true) × (is_resident r (renewals r h) y ≡ true) × (is_written r h y ≡ true)
+  dirty-parts : (y : ℕ) → is_dirty r h y ≡ true
+      → (r.write_back ≡ true) × (is_resident r (renewals r h) y ≡ true) × (is_written r h y ≡ true)
   unfolding is_dirty
-  dirty-parts y d = let p = and_parts (r.write_back && is_resident r (renewals r h) y) (is_written r h y) d in let q = and_parts r.write_back (is_resident r (renewals r h) y) p.0 in (q.0, q.1, p.1)
+  dirty-parts y d = let p = and_parts (r.write_back && is_resident r (renewals r h) y)
+      (is_written r h y) d in let q = and_parts r.write_back (is_resident r (renewals r h) y) p.0 in
+      (q.0, q.1, p.1)
 
-  dirty-from : (y : ℕ) → r.write_back ≡ true → is_resident r (renewals r h) y ≡ true → is_written r h y ≡ true → is_dirty r h y ≡ true
+  dirty-from : (y : ℕ) → r.write_back ≡ true → is_resident r (renewals r h) y ≡ true
+      → is_written r h y ≡ true → is_dirty r h y ≡ true
   unfolding is_dirty
-  dirty-from y a b c = and_from (r.write_back && is_resident r (renewals r h) y) (is_written r h y) (and_from r.write_back (is_resident r (renewals r h) y) a b) c
+  dirty-from y a b c = and_from (r.write_back && is_resident r (renewals r h) y) (is_written r h y)
+      (and_from r.write_back (is_resident r (renewals r h) y) a b) c
 
   dirty-has : (y : ℕ) → is_dirty r h y ≡ true → has (dirty_blocks r h) y ≡ true
   unfolding dirty_blocks
-  dirty-has y d = has-rising (filter (is_dirty r h) (renewals r h)) y ∙ filter-has (is_dirty r h) (renewals r h) y (resident-marked r (renewals r h) y (dirty-parts y d).1) d
+  dirty-has y d = has-rising (filter (is_dirty r h) (renewals r h)) y
+      ∙ filter-has (is_dirty r h) (renewals r h) y
+      (resident-marked r (renewals r h) y (dirty-parts y d).1) d
 
   has-dirty : (y : ℕ) → has (dirty_blocks r h) y ≡ true → is_dirty r h y ≡ true
   unfolding dirty_blocks
-  has-dirty y g = (has-filter_both (is_dirty r h) (renewals r h) y (sym (has-rising (filter (is_dirty r h) (renewals r h)) y) ∙ g)).1
+  has-dirty y g = (has-filter_both (is_dirty r h) (renewals r h) y
+      (sym (has-rising (filter (is_dirty r h) (renewals r h)) y) ∙ g)).1
 
   once : IsOnce (dirty_blocks r h)
   unfolding dirty_blocks
@@ -97,39 +113,55 @@ module _ (r : Rules) (h : History) (x : Access) where
   w = is_write x
 
   -- an access makes no other block resident
-  in-front : (m : ℕ) → r.ways ≡ suc m → renews r ms x ≡ true → (y : ℕ) → eqb b y ≡ false → is_resident r (b ∷ ms) y ≡ true → is_resident r ms y ≡ true
-  in-front m size yes' y other res = (elim (eqb s (y % r.sets)) as (λ t. eqb s (y % r.sets) ≡ t → is_resident r ms y ≡ true) [
-    | false ↦ λ e. sym (elsewhere r h x y e) ∙ res
-    | true ↦ λ e. (elim (hits r ms x) as (λ t. hits r ms x ≡ t → is_resident r ms y ≡ true) [
-      | false ↦ λ miss. front-is r h x m size y e ∙ take-mono m y (ranked r s ms) (sym (ap (λ t. t || has (take m (ranked r s ms)) y) other) ∙ sym (later-is r h x m size miss yes' y e) ∙ res)
-      | true ↦ λ hit. (elim r.fifo as (λ t. r.fifo ≡ t → is_resident r ms y ≡ true) [
-        | true ↦ λ f. absurd (false≢true (sym (block-fifo r ms x false f (and_right (uses r ms x) (not (hits r ms x)) (ap not hit))) ∙ yes'))
-        | false ↦ λ f. sym (lru-same r h x m size f hit y e) ∙ res
+  in-front : (m : ℕ) → r.ways ≡ suc m → renews r ms x ≡ true → (y : ℕ) → eqb b y ≡ false
+      → is_resident r (b ∷ ms) y ≡ true → is_resident r ms y ≡ true
+  in-front m size yes' y other res =
+      (elim (eqb s (y % r.sets)) as (λ t. eqb s (y % r.sets) ≡ t → is_resident r ms y ≡ true) [
+        | false ↦ λ e. sym (elsewhere r h x y e) ∙ res
+        | true ↦ λ e. (elim (hits r ms x) as (λ t. hits r ms x ≡ t → is_resident r ms y ≡ true) [
+          | false ↦ λ miss. front-is r h x m size y e
+              ∙ take-mono m y (ranked r s ms) (sym (ap (λ t. t || has (take m (ranked r s ms)) y) other)
+              ∙ sym (later-is r h x m size miss yes' y e) ∙ res)
+          | true ↦ λ hit. (elim r.fifo as (λ t. r.fifo ≡ t → is_resident r ms y ≡ true) [
+            | true ↦ λ f. absurd (false≢true
+                (sym (block-fifo r ms x false f
+                (and_right (uses r ms x) (not (hits r ms x)) (ap not hit))) ∙ yes'))
+            | false ↦ λ f. sym (lru-same r h x m size f hit y e) ∙ res
+          ]) refl
+        ]) refl
       ]) refl
-    ]) refl
-  ]) refl
 
   no-ways : (ms' : List ℕ) (y : ℕ) → r.ways ≡ 0 → is_resident r ms' y ≡ true → ⊥
   unfolding is_resident
-  no-ways ms' y e res = let lt = ltb-true _ r.ways (and_parts (has ms' y) (ltb _ r.ways) res).1 in absurd (omega arith)
+  no-ways ms' y e res = let lt = ltb-true _ r.ways (and_parts (has ms' y) (ltb _ r.ways) res).1 in
+      absurd (omega arith)
 
-  others-by : (n : ℕ) → r.ways ≡ n → (y : ℕ) → eqb b y ≡ false → is_resident r (renewals r h') y ≡ true → is_resident r ms y ≡ true
+  others-by : (n : ℕ) → r.ways ≡ n → (y : ℕ) → eqb b y ≡ false
+      → is_resident r (renewals r h') y ≡ true → is_resident r ms y ≡ true
   others-by zero e y other res = absurd (no-ways (renewals r h') y e res)
-  others-by (suc m) e y other res = (elim (renews r ms x) as (λ t. renews r ms x ≡ t → is_resident r ms y ≡ true) [
-    | true ↦ λ g. in-front m e g y other (sym (ap (λ l. is_resident r l y) (renewals-yes r h x g)) ∙ res)
-    | false ↦ λ g. sym (ap (λ l. is_resident r l y) (renewals-no r h x g)) ∙ res
-  ]) refl
+  others-by (suc m) e y other res =
+      (elim (renews r ms x) as (λ t. renews r ms x ≡ t → is_resident r ms y ≡ true) [
+        | true ↦ λ g. in-front m e g y other (sym (ap (λ l. is_resident r l y) (renewals-yes r h x g))
+            ∙ res)
+        | false ↦ λ g. sym (ap (λ l. is_resident r l y) (renewals-no r h x g)) ∙ res
+      ]) refl
 
-  others : (y : ℕ) → eqb b y ≡ false → is_resident r (renewals r h') y ≡ true → is_resident r ms y ≡ true
+  others : (y : ℕ) → eqb b y ≡ false → is_resident r (renewals r h') y ≡ true
+      → is_resident r ms y ≡ true
   others y other res = others-by r.ways refl y other res
 
   written-other : (y : ℕ) → eqb b y ≡ false → is_written r h' y ≡ is_written r h y
   unfolding is_written
   written-other y e = rw e refl
 
-  written-here : w ≡ false → is_written r h' b ≡ true → (hits r ms x ≡ true) × (is_written r h b ≡ true)
+  written-here : w ≡ false → is_written r h' b ≡ true
+      → (hits r ms x ≡ true) × (is_written r h b ≡ true)
   unfolding is_written
-  written-here e g = and_parts (hits r ms x) (is_written r h b) (sym (ap (λ t. cond (t && uses r ms x) (w || (hits r ms x && is_written r h b)) (is_written r h b)) (eq-eqb b b refl) ∙ ap (λ t. cond (true && (not t || r.allocate || hits r ms x)) (t || (hits r ms x && is_written r h b)) (is_written r h b)) e) ∙ g)
+  written-here e g = and_parts (hits r ms x) (is_written r h b)
+      (sym (ap (λ t. cond (t && uses r ms x) (w || (hits r ms x && is_written r h b))
+      (is_written r h b)) (eq-eqb b b refl)
+      ∙ ap (λ t. cond (true && (not t || r.allocate || hits r ms x))
+      (t || (hits r ms x && is_written r h b)) (is_written r h b)) e) ∙ g)
 
   abbrev after : List ℕ
   after = dirty_blocks r h'
@@ -147,17 +179,21 @@ module _ (r : Rules) (h : History) (x : Access) where
   stays-inside y g =
       let p = dirty-parts r h' y (has-dirty r h' y g) in
       (elim (eqb b y) as (λ t. eqb b y ≡ t → has owing y ≡ true) [
-        | false ↦ λ e. inside y (dirty-from r h y p.0 (others y e p.1) (sym (written-other y e) ∙ p.2))
-        | true ↦ λ e. (elim w as (λ t. w ≡ t → has (cond t (b ∷ dirty_blocks r h) (dirty_blocks r h)) y ≡ true) [
-          | true ↦ λ q. or_left (eqb b y) (has (dirty_blocks r h) y) e
-          | false ↦ λ q. let same : b ≡ y = eqb-true b y e in
-              let k = written-here q (subst (λ z. is_written r h' z ≡ true) (sym same) p.2) in
-              subst (λ z. has (dirty_blocks r h) z ≡ true) same (dirty-has r h b (dirty-from r h b p.0 k.0 k.1))
-        ]) refl
+        | false ↦ λ e. inside y (dirty-from r h y p.0 (others y e p.1) (sym (written-other y e)
+            ∙ p.2))
+        | true ↦ λ e. (elim w as (λ t. w ≡ t
+            → has (cond t (b ∷ dirty_blocks r h) (dirty_blocks r h)) y ≡ true) [
+              | true ↦ λ q. or_left (eqb b y) (has (dirty_blocks r h) y) e
+              | false ↦ λ q. let same : b ≡ y = eqb-true b y e in
+                  let k = written-here q (subst (λ z. is_written r h' z ≡ true) (sym same) p.2) in
+                  subst (λ z. has (dirty_blocks r h) z ≡ true) same
+                  (dirty-has r h b (dirty-from r h b p.0 k.0 k.1))
+            ]) refl
       ]) refl
 
   owing-length : length owing ≡ length (dirty_blocks r h) + cond w 1 0
-  owing-length = (elim w as (λ t. length (cond t (b ∷ dirty_blocks r h) (dirty_blocks r h)) ≡ length (dirty_blocks r h) + cond t 1 0) [ true ↦ omega arith | false ↦ omega arith ])
+  owing-length = (elim w as (λ t. length (cond t (b ∷ dirty_blocks r h) (dirty_blocks r h))
+      ≡ length (dirty_blocks r h) + cond t 1 0) [ true ↦ omega arith | false ↦ omega arith ])
 
   kept : length after ≤ length owing
   kept = as_many after owing (once r h') stays-inside
@@ -166,20 +202,26 @@ module _ (r : Rules) (h : History) (x : Access) where
   victim-gone : (v : ℕ) → victim r h x ≡ Some v → has after v ≡ false
   unfolding victim
   victim-gone v e = (elim (has after v) as (λ t. has after v ≡ t → t ≡ false) [
-    | true ↦ λ g. let gone = (and_parts (is_resident r ms v) (not (is_resident r (renewals r h') v)) (find-passes (λ z. is_resident r ms z && not (is_resident r (renewals r h') z)) ms v e)).1 in
-        absurd (false≢true (sym (not-true (is_resident r (renewals r h') v) gone) ∙ (dirty-parts r h' v (has-dirty r h' v g)).1))
+    | true ↦ λ g. let gone = (and_parts (is_resident r ms v) (not (is_resident r (renewals r h') v))
+        (find-passes (λ z. is_resident r ms z && not (is_resident r (renewals r h') z)) ms v e)).1
+        in
+        absurd (false≢true (sym (not-true (is_resident r (renewals r h') v) gone)
+        ∙ (dirty-parts r h' v (has-dirty r h' v g)).1))
     | false ↦ λ g. refl
   ]) refl
 
-  backs-by : (o : Option ℕ) → victim r h x ≡ o → cond (is_some (dirty_victim r h o)) 1 0 + length after ≤ length owing
+  backs-by : (o : Option ℕ) → victim r h x ≡ o
+      → cond (is_some (dirty_victim r h o)) 1 0 + length after ≤ length owing
   backs-by None e = let k = kept in omega arith
-  backs-by (Some v) e = (elim (is_dirty r h v) as (λ t. is_dirty r h v ≡ t → cond (is_some (cond t (Some (v * r.block_size)) None)) 1 0 + length after ≤ length owing) [
-    | true ↦ λ d. let le = as_many (v ∷ after) owing (victim-gone v e, once r h') (λ z g. elim (or_cases (eqb v z) (has after z) g) [
-      | inl q ↦ subst (λ k. has owing k ≡ true) (eqb-true v z q) (inside v d)
-      | inr q ↦ stays-inside z q
-    ]) in omega arith
-    | false ↦ λ d. let k = kept in omega arith
-  ]) refl
+  backs-by (Some v) e = (elim (is_dirty r h v) as (λ t. is_dirty r h v ≡ t
+      → cond (is_some (cond t (Some (v * r.block_size)) None)) 1 0 + length after ≤ length owing) [
+        | true ↦ λ d. let le = as_many (v ∷ after) owing (victim-gone v e, once r h') (λ z g.
+            elim (or_cases (eqb v z) (has after z) g) [
+              | inl q ↦ subst (λ k. has owing k ≡ true) (eqb-true v z q) (inside v d)
+              | inr q ↦ stays-inside z q
+            ]) in omega arith
+        | false ↦ λ d. let k = kept in omega arith
+      ]) refl
 
   backs : cond (is_some (dirty_victim r h (victim r h x))) 1 0 + length after ≤ length owing
   backs = backs-by (victim r h x) refl
@@ -191,15 +233,18 @@ module _ (r : Rules) (h : History) (x : Access) where
   none-after : r.write_back ≡ false → length after ≤ 0
   none-after e = as_many after [] (once r h') (λ z g. absurd (clean e h' z (has-dirty r h' z g)))
 
-  none-back : r.write_back ≡ false → (o : Option ℕ) → ◌≡◌ {A = ℕ} (cond (is_some (dirty_victim r h o)) 1 0) 0
+  none-back : r.write_back ≡ false → (o : Option ℕ)
+      → ◌≡◌ {A = ℕ} (cond (is_some (dirty_victim r h o)) 1 0) 0
   none-back e None = refl
-  none-back e (Some v) = (elim (is_dirty r h v) as (λ t. is_dirty r h v ≡ t → ◌≡◌ {A = ℕ} (cond (is_some (cond t (Some (v * r.block_size)) None)) 1 0) 0) [
-    | true ↦ λ d. absurd (clean e h v d)
-    | false ↦ λ d. refl
-  ]) refl
+  none-back e (Some v) = (elim (is_dirty r h v) as (λ t. is_dirty r h v ≡ t
+      → ◌≡◌ {A = ℕ} (cond (is_some (cond t (Some (v * r.block_size)) None)) 1 0) 0) [
+        | true ↦ λ d. absurd (clean e h v d)
+        | false ↦ λ d. refl
+      ]) refl
 
   -- a fetch and a write sent on
-  sent : (wb used hit v : Bool) → cond (used && not hit) 1 0 + cond (v && (not wb || not used)) 1 0 ≤ 1 + cond wb 0 (cond v 1 0)
+  sent : (wb used hit v : Bool) → cond (used && not hit) 1 0 + cond (v && (not wb || not used)) 1 0
+      ≤ 1 + cond wb 0 (cond v 1 0)
   sent true true true true = omega arith
   sent true true true false = omega arith
   sent true true false true = omega arith
@@ -218,18 +263,25 @@ module _ (r : Rules) (h : History) (x : Access) where
   sent false false false false = omega arith
 
   abbrev counted : ℕ
-  counted = cond (is_some (dirty_victim r h (victim r h x))) 1 0 + cond (uses r ms x && not (hits r ms x)) 1 0 + cond (w && (not r.write_back || not (uses r ms x))) 1 0
+  counted = cond (is_some (dirty_victim r h (victim r h x))) 1 0
+      + cond (uses r ms x && not (hits r ms x)) 1 0
+      + cond (w && (not r.write_back || not (uses r ms x))) 1 0
 
   pays-made : counted + length after ≤ length (dirty_blocks r h) + (1 + cond w 1 0)
   pays-made =
       let both = sent r.write_back (uses r ms x) (hits r ms x) w in
       let owed = owing-length in
-      (elim r.write_back as (λ t. r.write_back ≡ t → counted + length after ≤ length (dirty_blocks r h) + (1 + cond w 1 0)) [
-        | true ↦ λ e. let q : ◌≡◌ {A = ℕ} (cond r.write_back 0 (cond w 1 0)) 0 = ap (λ t. cond t 0 (cond w 1 0)) e in let k = backs in omega arith
-        | false ↦ λ e. let q : ◌≡◌ {A = ℕ} (cond r.write_back 0 (cond w 1 0)) (cond w 1 0) = ap (λ t. cond t 0 (cond w 1 0)) e in let k = none-after e in let n = none-back e (victim r h x) in omega arith
+      (elim r.write_back as (λ t. r.write_back ≡ t
+      → counted + length after ≤ length (dirty_blocks r h) + (1 + cond w 1 0)) [
+        | true ↦ λ e. let q : ◌≡◌ {A = ℕ} (cond r.write_back 0 (cond w 1 0)) 0 =
+            ap (λ t. cond t 0 (cond w 1 0)) e in let k = backs in omega arith
+        | false ↦ λ e. let q : ◌≡◌ {A = ℕ} (cond r.write_back 0 (cond w 1 0)) (cond w 1 0) =
+            ap (λ t. cond t 0 (cond w 1 0)) e in let k = none-after e in let n =
+            none-back e (victim r h x) in omega arith
       ]) refl
 
-  pub pays : part_count (outcome_of r h x) + length after ≤ length (dirty_blocks r h) + (1 + cond w 1 0)
+  pub pays : part_count (outcome_of r h x) + length after ≤ length (dirty_blocks r h)
+      + (1 + cond w 1 0)
   unfolding outcome_of
   pays = pays-made
 

@@ -12,37 +12,51 @@ abbrev one : Way → ℕ
 one w = cond (is_dirty_way w) 1 0
 
 one-le : (w : Way) → one w ≤ 1
-one-le w = (elim (is_dirty_way w) as (λ t. cond t 1 0 ≤ 1) [ true ↦ omega arith | false ↦ omega arith ])
+one-le w = (elim (is_dirty_way w) as (λ t. cond t 1 0 ≤ 1)
+    [ true ↦ omega arith | false ↦ omega arith ])
 
-pub dirty_count-append : (xs ys : List Way) → dirty_count (xs ++ ys) ≡ dirty_count xs + dirty_count ys
+pub dirty_count-append : (xs ys : List Way)
+    → dirty_count (xs ++ ys) ≡ dirty_count xs + dirty_count ys
 dirty_count-append [] ys = omega arith
 dirty_count-append (x ∷ xs) ys = let rest = dirty_count-append xs ys in omega arith
 
 -- what comes in and what was there is what stays and what leaves
-dirty_count-shifted : (p : Way → Bool) (c : Way) (xs : List Way) → dirty_count (shifted p c xs) + one (leaving p c xs) ≡ dirty_count xs + one c
+dirty_count-shifted : (p : Way → Bool) (c : Way) (xs : List Way)
+    → dirty_count (shifted p c xs) + one (leaving p c xs) ≡ dirty_count xs + one c
 dirty_count-shifted p c [] = refl
-dirty_count-shifted p c (x ∷ xs) = (elim (p x) as (λ t. (one c + dirty_count (cond t xs (shifted p x xs))) + one (cond t x (leaving p x xs)) ≡ (one x + dirty_count xs) + one c) [
-  | true ↦ omega arith
-  | false ↦ let rest = dirty_count-shifted p x xs in omega arith
-])
+dirty_count-shifted p c (x ∷ xs) =
+    (elim (p x) as (λ t. (one c + dirty_count (cond t xs (shifted p x xs)))
+    + one (cond t x (leaving p x xs)) ≡ (one x + dirty_count xs) + one c) [
+      | true ↦ omega arith
+      | false ↦ let rest = dirty_count-shifted p x xs in omega arith
+    ])
 
-dirty_count-changed : (p : Way → Bool) (xs : List Way) → dirty_count (changed p dirtied xs) ≤ dirty_count xs + 1
+dirty_count-changed : (p : Way → Bool) (xs : List Way)
+    → dirty_count (changed p dirtied xs) ≤ dirty_count xs + 1
 dirty_count-changed p [] = omega arith
-dirty_count-changed p (x ∷ xs) = (elim (p x) as (λ t. dirty_count (cond t (dirtied x ∷ xs) (x ∷ changed p dirtied xs)) ≤ (one x + dirty_count xs) + 1) [
-  | true ↦ let le = one-le (dirtied x) in omega arith
-  | false ↦ let rest = dirty_count-changed p xs in omega arith
-])
+dirty_count-changed p (x ∷ xs) =
+    (elim (p x) as (λ t. dirty_count (cond t (dirtied x ∷ xs) (x ∷ changed p dirtied xs))
+    ≤ (one x + dirty_count xs) + 1) [
+      | true ↦ let le = one-le (dirtied x) in omega arith
+      | false ↦ let rest = dirty_count-changed p xs in omega arith
+    ])
 
 pushes : (w : Way) → ◌≡◌ {A = ℕ} (cond (is_some (dirty_block w)) 1 0) (one w)
-pushes w = (elim (is_dirty_way w) as (λ t. ◌≡◌ {A = ℕ} (cond (is_some (cond t (Some w.first) None)) 1 0) (cond t 1 0)) [ true ↦ refl | false ↦ refl ])
+pushes w = (elim (is_dirty_way w) as (λ t.
+    ◌≡◌ {A = ℕ} (cond (is_some (cond t (Some w.first) None)) 1 0) (cond t 1 0))
+    [ true ↦ refl | false ↦ refl ])
 
-moved : (p : Way → Bool) (c : Way) (xs : List Way) → dirty_count (shifted p c xs) + one (leaving p c xs) ≤ dirty_count xs + 1
+moved : (p : Way → Bool) (c : Way) (xs : List Way)
+    → dirty_count (shifted p c xs) + one (leaving p c xs) ≤ dirty_count xs + 1
 moved p c xs = let e = dirty_count-shifted p c xs in let le = one-le c in omega arith
 
-stays : (p : Way → Bool) (c : Way) (xs : List Way) → dirty_count (shifted p c xs) + 0 ≤ dirty_count xs + 1
+stays : (p : Way → Bool) (c : Way) (xs : List Way)
+    → dirty_count (shifted p c xs) + 0 ≤ dirty_count xs + 1
 stays p c xs = let m = moved p c xs in omega arith
 
-on-hit : (fifo k : Bool) (p : Way → Bool) (c : Way) (xs : List Way) → dirty_count (cond fifo (cond k (changed p dirtied xs) xs) (shifted p c xs)) + 0 ≤ dirty_count xs + 1
+on-hit : (fifo k : Bool) (p : Way → Bool) (c : Way) (xs : List Way)
+    → dirty_count (cond fifo (cond k (changed p dirtied xs) xs) (shifted p c xs)) + 0
+    ≤ dirty_count xs + 1
 on-hit true true p c xs = let le = dirty_count-changed p xs in omega arith
 on-hit true false p c xs = omega arith
 on-hit false k p c xs = stays p c xs
@@ -57,30 +71,50 @@ module _ (xs : List Way) where
   pushed : (p : Way → Bool) (c : Way) → IsPaid (shifted p c xs) (dirty_block (leaving p c xs))
   pushed p c = let m = moved p c xs in let e = pushes (leaving p c xs) in omega arith
 
-  on-miss : (fifo wb a w : Bool) (first : ℕ) (t : Bool) → (not w || a) ≡ t → IsPaid (next_row wb a first w xs None fifo) (pushed_out wb a first w xs None)
-  on-miss fifo wb a w first true e = paid-by _ (shifted (holds_block first) (held_way first (wb && w)) xs) _ (dirty_block (leaving (holds_block first) (held_way first (wb && w)) xs))
-      (next-miss fifo wb a w first xs ∙ cond-true (not w || a) _ _ e) (out-miss wb a w first xs e) (pushed (holds_block first) (held_way first (wb && w)))
-  on-miss fifo wb a w first false e = paid-by _ xs _ None (next-miss fifo wb a w first xs ∙ cond-false (not w || a) _ _ e) (out-none wb a w first xs e) (omega arith)
+  on-miss : (fifo wb a w : Bool) (first : ℕ) (t : Bool) → (not w || a) ≡ t
+      → IsPaid (next_row wb a first w xs None fifo) (pushed_out wb a first w xs None)
+  on-miss fifo wb a w first true e =
+      paid-by _ (shifted (holds_block first) (held_way first (wb && w)) xs) _
+      (dirty_block (leaving (holds_block first) (held_way first (wb && w)) xs))
+      (next-miss fifo wb a w first xs
+      ∙ cond-true (not w || a) _ _ e) (out-miss wb a w first xs e)
+      (pushed (holds_block first) (held_way first (wb && w)))
+  on-miss fifo wb a w first false e =
+      paid-by _ xs _ None (next-miss fifo wb a w first xs
+      ∙ cond-false (not w || a) _ _ e) (out-none wb a w first xs e) (omega arith)
 
-  pub paid-row : (fifo wb a w : Bool) (first : ℕ) (seen : Option Way) → IsPaid (next_row wb a first w xs seen fifo) (pushed_out wb a first w xs seen)
+  pub paid-row : (fifo wb a w : Bool) (first : ℕ) (seen : Option Way)
+      → IsPaid (next_row wb a first w xs seen fifo) (pushed_out wb a first w xs seen)
   paid-row fifo wb a w first None = on-miss fifo wb a w first (not w || a) refl
-  paid-row fifo wb a w first (Some v) = paid-by _ (cond fifo (cond (wb && w) (changed (holds_block first) dirtied xs) xs) (shifted (holds_block first) (held_way first (wb && (w || v.dirty))) xs)) _ None
-      (next-hit fifo wb a w first xs v) (out-hit wb a w first xs v) (on-hit fifo (wb && w) (holds_block first) (held_way first (wb && (w || v.dirty))) xs)
+  paid-row fifo wb a w first (Some v) =
+      paid-by _ (cond fifo (cond (wb && w) (changed (holds_block first) dirtied xs) xs)
+      (shifted (holds_block first) (held_way first (wb && (w || v.dirty))) xs)) _ None
+      (next-hit fifo wb a w first xs v) (out-hit wb a w first xs v)
+      (on-hit fifo (wb && w) (holds_block first) (held_way first (wb && (w || v.dirty))) xs)
 
-pub paid-mid : (a k n : ℕ) (xs ys : List Way) → dirty_count ys + n ≤ dirty_count (take k (drop a xs)) + 1 → dirty_count (put_mid a k xs ys) + n ≤ dirty_count xs + 1
+pub paid-mid : (a k n : ℕ) (xs ys : List Way)
+    → dirty_count ys + n ≤ dirty_count (take k (drop a xs)) + 1
+    → dirty_count (put_mid a k xs ys) + n ≤ dirty_count xs + 1
 paid-mid a k n xs ys h =
     let e1 = dirty_count-append (take a xs) (ys ++ drop k (drop a xs)) in
     let e2 = dirty_count-append ys (drop k (drop a xs)) in
-    let e3 : dirty_count (take a xs) + dirty_count (drop a xs) ≡ dirty_count xs = sym (dirty_count-append (take a xs) (drop a xs)) ∙ ap dirty_count (take-append-drop a xs) in
-    let e4 : dirty_count (take k (drop a xs)) + dirty_count (drop k (drop a xs)) ≡ dirty_count (drop a xs) = sym (dirty_count-append (take k (drop a xs)) (drop k (drop a xs))) ∙ ap dirty_count (take-append-drop k (drop a xs)) in
+    let e3 : dirty_count (take a xs) + dirty_count (drop a xs) ≡ dirty_count xs =
+    sym (dirty_count-append (take a xs) (drop a xs)) ∙ ap dirty_count (take-append-drop a xs) in
+    let e4 : dirty_count (take k (drop a xs)) + dirty_count (drop k (drop a xs))
+    ≡ dirty_count (drop a xs) = sym
+    (dirty_count-append (take k (drop a xs)) (drop k (drop a xs)))
+    ∙ ap dirty_count (take-append-drop k (drop a xs)) in
     omega arith
 
-pub dirty_count-filter : (xs : List Way) → length (map first_of (filter is_dirty_way xs)) ≡ dirty_count xs
+pub dirty_count-filter : (xs : List Way)
+    → length (map first_of (filter is_dirty_way xs)) ≡ dirty_count xs
 dirty_count-filter [] = refl
-dirty_count-filter (x ∷ xs) = (elim (is_dirty_way x) as (λ t. length (map first_of (cond t (x ∷ filter is_dirty_way xs) (filter is_dirty_way xs))) ≡ cond t 1 0 + dirty_count xs) [
-  | true ↦ let e = dirty_count-filter xs in omega arith
-  | false ↦ let e = dirty_count-filter xs in omega arith
-])
+dirty_count-filter (x ∷ xs) = (elim (is_dirty_way x) as (λ t.
+    length (map first_of (cond t (x ∷ filter is_dirty_way xs) (filter is_dirty_way xs)))
+    ≡ cond t 1 0 + dirty_count xs) [
+      | true ↦ let e = dirty_count-filter xs in omega arith
+      | false ↦ let e = dirty_count-filter xs in omega arith
+    ])
 
 pub dirty_count-replicate : (n : ℕ) → dirty_count (replicate n empty_way) ≡ 0
 dirty_count-replicate zero = refl

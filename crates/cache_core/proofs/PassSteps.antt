@@ -3,9 +3,12 @@ use Rattle.std.proofs.Common.{◌≡◌, ℕ, ◌<◌, Bool, true, List, ◌++�
 use Rattle.std.proofs.lemmas.List.{drop_more, set_split}
 use Rattle.cache_core.specs.Row.{shifted, changed}
 
-module _ {X : Type 0} (p : X → Bool) (xs : List X) (i : ℕ) (d : X) (inside : i < length xs) (passes : p (get_or xs i d) ≡ true) where
+module _ {X : Type 0} (p : X → Bool) (xs : List X) (i : ℕ) (d : X) (inside : i < length xs)
+    (passes : p (get_or xs i d) ≡ true) where
   pub shifted-stop : (c : X) → set xs i c ≡ take i xs ++ shifted p c (drop i xs)
   shifted-stop c = rw (drop_more xs i d inside, passes, add-one) (set_split xs i c inside)
 
-  pub changed-stop : (g : X → X) → set xs i (g (get_or xs i d)) ≡ take i xs ++ changed p g (drop i xs)
-  changed-stop g = rw (drop_more xs i d inside, passes, add-one) (set_split xs i (g (get_or xs i d)) inside)
+  pub changed-stop : (g : X → X)
+      → set xs i (g (get_or xs i d)) ≡ take i xs ++ changed p g (drop i xs)
+  changed-stop g = rw (drop_more xs i d inside, passes, add-one)
+      (set_split xs i (g (get_or xs i d)) inside)

@@ -1,4 +1,5 @@
--- Blocks by falling last use (or last load), cut at the number of ways, are the residents by reuse distance.
+-- Blocks by falling last use (or last load), cut at the number of ways, are the residents by reuse
+-- distance.
 use Rattle.std.proofs.Common.{◌≡◌, ℕ, zero, suc, ◌%◌, Bool, true, false, not, ◌&&◌, eqb, ltb, List, [], ◌∷◌, length, take, filter, refl, sym, ap, subst, ◌∙◌, arith}
 use Rattle.std.specs.List.{list_any}
 use Rattle.std.proofs.lemmas.Bool.{eqb-true, eq-eqb, and_right, le-ltb, lt-ltb}
@@ -19,58 +20,75 @@ module _ (p : ℕ → Bool) (b : ℕ) (passes : p b ≡ true) where
   has-filter [] = refl
   has-filter (y ∷ ys) = (elim (p y) as (λ t. p y ≡ t → has (filter p (y ∷ ys)) b ≡ has (y ∷ ys) b) [
     | true ↦ λ e. rw (e, has-filter ys)
-    | false ↦ λ e. (elim (eqb y b) as (λ t. eqb y b ≡ t → has (filter p (y ∷ ys)) b ≡ has (y ∷ ys) b) [
-      | true ↦ λ f. let g = at_b y f in cc
-      | false ↦ λ f. rw (e, f) (has-filter ys)
-    ]) refl
+    | false ↦ λ e. (elim (eqb y b) as (λ t. eqb y b ≡ t
+        → has (filter p (y ∷ ys)) b ≡ has (y ∷ ys) b) [
+          | true ↦ λ f. let g = at_b y f in cc
+          | false ↦ λ f. rw (e, f) (has-filter ys)
+        ]) refl
   ]) refl
 
   pub before-filter : (ys : List ℕ) → before b (filter p ys) ≡ filter p (before b ys)
   before-filter [] = refl
-  before-filter (y ∷ ys) = (elim (eqb y b) as (λ t. eqb y b ≡ t → before b (filter p (y ∷ ys)) ≡ filter p (before b (y ∷ ys))) [
-    | true ↦ λ f. rw (at_b y f, f)
-    | false ↦ λ f. (elim (p y) as (λ t. p y ≡ t → before b (filter p (y ∷ ys)) ≡ filter p (before b (y ∷ ys))) [
-      | true ↦ λ e. rw (e, f, e) (ap (λ l. y ∷ l) (before-filter ys))
-      | false ↦ λ e. rw (e, f, e) (before-filter ys)
-    ]) refl
-  ]) refl
+  before-filter (y ∷ ys) = (elim (eqb y b) as (λ t. eqb y b ≡ t
+      → before b (filter p (y ∷ ys)) ≡ filter p (before b (y ∷ ys))) [
+        | true ↦ λ f. rw (at_b y f, f)
+        | false ↦ λ f. (elim (p y) as (λ t. p y ≡ t
+            → before b (filter p (y ∷ ys)) ≡ filter p (before b (y ∷ ys))) [
+              | true ↦ λ e. rw (e, f, e) (ap (λ l. y ∷ l) (before-filter ys))
+              | false ↦ λ e. rw (e, f, e) (before-filter ys)
+            ]) refl
+      ]) refl
 
 other : (m b : ℕ) → eqb m b ≡ false → not (eqb b m) ≡ true
 other m b e = grind (arith, nat_tests)
 
 pub has-distinct : (ms : List ℕ) (b : ℕ) → has (distinct ms) b ≡ has ms b
 has-distinct [] b = refl
-has-distinct (m ∷ ms) b = (elim (eqb m b) as (λ t. eqb m b ≡ t → has (distinct (m ∷ ms)) b ≡ has (m ∷ ms) b) [
-  | true ↦ λ e. rw e
-  | false ↦ λ e. rw e (has-filter (λ n. not (eqb n m)) b (other m b e) (distinct ms) ∙ has-distinct ms b)
-]) refl
+has-distinct (m ∷ ms) b = (elim (eqb m b) as (λ t. eqb m b ≡ t
+    → has (distinct (m ∷ ms)) b ≡ has (m ∷ ms) b) [
+      | true ↦ λ e. rw e
+      | false ↦ λ e. rw e (has-filter (λ n. not (eqb n m)) b (other m b e) (distinct ms)
+          ∙ has-distinct ms b)
+    ]) refl
 
 pub before-distinct : (ms : List ℕ) (b : ℕ) → before b (distinct ms) ≡ distinct (before b ms)
 before-distinct [] b = refl
-before-distinct (m ∷ ms) b = (elim (eqb m b) as (λ t. eqb m b ≡ t → before b (distinct (m ∷ ms)) ≡ distinct (before b (m ∷ ms))) [
-  | true ↦ λ e. rw e
-  | false ↦ λ e. rw e (ap (λ l. m ∷ l) (before-filter (λ n. not (eqb n m)) b (other m b e) (distinct ms) ∙ ap (filter (λ n. not (eqb n m))) (before-distinct ms b)))
-]) refl
+before-distinct (m ∷ ms) b = (elim (eqb m b) as (λ t. eqb m b ≡ t
+    → before b (distinct (m ∷ ms)) ≡ distinct (before b (m ∷ ms))) [
+      | true ↦ λ e. rw e
+      | false ↦ λ e. rw e (ap (λ l. m ∷ l)
+          (before-filter (λ n. not (eqb n m)) b (other m b e) (distinct ms)
+          ∙ ap (filter (λ n. not (eqb n m))) (before-distinct ms b)))
+    ]) refl
 
 ltb-suc : (a b : ℕ) → ltb (suc a) (suc b) ≡ ltb a b
 ltb-suc a b = grind (arith, nat_tests)
 
-pub has-take : (n : ℕ) (ms : List ℕ) (b : ℕ) → has (take n ms) b ≡ (has ms b && ltb (length (before b ms)) n)
-has-take zero ms b = sym (and_right (has ms b) (ltb (length (before b ms)) 0) (le-ltb (length (before b ms)) 0 (omega arith)))
+pub has-take : (n : ℕ) (ms : List ℕ) (b : ℕ)
+    → has (take n ms) b ≡ (has ms b && ltb (length (before b ms)) n)
+has-take zero ms b = sym (and_right (has ms b) (ltb (length (before b ms)) 0)
+    (le-ltb (length (before b ms)) 0 (omega arith)))
 has-take (suc n) [] b = refl
-has-take (suc n) (m ∷ ms) b = (elim (eqb m b) as (λ t. eqb m b ≡ t → has (take (suc n) (m ∷ ms)) b ≡ (has (m ∷ ms) b && ltb (length (before b (m ∷ ms))) (suc n))) [
-  | true ↦ λ e. rw e (sym (lt-ltb 0 (suc n) (omega arith)))
-  | false ↦ λ e. rw e (has-take n ms b ∙ ap (λ t. has ms b && t) (sym (ltb-suc (length (before b ms)) n)))
-]) refl
+has-take (suc n) (m ∷ ms) b = (elim (eqb m b) as (λ t. eqb m b ≡ t
+    → has (take (suc n) (m ∷ ms)) b ≡ (has (m ∷ ms) b && ltb (length (before b (m ∷ ms))) (suc n))) [
+      | true ↦ λ e. rw e (sym (lt-ltb 0 (suc n) (omega arith)))
+      | false ↦ λ e. rw e (has-take n ms b
+          ∙ ap (λ t. has ms b && t) (sym (ltb-suc (length (before b ms)) n)))
+    ]) refl
 
 module _ (r : Rules) where
   pub has-in_set : (ms : List ℕ) (b : ℕ) → has (in_set r (b % r.sets) ms) b ≡ has ms b
-  has-in_set ms b = has-filter (λ m. eqb (m % r.sets) (b % r.sets)) b (eq-eqb (b % r.sets) (b % r.sets) refl) ms
+  has-in_set ms b = has-filter (λ m. eqb (m % r.sets) (b % r.sets)) b
+      (eq-eqb (b % r.sets) (b % r.sets) refl) ms
 
   -- the law: they are the residents by reuse distance
   pub has-ways_of : (ms : List ℕ) (b : ℕ) → has (ways_of r (b % r.sets) ms) b ≡ is_resident r ms b
   unfolding is_resident reuse_distance
-  has-ways_of ms b = (elim r.fifo as (λ t. r.fifo ≡ t → has (ways_of r (b % r.sets) ms) b ≡ is_resident r ms b) [
-    | true ↦ λ e. rw e (has-take r.ways (in_set r (b % r.sets) ms) b ∙ ap (λ t. t && ltb (length (before b (in_set r (b % r.sets) ms))) r.ways) (has-in_set ms b))
-    | false ↦ λ e. rw e (has-take r.ways (distinct (in_set r (b % r.sets) ms)) b ∙ rw (has-distinct, has-in_set, before-distinct) refl)
-  ]) refl
+  has-ways_of ms b = (elim r.fifo as (λ t. r.fifo ≡ t
+      → has (ways_of r (b % r.sets) ms) b ≡ is_resident r ms b) [
+        | true ↦ λ e. rw e (has-take r.ways (in_set r (b % r.sets) ms) b
+            ∙ ap (λ t. t && ltb (length (before b (in_set r (b % r.sets) ms))) r.ways)
+            (has-in_set ms b))
+        | false ↦ λ e. rw e (has-take r.ways (distinct (in_set r (b % r.sets) ms)) b
+            ∙ rw (has-distinct, has-in_set, before-distinct) refl)
+      ]) refl

@@ -7,7 +7,8 @@ use Rattle.std.proofs.lemmas.Slice.{take-put_mid_below, drop-put_mid}
 use borrow.Rule.Slice.PartMut.{put_mid}
 use Rattle.cache_core.specs.Row.{row}
 
-module _ {X : Type 0} (n s t : ℕ) (xs ys : List X) (apart : s ≢ t) (inside : (t + 1) * n ≤ length xs) (long : length ys ≡ n) where
+module _ {X : Type 0} (n s t : ℕ) (xs ys : List X) (apart : s ≢ t)
+    (inside : (t + 1) * n ≤ length xs) (long : length ys ≡ n) where
   below : s < t → (s + 1) * n ≤ t * n
   below h = mul-le-mul_right n (omega arith)
 
@@ -19,8 +20,11 @@ module _ {X : Type 0} (n s t : ℕ) (xs ys : List X) (apart : s ≢ t) (inside :
     | inl same ↦ absurd (apart same)
     | inr d ↦ elim d [
       | inl h ↦ let le = below h in
-          sym (drop-take (s * n) n (put_mid (t * n) (t * n + n - t * n) xs ys)) ∙ ap (drop (s * n)) (take-put_mid_below (t * n) (t * n + n - t * n) xs ys (s * n + n) (omega arith) (omega arith)) ∙ drop-take (s * n) n xs
+          sym (drop-take (s * n) n (put_mid (t * n) (t * n + n - t * n) xs ys))
+          ∙ ap (drop (s * n)) (take-put_mid_below (t * n) (t * n + n - t * n) xs ys (s * n + n)
+          (omega arith) (omega arith)) ∙ drop-take (s * n) n xs
       | inr h ↦ let le = above h in
-          ap (take n) (drop-put_mid (t * n) (t * n + n - t * n) xs ys (s * n) (omega arith) (omega arith) (omega arith))
+          ap (take n) (drop-put_mid (t * n) (t * n + n - t * n) xs ys (s * n) (omega arith)
+          (omega arith) (omega arith))
     ]
   ]

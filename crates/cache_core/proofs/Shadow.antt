@@ -24,88 +24,134 @@ abbrev pub pair : ℕ → ℕ × Unit {0}
 pair b = (b, tt)
 
 module _ (b : ℕ) where
-  entry-found : (ys : List ℕ) → lookup_entry (nat_eq b) (map pair ys) ≡ cond (has ys b) (Some (pair b)) None
+  entry-found : (ys : List ℕ) → lookup_entry (nat_eq b) (map pair ys)
+      ≡ cond (has ys b) (Some (pair b)) None
   entry-found [] = refl
-  entry-found (y ∷ ys) = (elim (eqb y b) as (λ t. eqb y b ≡ t → lookup_entry (nat_eq b) (map pair (y ∷ ys)) ≡ cond (has (y ∷ ys) b) (Some (pair b)) None) [
-    | true ↦ λ e. rw (eqb-comm b y, e) (ap (λ z. Some (pair z)) (eqb-true y b e))
-    | false ↦ λ e. rw (eqb-comm b y, e) (entry-found ys)
-  ]) refl
+  entry-found (y ∷ ys) = (elim (eqb y b) as (λ t. eqb y b ≡ t
+      → lookup_entry (nat_eq b) (map pair (y ∷ ys)) ≡ cond (has (y ∷ ys) b) (Some (pair b)) None) [
+        | true ↦ λ e. rw (eqb-comm b y, e) (ap (λ z. Some (pair z)) (eqb-true y b e))
+        | false ↦ λ e. rw (eqb-comm b y, e) (entry-found ys)
+      ]) refl
 
   pub is_some-lookup : (ys : List ℕ) → is_some (lookup (nat_eq b) (map pair ys)) ≡ has ys b
   is_some-lookup [] = refl
-  is_some-lookup (y ∷ ys) = (elim (eqb y b) as (λ t. eqb y b ≡ t → is_some (lookup (nat_eq b) (map pair (y ∷ ys))) ≡ has (y ∷ ys) b) [
-    | true ↦ λ e. rw (eqb-comm b y, e) refl
-    | false ↦ λ e. rw (eqb-comm b y, e) (is_some-lookup ys)
-  ]) refl
+  is_some-lookup (y ∷ ys) = (elim (eqb y b) as (λ t. eqb y b ≡ t
+      → is_some (lookup (nat_eq b) (map pair (y ∷ ys))) ≡ has (y ∷ ys) b) [
+        | true ↦ λ e. rw (eqb-comm b y, e) refl
+        | false ↦ λ e. rw (eqb-comm b y, e) (is_some-lookup ys)
+      ]) refl
 
-  removed : (ys : List ℕ) → IsOnce ys → remove_entry (nat_eq b) (map pair ys) ≡ map pair (without b ys)
+  removed : (ys : List ℕ) → IsOnce ys
+      → remove_entry (nat_eq b) (map pair ys) ≡ map pair (without b ys)
   removed [] o = refl
-  removed (y ∷ ys) o = (elim (eqb y b) as (λ t. eqb y b ≡ t → remove_entry (nat_eq b) (map pair (y ∷ ys)) ≡ map pair (without b (y ∷ ys))) [
-    | true ↦ λ e. rw (eqb-comm b y, e) (ap (map pair) (sym (without-absent ys b (subst (λ z. has ys z ≡ false) (eqb-true y b e) o.0))))
-    | false ↦ λ e. rw (eqb-comm b y, e) (ap (λ l. pair y ∷ l) (removed ys o.1))
-  ]) refl
+  removed (y ∷ ys) o = (elim (eqb y b) as (λ t. eqb y b ≡ t
+      → remove_entry (nat_eq b) (map pair (y ∷ ys)) ≡ map pair (without b (y ∷ ys))) [
+        | true ↦ λ e. rw (eqb-comm b y, e)
+            (ap (map pair) (sym (without-absent ys b
+            (subst (λ z. has ys z ≡ false) (eqb-true y b e) o.0))))
+        | false ↦ λ e. rw (eqb-comm b y, e) (ap (λ l. pair y ∷ l) (removed ys o.1))
+      ]) refl
 
-  promoted-there : (ys : List ℕ) → IsOnce ys → has ys b ≡ true → promoted (nat_eq b) (map pair ys) ≡ map pair (b ∷ without b ys)
-  promoted-there ys o h = ap (λ o. option_map_or (λ e. e ∷ remove_entry (nat_eq b) (map pair ys)) o (map pair ys)) (entry-found ys ∙ ap (λ t. cond t (Some (pair b)) None) h) ∙ ap (λ l. pair b ∷ l) (removed ys o)
+  promoted-there : (ys : List ℕ) → IsOnce ys → has ys b ≡ true
+      → promoted (nat_eq b) (map pair ys) ≡ map pair (b ∷ without b ys)
+  promoted-there ys o h = ap (λ o.
+      option_map_or (λ e. e ∷ remove_entry (nat_eq b) (map pair ys)) o (map pair ys))
+      (entry-found ys ∙ ap (λ t. cond t (Some (pair b)) None) h)
+      ∙ ap (λ l. pair b ∷ l) (removed ys o)
 
-  promoted-absent : (ys : List ℕ) → has ys b ≡ false → promoted (nat_eq b) (map pair ys) ≡ map pair ys
-  promoted-absent ys h = ap (λ o. option_map_or (λ e. e ∷ remove_entry (nat_eq b) (map pair ys)) o (map pair ys)) (entry-found ys ∙ ap (λ t. cond t (Some (pair b)) None) h)
+  promoted-absent : (ys : List ℕ) → has ys b ≡ false
+      → promoted (nat_eq b) (map pair ys) ≡ map pair ys
+  promoted-absent ys h = ap (λ o.
+      option_map_or (λ e. e ∷ remove_entry (nat_eq b) (map pair ys)) o (map pair ys))
+      (entry-found ys ∙ ap (λ t. cond t (Some (pair b)) None) h)
 
-  put-absent : (ys : List ℕ) (n : ℕ) → has ys b ≡ false → put_entries nat_eq (lru_cache (map pair ys) n) b tt ≡ pair b ∷ take (n - 1) (map pair ys)
-  put-absent ys n h = ap (λ o. option_map_or (λ e. (e.0, tt) ∷ remove_entry (nat_eq b) (map pair ys)) o ((b, tt) ∷ take (n - 1) (map pair ys))) (entry-found ys ∙ ap (λ t. cond t (Some (pair b)) None) h)
+  put-absent : (ys : List ℕ) (n : ℕ) → has ys b ≡ false
+      → put_entries nat_eq (lru_cache (map pair ys) n) b tt ≡ pair b ∷ take (n - 1) (map pair ys)
+  put-absent ys n h = ap (λ o. option_map_or (λ e.
+      (e.0, tt) ∷ remove_entry (nat_eq b) (map pair ys)) o ((b, tt) ∷ take (n - 1) (map pair ys)))
+      (entry-found ys ∙ ap (λ t. cond t (Some (pair b)) None) h)
 
   -- a front that has b, without it
-  pub take-without_there : (m : ℕ) (ys : List ℕ) → IsOnce ys → has (take (suc m) ys) b ≡ true → without b (take (suc m) ys) ≡ take m (without b ys)
+  pub take-without_there : (m : ℕ) (ys : List ℕ) → IsOnce ys → has (take (suc m) ys) b ≡ true
+      → without b (take (suc m) ys) ≡ take m (without b ys)
   take-without_there m [] o h = cc
-  take-without_there m (y ∷ ys) o h = (elim (eqb y b) as (λ t. eqb y b ≡ t → without b (take (suc m) (y ∷ ys)) ≡ take m (without b (y ∷ ys))) [
-    | true ↦ λ e. let none : has ys b ≡ false = subst (λ z. has ys z ≡ false) (eqb-true y b e) o.0 in
-        rw e (without-absent (take m ys) b (has-take_absent m b ys none) ∙ ap (take m) (sym (without-absent ys b none)))
-    | false ↦ λ e. rw e (further (λ k g. take-without_there k ys o.1 g) m (sym (rw e refl) ∙ h))
-  ]) refl where
-    further : ((k : ℕ) → has (take (suc k) ys) b ≡ true → without b (take (suc k) ys) ≡ take k (without b ys)) → (k : ℕ) → has (take k ys) b ≡ true → y ∷ without b (take k ys) ≡ take k (y ∷ without b ys)
-    further again zero g = cc
-    further again (suc k) g = ap (λ l. y ∷ l) (again k g)
+  take-without_there m (y ∷ ys) o h =
+      (elim (eqb y b) as (λ t. eqb y b ≡ t
+      → without b (take (suc m) (y ∷ ys)) ≡ take m (without b (y ∷ ys))) [
+        | true ↦ λ e. let none : has ys b ≡ false =
+            subst (λ z. has ys z ≡ false) (eqb-true y b e) o.0 in
+            rw e (without-absent (take m ys) b (has-take_absent m b ys none)
+            ∙ ap (take m) (sym (without-absent ys b none)))
+        | false ↦ λ e. rw e (further (λ k g. take-without_there k ys o.1 g) m (sym (rw e refl) ∙ h))
+      ]) refl where
+        further : ((k : ℕ) → has (take (suc k) ys) b ≡ true
+            → without b (take (suc k) ys) ≡ take k (without b ys)) → (k : ℕ) → has (take k ys) b ≡ true
+            → y ∷ without b (take k ys) ≡ take k (y ∷ without b ys)
+        further again zero g = cc
+        further again (suc k) g = ap (λ l. y ∷ l) (again k g)
 
   -- a front that lacks b
-  pub take-without_absent : (m : ℕ) (ys : List ℕ) → has (take m ys) b ≡ false → take m (without b ys) ≡ take m ys
+  pub take-without_absent : (m : ℕ) (ys : List ℕ) → has (take m ys) b ≡ false
+      → take m (without b ys) ≡ take m ys
   take-without_absent zero ys h = refl
   take-without_absent (suc m) [] h = refl
-  take-without_absent (suc m) (y ∷ ys) h = let parts = or_parts (eqb y b) (has (take m ys) b) h in rw parts.0 (ap (λ l. y ∷ l) (take-without_absent m ys parts.1))
+  take-without_absent (suc m) (y ∷ ys) h = let parts = or_parts (eqb y b) (has (take m ys) b) h in
+      rw parts.0 (ap (λ l. y ∷ l) (take-without_absent m ys parts.1))
 
 -- what an access leaves of the first entries of a list, by the clause of `Kinds::see`
 abbrev pub after_see : ℕ → Bool → ℕ → List (ℕ × Unit {0}) → List (ℕ × Unit {0})
 after_see b load cap es =
     let in_shadow = is_some (lookup (nat_eq b) es) in
-    cond (not in_shadow && load) (put_entries nat_eq (lru_cache (promoted (nat_eq b) es) cap) b tt) (promoted (nat_eq b) es)
+    cond (not in_shadow && load) (put_entries nat_eq (lru_cache (promoted (nat_eq b) es) cap) b tt)
+    (promoted (nat_eq b) es)
 
 module _ (b m : ℕ) (ys : List ℕ) (once : IsOnce ys) where
   abbrev front : List ℕ
   front = take (suc m) ys
 
-  see-there : (load : Bool) → has front b ≡ true → after_see b load (suc m) (map pair front) ≡ map pair (take (suc m) (b ∷ without b ys))
+  see-there : (load : Bool) → has front b ≡ true
+      → after_see b load (suc m) (map pair front) ≡ map pair (take (suc m) (b ∷ without b ys))
   see-there load h =
-      ap (λ t. cond (not t && load) (put_entries nat_eq (lru_cache (promoted (nat_eq b) (map pair front)) (suc m)) b tt) (promoted (nat_eq b) (map pair front))) (is_some-lookup b front ∙ h)
-      ∙ promoted-there b front (IsOnce-take (suc m) ys once) h ∙ ap (λ l. map pair (b ∷ l)) (take-without_there b m ys once h)
+      ap (λ t. cond (not t && load) (put_entries nat_eq
+      (lru_cache (promoted (nat_eq b) (map pair front)) (suc m)) b tt)
+      (promoted (nat_eq b) (map pair front))) (is_some-lookup b front ∙ h)
+      ∙ promoted-there b front (IsOnce-take (suc m) ys once) h
+      ∙ ap (λ l. map pair (b ∷ l)) (take-without_there b m ys once h)
 
-  see-load : has front b ≡ false → after_see b true (suc m) (map pair front) ≡ map pair (take (suc m) (b ∷ without b ys))
+  see-load : has front b ≡ false
+      → after_see b true (suc m) (map pair front) ≡ map pair (take (suc m) (b ∷ without b ys))
   see-load h =
-      ap (λ t. cond (not t && true) (put_entries nat_eq (lru_cache (promoted (nat_eq b) (map pair front)) (suc m)) b tt) (promoted (nat_eq b) (map pair front))) (is_some-lookup b front ∙ h)
+      ap (λ t. cond (not t && true) (put_entries nat_eq
+      (lru_cache (promoted (nat_eq b) (map pair front)) (suc m)) b tt)
+      (promoted (nat_eq b) (map pair front))) (is_some-lookup b front ∙ h)
       ∙ ap (λ l. put_entries nat_eq (lru_cache l (suc m)) b tt) (promoted-absent b front h)
       ∙ put-absent b front (suc m) h
-      ∙ ap (λ l. pair b ∷ l) (ap (λ n. take n (map pair front)) (omega arith) ∙ take-map pair m front ∙ ap (map pair) (shorter ∙ sym (take-without_absent b m ys (subst (λ l. has l b ≡ false) shorter (has-take_absent m b front h))))) where
+      ∙ ap (λ l. pair b ∷ l) (ap (λ n. take n (map pair front)) (omega arith)
+      ∙ take-map pair m front ∙ ap (map pair) (shorter
+      ∙ sym (take-without_absent b m ys
+      (subst (λ l. has l b ≡ false) shorter (has-take_absent m b front h))))) where
         shorter : take m front ≡ take m ys
         shorter = take-take m (suc m) ys (omega arith)
 
   see-pass : has front b ≡ false → after_see b false (suc m) (map pair front) ≡ map pair front
   see-pass h =
-      ap (λ t. cond (not t && false) (put_entries nat_eq (lru_cache (promoted (nat_eq b) (map pair front)) (suc m)) b tt) (promoted (nat_eq b) (map pair front))) (is_some-lookup b front ∙ h)
+      ap (λ t. cond (not t && false)
+      (put_entries nat_eq (lru_cache (promoted (nat_eq b) (map pair front)) (suc m)) b tt)
+      (promoted (nat_eq b) (map pair front))) (is_some-lookup b front ∙ h)
       ∙ promoted-absent b front h
 
-  see-all : (load : Bool) → after_see b load (suc m) (map pair front) ≡ map pair (take (suc m) (cond (load || has front b) (b ∷ without b ys) ys))
-  see-all load = (elim (has front b) as (λ t. has front b ≡ t → after_see b load (suc m) (map pair front) ≡ map pair (take (suc m) (cond (load || t) (b ∷ without b ys) ys))) [
-    | true ↦ λ e. see-there load e ∙ ap (λ t. map pair (take (suc m) (cond t (b ∷ without b ys) ys))) (sym (or_right load true refl))
-    | false ↦ λ e. (elim load as (λ l. after_see b l (suc m) (map pair front) ≡ map pair (take (suc m) (cond (l || false) (b ∷ without b ys) ys))) [ true ↦ see-load e | false ↦ see-pass e ])
-  ]) refl
+  see-all : (load : Bool) → after_see b load (suc m) (map pair front)
+      ≡ map pair (take (suc m) (cond (load || has front b) (b ∷ without b ys) ys))
+  see-all load = (elim (has front b) as (λ t. has front b ≡ t
+      → after_see b load (suc m) (map pair front)
+      ≡ map pair (take (suc m) (cond (load || t) (b ∷ without b ys) ys))) [
+        | true ↦ λ e. see-there load e
+            ∙ ap (λ t. map pair (take (suc m) (cond t (b ∷ without b ys) ys)))
+            (sym (or_right load true refl))
+        | false ↦ λ e. (elim load as (λ l. after_see b l (suc m) (map pair front)
+            ≡ map pair (take (suc m) (cond (l || false) (b ∷ without b ys) ys)))
+            [ true ↦ see-load e | false ↦ see-pass e ])
+      ]) refl
 
 mod_one : (n : ℕ) → n % 1 ≡ 0
 mod_one n = omega arith
@@ -124,7 +170,8 @@ module _ (r : Rules) (h : History) (x : Access) (m : ℕ) (size : r.blocks ≡ s
   shown g = map pair (ways_of s 0 (renewals s g))
 
   hit-there : has (ways_of s 0 ms) b ≡ hits s ms x
-  hit-there = subst (λ z. has (ways_of s z ms) b ≡ is_resident s ms b) (mod_one b) (has-ways_of s ms b)
+  hit-there = subst (λ z. has (ways_of s z ms) b ≡ is_resident s ms b) (mod_one b)
+      (has-ways_of s ms b)
 
   pub in_shadow-is : is_some (lookup (nat_eq b) (shown h)) ≡ hits s ms x
   in_shadow-is = is_some-lookup b (ways_of s 0 ms) ∙ hit-there
@@ -135,19 +182,27 @@ module _ (r : Rules) (h : History) (x : Access) (m : ℕ) (size : r.blocks ≡ s
   load : Bool
   load = not (is_write x) || r.allocate
 
-  seen : after_see b load r.blocks (shown h) ≡ map pair (take r.blocks (cond (load || has (ways_of s 0 ms) b) (b ∷ without b ranks) ranks))
-  seen = subst (λ n. after_see b load n (map pair (take n ranks)) ≡ map pair (take n (cond (load || has (take n ranks) b) (b ∷ without b ranks) ranks))) (sym size) (see-all b m ranks (IsOnce-distinct (in_set s 0 ms)) load)
+  seen : after_see b load r.blocks (shown h)
+      ≡ map pair (take r.blocks (cond (load || has (ways_of s 0 ms) b) (b ∷ without b ranks) ranks))
+  seen = subst (λ n. after_see b load n (map pair (take n ranks))
+      ≡ map pair (take n (cond (load || has (take n ranks) b) (b ∷ without b ranks) ranks)))
+      (sym size) (see-all b m ranks (IsOnce-distinct (in_set s 0 ms)) load)
 
   ranked-used : ranked s 0 (b ∷ ms) ≡ b ∷ without b ranks
-  ranked-used = subst (λ z. ranked s z (b ∷ ms) ≡ b ∷ without b (ranked s z ms)) (mod_one b) (ranked-lru s b ms refl)
+  ranked-used = subst (λ z. ranked s z (b ∷ ms) ≡ b ∷ without b (ranked s z ms)) (mod_one b)
+      (ranked-lru s b ms refl)
 
-  ranks-after : cond (load || has (ways_of s 0 ms) b) (b ∷ without b ranks) ranks ≡ ranked s 0 (renewals s (access x ∷ h))
+  ranks-after : cond (load || has (ways_of s 0 ms) b) (b ∷ without b ranks) ranks
+      ≡ ranked s 0 (renewals s (access x ∷ h))
   unfolding load
-  ranks-after = ap (λ t. cond (load || t) (b ∷ without b ranks) ranks) hit-there ∙ (elim (uses s ms x) as (λ t. uses s ms x ≡ t → cond t (b ∷ without b ranks) ranks ≡ ranked s 0 (renewals s (access x ∷ h))) [
-    | true ↦ λ e. sym (ap (ranked s 0) (renewals-yes s h x e) ∙ ranked-used)
-    | false ↦ λ e. sym (ap (ranked s 0) (renewals-no s h x e))
-  ]) refl
+  ranks-after = ap (λ t. cond (load || t) (b ∷ without b ranks) ranks) hit-there
+      ∙ (elim (uses s ms x) as (λ t. uses s ms x ≡ t
+      → cond t (b ∷ without b ranks) ranks ≡ ranked s 0 (renewals s (access x ∷ h))) [
+        | true ↦ λ e. sym (ap (ranked s 0) (renewals-yes s h x e) ∙ ranked-used)
+        | false ↦ λ e. sym (ap (ranked s 0) (renewals-no s h x e))
+      ]) refl
 
-  pub shadow-step : after_see b (not (is_write x) || r.allocate) r.blocks (shown h) ≡ shown (access x ∷ h)
+  pub shadow-step : after_see b (not (is_write x) || r.allocate) r.blocks (shown h)
+      ≡ shown (access x ∷ h)
   unfolding load
   shadow-step = seen ∙ ap (λ l. map pair (take r.blocks l)) ranks-after

@@ -24,21 +24,28 @@ without-absent (m ∷ ms) b h = (elim (eqb m b) as (λ t. eqb m b ≡ t → with
 ]) refl
 
 module _ {X : Type 0} (p : X → Bool) where
-  pub shifted-none : (n : ℕ) (xs : List X) (c : X) → list_any p (take n xs) ≡ false → n ≤ length xs → shifted p c (take n xs) ≡ take n (c ∷ xs)
+  pub shifted-none : (n : ℕ) (xs : List X) (c : X) → list_any p (take n xs) ≡ false → n ≤ length xs
+      → shifted p c (take n xs) ≡ take n (c ∷ xs)
   shifted-none zero xs c h l = refl
   shifted-none (suc n) [] c h l = absurd (omega arith)
-  shifted-none (suc n) (x ∷ xs) c h l = (elim (p x) as (λ t. p x ≡ t → shifted p c (take (suc n) (x ∷ xs)) ≡ take (suc n) (c ∷ x ∷ xs)) [
-    | true ↦ λ e. absurd (false≢true (sym h ∙ rw e refl))
-    | false ↦ λ e. rw e (ap (λ l. c ∷ l) (shifted-none n xs x (sym (rw e refl) ∙ h) (omega arith)))
-  ]) refl
+  shifted-none (suc n) (x ∷ xs) c h l =
+      (elim (p x) as (λ t. p x ≡ t → shifted p c (take (suc n) (x ∷ xs))
+      ≡ take (suc n) (c ∷ x ∷ xs)) [
+        | true ↦ λ e. absurd (false≢true (sym h ∙ rw e refl))
+        | false ↦ λ e. rw e (ap (λ l. c ∷ l) (shifted-none n xs x (sym (rw e refl) ∙ h) (omega arith)))
+      ]) refl
 
-  pub leaving-none : (n : ℕ) (xs : List X) (c : X) → list_any p (take n xs) ≡ false → n ≤ length xs → leaving p c (take n xs) ≡ get_or (c ∷ xs) n c
+  pub leaving-none : (n : ℕ) (xs : List X) (c : X) → list_any p (take n xs) ≡ false → n ≤ length xs
+      → leaving p c (take n xs) ≡ get_or (c ∷ xs) n c
   leaving-none zero xs c h l = refl
   leaving-none (suc n) [] c h l = absurd (omega arith)
-  leaving-none (suc n) (x ∷ xs) c h l = (elim (p x) as (λ t. p x ≡ t → leaving p c (take (suc n) (x ∷ xs)) ≡ get_or (c ∷ x ∷ xs) (suc n) c) [
-    | true ↦ λ e. absurd (false≢true (sym h ∙ rw e refl))
-    | false ↦ λ e. rw e (leaving-none n xs x (sym (rw e refl) ∙ h) (omega arith) ∙ get_or_default (x ∷ xs) n x c (omega arith))
-  ]) refl
+  leaving-none (suc n) (x ∷ xs) c h l =
+      (elim (p x) as (λ t. p x ≡ t → leaving p c (take (suc n) (x ∷ xs))
+      ≡ get_or (c ∷ x ∷ xs) (suc n) c) [
+        | true ↦ λ e. absurd (false≢true (sym h ∙ rw e refl))
+        | false ↦ λ e. rw e (leaving-none n xs x (sym (rw e refl) ∙ h) (omega arith)
+            ∙ get_or_default (x ∷ xs) n x c (omega arith))
+      ]) refl
 
   pub changed-none : (g : X → X) (xs : List X) → list_any p xs ≡ false → changed p g xs ≡ xs
   changed-none g [] h = refl
@@ -73,30 +80,43 @@ module _ {X : Type 0} (f : ℕ → X) (empty : X) (k : ℕ) where
     find-replicate (suc n) zero = refl
     find-replicate (suc n) (suc j) = rw none (find-replicate n j)
 
-    pub find-padded : (n : ℕ) (ms : List ℕ) → find p (take n (padded ms)) ≡ cond (has (take n ms) b) (Some (f b)) None
+    pub find-padded : (n : ℕ) (ms : List ℕ)
+        → find p (take n (padded ms)) ≡ cond (has (take n ms) b) (Some (f b)) None
     find-padded zero ms = refl
     find-padded (suc n) [] = find-replicate (suc n) k
-    find-padded (suc n) (m ∷ ms) = (elim (eqb m b) as (λ t. eqb m b ≡ t → find p (take (suc n) (padded (m ∷ ms))) ≡ cond (has (take (suc n) (m ∷ ms)) b) (Some (f b)) None) [
-      | true ↦ λ e. rw (at m, e) (ap (λ y. Some (f y)) (eqb-true m b e))
-      | false ↦ λ e. rw (at m, e) (find-padded n ms)
-    ]) refl
+    find-padded (suc n) (m ∷ ms) =
+        (elim (eqb m b) as (λ t. eqb m b ≡ t
+        → find p (take (suc n) (padded (m ∷ ms)))
+        ≡ cond (has (take (suc n) (m ∷ ms)) b) (Some (f b)) None) [
+          | true ↦ λ e. rw (at m, e) (ap (λ y. Some (f y)) (eqb-true m b e))
+          | false ↦ λ e. rw (at m, e) (find-padded n ms)
+        ]) refl
 
     -- a pass that brings b to the front
-    pub shifted-padded : (n : ℕ) (ms : List ℕ) (c : X) → n ≤ k → IsOnce ms → shifted p c (take n (padded ms)) ≡ take n (c ∷ padded (without b ms))
+    pub shifted-padded : (n : ℕ) (ms : List ℕ) (c : X) → n ≤ k → IsOnce ms
+        → shifted p c (take n (padded ms)) ≡ take n (c ∷ padded (without b ms))
     shifted-padded zero ms c l o = refl
-    shifted-padded (suc n) [] c l o = shifted-none p (suc n) (replicate k empty) c (any-take-replicate (suc n) k) (omega (arith, length-replicate k empty))
-    shifted-padded (suc n) (m ∷ ms) c l o = (elim (eqb m b) as (λ t. eqb m b ≡ t → shifted p c (take (suc n) (padded (m ∷ ms))) ≡ take (suc n) (c ∷ padded (without b (m ∷ ms)))) [
-      | true ↦ λ e. rw (at m, e) (ap (λ l. c ∷ take n (padded l)) (sym (without-absent ms b (subst (λ z. has ms z ≡ false) (eqb-true m b e) o.0))))
-      | false ↦ λ e. rw (at m, e) (ap (λ l. c ∷ l) (shifted-padded n ms (f m) (omega arith) o.1))
-    ]) refl
+    shifted-padded (suc n) [] c l o =
+        shifted-none p (suc n) (replicate k empty) c (any-take-replicate (suc n) k)
+        (omega (arith, length-replicate k empty))
+    shifted-padded (suc n) (m ∷ ms) c l o =
+        (elim (eqb m b) as (λ t. eqb m b ≡ t
+        → shifted p c (take (suc n) (padded (m ∷ ms)))
+        ≡ take (suc n) (c ∷ padded (without b (m ∷ ms)))) [
+          | true ↦ λ e. rw (at m, e) (ap (λ l. c ∷ take n (padded l))
+              (sym (without-absent ms b (subst (λ z. has ms z ≡ false) (eqb-true m b e) o.0))))
+          | false ↦ λ e. rw (at m, e) (ap (λ l. c ∷ l) (shifted-padded n ms (f m) (omega arith) o.1))
+        ]) refl
 
-    pub leaving-hit : (n : ℕ) (ms : List ℕ) (c : X) → has (take n ms) b ≡ true → leaving p c (take n (padded ms)) ≡ f b
+    pub leaving-hit : (n : ℕ) (ms : List ℕ) (c : X) → has (take n ms) b ≡ true
+        → leaving p c (take n (padded ms)) ≡ f b
     leaving-hit zero ms c h = cc
     leaving-hit (suc n) [] c h = cc
-    leaving-hit (suc n) (m ∷ ms) c h = (elim (eqb m b) as (λ t. eqb m b ≡ t → leaving p c (take (suc n) (padded (m ∷ ms))) ≡ f b) [
-      | true ↦ λ e. rw (at m, e) (ap f (eqb-true m b e))
-      | false ↦ λ e. rw (at m, e) (leaving-hit n ms (f m) (sym (rw e refl) ∙ h))
-    ]) refl
+    leaving-hit (suc n) (m ∷ ms) c h =
+        (elim (eqb m b) as (λ t. eqb m b ≡ t → leaving p c (take (suc n) (padded (m ∷ ms))) ≡ f b) [
+          | true ↦ λ e. rw (at m, e) (ap f (eqb-true m b e))
+          | false ↦ λ e. rw (at m, e) (leaving-hit n ms (f m) (sym (rw e refl) ∙ h))
+        ]) refl
 
     module _ (f' : ℕ → X) (agree : (y : ℕ) → eqb y b ≡ false → f' y ≡ f y) where
       abbrev padded' : List ℕ → List X
@@ -104,46 +124,59 @@ module _ {X : Type 0} (f : ℕ → X) (empty : X) (k : ℕ) where
 
       pub map-without : (ms : List ℕ) → map f' (without b ms) ≡ map f (without b ms)
       map-without [] = refl
-      map-without (m ∷ ms) = (elim (eqb m b) as (λ t. eqb m b ≡ t → map f' (without b (m ∷ ms)) ≡ map f (without b (m ∷ ms))) [
-        | true ↦ λ e. rw e (map-without ms)
-        | false ↦ λ e. rw (e, agree m e, map-without ms)
-      ]) refl
+      map-without (m ∷ ms) = (elim (eqb m b) as (λ t. eqb m b ≡ t
+          → map f' (without b (m ∷ ms)) ≡ map f (without b (m ∷ ms))) [
+            | true ↦ λ e. rw e (map-without ms)
+            | false ↦ λ e. rw (e, agree m e, map-without ms)
+          ]) refl
 
       -- the row looks the same where b is not among the first
-      pub padded-agree : (n : ℕ) (ms : List ℕ) → has (take n ms) b ≡ false → take n (padded' ms) ≡ take n (padded ms)
+      pub padded-agree : (n : ℕ) (ms : List ℕ) → has (take n ms) b ≡ false
+          → take n (padded' ms) ≡ take n (padded ms)
       padded-agree zero ms h = refl
       padded-agree (suc n) [] h = refl
-      padded-agree (suc n) (m ∷ ms) h = (elim (eqb m b) as (λ t. eqb m b ≡ t → take (suc n) (padded' (m ∷ ms)) ≡ take (suc n) (padded (m ∷ ms))) [
-        | true ↦ λ e. absurd (false≢true (sym h ∙ rw e refl))
-        | false ↦ λ e. rw (agree m e) (ap (λ l. f m ∷ l) (padded-agree n ms (sym (rw e refl) ∙ h)))
-      ]) refl
+      padded-agree (suc n) (m ∷ ms) h =
+          (elim (eqb m b) as (λ t. eqb m b ≡ t
+          → take (suc n) (padded' (m ∷ ms)) ≡ take (suc n) (padded (m ∷ ms))) [
+            | true ↦ λ e. absurd (false≢true (sym h ∙ rw e refl))
+            | false ↦ λ e. rw (agree m e) (ap (λ l. f m ∷ l) (padded-agree n ms (sym (rw e refl) ∙ h)))
+          ]) refl
 
       -- a pass that changes b where it stands
-      pub changed-padded : (g : X → X) → f' b ≡ g (f b) → (n : ℕ) (ms : List ℕ) → IsOnce (take n ms) → changed p g (take n (padded ms)) ≡ take n (padded' ms)
+      pub changed-padded : (g : X → X) → f' b ≡ g (f b) → (n : ℕ) (ms : List ℕ) → IsOnce (take n ms)
+          → changed p g (take n (padded ms)) ≡ take n (padded' ms)
       changed-padded g same zero ms o = refl
-      changed-padded g same (suc n) [] o = changed-none p g (take (suc n) (replicate k empty)) (any-take-replicate (suc n) k)
-      changed-padded g same (suc n) (m ∷ ms) o = (elim (eqb m b) as (λ t. eqb m b ≡ t → changed p g (take (suc n) (padded (m ∷ ms))) ≡ take (suc n) (padded' (m ∷ ms))) [
-        | true ↦ λ e. rw (at m, e) (let mb : m ≡ b = eqb-true m b e in rw (padded-agree n ms (subst (λ z. has (take n ms) z ≡ false) mb o.0), mb, same))
-        | false ↦ λ e. rw (at m, e, agree m e) (ap (λ l. f m ∷ l) (changed-padded g same n ms o.1))
-      ]) refl
+      changed-padded g same (suc n) [] o =
+          changed-none p g (take (suc n) (replicate k empty)) (any-take-replicate (suc n) k)
+      changed-padded g same (suc n) (m ∷ ms) o =
+          (elim (eqb m b) as (λ t. eqb m b ≡ t
+          → changed p g (take (suc n) (padded (m ∷ ms))) ≡ take (suc n) (padded' (m ∷ ms))) [
+            | true ↦ λ e. rw (at m, e) (let mb : m ≡ b = eqb-true m b e in
+                rw (padded-agree n ms (subst (λ z. has (take n ms) z ≡ false) mb o.0), mb, same))
+            | false ↦ λ e. rw (at m, e, agree m e) (ap (λ l. f m ∷ l) (changed-padded g same n ms o.1))
+          ]) refl
 
-pub has-filter_not : (p : ℕ → Bool) (b : ℕ) → p b ≡ false → (ys : List ℕ) → has (filter p ys) b ≡ false
+pub has-filter_not : (p : ℕ → Bool) (b : ℕ) → p b ≡ false → (ys : List ℕ)
+    → has (filter p ys) b ≡ false
 has-filter_not p b fails [] = refl
-has-filter_not p b fails (y ∷ ys) = (elim (p y) as (λ t. p y ≡ t → has (filter p (y ∷ ys)) b ≡ false) [
-  | true ↦ λ e. (elim (eqb y b) as (λ t. eqb y b ≡ t → has (filter p (y ∷ ys)) b ≡ false) [
-    | true ↦ λ f. absurd (false≢true (sym fails ∙ subst (λ z. p z ≡ true) (eqb-true y b f) e))
-    | false ↦ λ f. rw (e, f) (has-filter_not p b fails ys)
-  ]) refl
-  | false ↦ λ e. rw e (has-filter_not p b fails ys)
-]) refl
+has-filter_not p b fails (y ∷ ys) =
+    (elim (p y) as (λ t. p y ≡ t → has (filter p (y ∷ ys)) b ≡ false) [
+      | true ↦ λ e. (elim (eqb y b) as (λ t. eqb y b ≡ t → has (filter p (y ∷ ys)) b ≡ false) [
+        | true ↦ λ f. absurd (false≢true (sym fails ∙ subst (λ z. p z ≡ true) (eqb-true y b f) e))
+        | false ↦ λ f. rw (e, f) (has-filter_not p b fails ys)
+      ]) refl
+      | false ↦ λ e. rw e (has-filter_not p b fails ys)
+    ]) refl
 
 -- what is absent stays absent in a filter and a front
-pub has-filter_absent : (p : ℕ → Bool) (b : ℕ) (ys : List ℕ) → has ys b ≡ false → has (filter p ys) b ≡ false
+pub has-filter_absent : (p : ℕ → Bool) (b : ℕ) (ys : List ℕ) → has ys b ≡ false
+    → has (filter p ys) b ≡ false
 has-filter_absent p b [] h = refl
-has-filter_absent p b (y ∷ ys) h = let parts = or_parts (eqb y b) (has ys b) h in (elim (p y) as (λ t. p y ≡ t → has (filter p (y ∷ ys)) b ≡ false) [
-  | true ↦ λ e. rw (e, parts.0) (has-filter_absent p b ys parts.1)
-  | false ↦ λ e. rw e (has-filter_absent p b ys parts.1)
-]) refl
+has-filter_absent p b (y ∷ ys) h = let parts = or_parts (eqb y b) (has ys b) h in
+    (elim (p y) as (λ t. p y ≡ t → has (filter p (y ∷ ys)) b ≡ false) [
+      | true ↦ λ e. rw (e, parts.0) (has-filter_absent p b ys parts.1)
+      | false ↦ λ e. rw e (has-filter_absent p b ys parts.1)
+    ]) refl
 
 pub has-take_absent : (n : ℕ) (b : ℕ) (ys : List ℕ) → has ys b ≡ false → has (take n ys) b ≡ false
 has-take_absent n b ys h = has-take n ys b ∙ and_left (has ys b) (ltb (length (before b ys)) n) h
@@ -162,8 +195,13 @@ IsOnce-take (suc n) (y ∷ ys) o = (has-take_absent n y ys o.0, IsOnce-take n ys
 
 pub IsOnce-distinct : (ys : List ℕ) → IsOnce (distinct ys)
 IsOnce-distinct [] = tt
-IsOnce-distinct (y ∷ ys) = (has-filter_not (λ n. not (eqb n y)) y (ap not (eq-eqb y y refl)) (distinct ys), IsOnce-filter (λ n. not (eqb n y)) (distinct ys) (IsOnce-distinct ys))
+IsOnce-distinct (y ∷ ys) = (
+  has-filter_not (λ n. not (eqb n y)) y (ap not (eq-eqb y y refl))
+      (distinct ys),
+  IsOnce-filter (λ n. not (eqb n y)) (distinct ys) (IsOnce-distinct ys),
+)
 
-pub take-cons_take : {X : Type 0} (n : ℕ) (c : X) (xs : List X) → take n (c ∷ take n xs) ≡ take n (c ∷ xs)
+pub take-cons_take : {X : Type 0} (n : ℕ) (c : X) (xs : List X)
+    → take n (c ∷ take n xs) ≡ take n (c ∷ xs)
 take-cons_take zero c xs = refl
 take-cons_take (suc n) c xs = ap (λ l. c ∷ l) (take-take n (suc n) xs (omega arith))

@@ -16,37 +16,55 @@ use Rattle.cache_core.proofs.Turns.{block-fifo, block-lru, unused-block, hit-blo
 use Rattle.cache_core.proofs.RowStep.{held_way, row_of-next, uses-hit, uses-miss}
 use Rattle.cache_core.proofs.Victim.{unmarked, lru-hit, out-is}
 
-pub out-hit : (wb a w : Bool) (first : ℕ) (row : List Way) (v : Way) → pushed_out wb a first w row (Some v) ≡ None
+pub out-hit : (wb a w : Bool) (first : ℕ) (row : List Way) (v : Way)
+    → pushed_out wb a first w row (Some v) ≡ None
 out-hit wb true true first row v = refl
 out-hit wb true false first row v = refl
 out-hit wb false true first row v = refl
 out-hit wb false false first row v = refl
 
-pub out-miss : (wb a w : Bool) (first : ℕ) (row : List Way) → (not w || a) ≡ true → pushed_out wb a first w row None ≡ dirty_block (leaving (holds_block first) (held_way first (wb && w)) row)
+pub out-miss : (wb a w : Bool) (first : ℕ) (row : List Way) → (not w || a) ≡ true
+    → pushed_out wb a first w row None
+    ≡ dirty_block (leaving (holds_block first) (held_way first (wb && w)) row)
 out-miss wb true true first row h = refl
 out-miss wb true false first row h = refl
 out-miss wb false true first row h = cc
 out-miss wb false false first row h = refl
 
-pub out-none : (wb a w : Bool) (first : ℕ) (row : List Way) → (not w || a) ≡ false → pushed_out wb a first w row None ≡ None
+pub out-none : (wb a w : Bool) (first : ℕ) (row : List Way) → (not w || a) ≡ false
+    → pushed_out wb a first w row None ≡ None
 out-none wb true true first row h = cc
 out-none wb true false first row h = cc
 out-none wb false true first row h = refl
 out-none wb false false first row h = cc
 
 module _ (r : Rules) (h : History) (x : Access) where
+  pub outcome_of-hit : (outcome_of r h x).hit ≡ hits r (renewals r h) x
+  unfolding outcome_of
+  outcome_of-hit = refl
+
   pub counts-step : with_access x (outcome_of r h x) (counts_of r h) ≡ counts_of r (access x ∷ h)
   unfolding counts_of tally flushes_in flushed_back
-  counts-step = ap (λ n. record (counts_of r (access x ∷ h)) { written_back = n }) (sym (add_assoc (one_if (is_some (outcome_of r h x).back)) (tally (λ g y. is_some (outcome_of r g y).back) h) (flushed_back r h)))
+  counts-step = ap (λ n. record (counts_of r (access x ∷ h)) { written_back = n })
+      (sym (add_assoc (one_if (is_some (outcome_of r h x).back))
+      (tally (λ g y. is_some (outcome_of r g y).back) h) (flushed_back r h)))
 
-pub flush-counts : (r : Rules) (h : History) (n : ℕ) → n ≡ length (dirty_blocks r h) → with_flush n (counts_of r h) ≡ counts_of r (flush ∷ h)
+pub flush-counts : (r : Rules) (h : History) (n : ℕ) → n ≡ length (dirty_blocks r h)
+    → with_flush n (counts_of r h) ≡ counts_of r (flush ∷ h)
 unfolding counts_of tally flushes_in flushed_back
 flush-counts r h n e =
-    let wb : ((counts_of r h).written_back + n) ≡ (counts_of r (flush ∷ h)).written_back = omega arith in
+    let wb : ((counts_of r h).written_back + n) ≡ (counts_of r (flush ∷ h)).written_back =
+    omega arith in
     let fl : (flushes_in h + 1) ≡ (1 + flushes_in h) = omega arith in
-    ap (λ k. record (counts_of r h) { written_back = k; flushes = flushes_in h + 1 }) wb ∙ ap (λ k. record (counts_of r h) { written_back = (counts_of r (flush ∷ h)).written_back; flushes = k }) fl
+    ap (λ k. record (counts_of r h) { written_back = k; flushes = flushes_in h + 1 }) wb
+    ∙ ap (λ k. record (counts_of r h) {
+      written_back =
+          (counts_of r (flush ∷ h)).written_back;
+      flushes = k;
+    }) fl
 
-module _ (r : Rules) (pos : 0 < r.block_size) (m : ℕ) (size : r.ways ≡ suc m) (h : History) (x : Access) where
+module _ (r : Rules) (pos : 0 < r.block_size) (m : ℕ) (size : r.ways ≡ suc m) (h : History)
+    (x : Access) where
   abbrev b : ℕ
   b = block_of r x
 
@@ -75,7 +93,8 @@ module _ (r : Rules) (pos : 0 < r.block_size) (m : ℕ) (size : r.ways ≡ suc m
   seen-is = find-row_of r pos h b
 
   pub hit-is : is_some seen ≡ hits r ms x
-  hit-is = ap is_some seen-is ∙ (elim (hits r ms x) as (λ t. is_some (cond t (Some (way_at r h b)) None) ≡ t) [ true ↦ refl | false ↦ refl ])
+  hit-is = ap is_some seen-is ∙ (elim (hits r ms x) as (λ t.
+      is_some (cond t (Some (way_at r h b)) None) ≡ t) [ true ↦ refl | false ↦ refl ])
 
   victim-hit : hits r ms x ≡ true → victim r h x ≡ None
   victim-hit e = (elim r.fifo as (λ t. r.fifo ≡ t → victim r h x ≡ None) [
@@ -89,27 +108,54 @@ module _ (r : Rules) (pos : 0 < r.block_size) (m : ℕ) (size : r.ways ≡ suc m
     | false ↦ λ f. block-lru r ms x true f u
   ]) refl
 
-  back-miss : hits r ms x ≡ false → pushed_out r.write_back r.allocate first w here None ≡ dirty_victim r h (victim r h x)
-  back-miss e = (elim (not w || r.allocate) as (λ t. (not w || r.allocate) ≡ t → pushed_out r.write_back r.allocate first w here None ≡ dirty_victim r h (victim r h x)) [
-    | true ↦ λ u. out-miss r.write_back r.allocate w first here u ∙ out-is r h x m size e (load-block e (uses-miss r pos h x e ∙ u)) pos (held_way first (r.write_back && w))
-    | false ↦ λ u. out-none r.write_back r.allocate w first here u ∙ sym (ap (dirty_victim r h) (unmarked r h x (unused-block r pos h x (uses-miss r pos h x e ∙ u))))
-  ]) refl
+  back-miss : hits r ms x ≡ false
+      → pushed_out r.write_back r.allocate first w here None ≡ dirty_victim r h (victim r h x)
+  back-miss e = (elim (not w || r.allocate) as (λ t. (not w || r.allocate) ≡ t
+      → pushed_out r.write_back r.allocate first w here None ≡ dirty_victim r h (victim r h x)) [
+        | true ↦ λ u. out-miss r.write_back r.allocate w first here u
+            ∙ out-is r h x m size e (load-block e (uses-miss r pos h x e ∙ u)) pos
+            (held_way first (r.write_back && w))
+        | false ↦ λ u. out-none r.write_back r.allocate w first here u
+            ∙ sym (ap (dirty_victim r h) (unmarked r h x
+            (unused-block r pos h x (uses-miss r pos h x e ∙ u))))
+      ]) refl
 
-  pub back-is : pushed_out r.write_back r.allocate first w here seen ≡ dirty_victim r h (victim r h x)
-  back-is = (elim (hits r ms x) as (λ t. hits r ms x ≡ t → pushed_out r.write_back r.allocate first w here seen ≡ dirty_victim r h (victim r h x)) [
-    | true ↦ λ e. ap (pushed_out r.write_back r.allocate first w here) (seen-is ∙ cond-true (hits r ms x) (Some (way_at r h b)) None e) ∙ out-hit r.write_back r.allocate w first here (way_at r h b) ∙ sym (ap (dirty_victim r h) (victim-hit e))
-    | false ↦ λ e. ap (pushed_out r.write_back r.allocate first w here) (seen-is ∙ cond-false (hits r ms x) (Some (way_at r h b)) None e) ∙ back-miss e
-  ]) refl
+  pub back-is : pushed_out r.write_back r.allocate first w here seen
+      ≡ dirty_victim r h (victim r h x)
+  back-is = (elim (hits r ms x) as (λ t. hits r ms x ≡ t
+      → pushed_out r.write_back r.allocate first w here seen ≡ dirty_victim r h (victim r h x)) [
+        | true ↦ λ e. ap (pushed_out r.write_back r.allocate first w here) (seen-is
+            ∙ cond-true (hits r ms x) (Some (way_at r h b)) None e)
+            ∙ out-hit r.write_back r.allocate w first here (way_at r h b)
+            ∙ sym (ap (dirty_victim r h) (victim-hit e))
+        | false ↦ λ e. ap (pushed_out r.write_back r.allocate first w here) (seen-is
+            ∙ cond-false (hits r ms x) (Some (way_at r h b)) None e) ∙ back-miss e
+      ]) refl
 
   -- the answer, by the parts that the code has
-  pub outcome-is : outcome_made r.write_back r.allocate w (is_some seen) (pushed_out r.write_back r.allocate first w here seen) (list_any (λ t. nat_eq t b) (known_blocks r h)) (hits (shadow_of r) (renewals (shadow_of r) h) x) ≡ outcome_of r h x
+  pub outcome-is : outcome_made r.write_back r.allocate w (is_some seen)
+      (pushed_out r.write_back r.allocate first w here seen)
+      (list_any (λ t. nat_eq t b) (known_blocks r h))
+      (hits (shadow_of r) (renewals (shadow_of r) h) x) ≡ outcome_of r h x
   unfolding outcome_of kind_of_miss
-  outcome-is = ap (λ hit. outcome_made r.write_back r.allocate w hit (pushed_out r.write_back r.allocate first w here seen) (list_any (λ t. nat_eq t b) (known_blocks r h)) (hits (shadow_of r) (renewals (shadow_of r) h) x)) hit-is
-      ∙ ap (λ back. outcome_made r.write_back r.allocate w (hits r ms x) back (list_any (λ t. nat_eq t b) (known_blocks r h)) (hits (shadow_of r) (renewals (shadow_of r) h) x)) back-is
+  outcome-is = ap (λ hit. outcome_made r.write_back r.allocate w hit
+      (pushed_out r.write_back r.allocate first w here seen)
+      (list_any (λ t. nat_eq t b) (known_blocks r h))
+      (hits (shadow_of r) (renewals (shadow_of r) h) x)) hit-is
+      ∙ ap (λ back. outcome_made r.write_back r.allocate w (hits r ms x) back
+      (list_any (λ t. nat_eq t b) (known_blocks r h))
+      (hits (shadow_of r) (renewals (shadow_of r) h) x)) back-is
 
-  pub rows-step : (xs ys : List Way) → ((t : ℕ) → t < r.sets → row r.ways t xs ≡ row_of r h t) → row r.ways s ys ≡ next_row r.write_back r.allocate first w (row r.ways s xs) (find (holds_block first) (row r.ways s xs)) r.fifo
-      → ((t : ℕ) → t ≢ s → row r.ways t ys ≡ row r.ways t xs) → s < r.sets → (t : ℕ) → t < r.sets → row r.ways t ys ≡ row_of r h' t
-  rows-step xs ys were now others inside t below = (elim (eqb s t) as (λ q. eqb s t ≡ q → row r.ways t ys ≡ row_of r h' t) [
-    | true ↦ λ e. subst (λ z. row r.ways z ys ≡ row_of r h' z) (eqb-true s t e) (now ∙ ap (λ l. next_row r.write_back r.allocate first w l (find (holds_block first) l) r.fifo) (were s inside) ∙ sym (row_of-next r pos h x))
-    | false ↦ λ e. others t (λ same. eqb-false s t e (sym same)) ∙ were t below ∙ sym (row_of-other r pos h x t e)
-  ]) refl
+  pub rows-step : (xs ys : List Way) → ((t : ℕ) → t < r.sets → row r.ways t xs ≡ row_of r h t)
+      → row r.ways s ys ≡ next_row r.write_back r.allocate first w (row r.ways s xs)
+      (find (holds_block first) (row r.ways s xs)) r.fifo
+      → ((t : ℕ) → t ≢ s → row r.ways t ys ≡ row r.ways t xs) → s < r.sets → (t : ℕ) → t < r.sets
+      → row r.ways t ys ≡ row_of r h' t
+  rows-step xs ys were now others inside t below =
+      (elim (eqb s t) as (λ q. eqb s t ≡ q → row r.ways t ys ≡ row_of r h' t) [
+        | true ↦ λ e. subst (λ z. row r.ways z ys ≡ row_of r h' z) (eqb-true s t e) (now
+            ∙ ap (λ l. next_row r.write_back r.allocate first w l (find (holds_block first) l) r.fifo)
+            (were s inside) ∙ sym (row_of-next r pos h x))
+        | false ↦ λ e. others t (λ same. eqb-false s t e (sym same)) ∙ were t below
+            ∙ sym (row_of-other r pos h x t e)
+      ]) refl

@@ -18,7 +18,8 @@ module _ (r : Rules) where
   known_blocks (flush ∷ h) = known_blocks h
   known_blocks (access x ∷ h) = block_of r x ∷ known_blocks h
 
-  -- a miss is compulsory at a block that was never accessed, capacity where the shadow misses too, else conflict
+  -- a miss is compulsory at a block that was never accessed, capacity where the shadow misses too,
+  -- else conflict
   unfoldable pub kind_of_miss : History → Access → MissKind
   kind_of_miss h x =
       if list_any (λ b. b == block_of r x) (known_blocks h)

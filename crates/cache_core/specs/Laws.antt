@@ -9,7 +9,8 @@ use Rattle.cache_core.specs.Order.{ways_of}
 use Rattle.cache_core.specs.Dirty.{dirty_blocks}
 use Rattle.cache_core.specs.Parts.{one_if, outcome_of, part_count}
 
--- the blocks of a set by falling last use (FIFO: by falling load), cut at its ways, are its residents
+-- the blocks of a set by falling last use (FIFO: by falling load), cut at its ways, are its
+-- residents
 abbrev pub OrderedWaysAreResidents : Type 0
 OrderedWaysAreResidents = (r : Rules) (h : History) (b : ℕ) →
     list_any (λ m. m == b) (ways_of r (b % r.sets) (renewals r h)) ≡ is_resident r (renewals r h) b
@@ -28,7 +29,8 @@ abbrev pub OneLruSetHasNoConflict : Type 0
 OneLruSetHasNoConflict = (r : Rules) → IsOneLruSet r → (h : History) (x : Access) →
     (outcome_of r h x).kind ≢ Some Conflict
 
--- the parts of an access and the blocks that are dirty after it are at most one more than the blocks dirty before it,
+-- the parts of an access and the blocks that are dirty after it are at most one more than the
+-- blocks dirty before it,
 -- or two more where it writes
 abbrev pub AccessesPay : Type 0
 AccessesPay = (r : Rules) (h : History) (x : Access) →

@@ -8,6 +8,7 @@ pub mod Lawful
 pub mod Geometry
 pub mod Order
 pub mod Laws
+pub mod Examples
 pub mod Standing
 pub mod Policy
 pub mod Row

@@ -18,12 +18,14 @@ shown n es = take n (map way_of es ++ replicate n empty_way)
 -- the entries after a use of a block, which goes first if it is there
 abbrev pub used_entries : ℕ → Bool → Bool → List (ℕ × Bool) → List (ℕ × Bool)
 used_entries b write_back write es =
-    option_map_or (λ e. (e.0, write_back && (write || e.1)) ∷ remove_entry (nat_eq b) es) (lookup_entry (nat_eq b) es) es
+    option_map_or (λ e. (e.0, write_back && (write || e.1)) ∷ remove_entry (nat_eq b) es)
+    (lookup_entry (nat_eq b) es) es
 
 -- the entries after an access to a block, which FIFO leaves where it stands
 abbrev pub touched_entries : ℕ → Bool → Bool → Bool → List (ℕ × Bool) → List (ℕ × Bool)
 touched_entries b write_back write fifo es =
-    if fifo then (if write_back && write then set_value (nat_eq b) es true else es) else used_entries b write_back write es
+    if fifo then (if write_back && write then set_value (nat_eq b) es
+    true else es) else used_entries b write_back write es
 
 -- the first byte of an entry's block, if it is dirty
 abbrev pub dirty_entry : ℕ × Bool → Option ℕ

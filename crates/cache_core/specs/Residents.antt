@@ -19,12 +19,15 @@ module _ (r : Rules) where
   abbrev pub in_set : ℕ → List ℕ → List ℕ
   in_set s ms = filter (λ m. m % r.sets == s) ms
 
-  -- LRU renews a block at each use, FIFO at each load. A list ms has the renewed blocks, the newest first.
-  -- How far b's last renewal lies back: LRU counts the distinct blocks of its set that were used after it,
+  -- LRU renews a block at each use, FIFO at each load. A list ms has the renewed blocks, the newest
+  -- first.
+  -- How far b's last renewal lies back: LRU counts the distinct blocks of its set that were used
+  -- after it,
   -- FIFO the loads in its set after it.
   unfoldable pub reuse_distance : List ℕ → ℕ → ℕ
   reuse_distance ms b =
-      let later = before b (in_set (b % r.sets) ms) in length (if r.fifo then later else distinct later)
+      let later = before b (in_set (b % r.sets) ms) in
+      length (if r.fifo then later else distinct later)
 
   -- b is resident if it was renewed, less far back than its set has ways
   unfoldable pub is_resident : List ℕ → ℕ → Bool

@@ -44,11 +44,18 @@ dirty_count (w ∷ ws) = one_if (is_dirty_way w) + dirty_count ws
 
 module _ (r : Rules) where
   abbrev pub way_at : History → ℕ → Way
-  way_at h b = record { first = b * r.block_size; held = true; dirty = r.write_back && is_written r h b }
+  way_at h b = record {
+    first = b * r.block_size;
+    held = true;
+    dirty =
+        r.write_back && is_written r h b;
+  }
 
-  -- the ways of a set after a history: its residents in order, each with its mark, and then empty ways
+  -- the ways of a set after a history: its residents in order, each with its mark, and then empty
+  -- ways
   unfoldable pub row_of : History → ℕ → List Way
-  row_of h s = take r.ways (map (way_at h) (ranked r s (renewals r h)) ++ replicate r.ways empty_way)
+  row_of h s = take r.ways (map (way_at h) (ranked r s (renewals r h))
+      ++ replicate r.ways empty_way)
 
 module _ {X : Type 0} (p : X → Bool) where
   -- c goes first and each way moves one place back, up to the one that passes, or up to the last
@@ -67,30 +74,39 @@ module _ {X : Type 0} (p : X → Bool) where
   changed g (w ∷ ws) = cond (p w) (g w ∷ ws) (w ∷ changed g ws)
 
 -- one access to the row of its set, in which the block was seen or not
-module _ (write_back allocate : Bool) (b : ℕ) (write : Bool) (row : List Way) (seen : Option Way) where
-  abbrev is_used : Bool
-  is_used = not write || allocate || is_some seen
+module _ (write_back allocate : Bool) (b : ℕ) (write : Bool) (row : List Way) (seen : Option Way)
+  where
+    abbrev is_used : Bool
+    is_used = not write || allocate || is_some seen
 
-  abbrev front : Way
-  front = record { first = b; held = true; dirty = write_back && (write || option_map_or (λ w. w.dirty) seen false) }
+    abbrev front : Way
+    front = record {
+      first = b;
+      held = true;
+      dirty =
+          write_back && (write || option_map_or (λ w. w.dirty) seen false);
+    }
 
-  abbrev pub next_row : Bool → List Way
-  next_row fifo =
-      if is_used
-      then (if fifo && is_some seen
-      then (if write_back && write then changed (holds_block b) dirtied row else row)
-      else shifted (holds_block b) front row)
-      else row
+    abbrev pub next_row : Bool → List Way
+    next_row fifo =
+        if is_used
+        then (if fifo && is_some seen
+        then (if write_back && write then changed (holds_block b) dirtied row else row)
+        else shifted (holds_block b) front row)
+        else row
 
-  abbrev pub pushed_out : Option ℕ
-  pushed_out = if is_used && not (is_some seen) then dirty_block (leaving (holds_block b) front row) else None
+    abbrev pub pushed_out : Option ℕ
+    pushed_out = if is_used && not (is_some seen) then dirty_block
+        (leaving (holds_block b) front row) else None
 
--- what an access answers: by whether it writes and hits, what its set pushed out, and whether its block was known and
+-- what an access answers: by whether it writes and hits, what its set pushed out, and whether its
+-- block was known and
 -- is in the shadow
 abbrev pub outcome_made : Bool → Bool → Bool → Bool → Option ℕ → Bool → Bool → Outcome
 outcome_made write_back allocate write hit back known in_shadow = record {
   hit = hit;
-  kind = (if hit then None else Some (if known then (if in_shadow then Conflict else Capacity) else Compulsory));
+  kind = (if hit then None else Some
+      (if known then (if in_shadow then Conflict else Capacity) else Compulsory));
   back = back;
   fetch = (not write || allocate || hit) && not hit;
   through = write && (not write_back || not (not write || allocate || hit));

@@ -12,4 +12,8 @@ ways_in s = elim s as (λ _. List Way) [ Rows v ↦ v.items | Maps m ↦ flat m.
 -- there are so many sets of so many ways
 abbrev pub has_shape : ℕ → ℕ → Sets → Bool
 has_shape count assoc s =
-    elim s as (λ _. Bool) [ Rows v ↦ vec_len v == count * assoc | Maps m ↦ (m.assoc == assoc) && (vec_len m.sets == count) ]
+    elim s as (λ _. Bool) [
+      | Rows v ↦ vec_len v ==
+          count * assoc
+      | Maps m ↦ (m.assoc == assoc) && (vec_len m.sets == count)
+    ]

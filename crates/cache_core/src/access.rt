@@ -35,7 +35,8 @@ pub enum MissKind {
     Conflict,
 }
 
-/// What one access did. `back`, `fetch` and `through` are its parts for the next level, in this order.
+/// What one access did. `back`, `fetch` and `through` are its parts for the next level, in this
+/// order.
 #[derive(Clone, Copy, Debug, PartialEq, Eq)]
 pub struct Outcome {
     pub hit: bool,

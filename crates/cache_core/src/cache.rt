@@ -4,6 +4,7 @@ ghost use Rattle.std.specs.Prelude.{◌≡◌, ◌≤◌, ◌+◌, true};
 ghost use Rattle.cache_core.specs.Counts.{AddUp};
 ghost use Rattle.cache_core.specs.Geometry.{sets_of, assoc_of, blocks_of};
 ghost use Rattle.cache_core.specs.Counting.{AreWithin};
+ghost use Rattle.cache_core.specs.Parts.{one_if};
 ghost use Rattle.cache_core.specs.Row.{outcome_made, dirty_count};
 ghost use Rattle.cache_core.specs.Sets.{ways_in, has_shape};
 
@@ -38,7 +39,7 @@ pub struct Cache {
     ghost shadow_room: { kinds.shadow.cap ≡ blocks_of geometry },
     ghost bounded: { AreWithin counts served },
     ghost sums: { AddUp counts.misses counts.compulsory counts.capacity counts.conflict },
-    ghost paid: { counts.written_back + dirty_count (ways_in sets) ≤ served },
+    ghost paid: { counts.written_back + dirty_count (ways_in sets) ≤ served + one_if failed },
 }
 
 /// What an access answers, from what its set and the history of blocks told.
@@ -155,11 +156,6 @@ impl Cache {
         }
         let write = writes(access);
         let block = self.geometry.block(access.addr);
-        let load = may_load(write, self.policy);
-        let Ok(seen) = self.kinds.see(block, load) else {
-            self.failed = true;
-            return Err(NoMemory);
-        };
         let set = self.geometry.set(block);
         let assoc = self.geometry.assoc();
         let first = self.geometry.first_byte(block);
@@ -174,13 +170,19 @@ impl Cache {
             self.failed = true;
             return Err(NoMemory);
         };
+        let load = may_load(write, self.policy);
+        let Ok(seen) = self.kinds.see(block, load, served.hit) else {
+            self.failed = true;
+            return Err(NoMemory);
+        };
         let outcome = outcome_from(self.policy, write, served, seen);
         count_access(&mut self.counts, access, outcome);
         self.served += 1;
         Ok(outcome)
     }
 
-    /// Appends the first bytes of the dirty blocks, rising, and empties the cache and its shadow. Which blocks were ever
+    /// Appends the first bytes of the dirty blocks, rising, and empties the cache and its shadow.
+    /// Which blocks were ever
     /// accessed stays known.
     #[tactic(auto, unfolding(crate::specs::Standing::rules_of, crate::specs::Standing::served_of, crate::specs::Standing::counts_kept, crate::specs::Standing::has_failed))]
     pub fn flush(&mut self, out: &mut Vec<u64>) -> Result<(), NoMemory>

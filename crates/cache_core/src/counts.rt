@@ -67,23 +67,14 @@ pub(crate) fn count_access(counts: &mut Counts, access: Access, outcome: Outcome
     requires { AreWithin counts.old (2 ^ 44) }
     ensures { counts.new ≡ with_access access outcome counts.old }
 {
+    let compulsory = has_kind(MissKind::Compulsory, outcome.kind);
+    let capacity = has_kind(MissKind::Capacity, outcome.kind);
+    let conflict = has_kind(MissKind::Conflict, outcome.kind);
     count(&mut counts.fetches, access, true);
     count(&mut counts.misses, access, !outcome.hit);
-    count(
-        &mut counts.compulsory,
-        access,
-        has_kind(MissKind::Compulsory, outcome.kind),
-    );
-    count(
-        &mut counts.capacity,
-        access,
-        has_kind(MissKind::Capacity, outcome.kind),
-    );
-    count(
-        &mut counts.conflict,
-        access,
-        has_kind(MissKind::Conflict, outcome.kind),
-    );
+    count(&mut counts.compulsory, access, compulsory);
+    count(&mut counts.capacity, access, capacity);
+    count(&mut counts.conflict, access, conflict);
     counts.loaded += outcome.fetch as u64;
     counts.written_back += outcome.back.is_some() as u64;
     counts.sent_on += outcome.through as u64;

@@ -1,10 +1,10 @@
 //! What tells the kinds of miss apart.
 
-ghost use Rattle.std.specs.Prelude.{◌≡◌, ◌≢◌, ◌<◌, ◌==◌, ◌||◌, ◌&&◌, not, ℕ, [], nat_eq, false, if◌then◌else◌, is_some, IfOk, OnOk};
+ghost use Rattle.std.specs.Prelude.{◌≡◌, ◌<◌, ◌==◌, ◌||◌, ◌&&◌, not, ℕ, [], nat_eq, false, if◌then◌else◌, is_some, IfOk, OnOk};
 ghost use Rattle.std.specs.Map.{lookup};
 ghost use Rattle.std.specs.HashSet.{contains};
 ghost use Rattle.std.specs.Option.{option_map_or};
-ghost use Rattle.cache_core.specs.Recent.{IsRecent};
+ghost use Rattle.cache_core.specs.Recent.{IsFirst};
 ghost use Rattle.lru.specs.LruCache.{lru_cache, promoted, put_entries};
 
 use lru::LruCache;
@@ -19,7 +19,7 @@ pub(crate) struct Kinds {
     known: HashSet<u64>,
     /// The block that was used last, if the shadow has it first.
     last: Option<u64>,
-    ghost recent: { IsRecent last shadow.entries (contains nat_eq known) },
+    ghost recent: { IsFirst last shadow.entries },
 }
 
 /// What was known of a block before an access.
@@ -39,6 +39,21 @@ fn is_last(last: Option<u64>, block: u64) -> bool
     }
 }
 
+/// Notes that a block is accessed, and answers whether it was known before. One that hits was.
+fn meet(known: &mut HashSet<u64>, block: u64, hit: bool) -> Result<bool, AllocError>
+    ensures known { IfOk result (λ was. was ≡ (hit || contains nat_eq known.old block)) }
+    ensures adds { OnOk result ((q : ℕ) → contains nat_eq known.new q
+        ≡ (not hit && block == q || contains nat_eq known.old q)) }
+{
+    if hit {
+        return Ok(true);
+    }
+    let Ok(added) = known.insert(block) else {
+        return Err(AllocError);
+    };
+    Ok(!added)
+}
+
 impl Kinds {
     /// Nothing was accessed.
     pub fn new(alloc: Global, blocks: u64) -> Result<Kinds, AllocError>
@@ -55,25 +70,32 @@ impl Kinds {
         })
     }
 
-    /// Notes an access. The shadow takes the block in if it has it, or if the access may `load`.
-    pub fn see(&mut self, block: u64, load: bool) -> Result<Seen, AllocError>
-        ensures known { IfOk result (λ seen. seen.known ≡ contains nat_eq self.old.known block) }
-        ensures in_shadow { IfOk result (λ seen. seen.in_shadow ≡ is_some (lookup (nat_eq block) self.old.shadow.entries)) }
-        ensures adds { OnOk result ((q : ℕ) → contains nat_eq self.new.known q ≡ ((block == q) || contains nat_eq self.old.known q)) }
-        ensures promotes { IfOk result (λ seen. self.new.shadow.entries ≡ (if not seen.in_shadow && load then put_entries nat_eq (lru_cache (promoted (nat_eq block) self.old.shadow.entries) self.old.shadow.cap) block tt else promoted (nat_eq block) self.old.shadow.entries)) }
+    /// Notes an access, which hit the cache or not. The shadow takes the block in if it has it, or
+    /// if the access may
+    /// `load`. A block that is used again at once needs no look-up.
+    pub fn see(&mut self, block: u64, load: bool, hit: bool) -> Result<Seen, AllocError>
+        ensures known { IfOk result (λ seen. seen.known ≡ (hit || contains nat_eq self.old.known block)) }
+        ensures in_shadow { IfOk result (λ seen.
+            seen.in_shadow ≡ is_some (lookup (nat_eq block) self.old.shadow.entries)) }
+        ensures adds { OnOk result ((q : ℕ) → contains nat_eq self.new.known q
+            ≡ (not hit && block == q || contains nat_eq self.old.known q)) }
+        ensures promotes { IfOk result (λ seen. self.new.shadow.entries
+            ≡ (if not seen.in_shadow && load
+            then put_entries nat_eq (lru_cache (promoted (nat_eq block) self.old.shadow.entries)
+            self.old.shadow.cap) block tt
+            else promoted (nat_eq block) self.old.shadow.entries)) }
         ensures capacity { self.new.shadow.cap ≡ self.old.shadow.cap }
     {
+        let Ok(known) = meet(&mut self.known, block, hit) else {
+            return Err(AllocError);
+        };
         if is_last(self.last, block) {
             return Ok(Seen {
-                known: true,
+                known,
                 in_shadow: true,
             });
         }
         self.last = None;
-        let Ok(added) = self.known.insert(block) else {
-            return Err(AllocError);
-        };
-        let known = !added;
         let in_shadow = self.shadow.promote(&block);
         if in_shadow {
             self.last = Some(block);

@@ -1,9 +1,12 @@
 //! Laws over the definitions. Each is a function that does nothing, whose contract is the law.
 
+ghost use Rattle.cache_core.specs.Examples.{WorkedExamples};
 ghost use Rattle.cache_core.specs.Laws.{AccessesPay, AtMostOneLeaves, FlushesPay, OneLruSetHasNoConflict, OrderedWaysAreResidents};
 
-/// The stack property of LRU (Mattson and others), and its like for FIFO: blocks ordered by last use (by last load) and
-/// cut at the number of ways are the residents by reuse distance, writes without allocation included.
+/// The stack property of LRU (Mattson and others), and its like for FIFO: blocks ordered by last
+/// use (by last load) and
+/// cut at the number of ways are the residents by reuse distance, writes without allocation
+/// included.
 pub fn ordered_ways_are_residents()
     ensures { OrderedWaysAreResidents }
 {}
@@ -18,9 +21,15 @@ pub fn one_lru_set_has_no_conflict()
     ensures { OneLruSetHasNoConflict }
 {}
 
-/// Each block that is written back was paid for by a write of its own. So the parts that a cache sends are at most two
+/// Each block that is written back was paid for by a write of its own. So the parts that a cache
+/// sends are at most two
 /// for each write and one for each other access, those of its flushes included.
 pub fn write_backs_are_paid()
     ensures accesses { AccessesPay }
     ensures flushes { FlushesPay }
+{}
+
+/// What the definitions say of small traces, each worked out by hand.
+pub fn definitions_meet_worked_examples()
+    ensures { WorkedExamples }
 {}

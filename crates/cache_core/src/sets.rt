@@ -14,10 +14,12 @@ use crate::policy::Policy;
 use crate::ways::{Served, Way, clear_ways, dirty_ways, empty_ways, serve};
 use std::alloc::{AllocError, Global};
 
-/// The most ways that a set has as a row. Measured: up to here the scan of a row is no slower than a look-up in a map.
+/// The most ways that a set has as a row. Measured: up to here the scan of a row is no slower than
+/// a look-up in a map.
 const MOST_IN_A_ROW: usize = 64;
 
-/// The sets of a cache: rows of few ways that lie one after another, or a map for each set of many ways.
+/// The sets of a cache: rows of few ways that lie one after another, or a map for each set of many
+/// ways.
 #[derive(Drop)]
 pub(crate) enum Sets {
     Rows(Vec<Way>),

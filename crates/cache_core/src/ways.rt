@@ -1,4 +1,5 @@
-//! Sets of few ways: each a row of ways in order, the block that was used last (FIFO: loaded last) first, and empty
+//! Sets of few ways: each a row of ways in order, the block that was used last (FIFO: loaded last)
+//! first, and empty
 //! ways behind the blocks. The rows lie one after another.
 
 ghost use Rattle.std.specs.Prelude.{◌≡◌, ◌≢◌, ◌≤◌, ◌+◌, ◌*◌, ℕ, length, is_some, false, IfOk, map, filter, replicate, vec_len};
@@ -62,7 +63,8 @@ fn was_dirty(found: Option<Way>) -> bool
     }
 }
 
-/// Puts `front` first and moves each way one place back, up to the one that holds the block, or up to the last. The way
+/// Puts `front` first and moves each way one place back, up to the one that holds the block, or up
+/// to the last. The way
 /// that leaves is the answer.
 fn bring_front(row: &mut [Way], first: u64, front: Way) -> Way
     ensures row { row.new ≡ shifted (holds_block first) front row.old }
@@ -98,6 +100,11 @@ fn serve_row(row: &mut [Way], policy: Policy, first: u64, write: bool) -> Served
 {
     let found = find_way(row, first);
     let dirty = policy.wback && (write || was_dirty(found));
+    let used = Way {
+        first,
+        held: true,
+        dirty,
+    };
     if let Some(_) = found {
         match policy.repl {
             Repl::Fifo => {
@@ -106,15 +113,7 @@ fn serve_row(row: &mut [Way], policy: Policy, first: u64, write: bool) -> Served
                 }
             }
             Repl::Lru => {
-                let _left = bring_front(
-                    row,
-                    first,
-                    Way {
-                        first,
-                        held: true,
-                        dirty,
-                    },
-                );
+                let _left = bring_front(row, first, used);
             }
         }
         return Served {
@@ -128,15 +127,7 @@ fn serve_row(row: &mut [Way], policy: Policy, first: u64, write: bool) -> Served
             back: None,
         };
     }
-    let left = bring_front(
-        row,
-        first,
-        Way {
-            first,
-            held: true,
-            dirty,
-        },
-    );
+    let left = bring_front(row, first, used);
     Served {
         hit: false,
         back: if left.held && left.dirty {

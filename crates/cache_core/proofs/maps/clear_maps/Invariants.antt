@@ -3,4 +3,5 @@ use Rattle.cache_core.specs.Mapped.{emptied}
 use Rattle.cache_core.proofs.maps.clear_maps.Given as goal
 
 abbrev pub invariant-loop-map : goal.invariant-loop-map
-invariant-loop-map l = take l.map-index l.maps ++ map emptied (drop l.map-index l.maps) ≡ map emptied l.initial.maps
+invariant-loop-map l = take l.map-index l.maps ++ map emptied (drop l.map-index l.maps)
+    ≡ map emptied l.initial.maps

@@ -17,16 +17,25 @@ loop-set-preserved c =
     let n = c.args.assoc in
     let firsts = c.loop-set.firsts.items in
     let inside : i < length xs = omega arith in
-    let cap : m.cap ≡ n = ap (λ z. z.cap) c.set-item.is ∙ cap-at n xs i (length xs) m c.requires inside in
-    let fits : length m.entries ≤ n = subst (λ k. length m.entries ≤ k) cap c.in_ok-more.ensures.room in
-    let split : drop i xs ≡ m ∷ drop (i + 1) xs = drop_more xs i m inside ∙ ap (λ z. z ∷ drop (i + 1) xs) (sym c.set-item.is) in
-    let next : dirty_of n (drop i xs) ≡ dirty_keys_of m ++ dirty_of n (drop (i + 1) xs) = ap (dirty_of n) split ∙ dirty-flat_cons n m (drop (i + 1) xs) fits in
-    let more : c.extend_from_slice.new.self.items ≡ firsts ++ dirty_keys_of m = c.in_ok-extend_from_slice.ensures.items ∙ ap (λ l. firsts ++ l) (c.deref.ensures.value ∙ c.in_ok-more.ensures.keys) in
-    ap (λ l. l ++ dirty_of n (drop (i + 1) xs)) more ∙ append_assoc firsts (dirty_keys_of m) (dirty_of n (drop (i + 1) xs)) ∙ ap (λ l. firsts ++ l) (sym next) ∙ c.loop-set.invariant
+    let cap : m.cap ≡ n = ap (λ z. z.cap) c.set-item.is
+    ∙ cap-at n xs i (length xs) m c.requires inside in
+    let fits : length m.entries ≤ n =
+    subst (λ k. length m.entries ≤ k) cap c.in_ok-more.ensures.room in
+    let split : drop i xs ≡ m ∷ drop (i + 1) xs = drop_more xs i m inside
+    ∙ ap (λ z. z ∷ drop (i + 1) xs) (sym c.set-item.is) in
+    let next : dirty_of n (drop i xs) ≡ dirty_keys_of m ++ dirty_of n (drop (i + 1) xs) =
+    ap (dirty_of n) split ∙ dirty-flat_cons n m (drop (i + 1) xs) fits in
+    let more : c.extend_from_slice.new.self.items ≡ firsts ++ dirty_keys_of m =
+    c.in_ok-extend_from_slice.ensures.items
+    ∙ ap (λ l. firsts ++ l) (c.deref.ensures.value ∙ c.in_ok-more.ensures.keys) in
+    ap (λ l. l ++ dirty_of n (drop (i + 1) xs)) more
+    ∙ append_assoc firsts (dirty_keys_of m) (dirty_of n (drop (i + 1) xs))
+    ∙ ap (λ l. firsts ++ l) (sym next) ∙ c.loop-set.invariant
 
 pub returns : goal.returns
 returns c =
     let xs = c.args.sets.now in
     let n = c.args.assoc in
     let none : drop c.loop-set.set-index xs ≡ [] = drop_all c.loop-set.set-index xs (omega arith) in
-    sym (ap (λ l. c.loop-set.firsts.items ++ dirty_of n l) none ∙ append-nil c.loop-set.firsts.items) ∙ c.loop-set.invariant
+    sym (ap (λ l. c.loop-set.firsts.items ++ dirty_of n l) none
+    ∙ append-nil c.loop-set.firsts.items) ∙ c.loop-set.invariant

@@ -4,4 +4,6 @@ use Rattle.cache_core.proofs.MapStep.{marked-absent}
 use Rattle.cache_core.proofs.maps.mark_block.Goals as goal
 
 pub returns-clause-map : goal.returns-clause-map
-returns-clause-map c = ap (λ l. lru_cache l c.args.map.now.cap) (sym (marked-absent c.args.first true true c.args.map.now.entries (sym c.in_default.ensures.value)))
+returns-clause-map c = ap (λ l. lru_cache l c.args.map.now.cap)
+    (sym (marked-absent c.args.first true true c.args.map.now.entries
+    (sym c.in_default.ensures.value)))

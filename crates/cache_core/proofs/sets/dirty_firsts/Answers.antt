@@ -8,10 +8,14 @@ use Rattle.cache_core.proofs.sets.dirty_firsts.Goals as goal
 pub returns-clause-firsts : goal.returns-clause-firsts
 returns-clause-firsts c = (
   c.sort_unstable.new.self.items,
-  subst (λ (l : List ℕ). IsPermutation l c.sort_unstable.new.self.items) c.in_ok-firsts.ensures c.sort_unstable.ensures.permutation,
+  subst (λ (l : List ℕ). IsPermutation l c.sort_unstable.new.self.items) c.in_ok-firsts.ensures
+      c.sort_unstable.ensures.permutation,
   c.sort_unstable.ensures.sorted,
   dedup_is eqb _ _ c.dedup.ensures.filtered,
 )
 
 pub returns-clause-few : goal.returns-clause-few
-returns-clause-few c = let a = c.dedup.ensures.bound in let b = c.sort_unstable.ensures.len in let d : length c.in_ok-firsts.firsts.items ≡ length (map first_of (filter is_dirty_way (ways_in c.args.sets.now))) = ap length c.in_ok-firsts.ensures in let e = c.in_ok-firsts.firsts.ok.0 in omega arith
+returns-clause-few c = let a = c.dedup.ensures.bound in let b = c.sort_unstable.ensures.len in
+    let d : length c.in_ok-firsts.firsts.items
+    ≡ length (map first_of (filter is_dirty_way (ways_in c.args.sets.now))) =
+    ap length c.in_ok-firsts.ensures in let e = c.in_ok-firsts.firsts.ok.0 in omega arith

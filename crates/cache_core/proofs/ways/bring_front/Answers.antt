@@ -7,5 +7,7 @@ use Rattle.cache_core.proofs.ways.bring_front.Goals as goal
 pub returns-then-here-first-clause-row : goal.returns-then-here-first-clause-row
 returns-then-here-first-clause-row c =
     let inside : c.loop-way.way-index < length c.loop-way.row = omega arith in
-    let passes : holds_block c.args.first (get_or c.loop-way.row c.loop-way.way-index empty_way) ≡ true = grind (arith, common_steps) in
-    shifted-stop (holds_block c.args.first) c.loop-way.row c.loop-way.way-index empty_way inside passes c.loop-way.carried ∙ c.loop-way.invariant.row
+    let passes : holds_block c.args.first (get_or c.loop-way.row c.loop-way.way-index empty_way)
+    ≡ true = grind (arith, common_steps) in
+    shifted-stop (holds_block c.args.first) c.loop-way.row c.loop-way.way-index empty_way inside
+    passes c.loop-way.carried ∙ c.loop-way.invariant.row

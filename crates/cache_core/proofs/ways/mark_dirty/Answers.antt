@@ -7,5 +7,7 @@ use Rattle.cache_core.proofs.ways.mark_dirty.Goals as goal
 pub returns-then-way-first : goal.returns-then-way-first
 returns-then-way-first c =
     let inside : c.loop-way.way-index < length c.loop-way.row = omega arith in
-    let passes : holds_block c.args.first (get_or c.loop-way.row c.loop-way.way-index empty_way) ≡ true = grind (arith, common_steps) in
-    changed-stop (holds_block c.args.first) c.loop-way.row c.loop-way.way-index empty_way inside passes dirtied ∙ c.loop-way.invariant
+    let passes : holds_block c.args.first (get_or c.loop-way.row c.loop-way.way-index empty_way)
+    ≡ true = grind (arith, common_steps) in
+    changed-stop (holds_block c.args.first) c.loop-way.row c.loop-way.way-index empty_way inside
+    passes dirtied ∙ c.loop-way.invariant

@@ -1,6 +1,7 @@
 use Rattle.std.proofs.Common.{◌≡◌, ◌+◌, ◌*◌, ◌≤◌, ◌∷◌, ◌++◌, length, map, nat_eq, sym, ap, subst, ◌∙◌, arith}
 use Rattle.std.specs.HashSet.{contains}
 use Rattle.std.proofs.lemmas.List.{length-map, length-append}
+use Rattle.cache_core.specs.Parts.{one_if}
 use Rattle.cache_core.specs.History.{flush}
 use Rattle.cache_core.specs.Dirty.{dirty_blocks}
 use Rattle.cache_core.specs.Kinds.{known_blocks, shadow_of}
@@ -28,14 +29,19 @@ invariant_of-self-2 c =
     let count = dirty_count-filter (ways_in old.sets) in
     let len = c.len.ensures in
     let paid = old.paid in
+    let none = ap one_if c.if-self.false in
     let fits : old.counts.written_back + c.len.result ≤ old.served = omega arith in
-    let none : dirty_count (ways_in c.clear_sets.new.sets) ≡ 0 = ap dirty_count (c.clear_sets.ensures.empty _ _ old.room) ∙ dirty_count-replicate _ in
-    let counted : c.count_flush.new.counts.written_back ≡ old.counts.written_back + c.len.result = ap (λ k. k.written_back) c.count_flush.ensures in
+    let clean : dirty_count (ways_in c.clear_sets.new.sets) ≡ 0 =
+    ap dirty_count (c.clear_sets.ensures.empty _ _ old.room) ∙ dirty_count-replicate _ in
+    let counted : c.count_flush.new.counts.written_back ≡ old.counts.written_back + c.len.result =
+    ap (λ k. k.written_back) c.count_flush.ensures in
     record {
       room = c.clear_sets.ensures.shape _ _ old.room;
       shadow_room = ap (λ s. s.cap) c.forget_shadow.ensures.shadow ∙ old.shadow_room;
-      bounded = subst (λ k. AreWithin k (old.served + 1)) (sym c.count_flush.ensures) (AreWithin-with_flush c.len.result old.counts old.served fits old.bounded);
-      sums = subst (λ k. AddUp k.misses k.compulsory k.capacity k.conflict) (sym c.count_flush.ensures) old.sums;
+      bounded = subst (λ k. AreWithin k (old.served + 1)) (sym c.count_flush.ensures)
+          (AreWithin-with_flush c.len.result old.counts old.served fits old.bounded);
+      sums = subst (λ k. AddUp k.misses k.compulsory k.capacity k.conflict)
+          (sym c.count_flush.ensures) old.sums;
       paid = omega arith;
     }
 
@@ -44,21 +50,30 @@ unfolding rules_of
 returns-clause-appends c = λ h st.
     let old = c.args.self.now in
     c.in-Ok-extend_from_slice.ensures.items ∙ ap (λ l. c.args.out.now.items ++ l)
-    (c.deref.ensures.value ∙ flush-list old.geometry old.policy h (ways_in old.sets) (length-ways_in (sets_of old.geometry) (assoc_of old.geometry) old.sets old.room) st.rows c.in-Ok.firsts.items c.in-Ok.ensures.firsts)
+    (c.deref.ensures.value ∙ flush-list old.geometry old.policy h (ways_in old.sets)
+    (length-ways_in (sets_of old.geometry) (assoc_of old.geometry) old.sets old.room) st.rows
+    c.in-Ok.firsts.items c.in-Ok.ensures.firsts)
 
 pub returns-clause-stands : goal.returns-clause-stands
 unfolding known_blocks rules_of served_of counts_kept has_failed
 returns-clause-stands c = λ h st.
     let old = c.args.self.now in
     let r = rules_of old in
-    let firsts = flush-list old.geometry old.policy h (ways_in old.sets) (length-ways_in (sets_of old.geometry) (assoc_of old.geometry) old.sets old.room) st.rows c.in-Ok.firsts.items c.in-Ok.ensures.firsts in
-    let written : c.len.result ≡ length (dirty_blocks r h) = c.len.ensures ∙ c.in-Ok.firsts.ok.0 ∙ ap length firsts ∙ length-map (dirty_blocks r h) (λ b. b * r.block_size) in
+    let firsts = flush-list old.geometry old.policy h (ways_in old.sets)
+    (length-ways_in (sets_of old.geometry) (assoc_of old.geometry) old.sets old.room) st.rows
+    c.in-Ok.firsts.items c.in-Ok.ensures.firsts in
+    let written : c.len.result ≡ length (dirty_blocks r h) = c.len.ensures ∙ c.in-Ok.firsts.ok.0
+    ∙ ap length firsts ∙ length-map (dirty_blocks r h) (λ b. b * r.block_size) in
     record {
       working = st.working;
-      rows = λ t below. ap (row r.ways t) (c.clear_sets.ensures.empty r.sets r.ways old.room) ∙ rows-none r (flush ∷ h) (renewals-flush r h) t below;
-      shadow = ap (λ s. s.entries) c.forget_shadow.ensures.shadow ∙ sym (ap (λ l. map pair l) (ap (ways_of (shadow_of r) 0) (renewals-flush (shadow_of r) h) ∙ ways_of-none (shadow_of r) 0));
+      rows = λ t below. ap (row r.ways t) (c.clear_sets.ensures.empty r.sets r.ways old.room)
+          ∙ rows-none r (flush ∷ h) (renewals-flush r h) t below;
+      shadow = ap (λ s. s.entries) c.forget_shadow.ensures.shadow
+          ∙ sym (ap (λ l. map pair l) (ap (ways_of (shadow_of r) 0) (renewals-flush (shadow_of r) h)
+          ∙ ways_of-none (shadow_of r) 0));
       known = λ q. ap (λ k. contains nat_eq k q) c.forget_shadow.ensures.known ∙ st.known q;
-      counts = c.count_flush.ensures ∙ ap (with_flush c.len.result) st.counts ∙ flush-counts r h c.len.result written;
+      counts = c.count_flush.ensures ∙ ap (with_flush c.len.result) st.counts
+          ∙ flush-counts r h c.len.result written;
       served = (let n = st.served in omega arith);
     }
 
@@ -72,5 +87,6 @@ returns-clause-few c =
     let le = dirty_count-le (ways_in old.sets) in
     let firsts = c.in-Ok.firsts.ok.0 in
     let value = ap length c.deref.ensures.value in
-    let all = ap length c.in-Ok-extend_from_slice.ensures.items ∙ length-append c.args.out.now.items _ in
+    let all = ap length c.in-Ok-extend_from_slice.ensures.items
+    ∙ length-append c.args.out.now.items _ in
     omega arith

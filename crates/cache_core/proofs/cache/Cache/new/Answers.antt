@@ -16,7 +16,8 @@ use Rattle.cache_core.proofs.Nothing.{rows-none, ways_of-none, renewals-start}
 use Rattle.cache_core.proofs.cache.Cache.new.Goals as goal
 
 pub empty_sets-requires-clause-ways : goal.empty_sets-requires-clause-ways
-empty_sets-requires-clause-ways c = subst (λ n. 0 < n) (sym c.assoc.ensures) (sane_of c.args.geometry).assoc_pos
+empty_sets-requires-clause-ways c =
+    subst (λ n. 0 < n) (sym c.assoc.ensures) (sane_of c.args.geometry).assoc_pos
 
 pub empty_sets-requires-clause-fits : goal.empty_sets-requires-clause-fits
 empty_sets-requires-clause-fits c =
@@ -29,13 +30,15 @@ new-requires c = subst (λ n. 0 < n) (sym c.blocks-2.ensures) (sane_of c.args.ge
 pub invariant_of-result : goal.invariant_of-result
 invariant_of-result c =
     let none : c.default.result ≡ no_counts = search rules in
-    let clean : dirty_count (ways_in c.in-Ok.sets) ≡ 0 = ap dirty_count c.in-Ok.ensures.empty ∙ dirty_count-replicate _ in
+    let clean : dirty_count (ways_in c.in-Ok.sets) ≡ 0 = ap dirty_count c.in-Ok.ensures.empty
+    ∙ dirty_count-replicate _ in
     let zero_back : c.default.result.written_back ≡ 0 = ap (λ k. k.written_back) none in
     record {
       room = rw (c.sets.ensures, c.assoc.ensures) at c.in-Ok.ensures.shape;
       shadow_room = ap (λ s. s.cap) c.in-Ok-new.ensures.shadow ∙ c.blocks-2.ensures;
       bounded = subst (λ k. AreWithin k 0) (sym none) AreWithin-none;
-      sums = subst (λ k. AddUp k.misses k.compulsory k.capacity k.conflict) (sym none) (record { instr = refl; read = refl; write = refl; misc = refl; total = refl });
+      sums = subst (λ k. AddUp k.misses k.compulsory k.capacity k.conflict) (sym none)
+          (record { instr = refl; read = refl; write = refl; misc = refl; total = refl });
       paid = omega arith;
     }
 
@@ -45,8 +48,12 @@ returns-clause-stands c =
     let r = rules_from c.args.geometry c.args.policy in
     record {
       working = refl;
-      rows = λ t below. ap (row (assoc_of c.args.geometry) t) (rw (c.sets.ensures, c.assoc.ensures) at c.in-Ok.ensures.empty) ∙ rows-none r [] (renewals-start r) t below;
-      shadow = ap (λ l. l.entries) c.in-Ok-new.ensures.shadow ∙ sym (ap (λ l. map pair l) (ap (ways_of (shadow_of r) 0) (renewals-start (shadow_of r)) ∙ ways_of-none (shadow_of r) 0));
+      rows = λ t below. ap (row (assoc_of c.args.geometry) t)
+          (rw (c.sets.ensures, c.assoc.ensures) at c.in-Ok.ensures.empty)
+          ∙ rows-none r [] (renewals-start r) t below;
+      shadow = ap (λ l. l.entries) c.in-Ok-new.ensures.shadow
+          ∙ sym (ap (λ l. map pair l) (ap (ways_of (shadow_of r) 0) (renewals-start (shadow_of r))
+          ∙ ways_of-none (shadow_of r) 0));
       known = λ q. ap (list_any (nat_eq q)) c.in-Ok-new.ensures.known;
       counts = (let none : c.default.result ≡ no_counts = search rules in none);
       served = refl;

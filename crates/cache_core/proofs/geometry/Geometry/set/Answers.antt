@@ -12,4 +12,5 @@ pub returns : goal.returns
 unfolding size_of bsize_of assoc_of
 returns c =
     let g = c.args.self.now in
-    ap (λ n. bit_and c.args.block (n - 1)) c.sets.ensures ∙ masked g.size g.bsize g.assoc g.lawful c.args.block
+    ap (λ n. bit_and c.args.block (n - 1)) c.sets.ensures
+    ∙ masked g.size g.bsize g.assoc g.lawful c.args.block

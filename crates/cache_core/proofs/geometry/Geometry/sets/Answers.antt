@@ -8,4 +8,5 @@ overflow_shr-result c = let g = c.args.self.now in shift_fits g.size g.bsize g.a
 
 pub returns : goal.returns
 unfolding size_of bsize_of assoc_of
-returns c = let g = c.args.self.now in ap (λ n. g.size / n) (sym (set_is g.size g.bsize g.assoc g.lawful))
+returns c = let g = c.args.self.now in
+    ap (λ n. g.size / n) (sym (set_is g.size g.bsize g.assoc g.lawful))

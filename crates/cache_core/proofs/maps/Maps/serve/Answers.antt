@@ -9,32 +9,45 @@ use Rattle.cache_core.proofs.Paid.{paid-row, paid-by}
 use Rattle.cache_core.proofs.maps.Maps.serve.Goals as goal
 
 pub returns-clause-others : goal.returns-clause-others
-returns-clause-others c = λ s apart. row-set_other c.args.self.now.assoc c.args.self.now.sets.items c.args.set s c.serve_map.new.map apart
+returns-clause-others c = λ s apart.
+    row-set_other c.args.self.now.assoc c.args.self.now.sets.items c.args.set s c.serve_map.new.map
+    apart
 
 pub returns-clause-served : goal.returns-clause-served
 returns-clause-served c =
     let m = c.args.self.now in let o = c.index_mut.result.now in
-    let inside : c.args.set < length m.sets.items = subst (λ k. c.args.set < k) m.sets.ok.0 c.requires in
-    let cap : o.cap ≡ m.assoc = ap (λ z. z.cap) c.index_mut.ensures.value ∙ cap-at m.assoc m.sets.items c.args.set _ o m.caps inside in
-    let old : row m.assoc c.args.set (flat m.assoc m.sets.items) ≡ shown m.assoc o.entries = row-here m.assoc m.sets.items c.args.set o inside ∙ ap (λ z. shown m.assoc z.entries) (sym c.index_mut.ensures.value) in
+    let inside : c.args.set < length m.sets.items =
+    subst (λ k. c.args.set < k) m.sets.ok.0 c.requires in
+    let cap : o.cap ≡ m.assoc = ap (λ z. z.cap) c.index_mut.ensures.value
+    ∙ cap-at m.assoc m.sets.items c.args.set _ o m.caps inside in
+    let old : row m.assoc c.args.set (flat m.assoc m.sets.items) ≡ shown m.assoc o.entries =
+    row-here m.assoc m.sets.items c.args.set o inside
+    ∙ ap (λ z. shown m.assoc z.entries) (sym c.index_mut.ensures.value) in
     let new = row-set m.assoc m.sets.items c.args.set c.serve_map.new.map inside in
     rw (old, new) (rw cap at c.in-Ok.ensures.served)
 
 pub returns-clause-paid : goal.returns-clause-paid
 returns-clause-paid c =
     let m = c.args.self.now in let o = c.index_mut.result.now in
-    let inside : c.args.set < length m.sets.items = subst (λ k. c.args.set < k) m.sets.ok.0 c.requires in
-    let cap : o.cap ≡ m.assoc = ap (λ z. z.cap) c.index_mut.ensures.value ∙ cap-at m.assoc m.sets.items c.args.set _ o m.caps inside in
+    let inside : c.args.set < length m.sets.items =
+    subst (λ k. c.args.set < k) m.sets.ok.0 c.requires in
+    let cap : o.cap ≡ m.assoc = ap (λ z. z.cap) c.index_mut.ensures.value
+    ∙ cap-at m.assoc m.sets.items c.args.set _ o m.caps inside in
     let old = shown m.assoc o.entries in
     let p = c.args.policy in
     let served = c.in-Ok.ensures.served in
-    let step = paid-by old _ _ _ _ (rw cap at served.row) (rw cap at served.back) (paid-row old (is_fifo p) p.wback p.walloc c.args.write c.args.first (find (holds_block c.args.first) old)) in
+    let step = paid-by old _ _ _ _ (rw cap at served.row) (rw cap at served.back)
+    (paid-row old (is_fifo p) p.wback p.walloc c.args.write c.args.first
+    (find (holds_block c.args.first) old)) in
     let sum = count-set m.assoc m.sets.items c.args.set c.serve_map.new.map o inside in
-    let same : dirty_count (shown m.assoc (get_or m.sets.items c.args.set o).entries) ≡ dirty_count old = ap (λ z. dirty_count (shown m.assoc z.entries)) (sym c.index_mut.ensures.value) in
+    let same : dirty_count (shown m.assoc (get_or m.sets.items c.args.set o).entries)
+    ≡ dirty_count old = ap (λ z. dirty_count (shown m.assoc z.entries))
+    (sym c.index_mut.ensures.value) in
     omega arith
 
 pub invariant_of-self : goal.invariant_of-self
 invariant_of-self c =
     let m = c.args.self.now in let o = c.index_mut.result.now in
-    let cap : c.serve_map.new.map.cap ≡ (get_or m.sets.items c.args.set o).cap = c.serve_map.ensures.capacity ∙ ap (λ z. z.cap) c.index_mut.ensures.value in
+    let cap : c.serve_map.new.map.cap ≡ (get_or m.sets.items c.args.set o).cap =
+    c.serve_map.ensures.capacity ∙ ap (λ z. z.cap) c.index_mut.ensures.value in
     record { caps = map-set_same cap_of m.sets.items c.args.set c.serve_map.new.map o cap ∙ m.caps }

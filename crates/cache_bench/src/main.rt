@@ -1,0 +1,88 @@
+//! Serves the same generated references to caches of one size and 1, 8, 256 and 4,096 ways, and says what missed.
+//!
+//! Words: the number of references, and `time` where the time of one access is wanted.
+#![tactic(auto)]
+
+use anyhow::{bail, Context};
+use cache_core::{Access, Cache, Class, Geometry, NoMemory, Policy, Repl, MAX_EVENTS};
+use std::env;
+use std::time::Instant;
+
+const SIZE: u64 = 65_536;
+const BLOCK: u64 = 16;
+
+const POLICY: Policy = Policy {
+    repl: Repl::Lru,
+    wback: true,
+    walloc: true,
+};
+
+/// The next state of the generator, a linear congruence with Knuth's constants.
+fn next(state: u64) -> u64 {
+    state
+        .wrapping_mul(6_364_136_223_846_793_005)
+        .wrapping_add(1_442_695_040_888_963_407)
+}
+
+/// The access that a state stands for: one in four writes, and three in four go to a sixteenth of all blocks.
+fn access_from(state: u64) -> Access {
+    let bits = state >> 32;
+    let class = if bits % 4 == 0 { Class::Write } else { Class::Read };
+    let blocks = if bits / 4 % 4 == 0 { 16_384 } else { 1_024 };
+    Access {
+        class,
+        addr: bits / 16 % blocks * BLOCK,
+    }
+}
+
+/// Serves as many generated references.
+fn serve_all(cache: &mut Cache, references: u64) -> Result<(), NoMemory> {
+    let mut state = 1;
+    for _ in 0..references {
+        if cache.served() >= MAX_EVENTS {
+            return Ok(());
+        }
+        state = next(state);
+        cache.access(access_from(state))?;
+    }
+    Ok(())
+}
+
+fn measure(rt: &HostRuntime, ways: u64, references: u64, timed: bool) -> anyhow::Result<()> {
+    let Ok(geometry) = Geometry::new(SIZE, BLOCK, ways) else {
+        bail!(rt.alloc(), "no lawful geometry");
+    };
+    let Ok(mut cache) = Cache::new(rt.alloc(), geometry, POLICY) else {
+        bail!(rt.alloc(), "no memory");
+    };
+    let start = Instant::now(rt)?;
+    let Ok(()) = serve_all(&mut cache, references) else {
+        bail!(rt.alloc(), "no memory");
+    };
+    let took = start.elapsed(rt)?;
+    let counts = cache.counts();
+    println!(rt;
+        "{ways} ways: {} misses, {} compulsory, {} capacity, {} conflict, {} written back",
+        counts.misses.total(),
+        counts.compulsory.total(),
+        counts.capacity.total(),
+        counts.conflict.total(),
+        counts.written_back
+    )?;
+    if timed && references > 0 {
+        println!(rt; "{ways} ways: {} ns an access", took.as_nanos() / u128::from(references))?;
+    }
+    Ok(())
+}
+
+fn main(rt: HostRuntime) -> anyhow::Result<()> {
+    let mut words = env::args(&rt)?;
+    let _program = words.next();
+    let references = words.next().context("how many references?")?;
+    let references: u64 = references.parse()?;
+    let timed = words.next().is_some();
+    for ways in [1, 8, 256, 4_096] {
+        measure(&rt, ways, references, timed)?;
+    }
+    Ok(())
+}

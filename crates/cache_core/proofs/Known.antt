@@ -1,0 +1,25 @@
+-- Each block that was renewed is known.
+use Rattle.std.proofs.Common.{◌≡◌, ℕ, true, false, cond, ◌||◌, eqb, [], ◌∷◌, refl}
+use Rattle.std.proofs.lemmas.Bool.{or_right}
+use Rattle.cache_core.specs.History.{Rules, History, access, flush, block_of}
+use Rattle.cache_core.specs.Residents.{renews, renewals}
+use Rattle.cache_core.specs.Kinds.{known_blocks}
+use Rattle.cache_core.proofs.Reuse.{has}
+
+pub renewals-known : (r : Rules) (h : History) (b : ℕ) → has (renewals r h) b ≡ true
+    → has (known_blocks r h) b ≡ true
+unfolding renewals known_blocks
+renewals-known r [] b e = cc
+renewals-known r (flush ∷ h) b e = cc
+renewals-known r (access x ∷ h) b e =
+    (elim (renews r (renewals r h) x) as (λ t.
+    has (cond t (block_of r x ∷ renewals r h) (renewals r h)) b ≡ true
+    → (eqb (block_of r x) b || has (known_blocks r h) b) ≡ true) [
+      | true ↦ λ g. (elim (eqb (block_of r x) b) as (λ t. (t || has (renewals r h) b) ≡ true
+          → (t || has (known_blocks r h) b) ≡ true) [
+            | true ↦ λ k. refl
+            | false ↦ λ k. renewals-known r h b k
+          ]) g
+      | false ↦ λ g. or_right (eqb (block_of r x) b) (has (known_blocks r h) b)
+          (renewals-known r h b g)
+    ]) e
