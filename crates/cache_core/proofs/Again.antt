@@ -45,8 +45,10 @@ promoted-first es b h = (elim (lookup_entry (nat_eq b) es) as (λ o. lookup_entr
     ]) refl where
       entry : (fs : Shown) → is_some (lookup (nat_eq b) fs) ≡ is_some (lookup_entry (nat_eq b) fs)
       entry [] = refl
-      entry (f ∷ fs) = (elim (nat_eq b f.0) as (λ t. is_some (cond t (Some f.1) (lookup (nat_eq b) fs))
-          ≡ is_some (cond t (Some f) (lookup_entry (nat_eq b) fs))) [ true ↦ refl | false ↦ entry fs ])
+      entry (f ∷ fs) = (elim (nat_eq b f.0) as (λ t.
+          is_some (cond t (Some f.1) (lookup (nat_eq b) fs))
+          ≡ is_some (cond t (Some f) (lookup_entry (nat_eq b) fs)))
+          [ true ↦ refl | false ↦ entry fs ])
 
       found : (fs : Shown) (e : ℕ × Unit {0}) → lookup_entry (nat_eq b) fs ≡ Some e → e.0 ≡ b
       found [] e h = cc

@@ -87,11 +87,12 @@ rises-place x [] r = (tt, tt)
 rises-place x (y ∷ ys) r = (elim (ltb x y) as (λ t. ltb x y ≡ t
     → Rises (cond t (x ∷ y ∷ ys) (cond (eqb x y) (y ∷ ys) (y ∷ place x ys)))) [
       | true ↦ λ e. let l = ltb-true x y e in ((l, below-less x y ys l r.0), r)
-      | false ↦ λ e. (elim (eqb x y) as (λ t. eqb x y ≡ t → Rises (cond t (y ∷ ys) (y ∷ place x ys))) [
-        | true ↦ λ f. r
-        | false ↦ λ f. let le = ltb-false x y e in let ne = eqb-false x y f in
-            (below-place y x ys (omega arith) r.0, rises-place x ys r.1)
-      ]) refl
+      | false ↦ λ e. (elim (eqb x y) as (λ t. eqb x y ≡ t
+          → Rises (cond t (y ∷ ys) (y ∷ place x ys))) [
+            | true ↦ λ f. r
+            | false ↦ λ f. let le = ltb-false x y e in let ne = eqb-false x y f in
+                (below-place y x ys (omega arith) r.0, rises-place x ys r.1)
+          ]) refl
     ]) refl
 
 pub rises-rising : (xs : List ℕ) → Rises (rising xs)

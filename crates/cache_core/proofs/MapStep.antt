@@ -97,8 +97,10 @@ module _ (b k : ℕ) where
             ∙ h in rw q (further n l (λ m g. leaving-shown m es (way_of e) g h'))
       ]) refl where
         further : (n : ℕ) → suc n ≤ k → ((m : ℕ) → suc m ≤ k
-            → dirty_block (leaving p (way_of e) (take (suc m) (padded es))) ≡ dirty_of (slice_get es m))
-            → dirty_block (leaving p (way_of e) (take n (padded es))) ≡ dirty_of (slice_get (e ∷ es) n)
+            → dirty_block (leaving p (way_of e) (take (suc m) (padded es)))
+            ≡ dirty_of (slice_get es m))
+            → dirty_block (leaving p (way_of e) (take n (padded es)))
+            ≡ dirty_of (slice_get (e ∷ es) n)
         further zero g again = refl
         further (suc m) g again = again m (omega arith)
 
@@ -226,7 +228,8 @@ module _ (fifo wb a w : Bool) (b n : ℕ) (es : Entries) (fits : length es ≤ n
             ≡ cond t (changed (holds_block b) dirtied row) row)
             [ true ↦ sym (changed-shown b n n es) | false ↦ refl ])
         | false ↦ ap (λ o. shown n (used b wb w es o)) q
-            ∙ ap (λ z. take n (held_way z (wb && (w || e.1)) ∷ map way_of (remove_entry (nat_eq b) es)
+            ∙ ap (λ z. take n (held_way z (wb && (w || e.1))
+            ∷ map way_of (remove_entry (nat_eq b) es)
             ++ replicate n empty_way)) (found-first b zero es e q)
             ∙ sym (shifted-shown b n n es (held_way b (wb && (w || e.1))) (omega arith))
       ]) ∙ sym (next-hit fifo wb a w b row (way_of e))

@@ -120,7 +120,8 @@ module _ (r : Rules) (h : History) (x : Access) where
         | false ↦ λ e. sym (elsewhere r h x y e) ∙ res
         | true ↦ λ e. (elim (hits r ms x) as (λ t. hits r ms x ≡ t → is_resident r ms y ≡ true) [
           | false ↦ λ miss. front-is r h x m size y e
-              ∙ take-mono m y (ranked r s ms) (sym (ap (λ t. t || has (take m (ranked r s ms)) y) other)
+              ∙ take-mono m y (ranked r s ms)
+              (sym (ap (λ t. t || has (take m (ranked r s ms)) y) other)
               ∙ sym (later-is r h x m size miss yes' y e) ∙ res)
           | true ↦ λ hit. (elim r.fifo as (λ t. r.fifo ≡ t → is_resident r ms y ≡ true) [
             | true ↦ λ f. absurd (false≢true
@@ -141,7 +142,8 @@ module _ (r : Rules) (h : History) (x : Access) where
   others-by zero e y other res = absurd (no-ways (renewals r h') y e res)
   others-by (suc m) e y other res =
       (elim (renews r ms x) as (λ t. renews r ms x ≡ t → is_resident r ms y ≡ true) [
-        | true ↦ λ g. in-front m e g y other (sym (ap (λ l. is_resident r l y) (renewals-yes r h x g))
+        | true ↦ λ g. in-front m e g y other
+            (sym (ap (λ l. is_resident r l y) (renewals-yes r h x g))
             ∙ res)
         | false ↦ λ g. sym (ap (λ l. is_resident r l y) (renewals-no r h x g)) ∙ res
       ]) refl

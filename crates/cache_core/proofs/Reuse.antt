@@ -70,7 +70,8 @@ has-take zero ms b = sym (and_right (has ms b) (ltb (length (before b ms)) 0)
     (le-ltb (length (before b ms)) 0 (omega arith)))
 has-take (suc n) [] b = refl
 has-take (suc n) (m ∷ ms) b = (elim (eqb m b) as (λ t. eqb m b ≡ t
-    → has (take (suc n) (m ∷ ms)) b ≡ (has (m ∷ ms) b && ltb (length (before b (m ∷ ms))) (suc n))) [
+    → has (take (suc n) (m ∷ ms)) b
+    ≡ (has (m ∷ ms) b && ltb (length (before b (m ∷ ms))) (suc n))) [
       | true ↦ λ e. rw e (sym (lt-ltb 0 (suc n) (omega arith)))
       | false ↦ λ e. rw e (has-take n ms b
           ∙ ap (λ t. has ms b && t) (sym (ltb-suc (length (before b ms)) n)))

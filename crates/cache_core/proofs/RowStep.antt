@@ -133,7 +133,8 @@ module _ (r : Rules) (pos : 0 < r.block_size) (h : History) (x : Access) where
       → row_of r h' s ≡ shifted (holds_block first) (way_at r h' b) row
   loaded e u = (elim r.fifo as (λ t. r.fifo ≡ t
       → row_of r h' s ≡ shifted (holds_block first) (way_at r h' b) row) [
-        | true ↦ λ f. row_of-load r pos h x f (and_from (uses r ms x) (not (hits r ms x)) u (ap not e))
+        | true ↦ λ f. row_of-load r pos h x f
+            (and_from (uses r ms x) (not (hits r ms x)) u (ap not e))
         | false ↦ λ f. row_of-lru r pos h x f u
       ]) refl
 

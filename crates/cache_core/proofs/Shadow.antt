@@ -85,7 +85,8 @@ module _ (b : ℕ) where
         | false ↦ λ e. rw e (further (λ k g. take-without_there k ys o.1 g) m (sym (rw e refl) ∙ h))
       ]) refl where
         further : ((k : ℕ) → has (take (suc k) ys) b ≡ true
-            → without b (take (suc k) ys) ≡ take k (without b ys)) → (k : ℕ) → has (take k ys) b ≡ true
+            → without b (take (suc k) ys) ≡ take k (without b ys)) → (k : ℕ)
+            → has (take k ys) b ≡ true
             → y ∷ without b (take k ys) ≡ take k (y ∷ without b ys)
         further again zero g = cc
         further again (suc k) g = ap (λ l. y ∷ l) (again k g)

@@ -32,7 +32,8 @@ module _ {X : Type 0} (p : X → Bool) where
       (elim (p x) as (λ t. p x ≡ t → shifted p c (take (suc n) (x ∷ xs))
       ≡ take (suc n) (c ∷ x ∷ xs)) [
         | true ↦ λ e. absurd (false≢true (sym h ∙ rw e refl))
-        | false ↦ λ e. rw e (ap (λ l. c ∷ l) (shifted-none n xs x (sym (rw e refl) ∙ h) (omega arith)))
+        | false ↦ λ e. rw e (ap (λ l. c ∷ l)
+            (shifted-none n xs x (sym (rw e refl) ∙ h) (omega arith)))
       ]) refl
 
   pub leaving-none : (n : ℕ) (xs : List X) (c : X) → list_any p (take n xs) ≡ false → n ≤ length xs
@@ -105,7 +106,8 @@ module _ {X : Type 0} (f : ℕ → X) (empty : X) (k : ℕ) where
         ≡ take (suc n) (c ∷ padded (without b (m ∷ ms)))) [
           | true ↦ λ e. rw (at m, e) (ap (λ l. c ∷ take n (padded l))
               (sym (without-absent ms b (subst (λ z. has ms z ≡ false) (eqb-true m b e) o.0))))
-          | false ↦ λ e. rw (at m, e) (ap (λ l. c ∷ l) (shifted-padded n ms (f m) (omega arith) o.1))
+          | false ↦ λ e. rw (at m, e) (ap (λ l. c ∷ l)
+              (shifted-padded n ms (f m) (omega arith) o.1))
         ]) refl
 
     pub leaving-hit : (n : ℕ) (ms : List ℕ) (c : X) → has (take n ms) b ≡ true
@@ -139,7 +141,8 @@ module _ {X : Type 0} (f : ℕ → X) (empty : X) (k : ℕ) where
           (elim (eqb m b) as (λ t. eqb m b ≡ t
           → take (suc n) (padded' (m ∷ ms)) ≡ take (suc n) (padded (m ∷ ms))) [
             | true ↦ λ e. absurd (false≢true (sym h ∙ rw e refl))
-            | false ↦ λ e. rw (agree m e) (ap (λ l. f m ∷ l) (padded-agree n ms (sym (rw e refl) ∙ h)))
+            | false ↦ λ e. rw (agree m e) (ap (λ l. f m ∷ l)
+                (padded-agree n ms (sym (rw e refl) ∙ h)))
           ]) refl
 
       -- a pass that changes b where it stands
@@ -153,7 +156,8 @@ module _ {X : Type 0} (f : ℕ → X) (empty : X) (k : ℕ) where
           → changed p g (take (suc n) (padded (m ∷ ms))) ≡ take (suc n) (padded' (m ∷ ms))) [
             | true ↦ λ e. rw (at m, e) (let mb : m ≡ b = eqb-true m b e in
                 rw (padded-agree n ms (subst (λ z. has (take n ms) z ≡ false) mb o.0), mb, same))
-            | false ↦ λ e. rw (at m, e, agree m e) (ap (λ l. f m ∷ l) (changed-padded g same n ms o.1))
+            | false ↦ λ e. rw (at m, e, agree m e)
+                (ap (λ l. f m ∷ l) (changed-padded g same n ms o.1))
           ]) refl
 
 pub has-filter_not : (p : ℕ → Bool) (b : ℕ) → p b ≡ false → (ys : List ℕ)

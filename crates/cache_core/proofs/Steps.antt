@@ -154,7 +154,8 @@ module _ (r : Rules) (pos : 0 < r.block_size) (m : ℕ) (size : r.ways ≡ suc m
   rows-step xs ys were now others inside t below =
       (elim (eqb s t) as (λ q. eqb s t ≡ q → row r.ways t ys ≡ row_of r h' t) [
         | true ↦ λ e. subst (λ z. row r.ways z ys ≡ row_of r h' z) (eqb-true s t e) (now
-            ∙ ap (λ l. next_row r.write_back r.allocate first w l (find (holds_block first) l) r.fifo)
+            ∙ ap (λ l. next_row r.write_back r.allocate first w l (find (holds_block first) l)
+            r.fifo)
             (were s inside) ∙ sym (row_of-next r pos h x))
         | false ↦ λ e. others t (λ same. eqb-false s t e (sym same)) ∙ were t below
             ∙ sym (row_of-other r pos h x t e)

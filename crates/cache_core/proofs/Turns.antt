@@ -100,7 +100,8 @@ module _ (r : Rules) where
             ((elim (eqb (block_of r x % r.sets) s) as (λ t. eqb (block_of r x % r.sets) s ≡ t
             → IsOnce (ways_of r s (block_of r x ∷ renewals r h))) [
               | false ↦ λ g. rw (ranked-other s (block_of r x) (renewals r h) g) o
-              | true ↦ λ g. let same : block_of r x % r.sets ≡ s = eqb-true (block_of r x % r.sets) s g in
+              | true ↦ λ g. let same : block_of r x % r.sets ≡ s =
+                  eqb-true (block_of r x % r.sets) s g in
                   subst (λ z. IsOnce (take r.ways (ranked r z (block_of r x ∷ renewals r h)))) same
                   (rw (ranked-fifo (block_of r x) (renewals r h) f)
                   (IsOnce-cons_take r.ways (block_of r x)

@@ -177,7 +177,11 @@ module _ (r : Rules) (h : History) (x : Access) where
       behind = (elim r.fifo as (λ t. r.fifo ≡ t
           → (after : List ℕ) × (ranked r s (b ∷ ms) ≡ b ∷ after) × (take m after ≡ take m ranks)) [
             | true ↦ λ f. (ranks, ranked-fifo r b ms f, refl)
-            | false ↦ λ f. (without b ranks, ranked-lru r b ms f, take-without_absent b m ranks less-b)
+            | false ↦ λ f. (
+              without b ranks,
+              ranked-lru r b ms f,
+              take-without_absent b m ranks less-b,
+            )
           ]) refl
 
       pub later-is : (y : ℕ) → eqb s (y % r.sets) ≡ true

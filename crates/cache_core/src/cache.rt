@@ -66,6 +66,7 @@ fn outcome_from(policy: Policy, write: bool, served: Served, seen: Seen) -> Outc
     }
 }
 
+#[tactic(auto, unfolding(crate::specs::Standing::rules_of, crate::specs::Standing::served_of, crate::specs::Standing::counts_kept, crate::specs::Standing::has_failed))]
 impl Cache {
     ghost use Rattle.std.specs.Prelude.{◌≡◌, ◌≢◌, ◌<◌, ◌≤◌, ◌+◌, ◌*◌, ◌^◌, ◌++◌, map, length, [], ◌∷◌, ℕ, true, false, IfOk, OnOk, OnErr, IsErr};
     ghost use Rattle.cache_core.specs.History.{History, access as accessed, flush as flushed};
@@ -76,7 +77,6 @@ impl Cache {
     ghost use Rattle.cache_core.specs.Standing.{StandsFor, HoldsResidents, rules_of, rules_from, served_of, counts_kept, has_failed};
 
     /// A cache that holds nothing and has counted nothing.
-    #[tactic(auto, unfolding(crate::specs::Standing::rules_of, crate::specs::Standing::served_of, crate::specs::Standing::counts_kept, crate::specs::Standing::has_failed))]
     pub fn new(alloc: Global, geometry: Geometry, policy: Policy) -> Result<Cache, NoMemory>
         ensures rules { IfOk result (λ cache. rules_of cache ≡ rules_from geometry policy) }
         ensures stands { IfOk result (λ cache. StandsFor cache []) }
@@ -103,10 +103,10 @@ impl Cache {
     }
 
     /// The counts of all accesses and flushes that succeeded, also after a refusal.
-    #[tactic(auto, unfolding(crate::specs::Standing::counts_kept))]
     pub fn counts(&self) -> Counts
         ensures kept { result ≡ counts_kept self.now }
-        ensures counted { (h : History) → StandsFor self.now h → result ≡ counts_of (rules_of self.now) h }
+        ensures counted { (h : History) → StandsFor self.now h →
+            result ≡ counts_of (rules_of self.now) h }
         ensures kinds_add_up { KindsAddUp result }
         ensures one_lru_set { (h : History) → StandsFor self.now h →
             IsOneLruSet (rules_of self.now) → result.conflict ≡ none_by_class }
@@ -115,7 +115,6 @@ impl Cache {
     }
 
     /// How many accesses and flushes succeeded.
-    #[tactic(auto, unfolding(crate::specs::Standing::served_of))]
     pub fn served(&self) -> u64
         ensures served { result ≡ served_of self.now }
         ensures all { (h : History) → StandsFor self.now h → result ≡ length h }
@@ -124,7 +123,6 @@ impl Cache {
     }
 
     /// Whether a call was refused memory.
-    #[tactic(auto, unfolding(crate::specs::Standing::has_failed))]
     pub fn failed(&self) -> bool
         ensures { result ≡ has_failed self.now }
     {
@@ -132,7 +130,6 @@ impl Cache {
     }
 
     /// Serves one access.
-    #[tactic(auto, unfolding(crate::specs::Standing::rules_of, crate::specs::Standing::served_of, crate::specs::Standing::counts_kept, crate::specs::Standing::has_failed))]
     pub fn access(&mut self, access: Access) -> Result<Outcome, NoMemory>
         requires { served_of self.old < MAX_EVENTS }
         ensures outcome { IfOk result (λ outcome. (h : History) → StandsFor self.old h →
@@ -184,14 +181,14 @@ impl Cache {
     /// Appends the first bytes of the dirty blocks, rising, and empties the cache and its shadow.
     /// Which blocks were ever
     /// accessed stays known.
-    #[tactic(auto, unfolding(crate::specs::Standing::rules_of, crate::specs::Standing::served_of, crate::specs::Standing::counts_kept, crate::specs::Standing::has_failed))]
     pub fn flush(&mut self, out: &mut Vec<u64>) -> Result<(), NoMemory>
         requires { served_of self.old < MAX_EVENTS }
         ensures appends { OnOk result ((h : History) → StandsFor self.old h →
             out.new.items ≡ out.old.items
             ++ map (λ b. b * (rules_of self.old).block_size)
             (dirty_blocks (rules_of self.old) h)) }
-        ensures stands { OnOk result ((h : History) → StandsFor self.old h → StandsFor self.new (flushed ∷ h)) }
+        ensures stands { OnOk result ((h : History) → StandsFor self.old h →
+            StandsFor self.new (flushed ∷ h)) }
         // Known without a history too: no more than the cache has ways.
         ensures few { OnOk result (length out.new.items ≤ length out.old.items + 2 ^ 24) }
         ensures served { OnOk result (served_of self.new ≡ served_of self.old + 1) }

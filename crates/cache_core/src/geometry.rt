@@ -26,12 +26,12 @@ pub struct Geometry {
     ghost lawful: { refusal_of size bsize assoc ≡ None },
 }
 
+#[tactic(auto, unfolding(crate::specs::Lawful::refusal_of, crate::specs::Geometry::size_of, crate::specs::Geometry::bsize_of, crate::specs::Geometry::assoc_of))]
 impl Geometry {
     ghost use Rattle.std.specs.Prelude.{◌≡◌, ◌≤◌, ◌-◌, ◌*◌, ◌/◌, ◌%◌, ◌^◌, IfOk};
     ghost use Rattle.cache_core.specs.Geometry.{IsMadeOf, bsize_of, assoc_of, sets_of, blocks_of};
 
     /// The geometry of these three numbers, or the first rule that they break.
-    #[tactic(auto, unfolding(crate::specs::Lawful::refusal_of, crate::specs::Geometry::size_of, crate::specs::Geometry::bsize_of, crate::specs::Geometry::assoc_of))]
     pub fn new(size: u64, bsize: u64, assoc: u64) -> Result<Geometry, GeometryFault>
         ensures made { IfOk result (λ geometry. IsMadeOf geometry size bsize assoc) }
         ensures lawful { OnOk result (refusal_of size bsize assoc ≡ None) }
@@ -59,7 +59,6 @@ impl Geometry {
     }
 
     /// The number of the block that holds an address.
-    #[tactic(auto, unfolding(crate::specs::Geometry::bsize_of))]
     pub fn block(&self, addr: u64) -> u64
         ensures { result ≡ addr / bsize_of self.now }
     {
@@ -74,7 +73,6 @@ impl Geometry {
     }
 
     /// How many sets there are.
-    #[tactic(auto, unfolding(crate::specs::Geometry::size_of, crate::specs::Geometry::bsize_of, crate::specs::Geometry::assoc_of))]
     pub fn sets(&self) -> u64
         ensures { result ≡ sets_of self.now }
     {
@@ -82,7 +80,6 @@ impl Geometry {
     }
 
     /// How many blocks the whole cache holds.
-    #[tactic(auto, unfolding(crate::specs::Geometry::size_of, crate::specs::Geometry::bsize_of))]
     pub fn blocks(&self) -> u64
         ensures { result ≡ blocks_of self.now }
     {
@@ -90,7 +87,6 @@ impl Geometry {
     }
 
     /// The address of the first byte of a block.
-    #[tactic(auto, unfolding(crate::specs::Geometry::bsize_of))]
     pub fn first_byte(&self, block: u64) -> u64
         requires { block ≤ (2 ^ 64 - 1) / bsize_of self.now }
         ensures { result ≡ block * bsize_of self.now }
@@ -99,7 +95,6 @@ impl Geometry {
     }
 
     /// How many bytes a block has.
-    #[tactic(auto, unfolding(crate::specs::Geometry::bsize_of))]
     pub fn bsize(&self) -> u64
         ensures { result ≡ bsize_of self.now }
     {
@@ -107,7 +102,6 @@ impl Geometry {
     }
 
     /// How many ways a set has.
-    #[tactic(auto, unfolding(crate::specs::Geometry::assoc_of))]
     pub(crate) fn assoc(&self) -> u64
         ensures { result ≡ assoc_of self.now }
     {

@@ -74,7 +74,8 @@ impl Kinds {
     /// if the access may
     /// `load`. A block that is used again at once needs no look-up.
     pub fn see(&mut self, block: u64, load: bool, hit: bool) -> Result<Seen, AllocError>
-        ensures known { IfOk result (λ seen. seen.known ≡ (hit || contains nat_eq self.old.known block)) }
+        ensures known { IfOk result (λ seen. seen.known
+            ≡ (hit || contains nat_eq self.old.known block)) }
         ensures in_shadow { IfOk result (λ seen.
             seen.in_shadow ≡ is_some (lookup (nat_eq block) self.old.shadow.entries)) }
         ensures adds { OnOk result ((q : ℕ) → contains nat_eq self.new.known q

@@ -84,7 +84,8 @@ fn load_block(
     first: u64,
     dirty: bool,
 ) -> Result<Option<u64>, AllocError>
-    ensures map { OnOk result (map.new ≡ lru_cache (put_entries nat_eq map.old first dirty) map.old.cap) }
+    ensures map { OnOk result (map.new
+        ≡ lru_cache (put_entries nat_eq map.old first dirty) map.old.cap) }
     ensures back { IfOk result (λ back.
         back ≡ option_map_or dirty_entry (displaced nat_eq map.old first dirty) None) }
     ensures keeps { OnErr result (map.new ≡ map.old) }
@@ -147,7 +148,8 @@ fn empty_maps(
     count: usize,
     assoc: NonZeroUsize,
 ) -> Result<Vec<LruCache<u64, bool>>, AllocError>
-    ensures { IfOk result (λ v. v.items ≡ replicate count (lru_cache [] (non_zero_usize_get assoc))) }
+    ensures { IfOk result (λ v. v.items
+        ≡ replicate count (lru_cache [] (non_zero_usize_get assoc))) }
 {
     let mut maps = Vec::new(alloc);
     for _ in 0..count {
@@ -175,7 +177,8 @@ fn dirty_in_maps(
     sets: &[LruCache<u64, bool>],
 ) -> Result<Vec<u64>, AllocError>
     requires { map cap_of sets.now ≡ replicate (length sets.now) assoc }
-    ensures { IfOk result (λ v. v.items ≡ map first_of (filter is_dirty_way (flat assoc sets.now))) }
+    ensures { IfOk result (λ v. v.items
+        ≡ map first_of (filter is_dirty_way (flat assoc sets.now))) }
 {
     let mut firsts = Vec::new(alloc);
     for set in sets.iter() {
@@ -197,7 +200,8 @@ impl Maps {
     /// Sets that hold nothing.
     pub fn new(alloc: Global, count: usize, assoc: usize) -> Result<Maps, AllocError>
         requires { 0 < assoc }
-        ensures empty { IfOk result (λ m. flat m.assoc m.sets.items ≡ replicate (count * assoc) empty_way) }
+        ensures empty { IfOk result (λ m. flat m.assoc m.sets.items
+            ≡ replicate (count * assoc) empty_way) }
         ensures assoc { IfOk result (λ m. m.assoc ≡ assoc) }
         ensures sets { IfOk result (λ m. vec_len m.sets ≡ count) }
     {

@@ -53,12 +53,14 @@ pub(crate) fn serve_set(
     requires { (count : ℕ) × (has_shape count assoc sets.old ≡ true) × (set < count) }
     ensures served { IfOk result (λ served. ServesRow policy first write
         (row assoc set (ways_in sets.old)) (row assoc set (ways_in sets.new)) served) }
-    ensures others { (s : ℕ) → s ≢ set → row assoc s (ways_in sets.new) ≡ row assoc s (ways_in sets.old) }
+    ensures others { (s : ℕ) → s ≢ set →
+        row assoc s (ways_in sets.new) ≡ row assoc s (ways_in sets.old) }
     ensures paid { IfOk result (λ served.
         dirty_count (ways_in sets.new) + one_if (is_some served.back)
         ≤ dirty_count (ways_in sets.old) + 1) }
     ensures keeps { OnErr result (ways_in sets.new ≡ ways_in sets.old) }
-    ensures shape { (count : ℕ) → has_shape count assoc sets.old ≡ true → has_shape count assoc sets.new ≡ true }
+    ensures shape { (count : ℕ) → has_shape count assoc sets.old ≡ true →
+        has_shape count assoc sets.new ≡ true }
 {
     match sets {
         Sets::Rows(ways) => Ok(serve(ways, set, assoc, policy, first, write)),

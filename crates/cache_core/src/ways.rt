@@ -148,7 +148,8 @@ pub(crate) fn serve(
     write: bool,
 ) -> Served
     requires { (set + 1) * assoc ≤ length ways.old }
-    ensures served { ServesRow policy first write (row assoc set ways.old) (row assoc set ways.new) result }
+    ensures served { ServesRow policy first write
+        (row assoc set ways.old) (row assoc set ways.new) result }
     ensures others { (s : ℕ) → s ≢ set → row assoc s ways.new ≡ row assoc s ways.old }
     ensures paid { dirty_count ways.new + one_if (is_some result.back) ≤ dirty_count ways.old + 1 }
 {
