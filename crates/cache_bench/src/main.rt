@@ -3,12 +3,13 @@
 //! Words: the number of references, and `time` where the time of one access is wanted.
 #![tactic(auto)]
 
-use anyhow::{bail, Context};
-use cache_core::{Access, Cache, Class, Geometry, NoMemory, Policy, Repl, MAX_EVENTS};
+use anyhow::{Context, bail};
+use cache_core::{Access, Cache, Class, Geometry, MAX_EVENTS, NoMemory, Policy, Repl};
 use std::env;
 use std::time::Instant;
 
 const SIZE: u64 = 65_536;
+
 const BLOCK: u64 = 16;
 
 const POLICY: Policy = Policy {
@@ -27,7 +28,11 @@ fn next(state: u64) -> u64 {
 /// The access that a state stands for: one in four writes, and three in four go to a sixteenth of all blocks.
 fn access_from(state: u64) -> Access {
     let bits = state >> 32;
-    let class = if bits % 4 == 0 { Class::Write } else { Class::Read };
+    let class = if bits % 4 == 0 {
+        Class::Write
+    } else {
+        Class::Read
+    };
     let blocks = if bits / 4 % 4 == 0 { 16_384 } else { 1_024 };
     Access {
         class,
@@ -50,14 +55,14 @@ fn serve_all(cache: &mut Cache, references: u64) -> Result<(), NoMemory> {
 
 fn measure(rt: &HostRuntime, ways: u64, references: u64, timed: bool) -> anyhow::Result<()> {
     let Ok(geometry) = Geometry::new(SIZE, BLOCK, ways) else {
-        bail!(rt.alloc(), "no lawful geometry");
+        bail!("no lawful geometry");
     };
     let Ok(mut cache) = Cache::new(rt.alloc(), geometry, POLICY) else {
-        bail!(rt.alloc(), "no memory");
+        bail!("no memory");
     };
     let start = Instant::now(rt)?;
     let Ok(()) = serve_all(&mut cache, references) else {
-        bail!(rt.alloc(), "no memory");
+        bail!("no memory");
     };
     let took = start.elapsed(rt)?;
     let counts = cache.counts();
@@ -70,7 +75,10 @@ fn measure(rt: &HostRuntime, ways: u64, references: u64, timed: bool) -> anyhow:
         counts.written_back
     )?;
     if timed && references > 0 {
-        println!(rt; "{ways} ways: {} ns an access", took.as_nanos() / u128::from(references))?;
+        println!(rt;
+            "{ways} ways: {} ns an access",
+            took.as_nanos() / u128::from(references)
+        )?;
     }
     Ok(())
 }
