@@ -1,0 +1,14 @@
+use Rattle.std.proofs.Common.{◌≡◌, take}
+use Rattle.stage_core.specs.Events.{events}
+use Rattle.stage_core.specs.Standing.{WasOffered}
+use Rattle.stage_core.specs.Plain.{hierarchy_in, Ran}
+use Rattle.stage_core.proofs.plain.Machines.run.Given as goal
+
+abbrev pub invariant-loop-next : goal.invariant-loop-next
+invariant-loop-next l =
+    record {
+      selection : l.selector.selection ≡ l.fn.selection;
+      offered : WasOffered l.selector (take l.next-index l.records);
+      ran : Ran l.self (events l.fn.selection (take l.next-index l.records));
+      rules : hierarchy_in l.self ≡ hierarchy_in l.initial.self;
+    }

@@ -1,0 +1,30 @@
+-- Laws over the definitions.
+use Rattle.std.specs.Prelude.{◌≡◌, ◌*◌, ◌≤◌, List, length}
+use Rattle.din_trace.specs.declared.record.DinRecord.{DinRecord}
+use Rattle.stage_core.specs.Events.{events}
+use Rattle.stage_core.specs.Seen.{Parts, Hierarchy, parts_in, seen, second_history}
+use Rattle.stage_core.specs.Streams.{order, to_side, from_side, replies}
+use Rattle.stage_core.specs.Merging.{merged, all_used, AtEnd}
+use Rattle.stage_core.specs.declared.message.Side.{Side}
+use Rattle.stage_core.specs.declared.message.Side.TheVariants as side
+use Rattle.stage_core.specs.declared.selection.Selection.{Selection}
+
+-- the merge's rule, fed with the streams of an event list, takes exactly what the second level is to see, uses the
+-- streams up and is at its end
+abbrev pub MergeTakesWhatIsSeen : Type 0
+MergeTakesWhatIsSeen = (parts : Parts) (es : List DinRecord) →
+    merged (order es) (from_side parts side.I es) (from_side parts side.D es) ≡ all_used (seen parts es) AtEnd
+
+-- what a stage sends for its whole stream is the stream to the merge
+abbrev pub StagesAnswerTheirStreams : Type 0
+StagesAnswerTheirStreams = (parts : Parts) (s : Side) (es : List DinRecord) →
+    replies parts s (to_side s es) ≡ from_side parts s es
+
+-- the second level's history is at most twice as long as the event list
+abbrev pub SecondLevelSeesFew : Type 0
+SecondLevelSeesFew = (c : Hierarchy) (es : List DinRecord) →
+    length (second_history (seen (parts_in c) es)) ≤ 2 * length es
+
+-- the event list is at most twice as long as the trace
+abbrev pub SelectionsMakeFew : Type 0
+SelectionsMakeFew = (s : Selection) (records : List DinRecord) → length (events s records) ≤ 2 * length records

@@ -1,0 +1,11 @@
+pub mod Places
+pub mod Events
+pub mod Seen
+pub mod Streams
+pub mod Merging
+pub mod Standing
+pub mod Outboxes
+pub mod Lawful
+pub mod Config
+pub mod Laws
+pub mod Plain

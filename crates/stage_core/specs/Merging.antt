@@ -1,0 +1,88 @@
+-- The merge's rule.
+use Rattle.std.specs.Prelude.{◌≡◌, ℕ, List, [], ◌∷◌, ◌++◌}
+use Rattle.stage_core.specs.declared.message.What.{What}
+use Rattle.stage_core.specs.declared.message.Turn.{Turn}
+use Rattle.stage_core.specs.declared.message.Turn.TheVariants as turn
+use Rattle.stage_core.specs.declared.message.Want.{Want}
+use Rattle.stage_core.specs.declared.message.Want.TheVariants as want
+use Rattle.stage_core.specs.declared.message.FromStage.{FromStage}
+use Rattle.stage_core.specs.declared.message.FromStage.TheVariants as from_stage
+
+-- Where the merge stands: before a turn; in a turn of I, of D, or of both with I's part still to come;
+-- after the last turn, before I's Finish or D's; at the end.
+pub data Stand : Type 0 where
+  AtOrder AtI AtD AtBoth LastI LastD AtEnd : Stand
+
+-- whose message it takes next
+abbrev pub wanted : Stand → Want
+wanted AtOrder = want.Order
+wanted AtI = want.I
+wanted AtD = want.D
+wanted AtBoth = want.I
+wanted LastI = want.I
+wanted LastD = want.D
+wanted AtEnd = want.Nothing
+
+-- where a turn leads
+abbrev pub after_turn : Turn → Stand
+after_turn turn.I = AtI
+after_turn turn.D = AtD
+after_turn turn.Both = AtBoth
+after_turn turn.Finish = LastI
+
+-- where the end of a side's messages leads
+abbrev pub after_end : Stand → Stand
+after_end AtI = AtOrder
+after_end AtD = AtOrder
+after_end AtBoth = AtD
+after_end LastI = LastD
+after_end LastD = AtEnd
+after_end AtOrder = AtOrder
+after_end AtEnd = AtEnd
+
+-- a Part leaves the merge where it is; Done and Finish, either in the place of the other, end a side's messages
+abbrev pub after_message : Stand → FromStage → Stand
+after_message at (from_stage.Part place part w) = at
+after_message at (from_stage.Done place parts) = after_end at
+after_message at from_stage.Finish = after_end at
+
+-- what a message brings: that of a Part
+abbrev pub what_in : FromStage → List What
+what_in (from_stage.Part place part w) = w ∷ []
+what_in (from_stage.Done place parts) = []
+what_in from_stage.Finish = []
+
+-- what the rule has taken from three lists, where it stands then, and what is left of the lists
+pub record Merged : Type 0 where
+  pub taken : List What
+  pub at : Stand
+  pub turns : List Turn
+  pub from_i : List FromStage
+  pub from_d : List FromStage
+
+abbrev pub with_what : What → Merged → Merged
+with_what w m = record m { taken = w ∷ m.taken }
+
+-- the rule takes a side's messages up to their end and goes on behind it, or stops where there are no more
+abbrev pub up_to_end : List FromStage → Merged → (List FromStage → Merged) → Merged
+up_to_end [] stopped next = stopped
+up_to_end (from_stage.Part place part w ∷ ms) stopped next = with_what w (up_to_end ms stopped next)
+up_to_end (from_stage.Done place parts ∷ ms) stopped next = next ms
+up_to_end (from_stage.Finish ∷ ms) stopped next = next ms
+
+abbrev pub stops : Stand → List Turn → List FromStage → List FromStage → Merged
+stops at turns is ds = record { taken = []; at = at; turns = turns; from_i = is; from_d = ds }
+
+-- the rule, fed with the turns and with the messages from I and from D
+abbrev pub merged : List Turn → List FromStage → List FromStage → Merged
+merged [] is ds = stops AtOrder [] is ds
+merged (turn.I ∷ ts) is ds = up_to_end is (stops AtI ts [] ds) (λ is'. merged ts is' ds)
+merged (turn.D ∷ ts) is ds = up_to_end ds (stops AtD ts is []) (λ ds'. merged ts is ds')
+merged (turn.Both ∷ ts) is ds =
+    up_to_end is (stops AtBoth ts [] ds) (λ is'. up_to_end ds (stops AtD ts is' []) (λ ds'. merged ts is' ds'))
+merged (turn.Finish ∷ ts) is ds =
+    up_to_end is (stops LastI ts [] ds) (λ is'. up_to_end ds (stops LastD ts is' []) (λ ds'. stops AtEnd ts is' ds'))
+
+-- the rule took these whats, used all three lists up and stands there
+abbrev pub all_used : List What → Stand → Merged
+all_used ws at = record { taken = ws; at = at; turns = []; from_i = []; from_d = [] }

@@ -1,0 +1,29 @@
+-- A stage's outbox, whose messages are made as they are sent.
+use Rattle.std.specs.Prelude.{ℕ, ◌+◌, Bool, true, false, List, [], ◌∷◌, ◌++◌, length, map, Option, option_to_list, drop}
+use Rattle.stage_core.specs.Seen.{back}
+use Rattle.stage_core.specs.Streams.{numbered}
+use Rattle.stage_core.specs.declared.message.What.{What}
+use Rattle.stage_core.specs.declared.message.FromStage.{FromStage}
+use Rattle.stage_core.specs.declared.message.FromStage.TheVariants as from_stage
+use Rattle.stage_core.specs.declared.outbox.Owes.{Owes}
+use Rattle.stage_core.specs.declared.outbox.Owes.TheVariants as owes
+
+-- the write-backs that are left, and at most three parts more
+abbrev pub parts_left : List ℕ → ℕ → Option ℕ → Option What → Option What → List What
+parts_left backs next first second third =
+    map back (drop next backs) ++ (map back (option_to_list first) ++ option_to_list second ++ option_to_list third)
+
+-- the message that ends them, behind n parts
+abbrev pub last_message : ℕ → ℕ → Owes → List FromStage
+last_message place n owes.Nothing = []
+last_message place n owes.Done = from_stage.Done place n ∷ []
+last_message place n owes.Finish = from_stage.Finish ∷ []
+
+-- the parts that are left behind those that were sent, and the end
+abbrev pub to_send : ℕ → ℕ → List What → Owes → List FromStage
+to_send place sent ws o = numbered place (sent + 1) ws ++ last_message place (sent + length ws) o
+
+abbrev pub owes_done : Owes → Bool
+owes_done owes.Nothing = false
+owes_done owes.Done = true
+owes_done owes.Finish = false

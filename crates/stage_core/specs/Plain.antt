@@ -1,0 +1,67 @@
+-- The run on one thread, between two events.
+use Rattle.std.specs.Prelude.{◌≡◌, ◌⊎◌, ℕ, List, [], ◌∷◌, length, Option, option_to_list}
+use Rattle.std.specs.List.{flat_map}
+use Rattle.din_trace.specs.declared.record.DinRecord.{DinRecord}
+use Rattle.cache_core.specs.Standing.{rules_of}
+use Rattle.stage_core.specs.Places.{over}
+use Rattle.stage_core.specs.Seen.{Hierarchy, Parts, parts_of, parts_in, seen}
+use Rattle.stage_core.specs.Streams.{told, reply}
+use Rattle.stage_core.specs.Merging.{Stand, AtOrder, wanted, after_end, after_message, what_in}
+use Rattle.stage_core.specs.Standing.{StageStandsFor, SecondStandsFor, IsReady, cache_of, side_of, second_cache}
+use Rattle.stage_core.specs.declared.message.Side.{Side}
+use Rattle.stage_core.specs.declared.message.Side.TheVariants as side
+use Rattle.stage_core.specs.declared.message.Want.TheVariants as want
+use Rattle.stage_core.specs.declared.message.What.{What}
+use Rattle.stage_core.specs.declared.message.ToStage.{ToStage}
+use Rattle.stage_core.specs.declared.message.FromStage.{FromStage}
+use Rattle.stage_core.specs.declared.l1_stage.L1Stage.{L1Stage}
+use Rattle.stage_core.specs.declared.plain.Machines.{Machines}
+
+-- the merge wants a side's message
+abbrev pub WantsSide : Stand → Type 0
+WantsSide at = (wanted at ≡ want.I) ⊎ (wanted at ≡ want.D)
+
+-- it does at each of these messages
+abbrev pub AreWanted : Stand → List FromStage → Type 0
+AreWanted at [] = Unit {0}
+AreWanted at (m ∷ ms) = WantsSide at × AreWanted (after_message at m) ms
+
+-- where it stands after them
+abbrev pub stand_after : Stand → List FromStage → Stand
+stand_after at [] = at
+stand_after at (m ∷ ms) = stand_after (after_message at m) ms
+
+-- it does where a stage is to answer, and not elsewhere
+abbrev pub WantsAnswers : Stand → List ToStage → Type 0
+WantsAnswers at [] = Unit {0}
+WantsAnswers at (m ∷ ms) = WantsSide at × WantsAnswers (after_end at) ms
+
+-- where it stands after the answers to these
+abbrev pub after_answers : Stand → List ToStage → Stand
+after_answers at [] = at
+after_answers at (m ∷ ms) = after_answers (after_end at) ms
+
+-- what a message brings from a stage, which takes it in after the messages before
+abbrev pub brought : Parts → Side → List ToStage → List ToStage → List What
+brought parts s before ms = flat_map (λ m. flat_map what_in (reply parts s before m)) ms
+
+abbrev pub brought_from : L1Stage → List ToStage → Option ToStage → List What
+brought_from stage before message =
+    brought (parts_of (rules_of (cache_of stage))) (side_of stage) before (option_to_list message)
+
+-- a stage took in all that its side was told of these events, and has sent all that it has to
+pub record StageRan (s : Side) (stage : L1Stage) (es : List DinRecord) : Type 0 where
+  pub side : side_of stage ≡ s
+  pub stands : StageStandsFor stage (over (told s) es)
+  pub ready : IsReady stage
+
+abbrev pub hierarchy_in : Machines → Hierarchy
+hierarchy_in m = record { i = rules_of (cache_of m.i); d = rules_of (cache_of m.d); u = rules_of (second_cache m.u) }
+
+-- the machines have worked these events off
+pub record Ran (m : Machines) (es : List DinRecord) : Type 0 where
+  pub place : m.splitter ≡ length es
+  pub i : StageRan side.I m.i es
+  pub d : StageRan side.D m.d es
+  pub merge : m.merge ≡ AtOrder
+  pub u : SecondStandsFor m.u (seen (parts_in (hierarchy_in m)) es)

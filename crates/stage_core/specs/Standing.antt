@@ -1,0 +1,82 @@
+-- What the machines' fields have to do with what they were given.
+use Rattle.std.specs.Prelude.{◌≡◌, ℕ, Bool, true, false, List, [], length, count_by}
+use Rattle.std.specs.List.{list_any}
+use Rattle.din_trace.specs.declared.record.DinRecord.{DinRecord}
+use Rattle.cache_core.specs.declared.cache.Cache.{Cache}
+use Rattle.cache_core.specs.Standing.{StandsFor, rules_of, served_of, counts_kept, has_failed}
+use Rattle.stage_core.specs.Events.{is_reference}
+use Rattle.stage_core.specs.Seen.{second_history}
+use Rattle.stage_core.specs.Streams.{taken_in, is_finish}
+use Rattle.stage_core.specs.Merging.{Stand, AtOrder, AtI, AtD, AtBoth, LastI, LastD, AtEnd}
+use Rattle.stage_core.specs.declared.merge.Standing.{Standing}
+use Rattle.stage_core.specs.declared.merge.Standing.TheVariants as standing
+use Rattle.stage_core.specs.declared.message.Side.{Side}
+use Rattle.stage_core.specs.declared.message.What.{What}
+use Rattle.stage_core.specs.declared.message.ToStage.{ToStage}
+use Rattle.stage_core.specs.declared.message.FromStage.{FromStage}
+use Rattle.stage_core.specs.declared.selection.Selection.{Selection}
+use Rattle.stage_core.specs.declared.l1_stage.L1Stage.{L1Stage}
+use Rattle.stage_core.specs.declared.l2_stage.L2Stage.{L2Stage}
+
+abbrev pub stand_of : Standing → Stand
+stand_of standing.Order = AtOrder
+stand_of standing.I = AtI
+stand_of standing.D = AtD
+stand_of standing.Both = AtBoth
+stand_of standing.LastI = LastI
+stand_of standing.LastD = LastD
+stand_of standing.End = AtEnd
+
+-- what a selector keeps: how many records it was offered, and how many of them are references
+pub record Offers : Type 0 where
+  pub selection : Selection
+  pub records : ℕ
+  pub references : ℕ
+
+-- the selector was offered these records
+pub record WasOffered (o : Offers) (offered : List DinRecord) : Type 0 where
+  pub count : o.records ≡ length offered
+  pub references : o.references ≡ count_by is_reference offered
+
+-- what a first-level stage keeps
+unfoldable pub side_of : L1Stage → Side
+side_of s = s.side
+
+unfoldable pub cache_of : L1Stage → Cache
+cache_of s = s.cache
+
+-- what it has still to send
+unfoldable pub outbox_of : L1Stage → List FromStage
+outbox_of s = s.outbox
+
+unfoldable pub took_finish : L1Stage → Bool
+took_finish s = s.took_finish
+
+-- it may take a message in: nothing is left to send, and Finish was not taken in
+pub record IsReady (s : L1Stage) : Type 0 where
+  pub goes_on : took_finish s ≡ false
+  pub empty : outbox_of s ≡ []
+
+-- Finish was taken in, and nothing is left to send
+pub record IsFinished (s : L1Stage) : Type 0 where
+  pub took : took_finish s ≡ true
+  pub empty : outbox_of s ≡ []
+
+-- the stage took in these messages: its cache was given what they ask for, and Finish where it is among them
+pub record StageStandsFor (s : L1Stage) (messages : List ToStage) : Type 0 where
+  pub cache : StandsFor (cache_of s) (taken_in messages)
+  pub finish : took_finish s ≡ list_any is_finish messages
+
+-- what a refusal leaves: the cache has failed and counts what it counted before
+pub record HasFailedSince (old new : Cache) : Type 0 where
+  pub failed : has_failed new ≡ true
+  pub counts : counts_kept new ≡ counts_kept old
+  pub served : served_of new ≡ served_of old
+
+-- what the second level keeps
+unfoldable pub second_cache : L2Stage → Cache
+second_cache s = s.cache
+
+-- the second level served these
+pub record SecondStandsFor (s : L2Stage) (whats : List What) : Type 0 where
+  pub cache : StandsFor (second_cache s) (second_history whats)

@@ -1,0 +1,258 @@
+//! A first-level stage: one cache, and what it sends to the next level.
+
+ghost use Rattle.std.specs.Prelude.{◌≡◌, option_to_list};
+ghost use Rattle.cache_core.specs.Standing.{rules_of};
+ghost use Rattle.cache_core.specs.Geometry.{bsize_of};
+ghost use Rattle.stage_core.specs.Places.{one_if};
+ghost use Rattle.stage_core.specs.Seen.{access_parts, flush_all, fetch_class};
+ghost use Rattle.stage_core.specs.Streams.{answer};
+ghost use Rattle.stage_core.specs.declared.message.What.TheVariants as what;
+
+use crate::memory::NoMemory;
+use crate::message::{FromStage, Side, ToStage, What};
+use crate::outbox::Outbox;
+use cache_core::{Access, Cache, Class, Counts, Geometry, MAX_EVENTS, Outcome, Policy};
+use std::alloc::Global;
+
+/// One first-level cache, which takes messages in and sends the parts of each to the next level. A message is taken in
+/// once all that the one before it brought was sent.
+#[derive(Drop)]
+pub struct L1Stage {
+    alloc: Global,
+    side: Side,
+    geometry: Geometry,
+    cache: Cache,
+    outbox: Outbox,
+    took_finish: bool,
+    ghost shape: { (rules_of cache).block_size ≡ bsize_of geometry },
+}
+
+// The fetch of a block, as the next level serves it.
+fn fetch_part(side: Side, fetch: bool, first: u64) -> Option<What>
+    ensures { option_to_list result ≡ one_if fetch (what.Fetch (fetch_class side) first) }
+{
+    if !fetch {
+        return None;
+    }
+    let class = match side {
+        Side::I => Class::Instr,
+        Side::D => Class::Read,
+    };
+    Some(What::Fetch(class, first))
+}
+
+// The write sent on.
+fn through_part(through: bool, addr: u64) -> Option<What>
+    ensures { option_to_list result ≡ one_if through (what.Through addr) }
+{
+    if through {
+        Some(What::Through(addr))
+    } else {
+        None
+    }
+}
+
+// What follows the write-backs of a flush.
+fn flush_part(side: Side) -> Option<What>
+    ensures { option_to_list result ≡ flush_all side }
+{
+    match side {
+        Side::I => None,
+        Side::D => Some(What::FlushAll),
+    }
+}
+
+// The parts of an access whose block begins at `first`, and Done.
+fn access_box(
+    alloc: Global,
+    side: Side,
+    place: u64,
+    first: u64,
+    access: Access,
+    outcome: Outcome,
+) -> Outbox
+    ensures { result ≡ answer place (access_parts side first access outcome) }
+{
+    let fetch = fetch_part(side, outcome.fetch, first);
+    let through = through_part(outcome.through, access.addr);
+    Outbox::answer(place, Vec::new(alloc), outcome.back, fetch, through)
+}
+
+#[tactic(auto, unfolding(crate::specs::Standing::cache_of, crate::specs::Standing::side_of, crate::specs::Standing::outbox_of, crate::specs::Standing::took_finish))]
+impl L1Stage {
+    ghost use Rattle.std.specs.Prelude.{◌≡◌, ◌<◌, ◌+◌, ◌↔◌, ◌++◌, ◌∷◌, [], IsTrue, IsNone, IsErr, IfOk, OnOk, OnErr, List, true, false, length, option_to_list};
+    ghost use Rattle.cache_core.specs.History.{History, access as accessed, flush as flushed};
+    ghost use Rattle.cache_core.specs.Counts.{KindsAddUp, counts_of};
+    ghost use Rattle.cache_core.specs.Standing.{StandsFor, rules_of, rules_from, served_of, counts_kept, has_failed};
+    ghost use Rattle.stage_core.specs.Seen.{parts_of};
+    ghost use Rattle.stage_core.specs.Streams.{answer, reply, asked_in, taken_in, is_finish};
+    ghost use Rattle.stage_core.specs.Standing.{StageStandsFor, IsReady, IsFinished, HasFailedSince, cache_of, side_of, outbox_of, took_finish};
+    ghost use Rattle.stage_core.specs.declared.message.ToStage.{ToStage};
+    ghost use Rattle.stage_core.specs.declared.message.FromStage.TheVariants as from_stage;
+
+    /// A stage that took nothing in.
+    pub fn new(
+        alloc: Global,
+        side: Side,
+        geometry: Geometry,
+        policy: Policy,
+    ) -> Result<L1Stage, NoMemory>
+        ensures side { IfOk result (λ stage. side_of stage ≡ side) }
+        ensures rules { IfOk result (λ stage. rules_of (cache_of stage) ≡ rules_from geometry policy) }
+        ensures ready { IfOk result (λ stage. IsReady stage) }
+        ensures stands { IfOk result (λ stage. StageStandsFor stage []) }
+        ensures works { IfOk result (λ stage. has_failed (cache_of stage) ≡ false) }
+    {
+        let cache = Cache::new(alloc, geometry, policy)?;
+        Ok(L1Stage {
+            alloc,
+            side,
+            geometry,
+            cache,
+            outbox: Outbox::empty(alloc),
+            took_finish: false,
+        })
+    }
+
+    /// Whether a message may be taken in: all was sent, and Finish was not taken in.
+    pub fn ready(&self) -> bool
+        ensures { IsTrue result ↔ IsReady self.now }
+    {
+        !self.took_finish && self.outbox.is_empty()
+    }
+
+    /// Whether Finish was taken in and all was sent.
+    pub fn finished(&self) -> bool
+        ensures { IsTrue result ↔ IsFinished self.now }
+    {
+        self.took_finish && self.outbox.is_empty()
+    }
+
+    /// How many accesses and flushes its cache served.
+    pub fn served(&self) -> u64
+        ensures { result ≡ served_of (cache_of self.now) }
+    {
+        self.cache.served()
+    }
+
+    /// Its cache's counts, also after a refusal.
+    pub fn counts(&self) -> Counts
+        ensures kept { result ≡ counts_kept (cache_of self.now) }
+        ensures counted { (messages : List ToStage) → StageStandsFor self.now messages →
+            result ≡ counts_of (rules_of (cache_of self.now)) (taken_in messages) }
+        ensures kinds_add_up { KindsAddUp result }
+    {
+        self.cache.counts()
+    }
+
+    /// Whether an `on` was refused memory.
+    pub fn failed(&self) -> bool
+        ensures { result ≡ has_failed (cache_of self.now) }
+    {
+        self.cache.failed()
+    }
+
+    /// Takes the next message off that is to be sent.
+    pub fn outbox_next(&mut self) -> Option<FromStage>
+        ensures front { outbox_of self.old ≡ option_to_list result ++ outbox_of self.new }
+        ensures none { IsNone result ↔ (outbox_of self.old ≡ []) }
+        ensures cache { cache_of self.new ≡ cache_of self.old }
+        ensures side { side_of self.new ≡ side_of self.old }
+        ensures finish { took_finish self.new ≡ took_finish self.old }
+    {
+        self.outbox.next()
+    }
+
+    // Serves an access.
+    fn access(&mut self, place: u64, access: Access) -> Result<(), NoMemory>
+        requires { served_of (cache_of self.old) < MAX_EVENTS }
+        ensures sent { OnOk result ((h : History) → StandsFor (cache_of self.old) h →
+            outbox_of self.new
+            ≡ answer place (parts_of (rules_of (cache_of self.old)) (side_of self.old) h (accessed access))) }
+        ensures stands { OnOk result ((h : History) → StandsFor (cache_of self.old) h →
+            StandsFor (cache_of self.new) (accessed access ∷ h)) }
+        ensures served { OnOk result (served_of (cache_of self.new) ≡ served_of (cache_of self.old) + 1) }
+        ensures works { OnOk result (has_failed (cache_of self.new) ≡ false) }
+        ensures refused { OnErr result (HasFailedSince (cache_of self.old) (cache_of self.new)
+            × (outbox_of self.new ≡ outbox_of self.old)) }
+        ensures failed { has_failed (cache_of self.old) ≡ true → IsErr result }
+        ensures side { side_of self.new ≡ side_of self.old }
+        ensures finish { took_finish self.new ≡ took_finish self.old }
+        ensures rules { rules_of (cache_of self.new) ≡ rules_of (cache_of self.old) }
+    {
+        let outcome = self.cache.access(access)?;
+        let first = self.geometry.first_byte(self.geometry.block(access.addr));
+        self.outbox = access_box(self.alloc, self.side, place, first, access, outcome);
+        Ok(())
+    }
+
+    // Serves a flush.
+    fn flush(&mut self, place: u64) -> Result<(), NoMemory>
+        requires { served_of (cache_of self.old) < MAX_EVENTS }
+        ensures sent { OnOk result ((h : History) → StandsFor (cache_of self.old) h →
+            outbox_of self.new
+            ≡ answer place (parts_of (rules_of (cache_of self.old)) (side_of self.old) h flushed)) }
+        ensures stands { OnOk result ((h : History) → StandsFor (cache_of self.old) h →
+            StandsFor (cache_of self.new) (flushed ∷ h)) }
+        ensures served { OnOk result (served_of (cache_of self.new) ≡ served_of (cache_of self.old) + 1) }
+        ensures works { OnOk result (has_failed (cache_of self.new) ≡ false) }
+        ensures refused { OnErr result (HasFailedSince (cache_of self.old) (cache_of self.new)
+            × (outbox_of self.new ≡ outbox_of self.old)) }
+        ensures failed { has_failed (cache_of self.old) ≡ true → IsErr result }
+        ensures side { side_of self.new ≡ side_of self.old }
+        ensures finish { took_finish self.new ≡ took_finish self.old }
+        ensures rules { rules_of (cache_of self.new) ≡ rules_of (cache_of self.old) }
+    {
+        let mut backs = Vec::new(self.alloc);
+        self.cache.flush(&mut backs)?;
+        self.outbox = Outbox::answer(place, backs, None, flush_part(self.side), None);
+        Ok(())
+    }
+
+    // Takes Finish in. A stage that has failed refuses it too.
+    fn finish(&mut self) -> Result<(), NoMemory>
+        ensures sent { OnOk result (outbox_of self.new ≡ from_stage.Finish ∷ []) }
+        ensures finish { OnOk result (took_finish self.new ≡ true) }
+        ensures works { OnOk result (has_failed (cache_of self.old) ≡ false) }
+        ensures refused { OnErr result ((has_failed (cache_of self.old) ≡ true)
+            × (outbox_of self.new ≡ outbox_of self.old)
+            × (took_finish self.new ≡ took_finish self.old)) }
+        ensures cache { cache_of self.new ≡ cache_of self.old }
+        ensures side { side_of self.new ≡ side_of self.old }
+    {
+        if self.cache.failed() {
+            return Err(NoMemory);
+        }
+        self.took_finish = true;
+        self.outbox = Outbox::finish(self.alloc);
+        Ok(())
+    }
+
+    /// Takes a message in, and makes what is to be sent for it. After a refusal the stage has failed: nothing is left to
+    /// send, and each further call is refused.
+    pub fn on(&mut self, message: ToStage) -> Result<(), NoMemory>
+        requires ready { IsReady self.old }
+        requires room { served_of (cache_of self.old) < MAX_EVENTS }
+        ensures sent { OnOk result ((before : List ToStage) → StageStandsFor self.old before →
+            outbox_of self.new
+            ≡ reply (parts_of (rules_of (cache_of self.old))) (side_of self.old) before message) }
+        ensures stands { OnOk result ((before : List ToStage) → StageStandsFor self.old before →
+            StageStandsFor self.new (before ++ message ∷ [])) }
+        ensures served { OnOk result (served_of (cache_of self.new)
+            ≡ served_of (cache_of self.old) + length (asked_in message)) }
+        ensures finish { OnOk result (took_finish self.new ≡ is_finish message) }
+        ensures works { OnOk result (has_failed (cache_of self.new) ≡ false) }
+
+        ensures refused { OnErr result (HasFailedSince (cache_of self.old) (cache_of self.new)) }
+        ensures stays_ready { OnErr result (IsReady self.new) }
+        ensures failed { has_failed (cache_of self.old) ≡ true → IsErr result }
+        ensures side { side_of self.new ≡ side_of self.old }
+        ensures rules { rules_of (cache_of self.new) ≡ rules_of (cache_of self.old) }
+    {
+        match message {
+            ToStage::Ref { place, class, addr } => self.access(place, Access { class, addr }),
+            ToStage::Flush { place } => self.flush(place),
+            ToStage::Finish => self.finish(),
+        }
+    }
+}

@@ -1,0 +1,11 @@
+//! Want of memory.
+
+/// Memory was refused.
+#[derive(Clone, Copy, Debug, PartialEq, Eq)]
+pub struct NoMemory;
+
+impl From<cache_core::NoMemory> for NoMemory {
+    fn from(_refusal: cache_core::NoMemory) -> NoMemory {
+        NoMemory
+    }
+}

@@ -1,0 +1,185 @@
+//! What a stage has still to send, made as it is sent: nothing grows after the cache was called.
+
+ghost use Rattle.std.specs.Prelude.{◌≡◌, ◌<◌, ◌^◌, ◌↔◌, ◌++◌, ◌∷◌, [], IsNone, IsTrue, length, option_to_list, map};
+ghost use Rattle.stage_core.specs.Seen.{back};
+ghost use Rattle.stage_core.specs.Streams.{answer};
+ghost use Rattle.stage_core.specs.declared.message.FromStage.TheVariants as from_stage;
+
+use crate::message::{FromStage, What};
+use std::alloc::Global;
+use std::marker::Model;
+
+// The parts of one message that are still to be sent. The write-backs of a flush are the very list that the cache
+// filled.
+#[derive(Drop)]
+struct Pending {
+    backs: Vec<u64>,
+    next: usize,
+    first: Option<u64>,
+    second: Option<What>,
+    third: Option<What>,
+}
+
+impl Model for Pending {
+    ghost use Rattle.std.specs.Prelude.{List, ◌≤◌, length};
+    ghost use Rattle.stage_core.specs.declared.message.What.{What};
+    ghost use Rattle.stage_core.specs.Outboxes.{parts_left};
+
+    ghost Value = { List What };
+
+    ghost view = { λ p. parts_left p.backs.items p.next p.first p.second p.third };
+
+    ghost invariant = { λ p. p.next ≤ length p.backs.items };
+}
+
+impl Pending {
+    fn none(alloc: Global) -> Pending
+        ensures { result ≡ [] }
+    {
+        Pending {
+            backs: Vec::new(alloc),
+            next: 0,
+            first: None,
+            second: None,
+            third: None,
+        }
+    }
+
+    fn next(&mut self) -> Option<What>
+        ensures front { self.old ≡ option_to_list result ++ self.new }
+        ensures none { IsNone result ↔ (self.old ≡ []) }
+    {
+        if self.next < self.backs.len() {
+            let addr = self.backs[self.next];
+            self.next += 1;
+            return Some(What::Back(addr));
+        }
+        if let Some(addr) = self.first {
+            self.first = None;
+            return Some(What::Back(addr));
+        }
+        if let Some(what) = self.second {
+            self.second = None;
+            return Some(what);
+        }
+        let what = self.third;
+        self.third = None;
+        what
+    }
+}
+
+// The message that ends a place.
+#[derive(Clone, Copy)]
+enum Owes {
+    Nothing,
+    Done,
+    Finish,
+}
+
+/// What was made of one message and is still to be sent.
+#[derive(Drop)]
+pub(crate) struct Outbox {
+    place: u64,
+    sent: u32,
+    pending: Pending,
+    owes: Owes,
+}
+
+impl Model for Outbox {
+    ghost use Rattle.std.specs.Prelude.{List, ◌<◌, ◌+◌, ◌^◌, length, ◌≡◌, ◌⊎◌, true, []};
+    ghost use Rattle.stage_core.specs.declared.message.FromStage.{FromStage};
+    ghost use Rattle.stage_core.specs.Outboxes.{to_send, owes_done};
+
+    ghost Value = { List FromStage };
+
+    ghost view = { λ o. to_send o.place o.sent o.pending o.owes };
+
+    ghost invariant = { λ o. (o.sent + length o.pending < 2 ^ 32) × ((owes_done o.owes ≡ true) ⊎ (o.pending ≡ [])) };
+}
+
+impl Outbox {
+    /// Nothing.
+    pub(crate) fn empty(alloc: Global) -> Outbox
+        ensures { result ≡ [] }
+    {
+        Outbox {
+            place: 0,
+            sent: 0,
+            pending: Pending::none(alloc),
+            owes: Owes::Nothing,
+        }
+    }
+
+    /// Finish.
+    pub(crate) fn finish(alloc: Global) -> Outbox
+        ensures { result ≡ from_stage.Finish ∷ [] }
+    {
+        Outbox {
+            place: 0,
+            sent: 0,
+            pending: Pending::none(alloc),
+            owes: Owes::Finish,
+        }
+    }
+
+    /// The write-backs and up to three parts more, and Done.
+    pub(crate) fn answer(
+        place: u64,
+        backs: Vec<u64>,
+        first: Option<u64>,
+        second: Option<What>,
+        third: Option<What>,
+    ) -> Outbox
+        requires { length backs.items < 2 ^ 31 }
+        ensures { result ≡ answer place (map back backs.items
+            ++ (map back (option_to_list first) ++ option_to_list second ++ option_to_list third)) }
+    {
+        Outbox {
+            place,
+            sent: 0,
+            pending: Pending {
+                backs,
+                next: 0,
+                first,
+                second,
+                third,
+            },
+            owes: Owes::Done,
+        }
+    }
+
+    /// Whether all was sent.
+    pub(crate) fn is_empty(&self) -> bool
+        ensures { IsTrue result ↔ (self.now ≡ []) }
+    {
+        match self.owes {
+            Owes::Nothing => true,
+            Owes::Done | Owes::Finish => false,
+        }
+    }
+
+    /// Takes the next message off.
+    pub(crate) fn next(&mut self) -> Option<FromStage>
+        ensures front { self.old ≡ option_to_list result ++ self.new }
+        ensures none { IsNone result ↔ (self.old ≡ []) }
+    {
+        if let Some(what) = self.pending.next() {
+            self.sent += 1;
+            return Some(FromStage::Part {
+                place: self.place,
+                part: self.sent,
+                what,
+            });
+        }
+        let owes = self.owes;
+        self.owes = Owes::Nothing;
+        match owes {
+            Owes::Nothing => None,
+            Owes::Done => Some(FromStage::Done {
+                place: self.place,
+                parts: self.sent,
+            }),
+            Owes::Finish => Some(FromStage::Finish),
+        }
+    }
+}

@@ -1,0 +1,95 @@
+//! Which records of a trace are simulated.
+
+ghost use Rattle.std.specs.Prelude.{◌≡◌, ◌<◌, ◌+◌, ◌++◌, ◌∷◌, [], List, count_by};
+ghost use Rattle.stage_core.specs.Events.{IsBounded, is_reference, picked};
+ghost use Rattle.stage_core.specs.Standing.{WasOffered};
+ghost use Rattle.din_trace.specs.declared.record.DinRecord.{DinRecord};
+
+use din_trace::{DinRecord, Label, MAX_LIMIT};
+use std::marker::Model;
+
+/// A part of a trace: `skip` references are left out, then at most `max` are taken (0: no bound), and a flush is put
+/// in behind every `every` of those (0: none). The names are Dinero IV's.
+#[derive(Clone, Copy, Debug, PartialEq, Eq)]
+pub struct Selection {
+    pub skip: u64,
+    pub max: u64,
+    pub every: u64,
+}
+
+/// What a selector makes of a record: the record where it is selected, and whether a flush is put in behind it.
+#[derive(Clone, Copy, Debug, PartialEq, Eq)]
+pub struct Picked {
+    pub event: Option<DinRecord>,
+    pub flush: bool,
+}
+
+/// Picks the events out of a trace, a record at a time.
+#[derive(Debug, Drop)]
+pub struct Selector {
+    selection: Selection,
+    records: u64,
+    references: u64,
+}
+
+impl Model for Selector {
+    ghost use Rattle.std.specs.Prelude.{◌≤◌, ◌^◌};
+    ghost use Rattle.stage_core.specs.Events.{IsBounded};
+    ghost use Rattle.stage_core.specs.Standing.{Offers};
+
+    ghost Value = { Offers };
+
+    ghost view = { λ s. record { selection = s.selection; records = s.records; references = s.references } };
+
+    ghost invariant = { λ s. (s.references ≤ s.records) × (s.records ≤ 2 ^ 40) × IsBounded s.selection };
+}
+
+impl Selector {
+    /// A selector that was offered nothing.
+    pub fn new(selection: Selection) -> Self
+        requires { IsBounded selection }
+        ensures selection { result.selection ≡ selection }
+        ensures none { WasOffered result [] }
+    {
+        Selector {
+            selection,
+            records: 0,
+            references: 0,
+        }
+    }
+
+    /// How many records it was offered.
+    pub fn offered(&self) -> u64
+        ensures { result ≡ self.now.records }
+    {
+        self.records
+    }
+
+    /// Takes the next record. Only references are counted, flush records are not.
+    pub fn offer(&mut self, next: DinRecord) -> Picked
+        requires { self.old.records < MAX_LIMIT }
+        ensures selection { self.new.selection ≡ self.old.selection }
+        ensures offered { self.new.records ≡ self.old.records + 1 }
+        ensures stands { (before : List DinRecord) → WasOffered self.old before → WasOffered self.new (before ++ next ∷ []) }
+        ensures picked { (before : List DinRecord) → WasOffered self.old before →
+            result ≡ picked self.old.selection (count_by is_reference (before ++ next ∷ [])) next }
+    {
+        let Selection { skip, max, every } = self.selection;
+        let is_reference = !matches!(next.label, Label::Flush);
+        self.records += 1;
+        if is_reference {
+            self.references += 1;
+        }
+        let number = self.references;
+        let selected = if is_reference {
+            skip < number && (max == 0 || number <= skip + max)
+        } else {
+            skip <= number && (max == 0 || number < skip + max)
+        };
+        let flush = selected && is_reference && every > 0 && (number - skip) % every == 0;
+        Picked {
+            event: if selected { Some(next) } else { None },
+            flush,
+        }
+    }
+}
