@@ -23,6 +23,8 @@ mod outbox;
 mod plain;
 mod selection;
 mod splitter;
+#[cfg(test)]
+mod tests;
 mod totals;
 
 pub use config::{CacheName, CacheSpec, Config, ConfigFault};

@@ -1,0 +1,43 @@
+//! Worked traces. What is expected of them was worked out by hand.
+
+mod streams;
+mod totals;
+
+use crate::config::{CacheSpec, Config};
+use cache_core::{Policy, Repl};
+use din_trace::{DinRecord, Label};
+use std::test::Fail;
+
+fn read(addr: u64) -> DinRecord {
+    DinRecord { label: Label::Read, addr }
+}
+
+fn write(addr: u64) -> DinRecord {
+    DinRecord { label: Label::Write, addr }
+}
+
+fn instr(addr: u64) -> DinRecord {
+    DinRecord { label: Label::Instr, addr }
+}
+
+fn misc(addr: u64) -> DinRecord {
+    DinRecord { label: Label::Misc, addr }
+}
+
+fn flush() -> DinRecord {
+    DinRecord { label: Label::Flush, addr: 0 }
+}
+
+fn lru(size: u64, bsize: u64, assoc: u64) -> CacheSpec {
+    let policy = Policy { repl: Repl::Lru, wback: true, walloc: true };
+    CacheSpec { size, bsize, assoc, policy }
+}
+
+// The data cache of most traces.
+fn data() -> CacheSpec {
+    lru(16, 4, 2)
+}
+
+fn config(d: CacheSpec) -> Result<Config, Fail> {
+    Ok(Config::new(lru(16, 4, 1), d, lru(32, 8, 2), 2)?)
+}

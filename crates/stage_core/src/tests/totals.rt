@@ -1,0 +1,218 @@
+//! The counts of whole runs.
+
+ghost use Rattle.std.specs.Prelude.{◌≤◌, ◌^◌, length};
+
+use super::{config, data, flush, instr, lru, misc, read, write};
+use crate::config::{CacheName, CacheSpec, Config, ConfigFault};
+use crate::plain::run_plain;
+use crate::selection::Selection;
+use crate::totals::Totals;
+use cache_core::{Counts, GeometryFault, PerClass, Policy, Repl};
+use din_trace::DinRecord;
+use std::alloc::Global;
+use std::test::Fail;
+
+fn totals_of(
+    alloc: Global,
+    d: CacheSpec,
+    every: u64,
+    records: &[DinRecord],
+) -> Result<Totals, Fail>
+    requires every { every ≤ 2 ^ 40 }
+    requires short { length records.now ≤ 2 ^ 40 }
+{
+    let config = config(d)?;
+    Ok(run_plain(alloc, &config, &Selection { skip: 0, max: 0, every }, records)?)
+}
+
+fn reads(read: u64) -> PerClass {
+    PerClass { read, ..PerClass::default() }
+}
+
+fn writes(write: u64) -> PerClass {
+    PerClass { write, ..PerClass::default() }
+}
+
+fn instrs(instr: u64) -> PerClass {
+    PerClass { instr, ..PerClass::default() }
+}
+
+fn both(read: u64, write: u64) -> PerClass {
+    PerClass { read, write, ..PerClass::default() }
+}
+
+// The counts of first misses alone.
+fn first_misses(fetches: PerClass, misses: PerClass, loaded: u64) -> Counts {
+    Counts {
+        fetches,
+        misses,
+        compulsory: misses,
+        loaded,
+        ..Counts::default()
+    }
+}
+
+#[test]
+fn a_block_in_use_stays(rt: HostRuntime) -> Result<(), Fail> {
+    let trace = [read(0), read(8), read(0), read(16), read(0)];
+    let totals = totals_of(rt.alloc(), data(), 0, &trace)?;
+    assert_eq!(rt; totals.i, Counts::default());
+    assert_eq!(rt; totals.d, first_misses(reads(5), reads(3), 3));
+    assert_eq!(rt; totals.u, first_misses(reads(3), reads(3), 3));
+    Ok(())
+}
+
+#[test]
+fn first_in_first_out_forgets_uses(rt: HostRuntime) -> Result<(), Fail> {
+    let fifo = Policy { repl: Repl::Fifo, wback: true, walloc: true };
+    let trace = [read(0), read(8), read(0), read(16), read(0)];
+    let totals = totals_of(rt.alloc(), CacheSpec { policy: fifo, ..data() }, 0, &trace)?;
+    let d = Counts { conflict: reads(1), compulsory: reads(3), ..first_misses(reads(5), reads(4), 4) };
+    assert_eq!(rt; totals.d, d);
+    assert_eq!(rt; totals.u, first_misses(reads(4), reads(3), 3));
+    Ok(())
+}
+
+#[test]
+fn a_dirty_victim_is_written_back(rt: HostRuntime) -> Result<(), Fail> {
+    let totals = totals_of(rt.alloc(), data(), 0, &[write(0), read(8), read(16)])?;
+    assert_eq!(rt; totals.i, Counts::default());
+    let d = Counts { written_back: 1, ..first_misses(both(2, 1), both(2, 1), 3) };
+    assert_eq!(rt; totals.d, d);
+    assert_eq!(rt; totals.u, first_misses(both(3, 1), reads(3), 3));
+    Ok(())
+}
+
+#[test]
+fn write_through_sends_each_write_on(rt: HostRuntime) -> Result<(), Fail> {
+    let through = Policy { repl: Repl::Lru, wback: false, walloc: true };
+    let d = CacheSpec { policy: through, ..data() };
+    let totals = totals_of(rt.alloc(), d, 0, &[write(2), write(2)])?;
+    let d = Counts { sent_on: 2, ..first_misses(writes(2), writes(1), 1) };
+    assert_eq!(rt; totals.d, d);
+    assert_eq!(rt; totals.u, first_misses(both(1, 2), reads(1), 1));
+    Ok(())
+}
+
+#[test]
+fn a_write_without_allocation_brings_nothing_in(rt: HostRuntime) -> Result<(), Fail> {
+    let around = Policy { repl: Repl::Lru, wback: true, walloc: false };
+    let d = CacheSpec { policy: around, ..data() };
+    let totals = totals_of(rt.alloc(), d, 0, &[write(0), read(0)])?;
+    let d = Counts {
+        compulsory: writes(1),
+        capacity: reads(1),
+        sent_on: 1,
+        ..first_misses(both(1, 1), both(1, 1), 1)
+    };
+    assert_eq!(rt; totals.d, d);
+    assert_eq!(rt; totals.u, first_misses(both(1, 1), writes(1), 1));
+    Ok(())
+}
+
+#[test]
+fn a_flush_writes_back_before_the_second_level_is_flushed(rt: HostRuntime) -> Result<(), Fail> {
+    let totals = totals_of(rt.alloc(), data(), 0, &[write(8), write(0), flush()])?;
+    assert_eq!(rt; totals.i, Counts { flushes: 1, ..Counts::default() });
+    let d = Counts { written_back: 2, flushes: 1, ..first_misses(writes(2), writes(2), 2) };
+    assert_eq!(rt; totals.d, d);
+    let u = Counts { written_back: 2, flushes: 1, ..first_misses(both(2, 2), reads(2), 2) };
+    assert_eq!(rt; totals.u, u);
+    Ok(())
+}
+
+#[test]
+fn a_flushed_block_stays_known(rt: HostRuntime) -> Result<(), Fail> {
+    let totals = totals_of(rt.alloc(), data(), 0, &[read(0), flush(), read(0)])?;
+    assert_eq!(rt; totals.i, Counts { flushes: 1, ..Counts::default() });
+    let twice = Counts {
+        compulsory: reads(1),
+        capacity: reads(1),
+        flushes: 1,
+        ..first_misses(reads(2), reads(2), 2)
+    };
+    assert_eq!(rt; totals.d, twice);
+    assert_eq!(rt; totals.u, twice);
+    Ok(())
+}
+
+#[test]
+fn a_sweep_over_more_than_fits_always_misses(rt: HostRuntime) -> Result<(), Fail> {
+    let mut trace = Vec::new(rt.alloc());
+    for k in 0..10_000u64 {
+        trace.push(read(4 * k % 64))?;
+    }
+    assert!(rt; trace.len() <= 10_000);
+    let config = Config::new(lru(16, 4, 1), data(), lru(32, 8, 2), 1)?;
+    let selection = Selection { skip: 0, max: 0, every: 0 };
+    let totals = run_plain(rt.alloc(), &config, &selection, &trace)?;
+    let d = Counts {
+        compulsory: reads(16),
+        capacity: reads(9_984),
+        ..first_misses(reads(10_000), reads(10_000), 10_000)
+    };
+    assert_eq!(rt; totals.d, d);
+    let u = Counts {
+        compulsory: reads(8),
+        capacity: reads(4_992),
+        ..first_misses(reads(10_000), reads(5_000), 5_000)
+    };
+    assert_eq!(rt; totals.u, u);
+    Ok(())
+}
+
+#[test]
+fn the_second_level_is_shared(rt: HostRuntime) -> Result<(), Fail> {
+    let totals = totals_of(rt.alloc(), data(), 0, &[read(0), instr(0)])?;
+    assert_eq!(rt; totals.i, first_misses(instrs(1), instrs(1), 1));
+    assert_eq!(rt; totals.d, first_misses(reads(1), reads(1), 1));
+    let fetches = PerClass { instr: 1, ..reads(1) };
+    assert_eq!(rt; totals.u, first_misses(fetches, reads(1), 1));
+    let totals = totals_of(rt.alloc(), data(), 0, &[instr(0), read(0)])?;
+    assert_eq!(rt; totals.u, first_misses(fetches, instrs(1), 1));
+    Ok(())
+}
+
+#[test]
+fn a_miscellaneous_reference_is_read_above(rt: HostRuntime) -> Result<(), Fail> {
+    let totals = totals_of(rt.alloc(), data(), 0, &[misc(0), read(0)])?;
+    let once = PerClass { misc: 1, ..PerClass::default() };
+    assert_eq!(rt; totals.d, first_misses(PerClass { misc: 1, ..reads(1) }, once, 1));
+    assert_eq!(rt; totals.u, first_misses(reads(1), reads(1), 1));
+    Ok(())
+}
+
+#[test]
+fn a_flush_is_put_in(rt: HostRuntime) -> Result<(), Fail> {
+    let totals = totals_of(rt.alloc(), data(), 2, &[write(0), read(8), read(16)])?;
+    assert_eq!(rt; totals.i, Counts { flushes: 1, ..Counts::default() });
+    let d = Counts { written_back: 1, flushes: 1, ..first_misses(both(2, 1), both(2, 1), 3) };
+    assert_eq!(rt; totals.d, d);
+    let u = Counts { written_back: 1, flushes: 1, ..first_misses(both(3, 1), reads(3), 3) };
+    assert_eq!(rt; totals.u, u);
+    Ok(())
+}
+
+#[test]
+fn addresses_are_wide(rt: HostRuntime) -> Result<(), Fail> {
+    let totals = totals_of(rt.alloc(), data(), 0, &[read(0x1_0000_0000), read(0)])?;
+    assert_eq!(rt; totals.d, first_misses(reads(2), reads(2), 2));
+    assert_eq!(rt; totals.u, first_misses(reads(2), reads(2), 2));
+    Ok(())
+}
+
+#[test]
+fn the_first_broken_rule_refuses(rt: HostRuntime) {
+    let (i, u) = (lru(16, 4, 1), lru(32, 8, 2));
+    let many_ways = ConfigFault::Geometry(CacheName::I, GeometryFault::AssocTooLarge);
+    for (i, ring, fault) in [
+        (lru(16, 16, 1), 2, Some(ConfigFault::BlockOrder)),
+        (i, 0, Some(ConfigFault::Ring)),
+        (i, 65_537, Some(ConfigFault::Ring)),
+        (i, 65_536, None),
+        (lru(16, 4, 8), 2, Some(many_ways)),
+        (lru(16, 4, 8), 0, Some(many_ways)),
+    ] {
+        assert_eq!(rt; Config::new(i, data(), u, ring).err(), fault);
+    }
+}
