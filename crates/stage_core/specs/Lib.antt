@@ -9,3 +9,4 @@ pub mod Lawful
 pub mod Config
 pub mod Laws
 pub mod Plain
+pub mod Examples

@@ -118,7 +118,7 @@ impl L1Stage {
     pub fn ready(&self) -> bool
         ensures { IsTrue result ↔ IsReady self.now }
     {
-        !self.took_finish && self.outbox.is_empty()
+        self.outbox.is_empty() && !self.took_finish
     }
 
     /// Whether Finish was taken in and all was sent.
@@ -130,7 +130,9 @@ impl L1Stage {
 
     /// How many accesses and flushes its cache served.
     pub fn served(&self) -> u64
-        ensures { result ≡ served_of (cache_of self.now) }
+        ensures served { result ≡ served_of (cache_of self.now) }
+        ensures all { (messages : List ToStage) → StageStandsFor self.now messages →
+            result ≡ length (taken_in messages) }
     {
         self.cache.served()
     }
@@ -220,7 +222,7 @@ impl L1Stage {
         ensures cache { cache_of self.new ≡ cache_of self.old }
         ensures side { side_of self.new ≡ side_of self.old }
     {
-        if self.cache.failed() {
+        if self.failed() {
             return Err(NoMemory);
         }
         self.took_finish = true;

@@ -1,6 +1,6 @@
 //! The second level: one cache that serves what the first level asks of it.
 
-ghost use Rattle.std.specs.Prelude.{◌≡◌, ◌<◌, ◌+◌, ◌++◌, ◌∷◌, [], IsErr, IfOk, OnOk, OnErr, List, true, false};
+ghost use Rattle.std.specs.Prelude.{◌≡◌, ◌<◌, ◌+◌, ◌++◌, ◌∷◌, [], IsErr, IfOk, OnOk, OnErr, List, true, false, length};
 ghost use Rattle.cache_core.specs.History.{History, access as accessed, flush as flushed};
 ghost use Rattle.cache_core.specs.Counts.{KindsAddUp, counts_of};
 ghost use Rattle.cache_core.specs.Standing.{StandsFor, rules_of, rules_from, served_of, counts_kept, has_failed};
@@ -34,7 +34,9 @@ impl L2Stage {
 
     /// How many accesses and flushes its cache served.
     pub fn served(&self) -> u64
-        ensures { result ≡ served_of (second_cache self.now) }
+        ensures served { result ≡ served_of (second_cache self.now) }
+        ensures all { (whats : List What) → SecondStandsFor self.now whats →
+            result ≡ length (second_history whats) }
     {
         self.cache.served()
     }

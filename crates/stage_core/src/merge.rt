@@ -8,7 +8,7 @@ use crate::message::{FromStage, Turn, Want, What};
 use std::marker::Model;
 
 // Where the merge stands: `Both` is a turn of both sides with I's part still to come.
-#[derive(Clone, Copy, Debug, PartialEq, Eq)]
+#[derive(Clone, Copy)]
 enum Standing {
     Order,
     I,
@@ -20,7 +20,7 @@ enum Standing {
 }
 
 /// Says whose message comes next, and takes it. It never looks at which ring has one.
-#[derive(Debug, Drop)]
+#[derive(Drop)]
 pub struct Merge {
     standing: Standing,
 }

@@ -25,7 +25,7 @@ pub struct Picked {
 }
 
 /// Picks the events out of a trace, a record at a time.
-#[derive(Debug, Drop)]
+#[derive(Drop)]
 pub struct Selector {
     selection: Selection,
     records: u64,
@@ -77,9 +77,7 @@ impl Selector {
         let Selection { skip, max, every } = self.selection;
         let is_reference = !matches!(next.label, Label::Flush);
         self.records += 1;
-        if is_reference {
-            self.references += 1;
-        }
+        self.references += is_reference as u64;
         let number = self.references;
         let selected = if is_reference {
             skip < number && (max == 0 || number <= skip + max)

@@ -13,7 +13,7 @@ use din_trace::{DinRecord, Label, MAX_LIMIT};
 use std::marker::Model;
 
 /// Numbers the events, and says what each asks of the two sides. Clauses see the place of the last event.
-#[derive(Debug, Drop)]
+#[derive(Drop)]
 pub struct Splitter {
     place: u64,
 }

@@ -9,28 +9,52 @@ use din_trace::{DinRecord, Label};
 use std::test::Fail;
 
 fn read(addr: u64) -> DinRecord {
-    DinRecord { label: Label::Read, addr }
+    DinRecord {
+        label: Label::Read,
+        addr,
+    }
 }
 
 fn write(addr: u64) -> DinRecord {
-    DinRecord { label: Label::Write, addr }
+    DinRecord {
+        label: Label::Write,
+        addr,
+    }
 }
 
 fn instr(addr: u64) -> DinRecord {
-    DinRecord { label: Label::Instr, addr }
+    DinRecord {
+        label: Label::Instr,
+        addr,
+    }
 }
 
 fn misc(addr: u64) -> DinRecord {
-    DinRecord { label: Label::Misc, addr }
+    DinRecord {
+        label: Label::Misc,
+        addr,
+    }
 }
 
 fn flush() -> DinRecord {
-    DinRecord { label: Label::Flush, addr: 0 }
+    DinRecord {
+        label: Label::Flush,
+        addr: 0,
+    }
 }
 
 fn lru(size: u64, bsize: u64, assoc: u64) -> CacheSpec {
-    let policy = Policy { repl: Repl::Lru, wback: true, walloc: true };
-    CacheSpec { size, bsize, assoc, policy }
+    let policy = Policy {
+        repl: Repl::Lru,
+        wback: true,
+        walloc: true,
+    };
+    CacheSpec {
+        size,
+        bsize,
+        assoc,
+        policy,
+    }
 }
 
 // The data cache of most traces.

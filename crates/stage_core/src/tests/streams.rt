@@ -8,7 +8,7 @@ use crate::merge::Merge;
 use crate::message::{FromStage, Routed, Side, ToStage, Turn, Want, What};
 use crate::selection::{Selection, Selector};
 use crate::splitter::Splitter;
-use cache_core::{Class, PerClass, Policy, MAX_EVENTS};
+use cache_core::{Class, MAX_EVENTS, PerClass, Policy};
 use din_trace::{DinRecord, MAX_LIMIT};
 use std::alloc::Global;
 use std::process::Abort;
@@ -50,10 +50,19 @@ fn a_selection_counts_references_alone(rt: HostRuntime) -> Result<(), Fail> {
         events_of(&rt, alloc, Selection { skip, max, every }, records)
     };
     assert_eq!(rt; events(1, 1, 0, &three)?.as_slice(), [instr(4)].as_slice());
-    assert_eq!(rt; events(0, 0, 2, &three)?.as_slice(), [instr(0), instr(4), flush(), instr(8)].as_slice());
-    assert_eq!(rt; events(1, 1, 0, &flushed)?.as_slice(), [flush(), instr(4)].as_slice());
+    assert_eq!(rt;
+        events(0, 0, 2, &three)?.as_slice(),
+        [instr(0), instr(4), flush(), instr(8)].as_slice()
+    );
+    assert_eq!(rt;
+        events(1, 1, 0, &flushed)?.as_slice(),
+        [flush(), instr(4)].as_slice()
+    );
     assert_eq!(rt; events(1, 0, 0, &between)?.as_slice(), [flush()].as_slice());
-    assert_eq!(rt; events(0, 0, 1, &[instr(0), flush()])?.as_slice(), [instr(0), flush(), flush()].as_slice());
+    assert_eq!(rt;
+        events(0, 0, 1, &[instr(0), flush()])?.as_slice(),
+        [instr(0), flush(), flush()].as_slice()
+    );
     assert!(rt; events(5, 0, 0, &[instr(0)])?.is_empty());
     Ok(())
 }
@@ -172,7 +181,14 @@ fn merged(rt: &impl Abort, alloc: Global, streams: &Streams) -> Result<Vec<What>
         }
     }
     assert_eq!(rt; merge.wants(), Want::Nothing);
-    assert_eq!(rt; (turns, i, d), (streams.order.len(), streams.from_i.len(), streams.from_d.len()));
+    assert_eq!(rt;
+        (turns, i, d),
+        (
+            streams.order.len(),
+            streams.from_i.len(),
+            streams.from_d.len()
+        )
+    );
     Ok(taken)
 }
 
@@ -192,23 +208,53 @@ fn fetch(addr: u64) -> What {
 fn streams_of_a_victim(rt: HostRuntime) -> Result<(), Fail> {
     let alloc = rt.alloc();
     let streams = streams_of(&rt, alloc, data(), &[write(0), read(8), read(16)])?;
-    assert_eq!(rt; streams.order.as_slice(), [Turn::D, Turn::D, Turn::D, Turn::Finish].as_slice());
+    assert_eq!(rt;
+        streams.order.as_slice(),
+        [Turn::D, Turn::D, Turn::D, Turn::Finish].as_slice()
+    );
     assert_eq!(rt; streams.to_i.as_slice(), [ToStage::Finish].as_slice());
-    assert_eq!(rt; streams.to_d.as_slice(), [
-        ToStage::Ref { place: 1, class: Class::Write, addr: 0 },
-        ToStage::Ref { place: 2, class: Class::Read, addr: 8 },
-        ToStage::Ref { place: 3, class: Class::Read, addr: 16 },
-        ToStage::Finish,
-    ].as_slice());
+    assert_eq!(rt;
+        streams.to_d.as_slice(),
+        [
+            ToStage::Ref {
+                place: 1,
+                class: Class::Write,
+                addr: 0
+            },
+            ToStage::Ref {
+                place: 2,
+                class: Class::Read,
+                addr: 8
+            },
+            ToStage::Ref {
+                place: 3,
+                class: Class::Read,
+                addr: 16
+            },
+            ToStage::Finish,
+        ]
+        .as_slice()
+    );
     assert_eq!(rt; streams.from_i.as_slice(), [FromStage::Finish].as_slice());
-    assert_eq!(rt; streams.from_d.as_slice(), [
-        part(1, 1, fetch(0)), done(1, 1),
-        part(2, 1, fetch(8)), done(2, 1),
-        part(3, 1, What::Back(0)), part(3, 2, fetch(16)), done(3, 2),
-        FromStage::Finish,
-    ].as_slice());
+    assert_eq!(rt;
+        streams.from_d.as_slice(),
+        [
+            part(1, 1, fetch(0)),
+            done(1, 1),
+            part(2, 1, fetch(8)),
+            done(2, 1),
+            part(3, 1, What::Back(0)),
+            part(3, 2, fetch(16)),
+            done(3, 2),
+            FromStage::Finish,
+        ]
+        .as_slice()
+    );
     let taken = merged(&rt, alloc, &streams)?;
-    assert_eq!(rt; taken.as_slice(), [fetch(0), fetch(8), What::Back(0), fetch(16)].as_slice());
+    assert_eq!(rt;
+        taken.as_slice(),
+        [fetch(0), fetch(8), What::Back(0), fetch(16)].as_slice()
+    );
     Ok(())
 }
 
@@ -216,23 +262,59 @@ fn streams_of_a_victim(rt: HostRuntime) -> Result<(), Fail> {
 fn streams_of_a_flush(rt: HostRuntime) -> Result<(), Fail> {
     let alloc = rt.alloc();
     let streams = streams_of(&rt, alloc, data(), &[write(8), write(0), flush()])?;
-    assert_eq!(rt; streams.order.as_slice(), [Turn::D, Turn::D, Turn::Both, Turn::Finish].as_slice());
-    assert_eq!(rt; streams.to_i.as_slice(), [ToStage::Flush { place: 3 }, ToStage::Finish].as_slice());
-    assert_eq!(rt; streams.to_d.as_slice(), [
-        ToStage::Ref { place: 1, class: Class::Write, addr: 8 },
-        ToStage::Ref { place: 2, class: Class::Write, addr: 0 },
-        ToStage::Flush { place: 3 },
-        ToStage::Finish,
-    ].as_slice());
-    assert_eq!(rt; streams.from_i.as_slice(), [done(3, 0), FromStage::Finish].as_slice());
-    assert_eq!(rt; streams.from_d.as_slice(), [
-        part(1, 1, fetch(8)), done(1, 1),
-        part(2, 1, fetch(0)), done(2, 1),
-        part(3, 1, What::Back(0)), part(3, 2, What::Back(8)), part(3, 3, What::FlushAll), done(3, 3),
-        FromStage::Finish,
-    ].as_slice());
+    assert_eq!(rt;
+        streams.order.as_slice(),
+        [Turn::D, Turn::D, Turn::Both, Turn::Finish].as_slice()
+    );
+    assert_eq!(rt;
+        streams.to_i.as_slice(),
+        [ToStage::Flush { place: 3 }, ToStage::Finish].as_slice()
+    );
+    assert_eq!(rt;
+        streams.to_d.as_slice(),
+        [
+            ToStage::Ref {
+                place: 1,
+                class: Class::Write,
+                addr: 8
+            },
+            ToStage::Ref {
+                place: 2,
+                class: Class::Write,
+                addr: 0
+            },
+            ToStage::Flush { place: 3 },
+            ToStage::Finish,
+        ]
+        .as_slice()
+    );
+    assert_eq!(rt;
+        streams.from_i.as_slice(),
+        [done(3, 0), FromStage::Finish].as_slice()
+    );
+    assert_eq!(rt;
+        streams.from_d.as_slice(),
+        [
+            part(1, 1, fetch(8)),
+            done(1, 1),
+            part(2, 1, fetch(0)),
+            done(2, 1),
+            part(3, 1, What::Back(0)),
+            part(3, 2, What::Back(8)),
+            part(3, 3, What::FlushAll),
+            done(3, 3),
+            FromStage::Finish,
+        ]
+        .as_slice()
+    );
     let taken = merged(&rt, alloc, &streams)?;
-    let wanted = [fetch(8), fetch(0), What::Back(0), What::Back(8), What::FlushAll];
+    let wanted = [
+        fetch(8),
+        fetch(0),
+        What::Back(0),
+        What::Back(8),
+        What::FlushAll,
+    ];
     assert_eq!(rt; taken.as_slice(), wanted.as_slice());
     Ok(())
 }
@@ -252,13 +334,26 @@ fn seen(
 fn the_second_level_sees_parts_in_order(rt: HostRuntime) -> Result<(), Fail> {
     let alloc = rt.alloc();
     let usual = data().policy;
-    let through = Policy { wback: false, ..usual };
+    let through = Policy {
+        wback: false,
+        ..usual
+    };
     let taken = seen(&rt, alloc, through, &[write(2), write(2)])?;
-    assert_eq!(rt; taken.as_slice(), [fetch(0), What::Through(2), What::Through(2)].as_slice());
-    let around = Policy { walloc: false, ..usual };
+    assert_eq!(rt;
+        taken.as_slice(),
+        [fetch(0), What::Through(2), What::Through(2)].as_slice()
+    );
+    let around = Policy {
+        walloc: false,
+        ..usual
+    };
     let taken = seen(&rt, alloc, around, &[write(0), read(0)])?;
     assert_eq!(rt; taken.as_slice(), [What::Through(0), fetch(0)].as_slice());
-    let selection = Selection { skip: 0, max: 0, every: 2 };
+    let selection = Selection {
+        skip: 0,
+        max: 0,
+        every: 2,
+    };
     let events = events_of(&rt, alloc, selection, &[write(0), read(8), read(16)])?;
     let taken = seen(&rt, alloc, usual, &events)?;
     let wanted = [fetch(0), fetch(8), What::Back(0), What::FlushAll, fetch(16)];
@@ -271,11 +366,23 @@ fn a_stage_sends_finish_last(rt: HostRuntime) -> Result<(), Fail> {
     let (geometry, policy) = config(data())?.d();
     let mut stage = L1Stage::new(rt.alloc(), Side::D, geometry, policy)?;
     let mut sent = Vec::new(rt.alloc());
-    answer(&rt, &mut stage, ToStage::Ref { place: 1, class: Class::Write, addr: 0 }, &mut sent)?;
+    answer(
+        &rt,
+        &mut stage,
+        ToStage::Ref {
+            place: 1,
+            class: Class::Write,
+            addr: 0,
+        },
+        &mut sent,
+    )?;
     assert!(rt; !stage.finished());
     answer(&rt, &mut stage, ToStage::Finish, &mut sent)?;
     assert!(rt; stage.finished());
-    assert_eq!(rt; sent.as_slice(), [part(1, 1, fetch(0)), done(1, 1), FromStage::Finish].as_slice());
+    assert_eq!(rt;
+        sent.as_slice(),
+        [part(1, 1, fetch(0)), done(1, 1), FromStage::Finish].as_slice()
+    );
     Ok(())
 }
 
@@ -293,9 +400,30 @@ fn the_second_level_serves_each_part(rt: HostRuntime) -> Result<(), Fail> {
     }
     assert_eq!(rt; stage.served(), 3);
     let counts = stage.counts();
-    assert_eq!(rt; counts.fetches, PerClass { read: 1, write: 1, ..PerClass::default() });
-    assert_eq!(rt; counts.misses, PerClass { read: 1, ..PerClass::default() });
+    assert_eq!(rt;
+        counts.fetches,
+        PerClass {
+            read: 1,
+            write: 1,
+            ..PerClass::default()
+        }
+    );
+    assert_eq!(rt;
+        counts.misses,
+        PerClass {
+            read: 1,
+            ..PerClass::default()
+        }
+    );
     assert_eq!(rt; counts.compulsory, counts.misses);
-    assert_eq!(rt; (counts.loaded, counts.written_back, counts.sent_on, counts.flushes), (1, 1, 0, 1));
+    assert_eq!(rt;
+        (
+            counts.loaded,
+            counts.written_back,
+            counts.sent_on,
+            counts.flushes
+        ),
+        (1, 1, 0, 1)
+    );
     Ok(())
 }

@@ -12,33 +12,50 @@ use din_trace::DinRecord;
 use std::alloc::Global;
 use std::test::Fail;
 
-fn totals_of(
-    alloc: Global,
-    d: CacheSpec,
-    every: u64,
-    records: &[DinRecord],
-) -> Result<Totals, Fail>
+fn totals_of(alloc: Global, d: CacheSpec, every: u64, records: &[DinRecord]) -> Result<Totals, Fail>
     requires every { every ≤ 2 ^ 40 }
     requires short { length records.now ≤ 2 ^ 40 }
 {
     let config = config(d)?;
-    Ok(run_plain(alloc, &config, &Selection { skip: 0, max: 0, every }, records)?)
+    Ok(run_plain(
+        alloc,
+        &config,
+        &Selection {
+            skip: 0,
+            max: 0,
+            every,
+        },
+        records,
+    )?)
 }
 
 fn reads(read: u64) -> PerClass {
-    PerClass { read, ..PerClass::default() }
+    PerClass {
+        read,
+        ..PerClass::default()
+    }
 }
 
 fn writes(write: u64) -> PerClass {
-    PerClass { write, ..PerClass::default() }
+    PerClass {
+        write,
+        ..PerClass::default()
+    }
 }
 
 fn instrs(instr: u64) -> PerClass {
-    PerClass { instr, ..PerClass::default() }
+    PerClass {
+        instr,
+        ..PerClass::default()
+    }
 }
 
 fn both(read: u64, write: u64) -> PerClass {
-    PerClass { read, write, ..PerClass::default() }
+    PerClass {
+        read,
+        write,
+        ..PerClass::default()
+    }
 }
 
 // The counts of first misses alone.
@@ -64,10 +81,26 @@ fn a_block_in_use_stays(rt: HostRuntime) -> Result<(), Fail> {
 
 #[test]
 fn first_in_first_out_forgets_uses(rt: HostRuntime) -> Result<(), Fail> {
-    let fifo = Policy { repl: Repl::Fifo, wback: true, walloc: true };
+    let fifo = Policy {
+        repl: Repl::Fifo,
+        wback: true,
+        walloc: true,
+    };
     let trace = [read(0), read(8), read(0), read(16), read(0)];
-    let totals = totals_of(rt.alloc(), CacheSpec { policy: fifo, ..data() }, 0, &trace)?;
-    let d = Counts { conflict: reads(1), compulsory: reads(3), ..first_misses(reads(5), reads(4), 4) };
+    let totals = totals_of(
+        rt.alloc(),
+        CacheSpec {
+            policy: fifo,
+            ..data()
+        },
+        0,
+        &trace,
+    )?;
+    let d = Counts {
+        conflict: reads(1),
+        compulsory: reads(3),
+        ..first_misses(reads(5), reads(4), 4)
+    };
     assert_eq!(rt; totals.d, d);
     assert_eq!(rt; totals.u, first_misses(reads(4), reads(3), 3));
     Ok(())
@@ -77,7 +110,10 @@ fn first_in_first_out_forgets_uses(rt: HostRuntime) -> Result<(), Fail> {
 fn a_dirty_victim_is_written_back(rt: HostRuntime) -> Result<(), Fail> {
     let totals = totals_of(rt.alloc(), data(), 0, &[write(0), read(8), read(16)])?;
     assert_eq!(rt; totals.i, Counts::default());
-    let d = Counts { written_back: 1, ..first_misses(both(2, 1), both(2, 1), 3) };
+    let d = Counts {
+        written_back: 1,
+        ..first_misses(both(2, 1), both(2, 1), 3)
+    };
     assert_eq!(rt; totals.d, d);
     assert_eq!(rt; totals.u, first_misses(both(3, 1), reads(3), 3));
     Ok(())
@@ -85,10 +121,20 @@ fn a_dirty_victim_is_written_back(rt: HostRuntime) -> Result<(), Fail> {
 
 #[test]
 fn write_through_sends_each_write_on(rt: HostRuntime) -> Result<(), Fail> {
-    let through = Policy { repl: Repl::Lru, wback: false, walloc: true };
-    let d = CacheSpec { policy: through, ..data() };
+    let through = Policy {
+        repl: Repl::Lru,
+        wback: false,
+        walloc: true,
+    };
+    let d = CacheSpec {
+        policy: through,
+        ..data()
+    };
     let totals = totals_of(rt.alloc(), d, 0, &[write(2), write(2)])?;
-    let d = Counts { sent_on: 2, ..first_misses(writes(2), writes(1), 1) };
+    let d = Counts {
+        sent_on: 2,
+        ..first_misses(writes(2), writes(1), 1)
+    };
     assert_eq!(rt; totals.d, d);
     assert_eq!(rt; totals.u, first_misses(both(1, 2), reads(1), 1));
     Ok(())
@@ -96,8 +142,15 @@ fn write_through_sends_each_write_on(rt: HostRuntime) -> Result<(), Fail> {
 
 #[test]
 fn a_write_without_allocation_brings_nothing_in(rt: HostRuntime) -> Result<(), Fail> {
-    let around = Policy { repl: Repl::Lru, wback: true, walloc: false };
-    let d = CacheSpec { policy: around, ..data() };
+    let around = Policy {
+        repl: Repl::Lru,
+        wback: true,
+        walloc: false,
+    };
+    let d = CacheSpec {
+        policy: around,
+        ..data()
+    };
     let totals = totals_of(rt.alloc(), d, 0, &[write(0), read(0)])?;
     let d = Counts {
         compulsory: writes(1),
@@ -113,10 +166,24 @@ fn a_write_without_allocation_brings_nothing_in(rt: HostRuntime) -> Result<(), F
 #[test]
 fn a_flush_writes_back_before_the_second_level_is_flushed(rt: HostRuntime) -> Result<(), Fail> {
     let totals = totals_of(rt.alloc(), data(), 0, &[write(8), write(0), flush()])?;
-    assert_eq!(rt; totals.i, Counts { flushes: 1, ..Counts::default() });
-    let d = Counts { written_back: 2, flushes: 1, ..first_misses(writes(2), writes(2), 2) };
+    assert_eq!(rt;
+        totals.i,
+        Counts {
+            flushes: 1,
+            ..Counts::default()
+        }
+    );
+    let d = Counts {
+        written_back: 2,
+        flushes: 1,
+        ..first_misses(writes(2), writes(2), 2)
+    };
     assert_eq!(rt; totals.d, d);
-    let u = Counts { written_back: 2, flushes: 1, ..first_misses(both(2, 2), reads(2), 2) };
+    let u = Counts {
+        written_back: 2,
+        flushes: 1,
+        ..first_misses(both(2, 2), reads(2), 2)
+    };
     assert_eq!(rt; totals.u, u);
     Ok(())
 }
@@ -124,7 +191,13 @@ fn a_flush_writes_back_before_the_second_level_is_flushed(rt: HostRuntime) -> Re
 #[test]
 fn a_flushed_block_stays_known(rt: HostRuntime) -> Result<(), Fail> {
     let totals = totals_of(rt.alloc(), data(), 0, &[read(0), flush(), read(0)])?;
-    assert_eq!(rt; totals.i, Counts { flushes: 1, ..Counts::default() });
+    assert_eq!(rt;
+        totals.i,
+        Counts {
+            flushes: 1,
+            ..Counts::default()
+        }
+    );
     let twice = Counts {
         compulsory: reads(1),
         capacity: reads(1),
@@ -144,7 +217,11 @@ fn a_sweep_over_more_than_fits_always_misses(rt: HostRuntime) -> Result<(), Fail
     }
     assert!(rt; trace.len() <= 10_000);
     let config = Config::new(lru(16, 4, 1), data(), lru(32, 8, 2), 1)?;
-    let selection = Selection { skip: 0, max: 0, every: 0 };
+    let selection = Selection {
+        skip: 0,
+        max: 0,
+        every: 0,
+    };
     let totals = run_plain(rt.alloc(), &config, &selection, &trace)?;
     let d = Counts {
         compulsory: reads(16),
@@ -166,7 +243,10 @@ fn the_second_level_is_shared(rt: HostRuntime) -> Result<(), Fail> {
     let totals = totals_of(rt.alloc(), data(), 0, &[read(0), instr(0)])?;
     assert_eq!(rt; totals.i, first_misses(instrs(1), instrs(1), 1));
     assert_eq!(rt; totals.d, first_misses(reads(1), reads(1), 1));
-    let fetches = PerClass { instr: 1, ..reads(1) };
+    let fetches = PerClass {
+        instr: 1,
+        ..reads(1)
+    };
     assert_eq!(rt; totals.u, first_misses(fetches, reads(1), 1));
     let totals = totals_of(rt.alloc(), data(), 0, &[instr(0), read(0)])?;
     assert_eq!(rt; totals.u, first_misses(fetches, instrs(1), 1));
@@ -176,8 +256,21 @@ fn the_second_level_is_shared(rt: HostRuntime) -> Result<(), Fail> {
 #[test]
 fn a_miscellaneous_reference_is_read_above(rt: HostRuntime) -> Result<(), Fail> {
     let totals = totals_of(rt.alloc(), data(), 0, &[misc(0), read(0)])?;
-    let once = PerClass { misc: 1, ..PerClass::default() };
-    assert_eq!(rt; totals.d, first_misses(PerClass { misc: 1, ..reads(1) }, once, 1));
+    let once = PerClass {
+        misc: 1,
+        ..PerClass::default()
+    };
+    assert_eq!(rt;
+        totals.d,
+        first_misses(
+            PerClass {
+                misc: 1,
+                ..reads(1)
+            },
+            once,
+            1
+        )
+    );
     assert_eq!(rt; totals.u, first_misses(reads(1), reads(1), 1));
     Ok(())
 }
@@ -185,10 +278,24 @@ fn a_miscellaneous_reference_is_read_above(rt: HostRuntime) -> Result<(), Fail> 
 #[test]
 fn a_flush_is_put_in(rt: HostRuntime) -> Result<(), Fail> {
     let totals = totals_of(rt.alloc(), data(), 2, &[write(0), read(8), read(16)])?;
-    assert_eq!(rt; totals.i, Counts { flushes: 1, ..Counts::default() });
-    let d = Counts { written_back: 1, flushes: 1, ..first_misses(both(2, 1), both(2, 1), 3) };
+    assert_eq!(rt;
+        totals.i,
+        Counts {
+            flushes: 1,
+            ..Counts::default()
+        }
+    );
+    let d = Counts {
+        written_back: 1,
+        flushes: 1,
+        ..first_misses(both(2, 1), both(2, 1), 3)
+    };
     assert_eq!(rt; totals.d, d);
-    let u = Counts { written_back: 1, flushes: 1, ..first_misses(both(3, 1), reads(3), 3) };
+    let u = Counts {
+        written_back: 1,
+        flushes: 1,
+        ..first_misses(both(3, 1), reads(3), 3)
+    };
     assert_eq!(rt; totals.u, u);
     Ok(())
 }
