@@ -1,5 +1,8 @@
--- A selection makes at most two events of a record, and an event makes the second level see at most two messages.
-use Rattle.std.proofs.Common.{◌≡◌, ℕ, ◌+◌, ◌*◌, ◌≤◌, Bool, true, false, List, [], ◌∷◌, ◌++◌, length, map, reverse, Option, Some, None, is_some, option_to_list, count_by, refl, ap, append-nil, arith, length-append}
+-- A selection makes at most two events of a record, and an event makes the second level see at most
+-- two messages.
+use Rattle.std.proofs.Common.{◌≡◌, ℕ, ◌+◌, ◌*◌, ◌≤◌, Bool, true, false, List, [], ◌∷◌, ◌++◌, length}
+use Rattle.std.proofs.Common.{map, reverse, Option, Some, None, is_some, option_to_list, count_by}
+use Rattle.std.proofs.Common.{refl, ap, append-nil, arith, length-append}
 use Rattle.std.specs.List.{flat_map}
 use Rattle.std.proofs.lemmas.List.{length-map, length-reverse}
 use Rattle.cache_core.specs.declared.access.Access.{Access}
@@ -13,8 +16,10 @@ use Rattle.din_trace.specs.declared.record.DinRecord.{DinRecord}
 use Rattle.din_trace.specs.declared.record.Label.{Label}
 use Rattle.din_trace.specs.declared.record.Label.TheVariants as label
 use Rattle.stage_core.specs.Places.{along, one_if}
-use Rattle.stage_core.specs.Events.{asked, asked_by, newest_first, history, events_at, picked_events, picked, is_reference, inserted_flush}
-use Rattle.stage_core.specs.Seen.{Hierarchy, rules_at, parts_in, parts_of, back, access_parts, flush_all, fetch_class, sent_up, read_as, seen}
+use Rattle.stage_core.specs.Events.{asked, asked_by, newest_first, history, events_at}
+use Rattle.stage_core.specs.Events.{picked_events, picked, is_reference, inserted_flush}
+use Rattle.stage_core.specs.Seen.{Hierarchy, rules_at, parts_in, parts_of, back, access_parts}
+use Rattle.stage_core.specs.Seen.{flush_all, fetch_class, sent_up, read_as, seen}
 use Rattle.stage_core.specs.Laws.{SecondLevelSeesFew, SelectionsMakeFew}
 use Rattle.stage_core.specs.declared.selection.Selection.{Selection}
 use Rattle.stage_core.specs.declared.selection.Picked.{Picked}
@@ -32,7 +37,8 @@ length-option : {A : Type 0} (o : Option A) → length (option_to_list o) ≡ on
 length-option None = refl
 length-option (Some x) = refl
 
-length-access_parts : (s : Side) (first : ℕ) (x : Access) (o : Outcome) → length (access_parts s first x o) ≡ part_count o
+length-access_parts : (s : Side) (first : ℕ) (x : Access) (o : Outcome)
+    → length (access_parts s first x o) ≡ part_count o
 length-access_parts s first x o =
     let backs : List What = map back (option_to_list o.back) in
     let fetches : List What = one_if o.fetch (what.Fetch (fetch_class s) first) in
@@ -72,7 +78,8 @@ few-asked side.D label.Instr a = omega arith
 few-asked side.D label.Misc a = omega arith
 few-asked side.D label.Flush a = omega arith
 
-few-weights : (l : Label) (a : ℕ) → weights (asked_by side.I l a) + weights (asked_by side.D l a) ≤ 2
+few-weights : (l : Label) (a : ℕ) → weights (asked_by side.I l a) + weights (asked_by side.D l a)
+    ≤ 2
 few-weights label.Read a = omega arith
 few-weights label.Write a = omega arith
 few-weights label.Instr a = omega arith
@@ -96,30 +103,56 @@ module _ (accesses : AccessesPay) (flushes : FlushesPay) where
   abbrev owed : Rules → History → ℕ
   owed r h = length (dirty_blocks r h)
 
-  event_pays : (r : Rules) (s : Side) (h : History) (e : Event) → length (parts_of r s h e) + owed r (e ∷ h) ≤ owed r h + weight e
+  event_pays : (r : Rules) (s : Side) (h : History) (e : Event)
+      → length (parts_of r s h e) + owed r (e ∷ h) ≤ owed r h + weight e
   unfolding parts_of
-  event_pays r s h (access x) = omega (arith, accesses r h x, length-access_parts s (block_of r x * r.block_size) x (outcome_of r h x))
+  event_pays r s h (access x) = omega (
+    arith,
+    accesses r h x,
+    length-access_parts s (block_of r x * r.block_size) x (outcome_of r h x),
+  )
   event_pays r s h flush =
       let firsts : List ℕ = map (λ b. b * r.block_size) (dirty_blocks r h) in
-      omega (arith, ap length (flushes r h), few-flush_all s, length-append (map back firsts) (flush_all s), length-map firsts back, length-map (dirty_blocks r h) (λ b. b * r.block_size))
+      omega (
+        arith,
+        ap length (flushes r h),
+        few-flush_all s,
+        length-append (map back firsts) (flush_all s),
+        length-map firsts back,
+        length-map (dirty_blocks r h) (λ b. b * r.block_size),
+      )
 
-  events_pay : (r : Rules) (s : Side) (h : History) (es : List Event) → length es ≤ 1 → length (flat_map (parts_of r s h) es) + owed r (newest_first es ++ h) ≤ owed r h + weights es
+  events_pay : (r : Rules) (s : Side) (h : History) (es : List Event) → length es ≤ 1
+      → length (flat_map (parts_of r s h) es) + owed r (newest_first es ++ h)
+      ≤ owed r h + weights es
   events_pay r s h [] le = omega arith
-  events_pay r s h (e ∷ []) le = omega (arith, event_pays r s h e, ap length (append-nil (parts_of r s h e)))
+  events_pay r s h (e ∷ []) le = omega (
+    arith,
+    event_pays r s h e,
+    ap length (append-nil (parts_of r s h e)),
+  )
   events_pay r s h (e ∷ f ∷ es) le = absurd (omega arith)
 
   module _ (c : Hierarchy) where
     abbrev owed_at : Side → List DinRecord → ℕ
     owed_at s es = owed (rules_at c s) (history s es)
 
-    side_pays : (s : Side) (before : List DinRecord) (e : DinRecord) → length (sent_up (parts_in c) s before e) + owed_at s (before ++ e ∷ []) ≤ owed_at s before + weights (asked s e)
+    side_pays : (s : Side) (before : List DinRecord) (e : DinRecord)
+        → length (sent_up (parts_in c) s before e) + owed_at s (before ++ e ∷ [])
+        ≤ owed_at s before + weights (asked s e)
     side_pays s before e =
-        omega (arith, events_pay (rules_at c s) s (history s before) (asked s e) (few-asked s e.label e.addr), ap (owed (rules_at c s)) (history-more s before e))
+        omega (
+          arith,
+          events_pay (rules_at c s) s (history s before) (asked s e)
+              (few-asked s e.label e.addr),
+          ap (owed (rules_at c s)) (history-more s before e),
+        )
 
     abbrev ups : List DinRecord → DinRecord → List What
     ups before e = sent_up (parts_in c) side.I before e ++ sent_up (parts_in c) side.D before e
 
-    few-ups : (before es : List DinRecord) → length (along ups before es) ≤ owed_at side.I before + owed_at side.D before + 2 * length es
+    few-ups : (before es : List DinRecord) → length (along ups before es)
+        ≤ owed_at side.I before + owed_at side.D before + 2 * length es
     few-ups before [] = omega arith
     few-ups before (e ∷ es) =
         omega (
@@ -129,7 +162,8 @@ module _ (accesses : AccessesPay) (flushes : FlushesPay) where
           side_pays side.D before e,
           few-weights e.label e.addr,
           length-append (ups before e) (along ups (before ++ e ∷ []) es),
-          length-append (sent_up (parts_in c) side.I before e) (sent_up (parts_in c) side.D before e),
+          length-append (sent_up (parts_in c) side.I before e)
+              (sent_up (parts_in c) side.D before e),
         )
 
   nothing-owed : (r : Rules) → owed r [] ≡ 0
@@ -138,7 +172,14 @@ module _ (accesses : AccessesPay) (flushes : FlushesPay) where
 
   pub few-seen : SecondLevelSeesFew
   few-seen c es =
-      omega (arith, few-ups c [] es, nothing-owed c.i, nothing-owed c.d, length-reverse (map read_as (seen (parts_in c) es)), length-map (seen (parts_in c) es) read_as)
+      omega (
+        arith,
+        few-ups c [] es,
+        nothing-owed c.i,
+        nothing-owed c.d,
+        length-reverse (map read_as (seen (parts_in c) es)),
+        length-map (seen (parts_in c) es) read_as,
+      )
 
 few-one : (b : Bool) → one_counted b ≤ 1
 few-one true = omega arith
@@ -146,9 +187,17 @@ few-one false = omega arith
 
 few-picked : (p : Picked) → length (picked_events p) ≤ 2
 few-picked p =
-    omega (arith, length-append (option_to_list p.event) (one_if p.flush inserted_flush), length-option p.event, length-one_if p.flush inserted_flush, few-one (is_some p.event), few-one p.flush)
+    omega (
+      arith,
+      length-append (option_to_list p.event) (one_if p.flush inserted_flush),
+      length-option p.event,
+      length-one_if p.flush inserted_flush,
+      few-one (is_some p.event),
+      few-one p.flush,
+    )
 
-few-along : (s : Selection) (before xs : List DinRecord) → length (along (events_at s) before xs) ≤ 2 * length xs
+few-along : (s : Selection) (before xs : List DinRecord)
+    → length (along (events_at s) before xs) ≤ 2 * length xs
 few-along s before [] = omega arith
 few-along s before (x ∷ xs) =
     omega (

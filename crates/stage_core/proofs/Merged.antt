@@ -1,5 +1,7 @@
--- The merge's rule, fed with the streams of an event list, takes exactly what the second level is to see.
-use Rattle.std.proofs.Common.{◌≡◌, ℕ, ◌+◌, List, [], ◌∷◌, ◌++◌, map, length, refl, ap, ◌∙◌, append_assoc, append-nil}
+-- The merge's rule, fed with the streams of an event list, takes exactly what the second level is
+-- to see.
+use Rattle.std.proofs.Common.{◌≡◌, ℕ, ◌+◌, List, [], ◌∷◌, ◌++◌, map, length, refl, ap, ◌∙◌}
+use Rattle.std.proofs.Common.{append_assoc, append-nil}
 use Rattle.cache_core.specs.History.{flush}
 use Rattle.cache_core.specs.declared.access.Class.TheVariants as class
 use Rattle.din_trace.specs.declared.record.DinRecord.{DinRecord}
@@ -24,18 +26,25 @@ abbrev with_whats : List What → Merged → Merged
 with_whats [] m = m
 with_whats (w ∷ ws) m = with_what w (with_whats ws m)
 
-with_whats-all_used : (ws us : List What) (at : Stand) → with_whats ws (all_used us at) ≡ all_used (ws ++ us) at
+with_whats-all_used : (ws us : List What) (at : Stand)
+    → with_whats ws (all_used us at) ≡ all_used (ws ++ us) at
 with_whats-all_used [] us at = refl
 with_whats-all_used (w ∷ ws) us at = ap (with_what w) (with_whats-all_used ws us at)
 
-up_to_end-numbered : (place n k : ℕ) (ws : List What) (rest : List FromStage) (stopped : Merged) (next : List FromStage → Merged) → up_to_end (numbered place n ws ++ from_stage.Done place k ∷ rest) stopped next ≡ with_whats ws (next rest)
+up_to_end-numbered : (place n k : ℕ) (ws : List What) (rest : List FromStage) (stopped : Merged)
+    (next : List FromStage → Merged) → up_to_end
+    (numbered place n ws ++ from_stage.Done place k ∷ rest) stopped next ≡ with_whats ws (next rest)
 up_to_end-numbered place n k [] rest stopped next = refl
-up_to_end-numbered place n k (w ∷ ws) rest stopped next = ap (with_what w) (up_to_end-numbered place (n + 1) k ws rest stopped next)
+up_to_end-numbered place n k (w ∷ ws) rest stopped next =
+    ap (with_what w) (up_to_end-numbered place (n + 1) k ws rest stopped next)
 
 -- a whole answer is taken
-up_to_end-answer : (place : ℕ) (ws : List What) (xs ys : List FromStage) (stopped : Merged) (next : List FromStage → Merged) → up_to_end (((answer place ws ++ []) ++ xs) ++ ys) stopped next ≡ with_whats ws (next (xs ++ ys))
+up_to_end-answer : (place : ℕ) (ws : List What) (xs ys : List FromStage) (stopped : Merged)
+    (next : List FromStage → Merged) → up_to_end (((answer place ws ++ []) ++ xs) ++ ys)
+    stopped next ≡ with_whats ws (next (xs ++ ys))
 up_to_end-answer place ws xs ys stopped next =
-    rw append-nil (rw append_assoc (rw append_assoc (up_to_end-numbered place 1 (length ws) ws (xs ++ ys) stopped next)))
+    rw append-nil (rw append_assoc (rw append_assoc
+    (up_to_end-numbered place 1 (length ws) ws (xs ++ ys) stopped next)))
 
 module _ (parts : Parts) where
   abbrev ups : List DinRecord → DinRecord → List What
@@ -49,26 +58,42 @@ module _ (parts : Parts) where
 
   -- the rule from some place on
   abbrev Law : List DinRecord → List DinRecord → Type 0
-  Law before es = merged (turns_from es) (stream side.I before es) (stream side.D before es) ≡ all_used (along ups before es) AtEnd
+  Law before es = merged (turns_from es) (stream side.I before es) (stream side.D before es)
+      ≡ all_used (along ups before es) AtEnd
 
   -- the turn of one side
-  one_side : (place : ℕ) (ws us vs : List What) (xs : List FromStage) (stopped : Merged) (next : List FromStage → Merged) → ws ++ us ≡ vs → next (xs ++ from_stage.Finish ∷ []) ≡ all_used us AtEnd → up_to_end (((answer place ws ++ []) ++ xs) ++ from_stage.Finish ∷ []) stopped next ≡ all_used vs AtEnd
+  one_side : (place : ℕ) (ws us vs : List What) (xs : List FromStage) (stopped : Merged)
+      (next : List FromStage → Merged) → ws ++ us ≡ vs
+      → next (xs ++ from_stage.Finish ∷ []) ≡ all_used us AtEnd
+      → up_to_end (((answer place ws ++ []) ++ xs) ++ from_stage.Finish ∷ []) stopped next
+      ≡ all_used vs AtEnd
   one_side place ws us vs xs stopped next same rest =
-      up_to_end-answer place ws xs (from_stage.Finish ∷ []) stopped next ∙ ap (with_whats ws) rest ∙ with_whats-all_used ws us AtEnd ∙ ap (λ zs. all_used zs AtEnd) same
+      up_to_end-answer place ws xs (from_stage.Finish ∷ []) stopped next ∙ ap (with_whats ws) rest
+      ∙ with_whats-all_used ws us AtEnd ∙ ap (λ zs. all_used zs AtEnd) same
 
   -- one event
-  one : (l : Label) (a : ℕ) (before es : List DinRecord) → Law (before ++ record { label = l; addr = a } ∷ []) es → Law before (record { label = l; addr = a } ∷ es)
+  one : (l : Label) (a : ℕ) (before es : List DinRecord)
+      → Law (before ++ record { label = l; addr = a } ∷ []) es
+      → Law before (record { label = l; addr = a } ∷ es)
   one label.Instr a before es rest =
-      one_side (length before + 1) (parts side.I (history side.I before) (access_of class.Instr a)) _ _ _ _ _ (simp append-nil) rest
+      one_side (length before + 1) (parts side.I (history side.I before) (access_of class.Instr a))
+      _ _ _ _ _ (simp append-nil) rest
   one label.Read a before es rest =
-      one_side (length before + 1) (parts side.D (history side.D before) (access_of class.Read a)) _ _ _ _ _ (simp append-nil) rest
+      one_side (length before + 1) (parts side.D (history side.D before) (access_of class.Read a))
+      _ _ _ _ _ (simp append-nil) rest
   one label.Write a before es rest =
-      one_side (length before + 1) (parts side.D (history side.D before) (access_of class.Write a)) _ _ _ _ _ (simp append-nil) rest
+      one_side (length before + 1) (parts side.D (history side.D before) (access_of class.Write a))
+      _ _ _ _ _ (simp append-nil) rest
   one label.Misc a before es rest =
-      one_side (length before + 1) (parts side.D (history side.D before) (access_of class.Misc a)) _ _ _ _ _ (simp append-nil) rest
+      one_side (length before + 1) (parts side.D (history side.D before) (access_of class.Misc a))
+      _ _ _ _ _ (simp append-nil) rest
   one label.Flush a before es rest =
-      one_side (length before + 1) (parts side.I (history side.I before) flush) (parts side.D (history side.D before) flush ++ along ups (before ++ record { label = label.Flush; addr = a } ∷ []) es) _ _ _ _ (simp (append-nil, append_assoc))
-      (one_side (length before + 1) (parts side.D (history side.D before) flush) _ _ _ _ _ refl rest)
+      one_side (length before + 1) (parts side.I (history side.I before) flush)
+      (parts side.D (history side.D before) flush
+      ++ along ups (before ++ record { label = label.Flush; addr = a } ∷ []) es) _ _ _ _
+      (simp (append-nil, append_assoc))
+      (one_side (length before + 1) (parts side.D (history side.D before) flush)
+      _ _ _ _ _ refl rest)
 
   law : (before es : List DinRecord) → Law before es
   law before [] = refl

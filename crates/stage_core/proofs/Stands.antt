@@ -1,5 +1,6 @@
 -- One event, one message or one what more.
-use Rattle.std.proofs.Common.{◌≡◌, Bool, true, false, ◌||◌, List, [], ◌∷◌, ◌++◌, map, refl, sym, ap, subst, ◌∙◌, append-nil}
+use Rattle.std.proofs.Common.{◌≡◌, Bool, true, false, ◌||◌, List, [], ◌∷◌, ◌++◌, map, refl, sym, ap}
+use Rattle.std.proofs.Common.{subst, ◌∙◌, append-nil}
 use Rattle.std.specs.List.{flat_map, list_any}
 use Rattle.std.proofs.lemmas.Grind.{flat_map-append}
 use Rattle.std.proofs.lemmas.List.{reverse-append, map-append}
@@ -11,7 +12,8 @@ use Rattle.din_trace.specs.declared.record.DinRecord.{DinRecord}
 use Rattle.stage_core.specs.Events.{asked, history, newest_first}
 use Rattle.stage_core.specs.Seen.{read_as, second_history}
 use Rattle.stage_core.specs.Streams.{taken_in, asked_in, is_finish}
-use Rattle.stage_core.specs.Standing.{StageStandsFor, SecondStandsFor, cache_of, second_cache, took_finish}
+use Rattle.stage_core.specs.Standing.{StageStandsFor, SecondStandsFor, cache_of, second_cache}
+use Rattle.stage_core.specs.Standing.{took_finish}
 use Rattle.stage_core.specs.declared.l1_stage.L1Stage.{L1Stage}
 use Rattle.stage_core.specs.declared.l2_stage.L2Stage.{L2Stage}
 use Rattle.stage_core.specs.declared.message.Side.{Side}
@@ -19,44 +21,64 @@ use Rattle.stage_core.specs.declared.message.What.{What}
 use Rattle.stage_core.specs.declared.message.ToStage.{ToStage}
 
 -- what is asked item by item, the newest first: one item more
-asked-more : {A : Type 0} (f : A → List Event) (xs : List A) (x : A) → newest_first (flat_map f (xs ++ x ∷ [])) ≡ newest_first (f x) ++ newest_first (flat_map f xs)
+asked-more : {A : Type 0} (f : A → List Event) (xs : List A) (x : A)
+    → newest_first (flat_map f (xs ++ x ∷ [])) ≡ newest_first (f x) ++ newest_first (flat_map f xs)
 asked-more f xs x =
-    ap newest_first (flat_map-append f xs (x ∷ []) ∙ ap (λ l. flat_map f xs ++ l) (append-nil (f x)))
+    ap newest_first (flat_map-append f xs (x ∷ [])
+    ∙ ap (λ l. flat_map f xs ++ l) (append-nil (f x)))
     ∙ reverse-append (flat_map f xs) (f x)
 
-pub taken_in-more : (ms : List ToStage) (m : ToStage) → taken_in (ms ++ m ∷ []) ≡ newest_first (asked_in m) ++ taken_in ms
+pub taken_in-more : (ms : List ToStage) (m : ToStage)
+    → taken_in (ms ++ m ∷ []) ≡ newest_first (asked_in m) ++ taken_in ms
 taken_in-more ms m = asked-more asked_in ms m
 
-pub history-more : (s : Side) (es : List DinRecord) (e : DinRecord) → history s (es ++ e ∷ []) ≡ newest_first (asked s e) ++ history s es
+pub history-more : (s : Side) (es : List DinRecord) (e : DinRecord)
+    → history s (es ++ e ∷ []) ≡ newest_first (asked s e) ++ history s es
 history-more s es e = asked-more (asked s) es e
 
-pub second_history-more : (ws : List What) (w : What) → second_history (ws ++ w ∷ []) ≡ read_as w ∷ second_history ws
-second_history-more ws w = ap newest_first (map-append read_as ws (w ∷ [])) ∙ reverse-append (map read_as ws) (read_as w ∷ [])
+pub second_history-more : (ws : List What) (w : What)
+    → second_history (ws ++ w ∷ []) ≡ read_as w ∷ second_history ws
+second_history-more ws w = ap newest_first (map-append read_as ws (w ∷ []))
+    ∙ reverse-append (map read_as ws) (read_as w ∷ [])
 
 or-false : (b : Bool) → (b || false) ≡ b
 or-false true = refl
 or-false false = refl
 
-no_finish-more : (ms : List ToStage) (m : ToStage) → is_finish m ≡ false → list_any is_finish (ms ++ m ∷ []) ≡ list_any is_finish ms
+no_finish-more : (ms : List ToStage) (m : ToStage) → is_finish m ≡ false
+    → list_any is_finish (ms ++ m ∷ []) ≡ list_any is_finish ms
 no_finish-more ms m e =
-    list_any-append is_finish ms (m ∷ []) ∙ ap (λ t. list_any is_finish ms || (t || false)) e ∙ or-false (list_any is_finish ms)
+    list_any-append is_finish ms (m ∷ []) ∙ ap (λ t. list_any is_finish ms || (t || false)) e
+    ∙ or-false (list_any is_finish ms)
 
 -- a stage whose cache was given one event more took in one message more
-pub one_event_more : (old new : L1Stage) (ms : List ToStage) (m : ToStage) (e : Event) → asked_in m ≡ e ∷ [] → is_finish m ≡ false → took_finish new ≡ took_finish old
-    → ((h : History) → StandsFor (cache_of old) h → StandsFor (cache_of new) (e ∷ h)) → StageStandsFor old ms → StageStandsFor new (ms ++ m ∷ [])
+pub one_event_more : (old new : L1Stage) (ms : List ToStage) (m : ToStage) (e : Event)
+    → asked_in m ≡ e ∷ [] → is_finish m ≡ false → took_finish new ≡ took_finish old
+    → ((h : History) → StandsFor (cache_of old) h → StandsFor (cache_of new) (e ∷ h))
+    → StageStandsFor old ms → StageStandsFor new (ms ++ m ∷ [])
 one_event_more old new ms m e asks goes_on same longer st = record {
-  cache = subst (λ (h : History). StandsFor (cache_of new) h) (sym (taken_in-more ms m ∙ ap (λ l. newest_first l ++ taken_in ms) asks)) (longer (taken_in ms) st.cache);
+  cache = subst (λ (h : History). StandsFor (cache_of new) h)
+      (sym (taken_in-more ms m ∙ ap (λ l. newest_first l ++ taken_in ms) asks))
+      (longer (taken_in ms) st.cache);
   finish = same ∙ st.finish ∙ sym (no_finish-more ms m goes_on);
 }
 
 -- a second level whose cache was given one event more served one what more
 pub one_what_more : (old new : L2Stage) (ws : List What) (w : What) (e : Event) → read_as w ≡ e
-    → ((h : History) → StandsFor (second_cache old) h → StandsFor (second_cache new) (e ∷ h)) → SecondStandsFor old ws → SecondStandsFor new (ws ++ w ∷ [])
+    → ((h : History) → StandsFor (second_cache old) h → StandsFor (second_cache new) (e ∷ h))
+    → SecondStandsFor old ws → SecondStandsFor new (ws ++ w ∷ [])
 one_what_more old new ws w e reads longer st = record {
-  cache = subst (λ (h : History). StandsFor (second_cache new) h) (sym (second_history-more ws w ∙ ap (λ x. x ∷ second_history ws) reads)) (longer (second_history ws) st.cache);
+  cache = subst (λ (h : History). StandsFor (second_cache new) h)
+      (sym (second_history-more ws w ∙ ap (λ x. x ∷ second_history ws) reads))
+      (longer (second_history ws) st.cache);
 }
 
 -- what a stage took in is told by its cache and by whether Finish was among it
-pub same_stands : (old new : L1Stage) (ms : List ToStage) → cache_of new ≡ cache_of old → took_finish new ≡ took_finish old → StageStandsFor old ms → StageStandsFor new ms
+pub same_stands : (old new : L1Stage) (ms : List ToStage) → cache_of new ≡ cache_of old
+    → took_finish new ≡ took_finish old → StageStandsFor old ms → StageStandsFor new ms
 same_stands old new ms cache finish st =
-    record { cache = subst (λ (k : Cache). StandsFor k (taken_in ms)) (sym cache) st.cache; finish = finish ∙ st.finish }
+    record {
+      cache = subst (λ (k : Cache). StandsFor k (taken_in ms)) (sym cache) st.cache;
+      finish =
+          finish ∙ st.finish;
+    }

@@ -1,5 +1,6 @@
 -- The merge goes through the answers of one event and stands at Order again.
-use Rattle.std.proofs.Common.{◌≡◌, ◌⊎◌, ℕ, ◌+◌, inl, inr, List, [], ◌∷◌, ◌++◌, length, map, false, Option, Some, option_to_list, refl, sym, ap, subst, ◌∙◌}
+use Rattle.std.proofs.Common.{◌≡◌, ◌⊎◌, ℕ, ◌+◌, inl, inr, List, [], ◌∷◌, ◌++◌, length, map, false}
+use Rattle.std.proofs.Common.{Option, Some, option_to_list, refl, sym, ap, subst, ◌∙◌}
 use Rattle.std.specs.List.{flat_map, list_any}
 use Rattle.cache_core.specs.History.{Event, access, flush}
 use Rattle.din_trace.specs.declared.record.Label.{Label}
@@ -22,17 +23,22 @@ pub record IsTurn (at : Stand) (ms : List FromStage) : Type 0 where
   pub wanted : AreWanted at ms
   pub after : stand_after at ms ≡ after_end at
 
-numbered-turn : (at : Stand) (place n k : ℕ) (ws : List What) → WantsSide at → IsTurn at (numbered place n ws ++ from_stage.Done place k ∷ [])
+numbered-turn : (at : Stand) (place n k : ℕ) (ws : List What) → WantsSide at
+    → IsTurn at (numbered place n ws ++ from_stage.Done place k ∷ [])
 numbered-turn at place n k [] wants = record { wanted = (wants, tt); after = refl }
 numbered-turn at place n k (w ∷ ws) wants =
-    let rest = numbered-turn at place (n + 1) k ws wants in record { wanted = (wants, rest.wanted); after = rest.after }
+    let rest = numbered-turn at place (n + 1) k ws wants in
+    record { wanted = (wants, rest.wanted); after = rest.after }
 
-pub reply-turn : (parts : Parts) (s : Side) (before : List ToStage) (at : Stand) (m : ToStage) → WantsSide at → IsTurn at (reply parts s before m)
+pub reply-turn : (parts : Parts) (s : Side) (before : List ToStage) (at : Stand) (m : ToStage)
+    → WantsSide at → IsTurn at (reply parts s before m)
 reply-turn parts s before at (to_stage.Ref place c a) wants = numbered-turn at place 1 _ _ wants
 reply-turn parts s before at (to_stage.Flush place) wants = numbered-turn at place 1 _ _ wants
 reply-turn parts s before at to_stage.Finish wants = record { wanted = (wants, tt); after = refl }
 
-pub option-turn : (parts : Parts) (s : Side) (before : List ToStage) (at : Stand) (m : ToStage) {o : Option ToStage} {ms : List FromStage} → o ≡ Some m → ms ≡ reply parts s before m → WantsAnswers at (option_to_list o) → IsTurn at ms
+pub option-turn : (parts : Parts) (s : Side) (before : List ToStage) (at : Stand) (m : ToStage)
+    {o : Option ToStage} {ms : List FromStage} → o ≡ Some m → ms ≡ reply parts s before m
+    → WantsAnswers at (option_to_list o) → IsTurn at ms
 option-turn parts s before at m some sent wants =
     let answers = subst (λ (o : Option ToStage). WantsAnswers at (option_to_list o)) some wants in
     subst (IsTurn at) (sym sent) (reply-turn parts s before at m answers.0)
@@ -43,7 +49,8 @@ pub record AreTurns (at : Stand) (is ds : List ToStage) : Type 0 where
   pub d : WantsAnswers (after_answers at is) ds
   pub after : after_answers (after_answers at is) ds ≡ AtOrder
 
-pub turns : (l : Label) (a p : ℕ) → AreTurns (after_turn (turn_of l)) (map (message p) (asked_by side.I l a)) (map (message p) (asked_by side.D l a))
+pub turns : (l : Label) (a p : ℕ) → AreTurns (after_turn (turn_of l))
+    (map (message p) (asked_by side.I l a)) (map (message p) (asked_by side.D l a))
 turns label.Instr a p = record { i = (inl refl, tt); d = tt; after = refl }
 turns label.Read a p = record { i = tt; d = (inr refl, tt); after = refl }
 turns label.Write a p = record { i = tt; d = (inr refl, tt); after = refl }
@@ -57,6 +64,9 @@ no_finish p (access x ∷ es) = no_finish p es
 no_finish p (flush ∷ es) = no_finish p es
 
 -- so the merge stands where it stood before the event
-pub at-order : (l : Label) (a p : ℕ) {is ds : List ToStage} {turned between after : Stand} → turned ≡ after_turn (turn_of l) → is ≡ map (message p) (asked_by side.I l a) → ds ≡ map (message p) (asked_by side.D l a)
+pub at-order : (l : Label) (a p : ℕ) {is ds : List ToStage} {turned between after : Stand}
+    → turned ≡ after_turn (turn_of l) → is ≡ map (message p) (asked_by side.I l a)
+    → ds ≡ map (message p) (asked_by side.D l a)
     → between ≡ after_answers turned is → after ≡ after_answers between ds → after ≡ AtOrder
-at-order l a p {is = is} {ds = ds} {turned = turned} {between = between} {after = after} t i d b e = let end = (turns l a p).after in cc
+at-order l a p {is = is} {ds = ds} {turned = turned} {between = between} {after = after} t i d b e =
+    let end = (turns l a p).after in cc

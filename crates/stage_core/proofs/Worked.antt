@@ -1,14 +1,18 @@
 -- One event more is worked off.
-use Rattle.std.proofs.Common.{◌≡◌, ℕ, ◌+◌, ◌*◌, ◌^◌, ◌<◌, ◌≤◌, List, [], ◌∷◌, ◌++◌, length, map, reverse, Option, option_to_list, refl, sym, ap, subst, ◌∙◌, arith, length-append}
+use Rattle.std.proofs.Common.{◌≡◌, ℕ, ◌+◌, ◌*◌, ◌^◌, ◌<◌, ◌≤◌, List, [], ◌∷◌, ◌++◌, length, map}
+use Rattle.std.proofs.Common.{reverse, Option, option_to_list, refl, sym, ap, subst, ◌∙◌, arith}
+use Rattle.std.proofs.Common.{length-append}
 use Rattle.std.proofs.lemmas.List.{length-map, length-reverse}
 use Rattle.cache_core.specs.History.{Rules}
 use Rattle.cache_core.specs.Standing.{rules_of, served_of}
 use Rattle.din_trace.specs.declared.record.DinRecord.{DinRecord}
 use Rattle.stage_core.specs.Places.{over}
 use Rattle.stage_core.specs.Events.{asked}
-use Rattle.stage_core.specs.Seen.{Hierarchy, Parts, parts_of, parts_in, sent_up, seen, read_as, second_history}
+use Rattle.stage_core.specs.Seen.{Hierarchy, Parts, parts_of, parts_in, sent_up, seen, read_as}
+use Rattle.stage_core.specs.Seen.{second_history}
 use Rattle.stage_core.specs.Streams.{told, message}
-use Rattle.stage_core.specs.Standing.{StageStandsFor, SecondStandsFor, IsReady, cache_of, side_of, second_cache}
+use Rattle.stage_core.specs.Standing.{StageStandsFor, SecondStandsFor, IsReady, cache_of, side_of}
+use Rattle.stage_core.specs.Standing.{second_cache}
 use Rattle.stage_core.specs.Plain.{brought, brought_from, StageRan}
 use Rattle.stage_core.specs.Laws.{SecondLevelSeesFew}
 use Rattle.stage_core.specs.declared.message.Side.{Side}
@@ -22,43 +26,59 @@ use Rattle.stage_core.proofs.Told.{taken_in-told, brought-told}
 use Rattle.stage_core.proofs.Few.{few-history}
 
 -- what the splitter told a side of the event e, behind these events
-abbrev pub IsTold : Side → List DinRecord → DinRecord → Option ToStage → Type 0
-IsTold s es e o = option_to_list o ≡ told s es e
-
-pub is_told : (s : Side) (es : List DinRecord) (e : DinRecord) (place : ℕ) (o : Option ToStage) → place ≡ length es → option_to_list o ≡ map (message (place + 1)) (asked s e) → IsTold s es e o
-is_told s es e place o p routed = routed ∙ ap (λ n. map (message (n + 1)) (asked s e)) p
+told-event : (s : Side) (es : List DinRecord) (e : DinRecord) (place : ℕ) (o : Option ToStage)
+    → place ≡ length es → option_to_list o ≡ map (message (place + 1)) (asked s e)
+    → option_to_list o ≡ told s es e
+told-event s es e place o at routed = routed ∙ ap (λ n. map (message (n + 1)) (asked s e)) at
 
 -- a stage serves no more than one thing for each event
-pub few-served : (s : Side) (stage : L1Stage) (es : List DinRecord) → StageRan s stage es → length es < 2 ^ 41 → served_of (cache_of stage) < 2 ^ 44
-few-served s stage es ran few = omega (arith, ran.stands.cache.served, ap length (taken_in-told s es), few-history s es)
+pub few-served : {s : Side} {stage : L1Stage} {es : List DinRecord} → StageRan s stage es
+    → length es < 2 ^ 41 → served_of (cache_of stage) < 2 ^ 44
+few-served {s = s} {es = es} ran short =
+    omega (arith, ran.stands.cache.served, ap length (taken_in-told s es), few-history s es)
 
 -- what an event brings is what its side sends up
-pub brought-event : (s : Side) (stage : L1Stage) (es : List DinRecord) (e : DinRecord) (o : Option ToStage) → side_of stage ≡ s → IsTold s es e o
-    → brought_from stage (over (told s) es) o ≡ sent_up (parts_of (rules_of (cache_of stage))) s es e
-brought-event s stage es e o side told_it =
+pub brought-event : {s : Side} {stage : L1Stage} {es : List DinRecord} (e : DinRecord) (place : ℕ)
+    (o : Option ToStage) → StageRan s stage es → place ≡ length es
+    → option_to_list o ≡ map (message (place + 1)) (asked s e)
+    → brought_from stage (over (told s) es) o
+    ≡ sent_up (parts_of (rules_of (cache_of stage))) s es e
+brought-event {s = s} {stage = stage} {es = es} e place o ran at routed =
     let parts : Parts = parts_of (rules_of (cache_of stage)) in
-    ap (brought parts (side_of stage) (over (told s) es)) told_it
-    ∙ ap (λ t. brought parts t (over (told s) es) (told s es e)) side
+    ap (brought parts (side_of stage) (over (told s) es)) (told-event s es e place o at routed)
+    ∙ ap (λ t. brought parts t (over (told s) es) (told s es e)) ran.side
     ∙ brought-told parts s es e
 
 -- a stage that served the event
-pub ran-more : (s : Side) (old new : L1Stage) (es : List DinRecord) (e : DinRecord) (o : Option ToStage) → IsTold s es e o → StageRan s old es → side_of new ≡ side_of old → IsReady new
-    → ((before : List ToStage) → StageStandsFor old before → StageStandsFor new (before ++ option_to_list o)) → StageRan s new (es ++ e ∷ [])
-ran-more s old new es e o told_it ran side ready stands = record {
+pub ran-more : {s : Side} {old new : L1Stage} {es : List DinRecord} (e : DinRecord) (place : ℕ)
+    (o : Option ToStage) → StageRan s old es → place ≡ length es
+    → option_to_list o ≡ map (message (place + 1)) (asked s e)
+    → side_of new ≡ side_of old → IsReady new
+    → ((before : List ToStage) → StageStandsFor old before
+    → StageStandsFor new (before ++ option_to_list o))
+    → StageRan s new (es ++ e ∷ [])
+ran-more {s = s} {new = new} {es = es} e place o ran at routed side ready stands = record {
   side = side ∙ ran.side;
-  stands = subst (StageStandsFor new) (ap (λ l. over (told s) es ++ l) told_it ∙ sym (over-more (told s) es e)) (stands (over (told s) es) ran.stands);
+  stands = subst (StageStandsFor new)
+      (ap (λ l. over (told s) es ++ l) (told-event s es e place o at routed)
+      ∙ sym (over-more (told s) es e)) (stands (over (told s) es) ran.stands);
   ready = ready;
 }
 
-pub seen-more : (parts : Parts) (es : List DinRecord) (e : DinRecord) → seen parts (es ++ e ∷ []) ≡ seen parts es ++ (sent_up parts side.I es e ++ sent_up parts side.D es e)
-seen-more parts es e = over-more (λ before f. sent_up parts side.I before f ++ sent_up parts side.D before f) es e
+pub seen-more : (parts : Parts) (es : List DinRecord) (e : DinRecord)
+    → seen parts (es ++ e ∷ []) ≡ seen parts es
+    ++ (sent_up parts side.I es e ++ sent_up parts side.D es e)
+seen-more parts es e = over-more (λ before f. sent_up parts side.I before f
+    ++ sent_up parts side.D before f) es e
 
 length-second_history : (ws : List What) → length (second_history ws) ≡ length ws
 length-second_history ws = length-reverse (map read_as ws) ∙ length-map ws read_as
 
 -- there is room for the event at the second level
-pub room-above : SecondLevelSeesFew → (c : Hierarchy) (es : List DinRecord) (e : DinRecord) → length es < 2 ^ 41
-    → length (seen (parts_in c) es) + (length (sent_up (parts_in c) side.I es e) + length (sent_up (parts_in c) side.D es e)) ≤ 2 ^ 44
+pub room-above : SecondLevelSeesFew → (c : Hierarchy) (es : List DinRecord) (e : DinRecord)
+    → length es < 2 ^ 41
+    → length (seen (parts_in c) es) + (length (sent_up (parts_in c) side.I es e) + length
+    (sent_up (parts_in c) side.D es e)) ≤ 2 ^ 44
 room-above few c es e short =
     let more : List What = sent_up (parts_in c) side.I es e ++ sent_up (parts_in c) side.D es e in
     omega (
@@ -71,12 +91,15 @@ room-above few c es e short =
       length-append es (e ∷ []),
     )
 
-pub served-whats : (u : L2Stage) (ws : List What) → SecondStandsFor u ws → served_of (second_cache u) ≡ length ws
-served-whats u ws st = st.cache.served ∙ length-second_history ws
+pub served-whats : {u : L2Stage} {ws : List What} → SecondStandsFor u ws
+    → served_of (second_cache u) ≡ length ws
+served-whats {ws = ws} st = st.cache.served ∙ length-second_history ws
 
 abbrev pub the_hierarchy : Rules → Rules → Rules → Hierarchy
 the_hierarchy i d u = record { i = i; d = d; u = u }
 
-pub same-rules : {i d u i' d' u' : Rules} → i' ≡ i → d' ≡ d → u' ≡ u → the_hierarchy i' d' u' ≡ the_hierarchy i d u
+pub same-rules : {i d u i' d' u' : Rules} → i' ≡ i → d' ≡ d → u' ≡ u
+    → the_hierarchy i' d' u' ≡ the_hierarchy i d u
 same-rules {i = i} {d = d} {u = u} {i' = i'} {d' = d'} {u' = u'} ei ed eu =
-    ap (λ r. the_hierarchy r d' u') ei ∙ ap (λ r. the_hierarchy i r u') ed ∙ ap (λ r. the_hierarchy i d r) eu
+    ap (λ r. the_hierarchy r d' u') ei ∙ ap (λ r. the_hierarchy i r u') ed
+    ∙ ap (λ r. the_hierarchy i d r) eu

@@ -1,5 +1,7 @@
 -- The events that a selection makes of a trace, and what they ask of each first-level cache.
-use Rattle.std.specs.Prelude.{◌≤◌, ◌^◌, Some, None, option_to_list, ℕ, ◌+◌, ◌-◌, ◌%◌, Bool, true, false, not, ◌==◌, ◌&&◌, ◌||◌, nat_lt, nat_le, List, [], ◌∷◌, ◌++◌, count_by, reverse, if◌then◌else◌}
+use Rattle.std.specs.Prelude.{◌≤◌, ◌^◌, Some, None, option_to_list, ℕ, ◌+◌, ◌-◌, ◌%◌, Bool, true}
+use Rattle.std.specs.Prelude.{false, not, ◌==◌, ◌&&◌, ◌||◌, nat_lt, nat_le, List, [], ◌∷◌, ◌++◌}
+use Rattle.std.specs.Prelude.{count_by, reverse, if◌then◌else◌}
 use Rattle.std.specs.List.{flat_map}
 use Rattle.din_trace.specs.declared.record.DinRecord.{DinRecord}
 use Rattle.din_trace.specs.declared.record.Label.{Label}
@@ -42,8 +44,9 @@ is_selected_flush s r = nat_le s.skip r && (s.max == 0 || nat_lt r (s.skip + s.m
 abbrev pub is_selected : Selection → ℕ → DinRecord → Bool
 is_selected s r x = if is_reference x then is_selected_reference s r else is_selected_flush s r
 
--- does a flush follow the selected record x? It follows the selected references number every, 2 * every and so on,
--- and an every of 0 puts none in. The selected references are those from number skip + 1 on.
+-- does a flush follow the selected record x? It follows the selected references number every, 2 *
+-- every and so on, and an every of 0 puts none in. The selected references are those from number
+-- skip + 1 on.
 abbrev pub flush_follows : Selection → ℕ → DinRecord → Bool
 flush_follows s r x = is_reference x && (nat_lt 0 s.every && ((r - s.skip) % s.every == 0))
 
@@ -72,7 +75,8 @@ events s records = over (events_at s) records
 abbrev pub access_of : Class → ℕ → Event
 access_of c a = access record { class = c; addr = a }
 
--- what an event asks of a side's cache: one access, one flush, or nothing where the event isn't that side's
+-- what an event asks of a side's cache: one access, one flush, or nothing where the event isn't
+-- that side's
 abbrev pub asked_by : Side → Label → ℕ → List Event
 asked_by side.I label.Instr a = access_of class.Instr a ∷ []
 asked_by side.I label.Flush a = flush ∷ []

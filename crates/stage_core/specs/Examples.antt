@@ -55,17 +55,22 @@ from_d-victim : from_side (parts_in small) side.D victim_trace
     ∷ from_stage.Part 3 1 (what.Back 0) ∷ from_stage.Part 3 2 (what.Fetch class.Read 16)
     ∷ from_stage.Done 3 2
     ∷ from_stage.Finish ∷ []
-unfolding parts_of outcome_of victim renewals is_resident reuse_distance dirty_blocks is_dirty is_written
+unfolding parts_of outcome_of victim renewals is_resident reuse_distance dirty_blocks is_dirty
+    is_written
 from_d-victim = refl
 
 -- the second level's history, the newest event first
 second-victim : second_history (seen (parts_in small) victim_trace)
-    ≡ access_of class.Read 16 ∷ access_of class.Write 0 ∷ access_of class.Read 8 ∷ access_of class.Read 0 ∷ []
-unfolding parts_of outcome_of victim renewals is_resident reuse_distance dirty_blocks is_dirty is_written
+    ≡ access_of class.Read 16 ∷ access_of class.Write 0 ∷ access_of class.Read 8
+    ∷ access_of class.Read 0 ∷ []
+unfolding parts_of outcome_of victim renewals is_resident reuse_distance dirty_blocks is_dirty
+    is_written
 second-victim = refl
 
-misses-victim : (totals small victim_trace).u.misses ≡ record { instr = 0; read = 3; write = 0; misc = 0 }
-unfolding parts_of outcome_of victim renewals is_resident reuse_distance dirty_blocks is_dirty is_written counts_of tally flushes_in flushed_back
+misses-victim : (totals small victim_trace).u.misses
+    ≡ record { instr = 0; read = 3; write = 0; misc = 0 }
+unfolding parts_of outcome_of victim renewals is_resident reuse_distance dirty_blocks is_dirty
+    is_written counts_of tally flushes_in flushed_back
 misses-victim = refl
 
 abbrev flush_trace : List DinRecord
@@ -77,8 +82,10 @@ order-flush = refl
 to_i-flush : to_side side.I flush_trace ≡ to_stage.Flush 3 ∷ to_stage.Finish ∷ []
 to_i-flush = refl
 
-from_i-flush : from_side (parts_in small) side.I flush_trace ≡ from_stage.Done 3 0 ∷ from_stage.Finish ∷ []
-unfolding parts_of outcome_of victim renewals is_resident reuse_distance dirty_blocks is_dirty is_written
+from_i-flush : from_side (parts_in small) side.I flush_trace ≡ from_stage.Done 3 0
+    ∷ from_stage.Finish ∷ []
+unfolding parts_of outcome_of victim renewals is_resident reuse_distance dirty_blocks is_dirty
+    is_written
 from_i-flush = refl
 
 from_d-flush : from_side (parts_in small) side.D flush_trace
@@ -87,7 +94,8 @@ from_d-flush : from_side (parts_in small) side.D flush_trace
     ∷ from_stage.Part 3 1 (what.Back 0) ∷ from_stage.Part 3 2 (what.Back 8)
     ∷ from_stage.Part 3 3 what.FlushAll ∷ from_stage.Done 3 3
     ∷ from_stage.Finish ∷ []
-unfolding parts_of outcome_of victim renewals is_resident reuse_distance dirty_blocks is_dirty is_written
+unfolding parts_of outcome_of victim renewals is_resident reuse_distance dirty_blocks is_dirty
+    is_written
 from_d-flush = refl
 
 second-flush : second_history (seen (parts_in small) flush_trace)
@@ -96,14 +104,17 @@ second-flush : second_history (seen (parts_in small) flush_trace)
     ∷ access_of class.Write 0
     ∷ access_of class.Read 0
     ∷ access_of class.Read 8 ∷ []
-unfolding parts_of outcome_of victim renewals is_resident reuse_distance dirty_blocks is_dirty is_written
+unfolding parts_of outcome_of victim renewals is_resident reuse_distance dirty_blocks is_dirty
+    is_written
 second-flush = refl
 
 backs-flush : (totals small flush_trace).u.written_back ≡ 2
-unfolding parts_of outcome_of victim renewals is_resident reuse_distance dirty_blocks is_dirty is_written counts_of tally flushes_in flushed_back
+unfolding parts_of outcome_of victim renewals is_resident reuse_distance dirty_blocks is_dirty
+    is_written counts_of tally flushes_in flushed_back
 backs-flush = refl
 
 -- a flush behind every second reference
 put_in : events record { skip = 0; max = 0; every = 2 } victim_trace
-    ≡ at_label label.Write 0 ∷ at_label label.Read 8 ∷ at_label label.Flush 0 ∷ at_label label.Read 16 ∷ []
+    ≡ at_label label.Write 0 ∷ at_label label.Read 8 ∷ at_label label.Flush 0
+    ∷ at_label label.Read 16 ∷ []
 put_in = refl

@@ -1,5 +1,6 @@
 -- Which configurations are lawful.
-use Rattle.std.specs.Prelude.{ℕ, ◌||◌, if◌then◌else◌, nat_lt, List, [], ◌∷◌, Option, Some, None, option_map}
+use Rattle.std.specs.Prelude.{ℕ, ◌||◌, if◌then◌else◌, nat_lt, List, [], ◌∷◌, Option, Some, None}
+use Rattle.std.specs.Prelude.{option_map}
 use Rattle.cache_core.specs.Lawful.{refusal_of as geometry_refused}
 use Rattle.stage_core.specs.declared.config.CacheName.{CacheName}
 use Rattle.stage_core.specs.declared.config.CacheName.TheVariants as cache_name
@@ -9,11 +10,13 @@ use Rattle.stage_core.specs.declared.config.ConfigFault.TheVariants as fault
 
 -- why the cache's geometry is refused
 unfoldable pub geometry_refusal : CacheName → CacheSpec → Option ConfigFault
-geometry_refusal which s = option_map (λ why. fault.Geometry which why) (geometry_refused s.size s.bsize s.assoc)
+geometry_refusal which s = option_map (λ why. fault.Geometry which why)
+    (geometry_refused s.size s.bsize s.assoc)
 
 -- a block of U holds each block of I and of D
 abbrev pub block_refusal : CacheSpec → CacheSpec → CacheSpec → Option ConfigFault
-block_refusal i d u = if nat_lt u.bsize i.bsize || nat_lt u.bsize d.bsize then Some fault.BlockOrder else None
+block_refusal i d u = if nat_lt u.bsize i.bsize || nat_lt u.bsize d.bsize then Some fault.BlockOrder
+    else None
 
 abbrev pub ring_refusal : ℕ → Option ConfigFault
 ring_refusal ring = if nat_lt ring 1 || nat_lt 65536 ring then Some fault.Ring else None

@@ -9,11 +9,12 @@ use Rattle.stage_core.specs.declared.message.Side.{Side}
 use Rattle.stage_core.specs.declared.message.Side.TheVariants as side
 use Rattle.stage_core.specs.declared.selection.Selection.{Selection}
 
--- the merge's rule, fed with the streams of an event list, takes exactly what the second level is to see, uses the
--- streams up and is at its end
+-- the merge's rule, fed with the streams of an event list, takes exactly what the second level is
+-- to see, uses the streams up and is at its end
 abbrev pub MergeTakesWhatIsSeen : Type 0
 MergeTakesWhatIsSeen = (parts : Parts) (es : List DinRecord) →
-    merged (order es) (from_side parts side.I es) (from_side parts side.D es) ≡ all_used (seen parts es) AtEnd
+    merged (order es) (from_side parts side.I es) (from_side parts side.D es)
+    ≡ all_used (seen parts es) AtEnd
 
 -- what a stage sends for its whole stream is the stream to the merge
 abbrev pub StagesAnswerTheirStreams : Type 0
@@ -27,4 +28,5 @@ SecondLevelSeesFew = (c : Hierarchy) (es : List DinRecord) →
 
 -- the event list is at most twice as long as the trace
 abbrev pub SelectionsMakeFew : Type 0
-SelectionsMakeFew = (s : Selection) (records : List DinRecord) → length (events s records) ≤ 2 * length records
+SelectionsMakeFew = (s : Selection) (records : List DinRecord)
+    → length (events s records) ≤ 2 * length records

@@ -8,8 +8,8 @@ use Rattle.stage_core.specs.declared.message.Want.TheVariants as want
 use Rattle.stage_core.specs.declared.message.FromStage.{FromStage}
 use Rattle.stage_core.specs.declared.message.FromStage.TheVariants as from_stage
 
--- Where the merge stands: before a turn; in a turn of I, of D, or of both with I's part still to come;
--- after the last turn, before I's Finish or D's; at the end.
+-- Where the merge stands: before a turn; in a turn of I, of D, or of both with I's part still to
+-- come; after the last turn, before I's Finish or D's; at the end.
 pub data Stand : Type 0 where
   AtOrder AtI AtD AtBoth LastI LastD AtEnd : Stand
 
@@ -40,7 +40,8 @@ after_end LastD = AtEnd
 after_end AtOrder = AtOrder
 after_end AtEnd = AtEnd
 
--- a Part leaves the merge where it is; Done and Finish, either in the place of the other, end a side's messages
+-- a Part leaves the merge where it is; Done and Finish, either in the place of the other, end a
+-- side's messages
 abbrev pub after_message : Stand → FromStage → Stand
 after_message at (from_stage.Part place part w) = at
 after_message at (from_stage.Done place parts) = after_end at
@@ -63,7 +64,8 @@ pub record Merged : Type 0 where
 abbrev pub with_what : What → Merged → Merged
 with_what w m = record m { taken = w ∷ m.taken }
 
--- the rule takes a side's messages up to their end and goes on behind it, or stops where there are no more
+-- the rule takes a side's messages up to their end and goes on behind it, or stops where there are
+-- no more
 abbrev pub up_to_end : List FromStage → Merged → (List FromStage → Merged) → Merged
 up_to_end [] stopped next = stopped
 up_to_end (from_stage.Part place part w ∷ ms) stopped next = with_what w (up_to_end ms stopped next)
@@ -79,9 +81,11 @@ merged [] is ds = stops AtOrder [] is ds
 merged (turn.I ∷ ts) is ds = up_to_end is (stops AtI ts [] ds) (λ is'. merged ts is' ds)
 merged (turn.D ∷ ts) is ds = up_to_end ds (stops AtD ts is []) (λ ds'. merged ts is ds')
 merged (turn.Both ∷ ts) is ds =
-    up_to_end is (stops AtBoth ts [] ds) (λ is'. up_to_end ds (stops AtD ts is' []) (λ ds'. merged ts is' ds'))
+    up_to_end is (stops AtBoth ts [] ds) (λ is'. up_to_end ds (stops AtD ts is' [])
+    (λ ds'. merged ts is' ds'))
 merged (turn.Finish ∷ ts) is ds =
-    up_to_end is (stops LastI ts [] ds) (λ is'. up_to_end ds (stops LastD ts is' []) (λ ds'. stops AtEnd ts is' ds'))
+    up_to_end is (stops LastI ts [] ds) (λ is'. up_to_end ds (stops LastD ts is' [])
+    (λ ds'. stops AtEnd ts is' ds'))
 
 -- the rule took these whats, used all three lists up and stands there
 abbrev pub all_used : List What → Stand → Merged

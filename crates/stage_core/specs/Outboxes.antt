@@ -1,5 +1,6 @@
 -- A stage's outbox, whose messages are made as they are sent.
-use Rattle.std.specs.Prelude.{ℕ, ◌+◌, Bool, true, false, List, [], ◌∷◌, ◌++◌, length, map, Option, option_to_list, drop}
+use Rattle.std.specs.Prelude.{ℕ, ◌+◌, Bool, true, false, List, [], ◌∷◌, ◌++◌, length, map, Option}
+use Rattle.std.specs.Prelude.{option_to_list, drop}
 use Rattle.stage_core.specs.Seen.{back}
 use Rattle.stage_core.specs.Streams.{numbered}
 use Rattle.stage_core.specs.declared.message.What.{What}
@@ -11,7 +12,8 @@ use Rattle.stage_core.specs.declared.outbox.Owes.TheVariants as owes
 -- the write-backs that are left, and at most three parts more
 abbrev pub parts_left : List ℕ → ℕ → Option ℕ → Option What → Option What → List What
 parts_left backs next first second third =
-    map back (drop next backs) ++ (map back (option_to_list first) ++ option_to_list second ++ option_to_list third)
+    map back (drop next backs) ++ (map back (option_to_list first) ++ option_to_list second
+    ++ option_to_list third)
 
 -- the message that ends them, behind n parts
 abbrev pub last_message : ℕ → ℕ → Owes → List FromStage

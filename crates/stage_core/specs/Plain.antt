@@ -7,7 +7,8 @@ use Rattle.stage_core.specs.Places.{over}
 use Rattle.stage_core.specs.Seen.{Hierarchy, Parts, parts_of, parts_in, seen}
 use Rattle.stage_core.specs.Streams.{told, reply}
 use Rattle.stage_core.specs.Merging.{Stand, AtOrder, wanted, after_end, after_message, what_in}
-use Rattle.stage_core.specs.Standing.{StageStandsFor, SecondStandsFor, IsReady, cache_of, side_of, second_cache}
+use Rattle.stage_core.specs.Standing.{StageStandsFor, SecondStandsFor, IsReady, cache_of, side_of}
+use Rattle.stage_core.specs.Standing.{second_cache}
 use Rattle.stage_core.specs.declared.message.Side.{Side}
 use Rattle.stage_core.specs.declared.message.Side.TheVariants as side
 use Rattle.stage_core.specs.declared.message.Want.TheVariants as want
@@ -31,7 +32,7 @@ abbrev pub stand_after : Stand → List FromStage → Stand
 stand_after at [] = at
 stand_after at (m ∷ ms) = stand_after (after_message at m) ms
 
--- it does where a stage is to answer, and not elsewhere
+-- it does where each of these is to be answered
 abbrev pub WantsAnswers : Stand → List ToStage → Type 0
 WantsAnswers at [] = Unit {0}
 WantsAnswers at (m ∷ ms) = WantsSide at × WantsAnswers (after_end at) ms
@@ -41,7 +42,7 @@ abbrev pub after_answers : Stand → List ToStage → Stand
 after_answers at [] = at
 after_answers at (m ∷ ms) = after_answers (after_end at) ms
 
--- what a message brings from a stage, which takes it in after the messages before
+-- what these messages bring from a stage that took in the messages before
 abbrev pub brought : Parts → Side → List ToStage → List ToStage → List What
 brought parts s before ms = flat_map (λ m. flat_map what_in (reply parts s before m)) ms
 
@@ -56,7 +57,11 @@ pub record StageRan (s : Side) (stage : L1Stage) (es : List DinRecord) : Type 0 
   pub ready : IsReady stage
 
 abbrev pub hierarchy_in : Machines → Hierarchy
-hierarchy_in m = record { i = rules_of (cache_of m.i); d = rules_of (cache_of m.d); u = rules_of (second_cache m.u) }
+hierarchy_in m = record {
+  i = rules_of (cache_of m.i);
+  d = rules_of (cache_of m.d);
+  u = rules_of (second_cache m.u);
+}
 
 -- the machines have worked these events off
 pub record Ran (m : Machines) (es : List DinRecord) : Type 0 where

@@ -26,8 +26,8 @@ abbrev pub fetch_class : Side → Class
 fetch_class side.I = class.Instr
 fetch_class side.D = class.Read
 
--- the parts of an access with this outcome, whose block begins at the byte first: the write-back of a dirty victim,
--- the fetch, the write sent on, as far as they occur
+-- the parts of an access with this outcome, whose block begins at the byte first: the write-back of
+-- a dirty victim, the fetch, the write sent on, as far as they occur
 abbrev pub access_parts : Side → ℕ → Access → Outcome → List What
 access_parts s first x o =
     map back (option_to_list o.back)
@@ -39,7 +39,8 @@ abbrev pub flush_all : Side → List What
 flush_all side.I = []
 flush_all side.D = what.FlushAll ∷ []
 
--- the parts of an event of a side's cache after a history; a flush writes the dirty blocks back, rising
+-- the parts of an event of a side's cache after a history; a flush writes the dirty blocks back,
+-- rising
 unfoldable pub parts_of : Rules → Side → History → Event → List What
 parts_of r s h (access x) = access_parts s (block_of r x * r.block_size) x (outcome_of r h x)
 parts_of r s h flush = map back (map (λ b. b * r.block_size) (dirty_blocks r h)) ++ flush_all s
@@ -68,7 +69,8 @@ sent_up parts side before e = flat_map (parts side (history side before)) (asked
 
 -- what the second level sees: place by place I's parts, then D's
 abbrev pub seen : Parts → List DinRecord → List What
-seen parts events = over (λ before e. sent_up parts side.I before e ++ sent_up parts side.D before e) events
+seen parts events =
+    over (λ before e. sent_up parts side.I before e ++ sent_up parts side.D before e) events
 
 -- the access or the flush that this makes at the second level
 abbrev pub read_as : What → Event

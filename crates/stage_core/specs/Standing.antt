@@ -62,7 +62,8 @@ pub record IsFinished (s : L1Stage) : Type 0 where
   pub took : took_finish s ≡ true
   pub empty : outbox_of s ≡ []
 
--- the stage took in these messages: its cache was given what they ask for, and Finish where it is among them
+-- the stage took in these messages: its cache was given what they ask for, and Finish where it is
+-- among them
 pub record StageStandsFor (s : L1Stage) (messages : List ToStage) : Type 0 where
   pub cache : StandsFor (cache_of s) (taken_in messages)
   pub finish : took_finish s ≡ list_any is_finish messages

@@ -54,7 +54,8 @@ answer place ws = numbered place 1 ws ++ from_stage.Done place (length ws) ∷ [
 -- what a side answers to the event e, which stands after the events before
 abbrev pub answered : Parts → Side → List DinRecord → DinRecord → List FromStage
 answered parts side before e =
-    flat_map (λ event. answer (length before + 1) (parts side (history side before) event)) (asked side e)
+    flat_map (λ event. answer (length before + 1) (parts side (history side before) event))
+    (asked side e)
 
 -- the ring from a stage
 abbrev pub from_side : Parts → Side → List DinRecord → List FromStage
@@ -77,7 +78,8 @@ taken_in messages = newest_first (flat_map asked_in messages)
 
 -- what a stage sends for a message, which it takes in after the messages before
 abbrev pub reply : Parts → Side → List ToStage → ToStage → List FromStage
-reply parts side before (to_stage.Ref place c a) = answer place (parts side (taken_in before) (access_of c a))
+reply parts side before (to_stage.Ref place c a) =
+    answer place (parts side (taken_in before) (access_of c a))
 reply parts side before (to_stage.Flush place) = answer place (parts side (taken_in before) flush)
 reply parts side before to_stage.Finish = from_stage.Finish ∷ []
 

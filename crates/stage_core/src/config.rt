@@ -6,8 +6,8 @@ ghost use Rattle.stage_core.specs.Lawful.{geometry_refusal};
 
 use cache_core::{Geometry, GeometryFault, Policy};
 
-/// What one cache is to be: its size and its block in bytes, its ways, its policy. An instruction cache is given no
-/// write, so its write choices change nothing.
+/// What one cache is to be: its size and its block in bytes, its ways, its policy. An instruction
+/// cache is given no write, so its write choices change nothing.
 #[derive(Clone, Copy, Debug, PartialEq, Eq)]
 pub struct CacheSpec {
     pub size: u64,

@@ -14,8 +14,8 @@ use crate::outbox::Outbox;
 use cache_core::{Access, Cache, Class, Counts, Geometry, MAX_EVENTS, Outcome, Policy};
 use std::alloc::Global;
 
-/// One first-level cache, which takes messages in and sends the parts of each to the next level. A message is taken in
-/// once all that the one before it brought was sent.
+/// One first-level cache, which takes messages in and sends the parts of each to the next level. A
+/// message is taken in once all that the one before it brought was sent.
 #[derive(Drop)]
 pub struct L1Stage {
     alloc: Global,
@@ -80,13 +80,18 @@ fn access_box(
 
 #[tactic(auto, unfolding(crate::specs::Standing::cache_of, crate::specs::Standing::side_of, crate::specs::Standing::outbox_of, crate::specs::Standing::took_finish))]
 impl L1Stage {
-    ghost use Rattle.std.specs.Prelude.{◌≡◌, ◌<◌, ◌+◌, ◌↔◌, ◌++◌, ◌∷◌, [], IsTrue, IsNone, IsErr, IfOk, OnOk, OnErr, List, true, false, length, option_to_list};
+    ghost use Rattle.std.specs.Prelude.{◌≡◌, ◌<◌, ◌+◌, ◌↔◌, ◌++◌, ◌∷◌, [], IsTrue, IsNone, IsErr};
+    ghost use Rattle.std.specs.Prelude.{IfOk, OnOk, OnErr, List, true, false, length};
+    ghost use Rattle.std.specs.Prelude.{option_to_list};
     ghost use Rattle.cache_core.specs.History.{History, access as accessed, flush as flushed};
     ghost use Rattle.cache_core.specs.Counts.{KindsAddUp, counts_of};
-    ghost use Rattle.cache_core.specs.Standing.{StandsFor, rules_of, rules_from, served_of, counts_kept, has_failed};
+    ghost use Rattle.cache_core.specs.Standing.{StandsFor, rules_of, rules_from, served_of};
+    ghost use Rattle.cache_core.specs.Standing.{counts_kept, has_failed};
     ghost use Rattle.stage_core.specs.Seen.{parts_of};
     ghost use Rattle.stage_core.specs.Streams.{answer, reply, asked_in, taken_in, is_finish};
-    ghost use Rattle.stage_core.specs.Standing.{StageStandsFor, IsReady, IsFinished, HasFailedSince, cache_of, side_of, outbox_of, took_finish};
+    ghost use Rattle.stage_core.specs.Standing.{StageStandsFor, IsReady, IsFinished};
+    ghost use Rattle.stage_core.specs.Standing.{HasFailedSince, cache_of, side_of, outbox_of};
+    ghost use Rattle.stage_core.specs.Standing.{took_finish};
     ghost use Rattle.stage_core.specs.declared.message.ToStage.{ToStage};
     ghost use Rattle.stage_core.specs.declared.message.FromStage.TheVariants as from_stage;
 
@@ -98,7 +103,8 @@ impl L1Stage {
         policy: Policy,
     ) -> Result<L1Stage, NoMemory>
         ensures side { IfOk result (λ stage. side_of stage ≡ side) }
-        ensures rules { IfOk result (λ stage. rules_of (cache_of stage) ≡ rules_from geometry policy) }
+        ensures rules { IfOk result (λ stage. rules_of (cache_of stage)
+            ≡ rules_from geometry policy) }
         ensures ready { IfOk result (λ stage. IsReady stage) }
         ensures stands { IfOk result (λ stage. StageStandsFor stage []) }
         ensures works { IfOk result (λ stage. has_failed (cache_of stage) ≡ false) }
@@ -170,10 +176,12 @@ impl L1Stage {
         requires { served_of (cache_of self.old) < MAX_EVENTS }
         ensures sent { OnOk result ((h : History) → StandsFor (cache_of self.old) h →
             outbox_of self.new
-            ≡ answer place (parts_of (rules_of (cache_of self.old)) (side_of self.old) h (accessed access))) }
+            ≡ answer place (parts_of (rules_of (cache_of self.old)) (side_of self.old) h
+            (accessed access))) }
         ensures stands { OnOk result ((h : History) → StandsFor (cache_of self.old) h →
             StandsFor (cache_of self.new) (accessed access ∷ h)) }
-        ensures served { OnOk result (served_of (cache_of self.new) ≡ served_of (cache_of self.old) + 1) }
+        ensures served { OnOk result (served_of (cache_of self.new)
+            ≡ served_of (cache_of self.old) + 1) }
         ensures works { OnOk result (has_failed (cache_of self.new) ≡ false) }
         ensures refused { OnErr result (HasFailedSince (cache_of self.old) (cache_of self.new)
             × (outbox_of self.new ≡ outbox_of self.old)) }
@@ -196,7 +204,8 @@ impl L1Stage {
             ≡ answer place (parts_of (rules_of (cache_of self.old)) (side_of self.old) h flushed)) }
         ensures stands { OnOk result ((h : History) → StandsFor (cache_of self.old) h →
             StandsFor (cache_of self.new) (flushed ∷ h)) }
-        ensures served { OnOk result (served_of (cache_of self.new) ≡ served_of (cache_of self.old) + 1) }
+        ensures served { OnOk result (served_of (cache_of self.new)
+            ≡ served_of (cache_of self.old) + 1) }
         ensures works { OnOk result (has_failed (cache_of self.new) ≡ false) }
         ensures refused { OnErr result (HasFailedSince (cache_of self.old) (cache_of self.new)
             × (outbox_of self.new ≡ outbox_of self.old)) }
@@ -230,8 +239,8 @@ impl L1Stage {
         Ok(())
     }
 
-    /// Takes a message in, and makes what is to be sent for it. After a refusal the stage has failed: nothing is left to
-    /// send, and each further call is refused.
+    /// Takes a message in, and makes what is to be sent for it. After a refusal the stage has
+    /// failed: nothing is left to send, and each further call is refused.
     pub fn on(&mut self, message: ToStage) -> Result<(), NoMemory>
         requires ready { IsReady self.old }
         requires room { served_of (cache_of self.old) < MAX_EVENTS }

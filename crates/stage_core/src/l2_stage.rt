@@ -1,9 +1,11 @@
 //! The second level: one cache that serves what the first level asks of it.
 
-ghost use Rattle.std.specs.Prelude.{◌≡◌, ◌<◌, ◌+◌, ◌++◌, ◌∷◌, [], IsErr, IfOk, OnOk, OnErr, List, true, false, length};
+ghost use Rattle.std.specs.Prelude.{◌≡◌, ◌<◌, ◌+◌, ◌++◌, ◌∷◌, [], IsErr, IfOk, OnOk, OnErr, List};
+ghost use Rattle.std.specs.Prelude.{true, false, length};
 ghost use Rattle.cache_core.specs.History.{History, access as accessed, flush as flushed};
 ghost use Rattle.cache_core.specs.Counts.{KindsAddUp, counts_of};
-ghost use Rattle.cache_core.specs.Standing.{StandsFor, rules_of, rules_from, served_of, counts_kept, has_failed};
+ghost use Rattle.cache_core.specs.Standing.{StandsFor, rules_of, rules_from, served_of};
+ghost use Rattle.cache_core.specs.Standing.{counts_kept, has_failed};
 ghost use Rattle.stage_core.specs.Seen.{second_history};
 ghost use Rattle.stage_core.specs.Standing.{SecondStandsFor, HasFailedSince, second_cache};
 ghost use Rattle.stage_core.specs.declared.message.What.{What};
@@ -24,7 +26,8 @@ pub struct L2Stage {
 impl L2Stage {
     /// A second level that served nothing.
     pub fn new(alloc: Global, geometry: Geometry, policy: Policy) -> Result<L2Stage, NoMemory>
-        ensures rules { IfOk result (λ stage. rules_of (second_cache stage) ≡ rules_from geometry policy) }
+        ensures rules { IfOk result (λ stage. rules_of (second_cache stage)
+            ≡ rules_from geometry policy) }
         ensures stands { IfOk result (λ stage. SecondStandsFor stage []) }
         ensures works { IfOk result (λ stage. has_failed (second_cache stage) ≡ false) }
     {
@@ -63,9 +66,11 @@ impl L2Stage {
         requires { served_of (second_cache self.old) < MAX_EVENTS }
         ensures stands { OnOk result ((h : History) → StandsFor (second_cache self.old) h →
             StandsFor (second_cache self.new) (accessed access ∷ h)) }
-        ensures served { OnOk result (served_of (second_cache self.new) ≡ served_of (second_cache self.old) + 1) }
+        ensures served { OnOk result (served_of (second_cache self.new)
+            ≡ served_of (second_cache self.old) + 1) }
         ensures works { OnOk result (has_failed (second_cache self.new) ≡ false) }
-        ensures refused { OnErr result (HasFailedSince (second_cache self.old) (second_cache self.new)) }
+        ensures refused { OnErr result (HasFailedSince (second_cache self.old)
+            (second_cache self.new)) }
         ensures failed { has_failed (second_cache self.old) ≡ true → IsErr result }
         ensures rules { rules_of (second_cache self.new) ≡ rules_of (second_cache self.old) }
     {
@@ -78,9 +83,11 @@ impl L2Stage {
         requires { served_of (second_cache self.old) < MAX_EVENTS }
         ensures stands { OnOk result ((h : History) → StandsFor (second_cache self.old) h →
             StandsFor (second_cache self.new) (flushed ∷ h)) }
-        ensures served { OnOk result (served_of (second_cache self.new) ≡ served_of (second_cache self.old) + 1) }
+        ensures served { OnOk result (served_of (second_cache self.new)
+            ≡ served_of (second_cache self.old) + 1) }
         ensures works { OnOk result (has_failed (second_cache self.new) ≡ false) }
-        ensures refused { OnErr result (HasFailedSince (second_cache self.old) (second_cache self.new)) }
+        ensures refused { OnErr result (HasFailedSince (second_cache self.old)
+            (second_cache self.new)) }
         ensures failed { has_failed (second_cache self.old) ≡ true → IsErr result }
         ensures rules { rules_of (second_cache self.new) ≡ rules_of (second_cache self.old) }
     {
@@ -89,14 +96,17 @@ impl L2Stage {
         Ok(())
     }
 
-    /// Serves what the first level sends. After a refusal the stage has failed, and each further call is refused.
+    /// Serves what the first level sends. After a refusal the stage has failed, and each further
+    /// call is refused.
     pub fn on(&mut self, what: What) -> Result<(), NoMemory>
         requires { served_of (second_cache self.old) < MAX_EVENTS }
         ensures stands { OnOk result ((before : List What) → SecondStandsFor self.old before →
             SecondStandsFor self.new (before ++ what ∷ [])) }
-        ensures served { OnOk result (served_of (second_cache self.new) ≡ served_of (second_cache self.old) + 1) }
+        ensures served { OnOk result (served_of (second_cache self.new)
+            ≡ served_of (second_cache self.old) + 1) }
         ensures works { OnOk result (has_failed (second_cache self.new) ≡ false) }
-        ensures refused { OnErr result (HasFailedSince (second_cache self.old) (second_cache self.new)) }
+        ensures refused { OnErr result (HasFailedSince (second_cache self.old)
+            (second_cache self.new)) }
         ensures failed { has_failed (second_cache self.old) ≡ true → IsErr result }
         ensures rules { rules_of (second_cache self.new) ≡ rules_of (second_cache self.old) }
     {

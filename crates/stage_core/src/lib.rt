@@ -1,15 +1,16 @@
-//! The machines of a simulated hierarchy: a trace goes through a [`Selector`] and a [`Splitter`] to two first-level
-//! stages ([`L1Stage`], for instructions and for data), and what these send goes through a [`Merge`] to the second
-//! level ([`L2Stage`]).
+//! The machines of a simulated hierarchy: a trace goes through a [`Selector`] and a [`Splitter`] to
+//! two first-level stages ([`L1Stage`], for instructions and for data), and what these send goes
+//! through a [`Merge`] to the second level ([`L2Stage`]).
 //!
-//! None of the machines knows of threads or rings: each takes one thing in by `&mut self` and says what it puts out.
-//! `config` and `selection` say what is simulated, `message` has what the machines send to one another, `plain` moves
-//! all of them by hand on one thread, and `laws` has what holds of the definitions themselves.
+//! None of the machines knows of threads or rings: each takes one thing in by `&mut self` and says
+//! what it puts out. `config` and `selection` say what is simulated, `message` has what the
+//! machines send to one another, `plain` moves all of them by hand on one thread, and `laws` has
+//! what holds of the definitions themselves.
 //!
-//! Proved of every trace, selection and lawful configuration: what each machine puts out is a function of the list
-//! that it took in (`specs/Streams`); the merge takes the two sides' messages by place, I's before D's, whichever is
-//! there first (`specs/Merging`); and a run answers the counts that the definitions give over the whole event list
-//! (`specs/Seen`), or want of memory.
+//! Proved of every trace, selection and lawful configuration: what each machine puts out is a
+//! function of the list that it took in (`specs/Streams`); the merge takes the two sides' messages
+//! by place, I's before D's, whichever is there first (`specs/Merging`); and a run answers the
+//! counts that the definitions give over the whole event list (`specs/Seen`), or want of memory.
 #![tactic(auto)]
 
 mod config;

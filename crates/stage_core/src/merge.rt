@@ -69,7 +69,8 @@ impl Merge {
         };
     }
 
-    /// Takes a message of the side that is wanted, and answers what a Part brings. The numbers are not looked at.
+    /// Takes a message of the side that is wanted, and answers what a Part brings. The numbers are
+    /// not looked at.
     pub fn take(&mut self, message: FromStage) -> Option<What>
         requires { (wanted self.old ≡ want.I) ⊎ (wanted self.old ≡ want.D) }
         ensures stands { self.new ≡ after_message self.old message }

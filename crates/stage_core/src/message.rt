@@ -30,8 +30,8 @@ pub enum ToStage {
     Finish,
 }
 
-/// From a first-level stage to the merge. The parts of a place are numbered from 1, and then Done says how many
-/// they were.
+/// From a first-level stage to the merge. The parts of a place are numbered from 1, and then Done
+/// says how many they were.
 #[derive(Clone, Copy, Debug, PartialEq, Eq)]
 pub enum FromStage {
     Part { place: u64, part: u32, what: What },

@@ -1,6 +1,7 @@
 //! What a stage has still to send, made as it is sent: nothing grows after the cache was called.
 
-ghost use Rattle.std.specs.Prelude.{◌≡◌, ◌<◌, ◌^◌, ◌↔◌, ◌++◌, ◌∷◌, [], IsNone, IsTrue, length, option_to_list, map};
+ghost use Rattle.std.specs.Prelude.{◌≡◌, ◌<◌, ◌^◌, ◌↔◌, ◌++◌, ◌∷◌, [], IsNone, IsTrue, length};
+ghost use Rattle.std.specs.Prelude.{option_to_list, map};
 ghost use Rattle.stage_core.specs.Seen.{back};
 ghost use Rattle.stage_core.specs.Streams.{answer};
 ghost use Rattle.stage_core.specs.declared.message.FromStage.TheVariants as from_stage;
@@ -9,8 +10,8 @@ use crate::message::{FromStage, What};
 use std::alloc::Global;
 use std::marker::Model;
 
-// The parts of one message that are still to be sent. The write-backs of a flush are the very list that the cache
-// filled.
+// The parts of one message that are still to be sent. The write-backs of a flush are the very list
+// that the cache filled.
 #[derive(Drop)]
 struct Pending {
     backs: Vec<u64>,
@@ -94,7 +95,8 @@ impl Model for Outbox {
 
     ghost view = { λ o. to_send o.place o.sent o.pending o.owes };
 
-    ghost invariant = { λ o. (o.sent + length o.pending < 2 ^ 32) × ((owes_done o.owes ≡ true) ⊎ (o.pending ≡ [])) };
+    ghost invariant = { λ o. (o.sent + length o.pending < 2 ^ 32) ×
+        ((owes_done o.owes ≡ true) ⊎ (o.pending ≡ [])) };
 }
 
 impl Outbox {

@@ -1,6 +1,7 @@
 //! The run on one thread.
 
-ghost use Rattle.std.specs.Prelude.{◌≡◌, ◌<◌, ◌≤◌, ◌+◌, ◌*◌, ◌++◌, ◌∷◌, [], IfOk, OnOk, List, length, option_to_list, false};
+ghost use Rattle.std.specs.Prelude.{◌≡◌, ◌<◌, ◌≤◌, ◌+◌, ◌*◌, ◌++◌, ◌∷◌, [], IfOk, OnOk, List};
+ghost use Rattle.std.specs.Prelude.{length, option_to_list, false};
 ghost use Rattle.std.specs.List.{flat_map, list_any};
 ghost use Rattle.cache_core.specs.Standing.{rules_of, served_of};
 ghost use Rattle.din_trace.specs.declared.record.DinRecord.{DinRecord};
@@ -10,8 +11,10 @@ ghost use Rattle.stage_core.specs.Seen.{totals};
 ghost use Rattle.stage_core.specs.Streams.{is_finish};
 ghost use Rattle.stage_core.specs.Merging.{what_in};
 ghost use Rattle.stage_core.specs.Config.{hierarchy_of};
-ghost use Rattle.stage_core.specs.Standing.{StageStandsFor, SecondStandsFor, IsReady, cache_of, side_of, outbox_of, took_finish, second_cache};
-ghost use Rattle.stage_core.specs.Plain.{AreWanted, WantsAnswers, stand_after, after_answers, brought_from, hierarchy_in, Ran};
+ghost use Rattle.stage_core.specs.Standing.{StageStandsFor, SecondStandsFor, IsReady, cache_of};
+ghost use Rattle.stage_core.specs.Standing.{side_of, outbox_of, took_finish, second_cache};
+ghost use Rattle.stage_core.specs.Plain.{AreWanted, WantsAnswers, stand_after, after_answers};
+ghost use Rattle.stage_core.specs.Plain.{brought_from, hierarchy_in, Ran};
 ghost use Rattle.stage_core.specs.declared.message.What.{What};
 ghost use Rattle.stage_core.specs.declared.message.ToStage.{ToStage};
 
@@ -32,7 +35,8 @@ use std::alloc::Global;
 // Hands a stage's whole outbox to the merge, and what it brings to the second level.
 fn drain(stage: &mut L1Stage, merge: &mut Merge, u: &mut L2Stage) -> Result<(), NoMemory>
     requires wanted { AreWanted merge.old (outbox_of stage.old) }
-    requires room { served_of (second_cache u.old) + length (flat_map what_in (outbox_of stage.old)) ≤ MAX_EVENTS }
+    requires room { served_of (second_cache u.old) + length (flat_map what_in (outbox_of stage.old))
+        ≤ MAX_EVENTS }
     ensures empty { OnOk result (outbox_of stage.new ≡ []) }
     ensures merge { OnOk result (merge.new ≡ stand_after merge.old (outbox_of stage.old)) }
     ensures second { OnOk result ((before : List What) → SecondStandsFor u.old before →
@@ -62,7 +66,8 @@ fn serve(
     requires wanted { WantsAnswers merge.old (option_to_list message) }
     requires room { served_of (cache_of stage.old) < MAX_EVENTS }
     requires room_above { (before : List ToStage) × StageStandsFor stage.old before
-        × (served_of (second_cache u.old) + length (brought_from stage.old before message) ≤ MAX_EVENTS) }
+        × (served_of (second_cache u.old) + length (brought_from stage.old before message)
+        ≤ MAX_EVENTS) }
     ensures ready { OnOk result (IsReady stage.new) }
     ensures merge { OnOk result (merge.new ≡ after_answers merge.old (option_to_list message)) }
     ensures stands { OnOk result ((before : List ToStage) → StageStandsFor stage.old before →
@@ -109,7 +114,8 @@ impl Machines {
     // Works the next event off.
     fn take(&mut self, event: DinRecord) -> Result<(), NoMemory>
         requires room { (es : List DinRecord) × Ran self.old es × (length es < 2 * MAX_LIMIT) }
-        ensures ran { OnOk result ((es : List DinRecord) → Ran self.old es → Ran self.new (es ++ event ∷ [])) }
+        ensures ran { OnOk result ((es : List DinRecord) → Ran self.old es
+            → Ran self.new (es ++ event ∷ [])) }
         ensures rules { hierarchy_in self.new ≡ hierarchy_in self.old }
     {
         second_level_sees_few();
@@ -123,7 +129,8 @@ impl Machines {
     // Works an event off, if there is one.
     fn take_some(&mut self, event: Option<DinRecord>) -> Result<(), NoMemory>
         requires room { (es : List DinRecord) × Ran self.old es × (length es < 2 * MAX_LIMIT) }
-        ensures ran { OnOk result ((es : List DinRecord) → Ran self.old es → Ran self.new (es ++ option_to_list event)) }
+        ensures ran { OnOk result ((es : List DinRecord) → Ran self.old es
+            → Ran self.new (es ++ option_to_list event)) }
         ensures rules { hierarchy_in self.new ≡ hierarchy_in self.old }
     {
         let Some(event) = event else {
@@ -169,7 +176,8 @@ impl Machines {
 
     // The counts so far.
     fn totals(&self) -> Totals
-        ensures { (es : List DinRecord) → Ran self.now es → result ≡ totals (hierarchy_in self.now) es }
+        ensures { (es : List DinRecord) → Ran self.now es
+            → result ≡ totals (hierarchy_in self.now) es }
     {
         Totals {
             i: self.i.counts(),
@@ -179,8 +187,8 @@ impl Machines {
     }
 }
 
-/// Simulates the selected part of a trace on one thread, event by event: the totals are those of the definitions over
-/// the whole event list.
+/// Simulates the selected part of a trace on one thread, event by event: the totals are those of
+/// the definitions over the whole event list.
 pub fn run_plain(
     alloc: Global,
     config: &Config,
@@ -189,7 +197,8 @@ pub fn run_plain(
 ) -> Result<Totals, NoMemory>
     requires bounded { IsBounded selection.now }
     requires short { length records.now ≤ MAX_LIMIT }
-    ensures { IfOk result (λ counted. counted ≡ totals (hierarchy_of config.now) (events selection.now records.now)) }
+    ensures { IfOk result (λ counted. counted ≡ totals (hierarchy_of config.now)
+        (events selection.now records.now)) }
 {
     let mut machines = Machines::new(alloc, config)?;
     machines.run(*selection, records)?;

@@ -8,8 +8,8 @@ ghost use Rattle.din_trace.specs.declared.record.DinRecord.{DinRecord};
 use din_trace::{DinRecord, Label, MAX_LIMIT};
 use std::marker::Model;
 
-/// A part of a trace: `skip` references are left out, then at most `max` are taken (0: no bound), and a flush is put
-/// in behind every `every` of those (0: none). The names are Dinero IV's.
+/// A part of a trace: `skip` references are left out, then at most `max` are taken (0: no bound),
+/// and a flush is put in behind every `every` of those (0: none). The names are Dinero IV's.
 #[derive(Clone, Copy, Debug, PartialEq, Eq)]
 pub struct Selection {
     pub skip: u64,
@@ -17,7 +17,8 @@ pub struct Selection {
     pub every: u64,
 }
 
-/// What a selector makes of a record: the record where it is selected, and whether a flush is put in behind it.
+/// What a selector makes of a record: the record where it is selected, and whether a flush is put
+/// in behind it.
 #[derive(Clone, Copy, Debug, PartialEq, Eq)]
 pub struct Picked {
     pub event: Option<DinRecord>,
@@ -39,9 +40,15 @@ impl Model for Selector {
 
     ghost Value = { Offers };
 
-    ghost view = { λ s. record { selection = s.selection; records = s.records; references = s.references } };
+    ghost view = { λ s. record {
+      selection = s.selection;
+      records = s.records;
+      references =
+          s.references;
+    } };
 
-    ghost invariant = { λ s. (s.references ≤ s.records) × (s.records ≤ 2 ^ 40) × IsBounded s.selection };
+    ghost invariant = { λ s. (s.references ≤ s.records) × (s.records ≤ 2 ^ 40)
+        × IsBounded s.selection };
 }
 
 impl Selector {
@@ -70,7 +77,8 @@ impl Selector {
         requires { self.old.records < MAX_LIMIT }
         ensures selection { self.new.selection ≡ self.old.selection }
         ensures offered { self.new.records ≡ self.old.records + 1 }
-        ensures stands { (before : List DinRecord) → WasOffered self.old before → WasOffered self.new (before ++ next ∷ []) }
+        ensures stands { (before : List DinRecord) → WasOffered self.old before
+            → WasOffered self.new (before ++ next ∷ []) }
         ensures picked { (before : List DinRecord) → WasOffered self.old before →
             result ≡ picked self.old.selection (count_by is_reference (before ++ next ∷ [])) next }
     {

@@ -12,7 +12,8 @@ use cache_core::Class;
 use din_trace::{DinRecord, Label, MAX_LIMIT};
 use std::marker::Model;
 
-/// Numbers the events, and says what each asks of the two sides. Clauses see the place of the last event.
+/// Numbers the events, and says what each asks of the two sides. Clauses see the place of the last
+/// event.
 #[derive(Drop)]
 pub struct Splitter {
     place: u64,

@@ -1,4 +1,5 @@
-use Rattle.std.proofs.Common.{◌≡◌, ◌+◌, ◌++◌, ◌∷◌, [], List, count_by, get_or, option_to_list, take, sym, ap, subst, ◌∙◌, append_assoc}
+use Rattle.std.proofs.Common.{◌≡◌, ◌+◌, ◌++◌, ◌∷◌, [], List, count_by, get_or, option_to_list, take}
+use Rattle.std.proofs.Common.{sym, ap, subst, ◌∙◌, append_assoc}
 use Rattle.std.proofs.lemmas.List.{take_more}
 use Rattle.din_trace.specs.declared.record.DinRecord.{DinRecord}
 use Rattle.din_trace.specs.declared.record.Label.TheVariants as label
@@ -18,15 +19,21 @@ loop-next-preserved c =
     let next : DinRecord = get_or c.args.records.now c.loop-next.next-index first in
     let es : List DinRecord = events selection before in
     let more = take_more c.args.records.now c.loop-next.next-index first c.loop-next-test.true in
-    let picks = c.offer-picked.ensures.picked before inv.offered ∙ ap (λ (s : Selection). picked s (count_by is_reference (before ++ next ∷ [])) next) inv.selection in
-    let longer = append_assoc es (option_to_list c.offer-picked.result.event) (option_to_list c.inserted.result)
+    let picks = c.offer-picked.ensures.picked before inv.offered
+    ∙ ap (λ (s : Selection). picked s (count_by is_reference (before ++ next ∷ [])) next)
+    inv.selection in
+    let longer = append_assoc es (option_to_list c.offer-picked.result.event)
+    (option_to_list c.inserted.result)
     ∙ ap (λ l. es ++ (option_to_list c.offer-picked.result.event ++ l)) c.inserted.ensures
     ∙ ap (λ p. es ++ picked_events p) picks
     ∙ sym (over-more (events_at selection) before next)
     ∙ ap (events selection) (sym more) in
     record {
       selection = c.offer-picked.ensures.selection ∙ inv.selection;
-      offered = subst (WasOffered c.offer-picked.new.self) (sym more) (c.offer-picked.ensures.stands before inv.offered);
-      ran = subst (Ran c.take_some-in-loop-next.new.self) longer (c.in_ok-take_some-2.ensures.ran (es ++ option_to_list c.offer-picked.result.event) (c.in_ok-take_some.ensures.ran es inv.ran));
+      offered = subst (WasOffered c.offer-picked.new.self) (sym more)
+          (c.offer-picked.ensures.stands before inv.offered);
+      ran = subst (Ran c.take_some-in-loop-next.new.self) longer
+          (c.in_ok-take_some-2.ensures.ran (es ++ option_to_list c.offer-picked.result.event)
+          (c.in_ok-take_some.ensures.ran es inv.ran));
       rules = c.take_some-in-loop-next.ensures.rules ∙ c.take_some.ensures.rules ∙ inv.rules;
     }

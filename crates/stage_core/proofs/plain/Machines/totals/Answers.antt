@@ -13,7 +13,9 @@ use Rattle.stage_core.proofs.plain.Machines.totals.Goals as goal
 pub returns : goal.returns
 returns c = λ es ran.
     let m = c.args.self.now in
-    let i = c.counts.ensures.counted (over (told side.I) es) ran.i.stands ∙ ap (counts_of (rules_of (cache_of m.i))) (taken_in-told side.I es) in
-    let d = c.counts-2.ensures.counted (over (told side.D) es) ran.d.stands ∙ ap (counts_of (rules_of (cache_of m.d))) (taken_in-told side.D es) in
+    let i = c.counts.ensures.counted (over (told side.I) es) ran.i.stands
+    ∙ ap (counts_of (rules_of (cache_of m.i))) (taken_in-told side.I es) in
+    let d = c.counts-2.ensures.counted (over (told side.D) es) ran.d.stands
+    ∙ ap (counts_of (rules_of (cache_of m.d))) (taken_in-told side.D es) in
     let u = c.counts-3.ensures.counted (seen (parts_in (hierarchy_in m)) es) ran.u in
     cc
