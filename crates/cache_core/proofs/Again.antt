@@ -33,9 +33,6 @@ known-stays known b q h = (elim (eqb b q) as (λ t. eqb b q ≡ t → known q �
   | false ↦ λ e. refl
 ]) refl
 
-pub known-now : (b : ℕ) (t : Bool) → (eqb b b || t) ≡ true
-known-now b t = ap (λ z. z || t) (self b)
-
 pub promoted-first : (es : Shown) (b : ℕ) → is_some (lookup (nat_eq b) es) ≡ true
     → slice_get (promoted (nat_eq b) es) 0 ≡ Some (b, tt)
 promoted-first es b h = (elim (lookup_entry (nat_eq b) es) as (λ o. lookup_entry (nat_eq b) es ≡ o

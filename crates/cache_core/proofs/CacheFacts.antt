@@ -46,11 +46,6 @@ AreWithin-with_access x o c n h = record {
   flushes = (let f = h.flushes in omega arith);
 }
 
--- a set's ways lie among all ways
-pub set_inside : (b sets assoc : ℕ) → 0 < sets → (b % sets + 1) * assoc ≤ sets * assoc
-set_inside b sets assoc pos = let lt : b % sets < sets = mod-lt b pos in
-    mul-le-mul_right assoc (omega arith)
-
 IsWithin-more : (p : PerClass) (n : ℕ) → IsWithin p n → IsWithin p (n + 1)
 IsWithin-more p n h = let a = h.instr in let b = h.read in let c = h.write in let d = h.misc in
     record { instr = omega arith; read = omega arith; write = omega arith; misc = omega arith }

@@ -18,7 +18,6 @@ passed false fault rest h = (refl, h)
 
 pub record IsLawful (size bsize assoc : ℕ) : Type 0 where
   pub size_power : is_power_of_two size ≡ true
-  pub size_low : 4 ≤ size
   pub size_high : size ≤ 2 ^ 24
   pub block_power : is_power_of_two bsize ≡ true
   pub block_low : 4 ≤ bsize
@@ -42,7 +41,6 @@ lawful_is size bsize assoc h =
     let d'' = or_parts (ltb bsize 4) (ltb 4096 bsize) d'.0 in
     record {
       size_power = not-false (is_power_of_two size) a.0;
-      size_low = ltb-false size 4 b'.0;
       size_high = ltb-false (2 ^ 24) size b'.1;
       block_power = not-false (is_power_of_two bsize) c.0;
       block_low = ltb-false bsize 4 d''.0;

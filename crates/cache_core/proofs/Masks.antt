@@ -1,7 +1,7 @@
 -- Sets by a shift and a mask.
 use Rattle.std.proofs.Common.{◌≡◌, ℕ, ◌+◌, ◌*◌, ◌-◌, ◌/◌, ◌%◌, ◌^◌, ◌<◌, ◌≤◌, None, sym, ap, ◌∙◌, inl, inr, arith}
 use Rattle.std.specs.Prelude.{bit_and}
-use Rattle.std.proofs.Math.Nat.{mul-div_cancel}
+use Rattle.std.proofs.Math.Nat.{mul_comm, mul-div_cancel}
 use Rattle.std.proofs.Math.Pow.{pow_pos, pow-add, pow-lt, pow_mono}
 use Rattle.std.proofs.lemmas.Bool.{cases_lt}
 use Rattle.std.proofs.lemmas.Nat.{and_mask}
@@ -60,3 +60,18 @@ module _ (size bsize assoc : ℕ) (ok : refusal_of size bsize assoc ≡ None) wh
   pub masked : (b : ℕ) → bit_and b (size / (bsize * assoc) - 1) ≡ b % (size / (bsize * assoc))
   masked b = ap (λ n. bit_and b (n - 1)) sets_is ∙ and_mask b (zeros size - k)
       ∙ ap (λ n. b % n) (sym sets_is)
+
+  -- the sets are all of the cache, and one set has all of its blocks
+  whole : size ≡ size / (bsize * assoc) * (bsize * assoc)
+  whole =
+      let sum : zeros size ≡ (zeros size - k) + k = let w = within in omega arith in
+      size_is ∙ ap (λ e. 2 ^ e) sum ∙ pow-add 2 (zeros size - k) k
+      ∙ ap (λ n. n * 2 ^ k) (sym sets_is) ∙ ap (λ n. size / (bsize * assoc) * n) (sym set_is)
+
+  pub one_set : size / (bsize * assoc) ≡ 1 → assoc ≡ size / bsize
+  one_set e =
+      let all : size ≡ 1 * (bsize * assoc) = whole ∙ ap (λ n. n * (bsize * assoc)) e in
+      let low = law.block_low in
+      let pos : 0 < bsize = omega arith in
+      let turned : 1 * (bsize * assoc) ≡ assoc * bsize = let c = mul_comm bsize assoc in omega arith in
+      sym (mul-div_cancel assoc pos) ∙ ap (λ n. n / bsize) (sym (all ∙ turned))

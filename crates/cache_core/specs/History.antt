@@ -1,6 +1,5 @@
 -- What a cache was given, and the rules that it keeps. These files define a cache by its whole
--- history: they count
--- over lists, and know no ways, no marks and no order of a set.
+-- history: they count over lists, and know no ways, no marks and no order of a set.
 use Rattle.std.specs.Prelude.{ℕ, ◌/◌, Bool, true, false, List}
 use Rattle.cache_core.specs.declared.access.Access.{Access}
 use Rattle.cache_core.specs.declared.access.Class.TheVariants.{Instr, Read, Write, Misc}

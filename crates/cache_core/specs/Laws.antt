@@ -5,7 +5,7 @@ use Rattle.cache_core.specs.declared.access.Access.{Access}
 use Rattle.cache_core.specs.declared.access.MissKind.TheVariants.{Conflict}
 use Rattle.cache_core.specs.History.{access, flush, History, Rules, is_write}
 use Rattle.cache_core.specs.Residents.{is_resident, leaves, renewals}
-use Rattle.cache_core.specs.Order.{ways_of}
+use Rattle.cache_core.specs.Order.{residents_of}
 use Rattle.cache_core.specs.Dirty.{dirty_blocks}
 use Rattle.cache_core.specs.Parts.{one_if, outcome_of, part_count}
 
@@ -13,7 +13,7 @@ use Rattle.cache_core.specs.Parts.{one_if, outcome_of, part_count}
 -- residents
 abbrev pub OrderedWaysAreResidents : Type 0
 OrderedWaysAreResidents = (r : Rules) (h : History) (b : ℕ) →
-    list_any (λ m. m == b) (ways_of r (b % r.sets) (renewals r h)) ≡ is_resident r (renewals r h) b
+    list_any (λ m. m == b) (residents_of r h (b % r.sets)) ≡ is_resident r (renewals r h) b
 
 abbrev pub AtMostOneLeaves : Type 0
 AtMostOneLeaves = (r : Rules) (h : History) (x : Access) (a b : ℕ) →
@@ -30,8 +30,7 @@ OneLruSetHasNoConflict = (r : Rules) → IsOneLruSet r → (h : History) (x : Ac
     (outcome_of r h x).kind ≢ Some Conflict
 
 -- the parts of an access and the blocks that are dirty after it are at most one more than the
--- blocks dirty before it,
--- or two more where it writes
+-- blocks dirty before it, or two more where it writes
 abbrev pub AccessesPay : Type 0
 AccessesPay = (r : Rules) (h : History) (x : Access) →
     part_count (outcome_of r h x) + length (dirty_blocks r (access x ∷ h))

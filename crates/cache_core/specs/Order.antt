@@ -1,7 +1,7 @@
 -- The residents of a set in order.
 use Rattle.std.specs.Prelude.{ℕ, List, take, if◌then◌else◌}
-use Rattle.cache_core.specs.History.{Rules}
-use Rattle.cache_core.specs.Residents.{in_set, distinct}
+use Rattle.cache_core.specs.History.{Rules, History}
+use Rattle.cache_core.specs.Residents.{in_set, distinct, renewals}
 
 module _ (r : Rules) where
   -- the renewed blocks of set s by falling last use (FIFO: by falling load)
@@ -11,3 +11,7 @@ module _ (r : Rules) where
   -- cut at the number of ways
   abbrev pub ways_of : ℕ → List ℕ → List ℕ
   ways_of s ms = take r.ways (ranked s ms)
+
+  -- so, after a history
+  abbrev pub residents_of : History → ℕ → List ℕ
+  residents_of h s = ways_of s (renewals r h)

@@ -17,9 +17,8 @@ module _ (r : Rules) where
   dirty_victim h (Some b) = if is_dirty r h b then Some (b * r.block_size) else None
 
   -- The parts that go to the next level are, in this order, `back`, `fetch` and `through`: a dirty
-  -- victim is written
-  -- back, a load fetches its block, and a write is sent on under write through and where it misses
-  -- without allocation.
+  -- victim is written back, a load fetches its block, and a write is sent on under write through
+  -- and where it misses without allocation.
   unfoldable pub outcome_of : History → Access → Outcome
   outcome_of h x = record {
     hit = hits r (renewals r h) x;

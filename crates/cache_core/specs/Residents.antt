@@ -20,10 +20,8 @@ module _ (r : Rules) where
   in_set s ms = filter (λ m. m % r.sets == s) ms
 
   -- LRU renews a block at each use, FIFO at each load. A list ms has the renewed blocks, the newest
-  -- first.
-  -- How far b's last renewal lies back: LRU counts the distinct blocks of its set that were used
-  -- after it,
-  -- FIFO the loads in its set after it.
+  -- first. How far b's last renewal lies back: LRU counts the distinct blocks of its set that were
+  -- used after it, FIFO the loads in its set after it.
   unfoldable pub reuse_distance : List ℕ → ℕ → ℕ
   reuse_distance ms b =
       let later = before b (in_set (b % r.sets) ms) in

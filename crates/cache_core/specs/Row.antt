@@ -100,8 +100,7 @@ module _ (write_back allocate : Bool) (b : ℕ) (write : Bool) (row : List Way) 
         (leaving (holds_block b) front row) else None
 
 -- what an access answers: by whether it writes and hits, what its set pushed out, and whether its
--- block was known and
--- is in the shadow
+-- block was known and is in the shadow
 abbrev pub outcome_made : Bool → Bool → Bool → Bool → Option ℕ → Bool → Bool → Outcome
 outcome_made write_back allocate write hit back known in_shadow = record {
   hit = hit;

@@ -8,7 +8,7 @@ use Rattle.cache_core.specs.declared.geometry.Geometry.{Geometry}
 use Rattle.cache_core.specs.declared.cache.Cache.{Cache}
 use Rattle.cache_core.specs.History.{Rules, History}
 use Rattle.cache_core.specs.Residents.{renewals, is_resident}
-use Rattle.cache_core.specs.Order.{ways_of}
+use Rattle.cache_core.specs.Order.{residents_of}
 use Rattle.cache_core.specs.Kinds.{shadow_of, known_blocks}
 use Rattle.cache_core.specs.Counts.{counts_of}
 use Rattle.cache_core.specs.Geometry.{bsize_of, assoc_of, sets_of, blocks_of}
@@ -53,23 +53,20 @@ with_unit b = (b, tt)
 pub record StandsFor (c : Cache) (h : History) : Type 0 where
   pub working : has_failed c ≡ false
   -- each set: its residents by falling last use (FIFO: by falling load), each with its mark
-  pub rows : (s : ℕ) → s < (rules_of c).sets
-      → row (rules_of c).ways s (ways_in c.sets) ≡ row_of (rules_of c) h s
+  pub rows : (s : ℕ) → s < (rules_of c).sets →
+      row (rules_of c).ways s (ways_in c.sets) ≡ row_of (rules_of c) h s
   -- the shadow: its residents by falling last use
-  pub shadow : c.kinds.shadow.entries
-      ≡ map with_unit (ways_of (shadow_of (rules_of c)) 0 (renewals (shadow_of (rules_of c)) h))
-  pub known : (b : ℕ) → contains nat_eq c.kinds.known b
-      ≡ list_any (λ t. nat_eq t b) (known_blocks (rules_of c) h)
+  pub shadow : c.kinds.shadow.entries ≡ map with_unit (residents_of (shadow_of (rules_of c)) h 0)
+  pub known : (b : ℕ) →
+      contains nat_eq c.kinds.known b ≡ list_any (λ t. nat_eq t b) (known_blocks (rules_of c) h)
   pub counts : counts_kept c ≡ counts_of (rules_of c) h
   pub served : served_of c ≡ length h
 
--- the ways of each set hold its residents and nothing else, by falling last use (FIFO: by falling
--- load)
+-- the ways of each set hold its residents and nothing else, in order
 pub record HoldsResidents (c : Cache) (h : History) : Type 0 where
   pub in_order : (s : ℕ) → s < (rules_of c).sets →
-      held_in c s ≡ map (λ b. b * (rules_of c).block_size)
-      (ways_of (rules_of c) s (renewals (rules_of c) h))
+      held_in c s ≡ map (λ b. b * (rules_of c).block_size) (residents_of (rules_of c) h s)
+  -- which are those by reuse distance
   pub residents : (b : ℕ) →
-      list_any (λ m. m == b) (ways_of (rules_of c) (b % (rules_of c).sets)
-      (renewals (rules_of c) h))
+      list_any (λ m. m == b) (residents_of (rules_of c) h (b % (rules_of c).sets))
       ≡ is_resident (rules_of c) (renewals (rules_of c) h) b

@@ -73,7 +73,6 @@ impl Cache {
     ghost use Rattle.cache_core.specs.Dirty.{dirty_blocks};
     ghost use Rattle.cache_core.specs.Parts.{outcome_of};
     ghost use Rattle.cache_core.specs.Counts.{counts_of, no_counts, none_by_class, KindsAddUp};
-    ghost use Rattle.cache_core.specs.Laws.{IsOneLruSet};
     ghost use Rattle.cache_core.specs.Standing.{StandsFor, HoldsResidents, rules_of, rules_from, served_of, counts_kept, has_failed};
 
     /// A cache that holds nothing and has counted nothing.
@@ -109,7 +108,8 @@ impl Cache {
             result ≡ counts_of (rules_of self.now) h }
         ensures kinds_add_up { KindsAddUp result }
         ensures one_lru_set { (h : History) → StandsFor self.now h →
-            IsOneLruSet (rules_of self.now) → result.conflict ≡ none_by_class }
+            (rules_of self.now).sets ≡ 1 → (rules_of self.now).fifo ≡ false →
+            result.conflict ≡ none_by_class }
     {
         self.counts
     }
@@ -179,8 +179,7 @@ impl Cache {
     }
 
     /// Appends the first bytes of the dirty blocks, rising, and empties the cache and its shadow.
-    /// Which blocks were ever
-    /// accessed stays known.
+    /// Which blocks were ever accessed stays known.
     pub fn flush(&mut self, out: &mut Vec<u64>) -> Result<(), NoMemory>
         requires { served_of self.old < MAX_EVENTS }
         ensures appends { OnOk result ((h : History) → StandsFor self.old h →

@@ -71,8 +71,7 @@ impl Kinds {
     }
 
     /// Notes an access, which hit the cache or not. The shadow takes the block in if it has it, or
-    /// if the access may
-    /// `load`. A block that is used again at once needs no look-up.
+    /// if the access may `load`. A block that is used again at once needs no look-up.
     pub fn see(&mut self, block: u64, load: bool, hit: bool) -> Result<Seen, AllocError>
         ensures known { IfOk result (λ seen. seen.known
             ≡ (hit || contains nat_eq self.old.known block)) }

@@ -4,9 +4,8 @@ ghost use Rattle.cache_core.specs.Examples.{WorkedExamples};
 ghost use Rattle.cache_core.specs.Laws.{AccessesPay, AtMostOneLeaves, FlushesPay, OneLruSetHasNoConflict, OrderedWaysAreResidents};
 
 /// The stack property of LRU (Mattson and others), and its like for FIFO: blocks ordered by last
-/// use (by last load) and
-/// cut at the number of ways are the residents by reuse distance, writes without allocation
-/// included.
+/// use (by last load) and cut at the number of ways are the residents by reuse distance, writes
+/// without allocation included.
 pub fn ordered_ways_are_residents()
     ensures { OrderedWaysAreResidents }
 {}
@@ -22,8 +21,8 @@ pub fn one_lru_set_has_no_conflict()
 {}
 
 /// Each block that is written back was paid for by a write of its own. So the parts that a cache
-/// sends are at most two
-/// for each write and one for each other access, those of its flushes included.
+/// sends are at most two for each write and one for each other access, those of its flushes
+/// included.
 pub fn write_backs_are_paid()
     ensures accesses { AccessesPay }
     ensures flushes { FlushesPay }

@@ -1,6 +1,5 @@
 //! Sets of many ways: each a map in order from the first byte of a block to its dirty mark, the
-//! block that was used last
-//! (FIFO: loaded last) first. An access takes no longer for more ways.
+//! block that was used last (FIFO: loaded last) first. An access takes no longer for more ways.
 
 ghost use Rattle.std.specs.Prelude.{◌≡◌, ◌≢◌, ◌<◌, ◌≤◌, ◌+◌, ◌*◌, ◌&&◌, ◌||◌, ℕ, None, true, is_some, nat_eq, length, map, filter, replicate, vec_len, [], IfOk, OnOk, OnErr};
 ghost use Rattle.std.specs.Map.{lookup, set_value};

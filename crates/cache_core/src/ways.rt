@@ -1,6 +1,5 @@
 //! Sets of few ways: each a row of ways in order, the block that was used last (FIFO: loaded last)
-//! first, and empty
-//! ways behind the blocks. The rows lie one after another.
+//! first, and empty ways behind the blocks. The rows lie one after another.
 
 ghost use Rattle.std.specs.Prelude.{◌≡◌, ◌≢◌, ◌≤◌, ◌+◌, ◌*◌, ℕ, length, is_some, false, IfOk, map, filter, replicate, vec_len};
 ghost use Rattle.std.specs.List.{find};
@@ -64,8 +63,7 @@ fn was_dirty(found: Option<Way>) -> bool
 }
 
 /// Puts `front` first and moves each way one place back, up to the one that holds the block, or up
-/// to the last. The way
-/// that leaves is the answer.
+/// to the last. The way that leaves is the answer.
 fn bring_front(row: &mut [Way], first: u64, front: Way) -> Way
     ensures row { row.new ≡ shifted (holds_block first) front row.old }
     ensures leaves { result ≡ leaving (holds_block first) front row.old }

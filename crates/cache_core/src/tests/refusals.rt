@@ -57,8 +57,7 @@ fn stays_failed(rt: &impl Abort, cache: &mut Cache, before: (Counts, u64), out: 
 }
 
 /// Writes of the first blocks and a flush, up to the first refusal. `rt try --test --fail-alloc N`
-/// refuses each growth
-/// in turn; with none refused the flush has them all.
+/// refuses each growth in turn; with none refused the flush has them all.
 fn serves_or_fails(rt: &impl Abort, alloc: Global, shape: (u64, u64, u64), policy: Policy) {
     let geometry = Geometry::new(shape.0, shape.1, shape.2).expect(rt, "a lawful geometry");
     let mut out = Vec::new(alloc);
