@@ -1,7 +1,7 @@
 -- A selection makes at most two events of a record, and an event makes the second level see at most
 -- two messages.
 use Rattle.std.proofs.Common.{◌≡◌, ℕ, ◌+◌, ◌*◌, ◌≤◌, Bool, true, false, List, [], ◌∷◌, ◌++◌, length}
-use Rattle.std.proofs.Common.{map, reverse, Option, Some, None, is_some, option_to_list, count_by}
+use Rattle.std.proofs.Common.{map, Option, Some, None, is_some, option_to_list, count_by}
 use Rattle.std.proofs.Common.{refl, ap, append-nil, arith, length-append}
 use Rattle.std.specs.List.{flat_map}
 use Rattle.std.proofs.lemmas.List.{length-map, length-reverse}

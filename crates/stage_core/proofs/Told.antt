@@ -8,7 +8,7 @@ use Rattle.din_trace.specs.declared.record.DinRecord.{DinRecord}
 use Rattle.stage_core.specs.Places.{along, over}
 use Rattle.stage_core.specs.Events.{asked, newest_first, history}
 use Rattle.stage_core.specs.Seen.{Parts, sent_up}
-use Rattle.stage_core.specs.Streams.{numbered, answer, answered, reply, message, told, to_side}
+use Rattle.stage_core.specs.Streams.{numbered, answer, answered, reply, message, told}
 use Rattle.stage_core.specs.Streams.{asked_in, taken_in}
 use Rattle.stage_core.specs.Merging.{what_in}
 use Rattle.stage_core.specs.Plain.{brought}
@@ -17,7 +17,6 @@ use Rattle.stage_core.specs.declared.message.What.{What}
 use Rattle.stage_core.specs.declared.message.Side.{Side}
 use Rattle.stage_core.specs.declared.message.ToStage.{ToStage}
 use Rattle.stage_core.specs.declared.message.ToStage.TheVariants as to_stage
-use Rattle.stage_core.specs.declared.message.FromStage.{FromStage}
 use Rattle.stage_core.specs.declared.message.FromStage.TheVariants as from_stage
 use Rattle.stage_core.proofs.Place.{along-append, over-more}
 use Rattle.stage_core.proofs.Few.{few-asked}

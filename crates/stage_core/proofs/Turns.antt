@@ -1,13 +1,13 @@
 -- The merge goes through the answers of one event and stands at Order again.
-use Rattle.std.proofs.Common.{◌≡◌, ◌⊎◌, ℕ, ◌+◌, inl, inr, List, [], ◌∷◌, ◌++◌, length, map, false}
-use Rattle.std.proofs.Common.{Option, Some, option_to_list, refl, sym, ap, subst, ◌∙◌}
-use Rattle.std.specs.List.{flat_map, list_any}
+use Rattle.std.proofs.Common.{◌≡◌, ℕ, ◌+◌, inl, inr, List, [], ◌∷◌, ◌++◌, map, false}
+use Rattle.std.proofs.Common.{Option, Some, option_to_list, refl, sym, subst}
+use Rattle.std.specs.List.{list_any}
 use Rattle.cache_core.specs.History.{Event, access, flush}
 use Rattle.din_trace.specs.declared.record.Label.{Label}
 use Rattle.din_trace.specs.declared.record.Label.TheVariants as label
 use Rattle.stage_core.specs.Events.{asked_by}
 use Rattle.stage_core.specs.Seen.{Parts}
-use Rattle.stage_core.specs.Streams.{numbered, answer, reply, message, turn_of, is_finish}
+use Rattle.stage_core.specs.Streams.{numbered, reply, message, turn_of, is_finish}
 use Rattle.stage_core.specs.Merging.{Stand, AtOrder, after_turn, after_end}
 use Rattle.stage_core.specs.Plain.{WantsSide, AreWanted, stand_after, WantsAnswers, after_answers}
 use Rattle.stage_core.specs.declared.message.Side.{Side}

@@ -1,5 +1,5 @@
 -- The merge's rule.
-use Rattle.std.specs.Prelude.{◌≡◌, ℕ, List, [], ◌∷◌, ◌++◌}
+use Rattle.std.specs.Prelude.{List, [], ◌∷◌}
 use Rattle.stage_core.specs.declared.message.What.{What}
 use Rattle.stage_core.specs.declared.message.Turn.{Turn}
 use Rattle.stage_core.specs.declared.message.Turn.TheVariants as turn

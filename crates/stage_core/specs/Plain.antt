@@ -1,5 +1,5 @@
 -- The run on one thread, between two events.
-use Rattle.std.specs.Prelude.{◌≡◌, ◌⊎◌, ℕ, List, [], ◌∷◌, length, Option, option_to_list}
+use Rattle.std.specs.Prelude.{◌≡◌, ◌⊎◌, List, [], ◌∷◌, length, Option, option_to_list}
 use Rattle.std.specs.List.{flat_map}
 use Rattle.din_trace.specs.declared.record.DinRecord.{DinRecord}
 use Rattle.cache_core.specs.Standing.{rules_of}

@@ -3,7 +3,7 @@ use Rattle.std.specs.Prelude.{◌≡◌, ℕ, Bool, true, false, List, [], lengt
 use Rattle.std.specs.List.{list_any}
 use Rattle.din_trace.specs.declared.record.DinRecord.{DinRecord}
 use Rattle.cache_core.specs.declared.cache.Cache.{Cache}
-use Rattle.cache_core.specs.Standing.{StandsFor, rules_of, served_of, counts_kept, has_failed}
+use Rattle.cache_core.specs.Standing.{StandsFor, served_of, counts_kept, has_failed}
 use Rattle.stage_core.specs.Events.{is_reference}
 use Rattle.stage_core.specs.Seen.{second_history}
 use Rattle.stage_core.specs.Streams.{taken_in, is_finish}

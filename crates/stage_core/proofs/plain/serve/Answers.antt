@@ -1,4 +1,4 @@
-use Rattle.std.proofs.Common.{◌≡◌, ◌∷◌, ◌++◌, [], List, Option, option_to_list, sym, ap, subst, ◌∙◌}
+use Rattle.std.proofs.Common.{◌∷◌, ◌++◌, [], List, Option, option_to_list, sym, ap, subst, ◌∙◌}
 use Rattle.std.proofs.Common.{append-nil}
 use Rattle.std.specs.List.{flat_map}
 use Rattle.std.proofs.lemmas.Result.{on_ok_weaker}
@@ -6,7 +6,7 @@ use Rattle.cache_core.specs.Standing.{rules_of}
 use Rattle.stage_core.specs.Seen.{parts_of}
 use Rattle.stage_core.specs.Streams.{reply}
 use Rattle.stage_core.specs.Merging.{what_in}
-use Rattle.stage_core.specs.Standing.{StageStandsFor, SecondStandsFor, cache_of, side_of, outbox_of}
+use Rattle.stage_core.specs.Standing.{StageStandsFor, SecondStandsFor, cache_of, side_of}
 use Rattle.stage_core.specs.Plain.{after_answers, brought_from}
 use Rattle.stage_core.specs.declared.message.What.{What}
 use Rattle.stage_core.specs.declared.message.ToStage.{ToStage}

@@ -1,4 +1,4 @@
-use Rattle.std.proofs.Common.{◌≡◌, ◌+◌, ◌++◌, ◌∷◌, [], List, count_by, get_or, option_to_list, take}
+use Rattle.std.proofs.Common.{◌++◌, ◌∷◌, [], List, count_by, get_or, option_to_list, take}
 use Rattle.std.proofs.Common.{sym, ap, subst, ◌∙◌, append_assoc}
 use Rattle.std.proofs.lemmas.List.{take_more}
 use Rattle.din_trace.specs.declared.record.DinRecord.{DinRecord}

@@ -1,13 +1,11 @@
-use Rattle.std.proofs.Common.{◌≡◌, ◌+◌, ◌++◌, ◌∷◌, [], List, length, sym, ap, subst, ◌∙◌, arith}
+use Rattle.std.proofs.Common.{◌+◌, ◌++◌, ◌∷◌, [], List, length, sym, ap, subst, ◌∙◌, arith}
 use Rattle.std.proofs.Common.{append_assoc, length-append}
-use Rattle.cache_core.specs.Standing.{rules_of}
-use Rattle.din_trace.specs.declared.record.DinRecord.{DinRecord}
 use Rattle.stage_core.specs.Places.{over}
 use Rattle.stage_core.specs.Seen.{Hierarchy, parts_in, sent_up, seen}
 use Rattle.stage_core.specs.Streams.{told}
 use Rattle.stage_core.specs.Merging.{after_turn}
-use Rattle.stage_core.specs.Standing.{SecondStandsFor, cache_of, second_cache}
-use Rattle.stage_core.specs.Plain.{brought_from, hierarchy_in, Ran}
+use Rattle.stage_core.specs.Standing.{SecondStandsFor}
+use Rattle.stage_core.specs.Plain.{brought_from, hierarchy_in}
 use Rattle.stage_core.specs.declared.message.Side.TheVariants as side
 use Rattle.stage_core.specs.declared.message.What.{What}
 use Rattle.stage_core.proofs.Worked.{few-served, brought-event, ran-more, seen-more}

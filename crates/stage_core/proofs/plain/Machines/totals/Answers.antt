@@ -1,4 +1,4 @@
-use Rattle.std.proofs.Common.{◌≡◌, ap, ◌∙◌}
+use Rattle.std.proofs.Common.{ap, ◌∙◌}
 use Rattle.cache_core.specs.Counts.{counts_of}
 use Rattle.cache_core.specs.Standing.{rules_of}
 use Rattle.stage_core.specs.Places.{over}
