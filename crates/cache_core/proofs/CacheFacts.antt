@@ -1,6 +1,5 @@
 -- Facts on the fields of a cache.
-use Rattle.std.proofs.Common.{◌≡◌, ℕ, ◌+◌, ◌*◌, ◌%◌, ◌<◌, ◌≤◌, Bool, true, false, ◌&&◌, refl, arith}
-use Rattle.std.proofs.Math.Nat.{mul-le-mul_right, mod-lt}
+use Rattle.std.proofs.Common.{◌≡◌, ℕ, ◌+◌, ◌≤◌, Bool, true, false, ◌&&◌, refl, arith}
 use Rattle.cache_core.specs.declared.access.Access.{Access}
 use Rattle.cache_core.specs.declared.access.Outcome.{Outcome}
 use Rattle.cache_core.specs.declared.counts.PerClass.{PerClass}

@@ -1,6 +1,6 @@
-use Rattle.std.proofs.Common.{◌≡◌, ap, ◌∙◌}
+use Rattle.std.proofs.Common.{ap, ◌∙◌}
 use Rattle.cache_core.specs.Geometry.{size_of, bsize_of, assoc_of}
-use Rattle.cache_core.specs.Standing.{StandsFor, rules_of, counts_kept}
+use Rattle.cache_core.specs.Standing.{rules_of, counts_kept}
 use Rattle.cache_core.proofs.Masks.{one_set}
 use Rattle.cache_core.proofs.OneSet.{none-counted}
 use Rattle.cache_core.proofs.cache.Cache.counts.Goals as goal
