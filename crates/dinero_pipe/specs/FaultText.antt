@@ -4,15 +4,8 @@ use Rattle.din_trace.specs.declared.fault.Why.{Why}
 use Rattle.din_trace.specs.declared.fault.Why.TheVariants as why
 use Rattle.din_trace.specs.declared.fault.TraceFault.{TraceFault}
 use Rattle.din_trace.specs.declared.fault.TraceFault.TheVariants as trace
-use Rattle.dinero_pipe.specs.declared.fault.FirstFault.{FirstFault}
-use Rattle.dinero_pipe.specs.declared.fault.FirstFault.TheVariants.{Trace, Memory, Write}
-
--- what a run answers for a fault of its source
-abbrev pub source_fault : TraceFault → FirstFault
-source_fault (trace.Bad line why) = Trace (trace.Bad line why)
-source_fault trace.TooLong = Trace trace.TooLong
-source_fault trace.Read = Trace trace.Read
-source_fault trace.Memory = Memory
+use Rattle.sim_run.specs.declared.fault.RunFault.{RunFault}
+use Rattle.sim_run.specs.declared.fault.RunFault.TheVariants.{Trace, Memory, Threads, Cut, Write}
 
 -- the word for a faulty line
 abbrev pub why_word : Why → List ℕ
@@ -30,13 +23,15 @@ trace_words trace.Read = codes "trace read failed"
 trace_words trace.Memory = codes "out of memory"
 
 -- the words for a fault
-abbrev pub fault_words : FirstFault → List ℕ
+abbrev pub fault_words : RunFault → List ℕ
 fault_words (Trace fault) = trace_words fault
 fault_words Memory = codes "out of memory"
+fault_words Threads = codes "no thread"
+fault_words Cut = codes "pipeline cut"
 fault_words Write = codes "report write failed"
 
 -- the whole line: the program's name, the words, the end of a line
-abbrev pub fault_line : FirstFault → List ℕ
+abbrev pub fault_line : RunFault → List ℕ
 fault_line fault = codes "dinero_pipe: " ++ (fault_words fault ++ 10 ∷ [])
 
 -- the status of a faulty trace
@@ -47,7 +42,9 @@ trace_status trace.Read = 4
 trace_status trace.Memory = 3
 
 -- the exit status
-abbrev pub status_of : FirstFault → ℕ
+abbrev pub status_of : RunFault → ℕ
 status_of (Trace fault) = trace_status fault
 status_of Memory = 3
+status_of Threads = 3
+status_of Cut = 3
 status_of Write = 4

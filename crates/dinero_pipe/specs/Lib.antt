@@ -1,3 +1,2 @@
 pub mod FaultText
-pub mod FirstRun
-pub mod Report
+pub mod Worked

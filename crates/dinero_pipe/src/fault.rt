@@ -2,40 +2,24 @@
 
 ghost use Rattle.std.specs.Prelude.{◌≡◌};
 ghost use Rattle.din_trace.specs.Device.{Writes};
-ghost use Rattle.dinero_pipe.specs.FaultText.{fault_line, fault_words, source_fault, status_of, trace_words, why_word};
+ghost use Rattle.dinero_pipe.specs.FaultText.{fault_line, fault_words, status_of, trace_words, why_word};
 
 use din_trace::{ByteWriter, DeviceFailed, TraceFault, Why};
 use itoa::Buffer;
+use sim_run::RunFault;
 
-/// Why a run gave no report.
-#[derive(Clone, Copy, Debug, PartialEq, Eq)]
-pub enum FirstFault {
-    /// The trace is faulty, too long or could not be read.
-    Trace(TraceFault),
-    /// Memory was refused.
-    Memory,
-    /// The report could not be written.
-    Write,
-}
-
-/// What a run answers for a fault of its source: want of memory has a name of its own.
-pub fn fault_of_source(fault: TraceFault) -> FirstFault
-    ensures { result ≡ source_fault fault }
-{
-    match fault {
-        TraceFault::Memory => FirstFault::Memory,
-        _ => FirstFault::Trace(fault),
-    }
-}
-
-/// The exit status: 1 for a faulty trace, 3 for want of memory, 4 where a device failed.
-pub fn status(fault: &FirstFault) -> u8
+/// The exit status: 1 for a faulty trace, 3 where memory or a thread was refused or a stage was cut
+/// off, 4 where a device failed.
+pub fn status(fault: &RunFault) -> u8
     ensures { result ≡ status_of fault.now }
 {
     match fault {
-        FirstFault::Trace(TraceFault::Bad { .. } | TraceFault::TooLong) => 1,
-        FirstFault::Trace(TraceFault::Read) | FirstFault::Write => 4,
-        FirstFault::Trace(TraceFault::Memory) | FirstFault::Memory => 3,
+        RunFault::Trace(TraceFault::Bad { .. } | TraceFault::TooLong) => 1,
+        RunFault::Trace(TraceFault::Read) | RunFault::Write => 4,
+        RunFault::Trace(TraceFault::Memory)
+        | RunFault::Memory
+        | RunFault::Threads
+        | RunFault::Cut => 3,
     }
 }
 
@@ -68,18 +52,20 @@ fn put_trace<W: ByteWriter>(fault: TraceFault, writer: &mut W) -> Result<(), Dev
     }
 }
 
-fn put_fault<W: ByteWriter>(fault: &FirstFault, writer: &mut W) -> Result<(), DeviceFailed>
+fn put_fault<W: ByteWriter>(fault: &RunFault, writer: &mut W) -> Result<(), DeviceFailed>
     ensures { Writes W.contents W.failures writer.old writer.new result (fault_words fault.now) }
 {
     match fault {
-        FirstFault::Trace(fault) => put_trace(*fault, writer),
-        FirstFault::Memory => writer.put(b"out of memory"),
-        FirstFault::Write => writer.put(b"report write failed"),
+        RunFault::Trace(fault) => put_trace(*fault, writer),
+        RunFault::Memory => writer.put(b"out of memory"),
+        RunFault::Threads => writer.put(b"no thread"),
+        RunFault::Cut => writer.put(b"pipeline cut"),
+        RunFault::Write => writer.put(b"report write failed"),
     }
 }
 
 /// Writes the one line that tells of a fault.
-pub fn fault_text<W: ByteWriter>(fault: &FirstFault, writer: &mut W) -> Result<(), DeviceFailed>
+pub fn fault_text<W: ByteWriter>(fault: &RunFault, writer: &mut W) -> Result<(), DeviceFailed>
     ensures { Writes W.contents W.failures writer.old writer.new result (fault_line fault.now) }
 {
     writer.put(b"dinero_pipe: ")?;

@@ -3,7 +3,7 @@
 use cache_core::Counts;
 
 /// The counts of the three caches.
-#[derive(Clone, Copy, Debug, PartialEq, Eq)]
+#[derive(Clone, Copy, Debug, Default, PartialEq, Eq)]
 pub struct Totals {
     pub i: Counts,
     pub d: Counts,

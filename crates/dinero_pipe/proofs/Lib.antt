@@ -1,2 +1,0 @@
-pub mod Histories
-pub mod RateLemmas

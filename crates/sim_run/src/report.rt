@@ -1,0 +1,205 @@
+//! The report, written piece by piece: no line is put together first, so no memory is asked for.
+
+ghost use Rattle.std.specs.Prelude.{◌≡◌, ◌<◌, ◌≤◌, ◌^◌, ◌∷◌, IsOkUnless, replicate, decimal, codes};
+ghost use Rattle.din_trace.specs.Device.{Writes};
+ghost use Rattle.sim_run.specs.Report.{IsCacheName, block, class_line, column, count_line, five_rates, four_digits, heads, line, name_field, rate, rate_text, report};
+
+use crate::fault::RunFault;
+use cache_core::{Counts, PerClass};
+use din_trace::{ByteWriter, DeviceFailed};
+use itoa::{Buffer, Integer};
+use stage_core::Totals;
+
+/// Spaces for the widest filling that a field can need.
+static SPACES: [u8; 18] = [b' '; 18];
+
+/// Zeros for the widest filling that four decimals can need.
+static ZEROS: [u8; 4] = [b'0'; 4];
+
+fn put_spaces<W: ByteWriter>(writer: &mut W, count: usize) -> Result<(), DeviceFailed>
+    requires { count ≤ 18 }
+    ensures { Writes W.contents W.failures writer.old writer.new result (replicate count 32) }
+{
+    writer.put(&SPACES[..count])
+}
+
+/// A name, left in 18 places.
+fn put_name<W: ByteWriter>(writer: &mut W, name: &str) -> Result<(), DeviceFailed>
+    ensures { Writes W.contents W.failures writer.old writer.new result (name_field name.now) }
+{
+    writer.put(name.as_bytes())?;
+    put_spaces(writer, 18usize.saturating_sub(name.len()))
+}
+
+/// A column, right in 12 places.
+fn put_column<W: ByteWriter>(writer: &mut W, text: &[u8]) -> Result<(), DeviceFailed>
+    ensures { Writes W.contents W.failures writer.old writer.new result (column text.now) }
+{
+    put_spaces(writer, 12usize.saturating_sub(text.len()))?;
+    writer.put(text)
+}
+
+fn put_number<W: ByteWriter>(writer: &mut W, number: u128) -> Result<(), DeviceFailed>
+    ensures { Writes W.contents W.failures writer.old writer.new result (column (decimal number)) }
+{
+    let mut digits = Buffer::new();
+    put_column(writer, digits.format(number).as_bytes())
+}
+
+/// A number below 10000, filled to four digits.
+fn put_four_digits<W: ByteWriter>(writer: &mut W, number: u128) -> Result<(), DeviceFailed>
+    requires { number < 10000 }
+    ensures { Writes W.contents W.failures writer.old writer.new result (four_digits number) }
+{
+    let mut digits = Buffer::new();
+    let text = digits.format(number).as_bytes();
+    writer.put(&ZEROS[..4usize.saturating_sub(text.len())])?;
+    writer.put(text)
+}
+
+/// A column with a rate, given in ten-thousandths.
+fn put_ten_thousandths<W: ByteWriter>(writer: &mut W, rate: u128) -> Result<(), DeviceFailed>
+    ensures { Writes W.contents W.failures writer.old writer.new result (column (rate_text rate)) }
+{
+    let mut digits = Buffer::new();
+    let whole = digits.format(rate / 10_000).as_bytes();
+    put_spaces(writer, 7usize.saturating_sub(whole.len()))?;
+    writer.put(whole)?;
+    writer.put(b".")?;
+    put_four_digits(writer, rate % 10_000)
+}
+
+fn put_rate<W: ByteWriter>(writer: &mut W, misses: u128, fetches: u128) -> Result<(), DeviceFailed>
+    requires { misses < 2 ^ 66 }
+    ensures { Writes W.contents W.failures writer.old writer.new result (column (rate misses fetches)) }
+{
+    let rate = if fetches == 0 {
+        0
+    } else {
+        misses * 10_000 / fetches
+    };
+    put_ten_thousandths(writer, rate)
+}
+
+/// The first line of a block.
+fn put_heads<W: ByteWriter>(writer: &mut W, name: &str) -> Result<(), DeviceFailed>
+    ensures { Writes W.contents W.failures writer.old writer.new result (line name.now heads) }
+{
+    put_name(writer, name)?;
+    put_column(writer, b"Total")?;
+    put_column(writer, b"Instrn")?;
+    put_column(writer, b"Read")?;
+    put_column(writer, b"Write")?;
+    put_column(writer, b"Misc")?;
+    writer.put(b"\n")
+}
+
+/// A line of counts by class.
+fn put_classes<W: ByteWriter>(
+    writer: &mut W,
+    name: &str,
+    counts: &PerClass,
+) -> Result<(), DeviceFailed>
+    ensures { Writes W.contents W.failures writer.old writer.new result (class_line name.now counts.now) }
+{
+    put_name(writer, name)?;
+    put_number(writer, counts.total())?;
+    put_number(writer, counts.instr as u128)?;
+    put_number(writer, counts.read as u128)?;
+    put_number(writer, counts.write as u128)?;
+    put_number(writer, counts.misc as u128)?;
+    writer.put(b"\n")
+}
+
+/// The line of rates.
+fn put_rates<W: ByteWriter>(
+    writer: &mut W,
+    misses: &PerClass,
+    fetches: &PerClass,
+) -> Result<(), DeviceFailed>
+    ensures { Writes W.contents W.failures writer.old writer.new result
+        (line (codes "Miss Rate") (five_rates misses.now fetches.now)) }
+{
+    put_name(writer, "Miss Rate")?;
+    put_rate(writer, misses.total(), fetches.total())?;
+    put_rate(writer, misses.instr as u128, fetches.instr as u128)?;
+    put_rate(writer, misses.read as u128, fetches.read as u128)?;
+    put_rate(writer, misses.write as u128, fetches.write as u128)?;
+    put_rate(writer, misses.misc as u128, fetches.misc as u128)?;
+    writer.put(b"\n")
+}
+
+/// A line of one count.
+fn put_count<W: ByteWriter>(writer: &mut W, name: &str, count: u64) -> Result<(), DeviceFailed>
+    ensures { Writes W.contents W.failures writer.old writer.new result (count_line name.now count) }
+{
+    put_name(writer, name)?;
+    put_number(writer, count as u128)?;
+    writer.put(b"\n")
+}
+
+/// The eleven lines of a cache's block.
+fn put_block<W: ByteWriter>(
+    writer: &mut W,
+    name: &str,
+    counts: &Counts,
+) -> Result<(), DeviceFailed>
+    ensures { Writes W.contents W.failures writer.old writer.new result (block name.now counts.now) }
+{
+    put_heads(writer, name)?;
+    put_classes(writer, "Demand Fetches", &counts.fetches)?;
+    put_classes(writer, "Demand Misses", &counts.misses)?;
+    put_rates(writer, &counts.misses, &counts.fetches)?;
+    put_classes(writer, "Compulsory", &counts.compulsory)?;
+    put_classes(writer, "Capacity", &counts.capacity)?;
+    put_classes(writer, "Conflict", &counts.conflict)?;
+    put_count(writer, "Blocks Fetched", counts.loaded)?;
+    put_count(writer, "Written Back", counts.written_back)?;
+    put_count(writer, "Writes Sent On", counts.sent_on)?;
+    put_count(writer, "Flushes", counts.flushes)
+}
+
+/// A block behind another: an empty line stands between the two.
+fn put_next_block<W: ByteWriter>(
+    writer: &mut W,
+    name: &str,
+    counts: &Counts,
+) -> Result<(), DeviceFailed>
+    ensures { Writes W.contents W.failures writer.old writer.new result (10 ∷ block name.now counts.now) }
+{
+    writer.put(b"\n")?;
+    put_block(writer, name, counts)
+}
+
+fn put_report<W: ByteWriter>(writer: &mut W, totals: &Totals) -> Result<(), DeviceFailed>
+    ensures { Writes W.contents W.failures writer.old writer.new result (report totals.now) }
+{
+    put_block(writer, "l1-icache", &totals.i)?;
+    put_next_block(writer, "l1-dcache", &totals.d)?;
+    put_next_block(writer, "l2-ucache", &totals.u)?;
+    writer.flush()
+}
+
+/// Writes the block of one cache, whose name is `l1-icache`, `l1-dcache` or `l2-ucache`. It does
+/// not flush the writer. Where the writer fails, how much of the block it took is open.
+pub fn write_block<W: ByteWriter>(
+    name: &str,
+    counts: &Counts,
+    writer: &mut W,
+) -> Result<(), RunFault>
+    requires { IsCacheName name.now }
+    ensures written { Writes W.contents W.failures writer.old writer.new result (block name.now counts.now) }
+    ensures fault { IsOkUnless result RunFault.Write }
+{
+    put_block(writer, name, counts).or(Err(RunFault::Write))
+}
+
+/// Writes the whole report: the blocks of the instruction cache, the data cache and the second
+/// level, with an empty line between two of them. Then it flushes the writer. Where the writer
+/// fails, how much of the report it took is open.
+pub fn write_report<W: ByteWriter>(totals: &Totals, writer: &mut W) -> Result<(), RunFault>
+    ensures written { Writes W.contents W.failures writer.old writer.new result (report totals.now) }
+    ensures fault { IsOkUnless result RunFault.Write }
+{
+    put_report(writer, totals).or(Err(RunFault::Write))
+}
