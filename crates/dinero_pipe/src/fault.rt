@@ -2,7 +2,8 @@
 
 ghost use Rattle.std.specs.Prelude.{◌≡◌};
 ghost use Rattle.din_trace.specs.Device.{Writes};
-ghost use Rattle.dinero_pipe.specs.FaultText.{fault_line, fault_words, status_of, trace_words, why_word};
+ghost use Rattle.dinero_pipe.specs.FaultText.{fault_line, fault_words, status_of, trace_words};
+ghost use Rattle.dinero_pipe.specs.FaultText.{why_word};
 
 use din_trace::{ByteWriter, DeviceFailed, TraceFault, Why};
 use itoa::Buffer;

@@ -1,5 +1,6 @@
 -- How wide a rate is written.
-use Rattle.std.proofs.Common.{◌≡◌, ℕ, ◌+◌, ◌-◌, ◌/◌, ◌%◌, ◌<◌, ◌++◌, ◌∷◌, List, length, replicate, refl, arith, length-append}
+use Rattle.std.proofs.Common.{◌≡◌, ℕ, ◌+◌, ◌-◌, ◌/◌, ◌%◌, ◌<◌, ◌++◌, ◌∷◌, length, replicate}
+use Rattle.std.proofs.Common.{refl, arith, length-append}
 use Rattle.std.proofs.Math.ListN.{length-replicate}
 use Rattle.std.proofs.lemmas.Fmt.{length-decimal-le}
 use Rattle.std.specs.Fmt.{decimal}
@@ -11,9 +12,12 @@ length-four_digits n h =
     rw (length-append, length-replicate) (omega arith)
 
 -- a rate's column is filled by the width of the digits before its point
-pub rate_column : (q : ℕ) → replicate (7 - length (decimal (q / 10000))) 32 ++ (decimal (q / 10000) ++ 46 ∷ four_digits (q % 10000)) ≡ column (rate_text q)
+pub rate_column : (q : ℕ)
+    → replicate (7 - length (decimal (q / 10000))) 32
+    ++ (decimal (q / 10000) ++ 46 ∷ four_digits (q % 10000)) ≡ column (rate_text q)
 rate_column q =
     let four = length-four_digits (q % 10000) (omega arith) in
-    let whole : length (rate_text q) ≡ length (decimal (q / 10000)) + 5 = rw length-append (omega (arith, four)) in
+    let whole : length (rate_text q) ≡ length (decimal (q / 10000)) + 5 =
+    rw length-append (omega (arith, four)) in
     let room : 7 - length (decimal (q / 10000)) ≡ 12 - length (rate_text q) = omega arith in
     rw room refl

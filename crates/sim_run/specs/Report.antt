@@ -1,5 +1,6 @@
 -- The report: three blocks of eleven lines, one for each cache.
-use Rattle.std.specs.Prelude.{◌≡◌, ◌⊎◌, ℕ, ◌+◌, ◌-◌, ◌*◌, ◌/◌, ◌%◌, ◌==◌, List, [], ◌∷◌, ◌++◌, map, length, replicate, codes, decimal}
+use Rattle.std.specs.Prelude.{◌≡◌, ◌⊎◌, ℕ, ◌-◌, ◌*◌, ◌/◌, ◌%◌, ◌==◌, List, [], ◌∷◌, ◌++◌, map}
+use Rattle.std.specs.Prelude.{length, replicate, codes, decimal}
 use Rattle.std.specs.Prelude.{if◌then◌else◌}
 use Rattle.std.specs.List.{concat, flat_map}
 use Rattle.cache_core.specs.declared.counts.PerClass.{PerClass}
@@ -25,7 +26,7 @@ line name columns = name_field name ++ (flat_map column columns ++ 10 ∷ [])
 abbrev pub five : PerClass → List ℕ
 five p = total_of p ∷ p.instr ∷ p.read ∷ p.write ∷ p.misc ∷ []
 
--- the rate of `misses` in `fetches` in ten-thousandths, rounded down; none where nothing was fetched
+-- the rate of `misses` in `fetches` in ten-thousandths, rounded down; 0 where nothing was fetched
 abbrev pub ten_thousandths : ℕ → ℕ → ℕ
 ten_thousandths misses fetches = if fetches == 0 then 0 else misses * 10000 / fetches
 
@@ -78,7 +79,8 @@ block name c = concat (
 
 -- the name of one of the three caches
 abbrev pub IsCacheName : List ℕ → Type 0
-IsCacheName name = (name ≡ codes "l1-icache") ⊎ ((name ≡ codes "l1-dcache") ⊎ (name ≡ codes "l2-ucache"))
+IsCacheName name =
+    (name ≡ codes "l1-icache") ⊎ ((name ≡ codes "l1-dcache") ⊎ (name ≡ codes "l2-ucache"))
 
 -- the whole report: three blocks, with an empty line between two of them
 unfoldable pub report : Totals → List ℕ

@@ -9,7 +9,6 @@ use Rattle.stage_core.specs.Events.{events}
 use Rattle.stage_core.specs.Seen.{totals}
 use Rattle.stage_core.specs.declared.config.Config.{Config}
 use Rattle.stage_core.specs.declared.selection.Selection.{Selection}
-use Rattle.stage_core.specs.declared.totals.Totals.{Totals}
 use Rattle.sim_run.specs.Report.{report}
 use Rattle.sim_run.specs.declared.fault.RunFault.{RunFault}
 use Rattle.sim_run.specs.declared.fault.RunFault.TheVariants.{Trace, Memory}
@@ -21,6 +20,7 @@ source_fault trace.TooLong = Trace trace.TooLong
 source_fault trace.Read = Trace trace.Read
 source_fault trace.Memory = Memory
 
--- the report of a trace: the counts that the definitions give over all that is selected of its records
+-- the report of a trace: the counts that the definitions give over its selected events
 unfoldable pub report_of : Config → Selection → List ℕ → List ℕ
-report_of config selection text = report (totals (hierarchy_of config) (events selection (records ADDRESS_MAX text)))
+report_of config selection text =
+    report (totals (hierarchy_of config) (events selection (records ADDRESS_MAX text)))

@@ -15,6 +15,8 @@
 mod fault;
 mod plain;
 mod report;
+#[cfg(test)]
+mod tests;
 
 pub use fault::RunFault;
 pub use plain::simulate_plain;

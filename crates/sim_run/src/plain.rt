@@ -28,17 +28,19 @@ pub fn simulate_plain<R: ByteReader + Drop, W: ByteWriter>(
 ) -> Result<(), RunFault>
     requires limit { limit ≤ MAX_LIMIT }
     requires bounded { IsBounded selection.now }
-    // Of a reader that tells its bytes: an answer is for a text without fault, and wrote its report.
+    // Of a reader that tells its bytes: `Ok` is for a text without fault, and wrote its report.
     ensures report { (text : List ℕ) → R.remaining reader ≡ Some text → OnOk result
         ((fault ADDRESS_MAX text limit ≡ None)
-        × Appends (W.contents writer.old) (W.contents writer.new) (report_of config.now selection.now text)) }
+        × Appends (W.contents writer.old) (W.contents writer.new)
+        (report_of config.now selection.now text)) }
     ensures trace { (text : List ℕ) → R.remaining reader ≡ Some text
         → (why : TraceFault) → result ≡ Err (RunFault.Trace why)
         → IsFaultOf R.failures reader text limit why }
     ensures memory { result ≢ Err (RunFault.Trace TraceFault.Memory) }
     ensures alone { (result ≢ Err RunFault.Threads) × (result ≢ Err RunFault.Cut) }
     ensures sound { OnOk result (W.failures writer.new ≡ W.failures writer.old) }
-    ensures write { result ≡ Err RunFault.Write → W.failures writer.new ≡ once_more (W.failures writer.old) }
+    ensures write { result ≡ Err RunFault.Write
+        → W.failures writer.new ≡ once_more (W.failures writer.old) }
     ensures unwritten { IfErr result (λ why. why ≢ RunFault.Write → writer.new ≡ writer.old) }
 {
     let mut source = Source::new(reader, limit);

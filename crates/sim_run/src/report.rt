@@ -2,7 +2,9 @@
 
 ghost use Rattle.std.specs.Prelude.{◌≡◌, ◌<◌, ◌≤◌, ◌^◌, ◌∷◌, IsOkUnless, replicate, decimal, codes};
 ghost use Rattle.din_trace.specs.Device.{Writes};
-ghost use Rattle.sim_run.specs.Report.{IsCacheName, block, class_line, column, count_line, five_rates, four_digits, heads, line, name_field, rate, rate_text, report};
+ghost use Rattle.sim_run.specs.Report.{IsCacheName, block, class_line, column, count_line};
+ghost use Rattle.sim_run.specs.Report.{five_rates, four_digits, heads, line, name_field, rate};
+ghost use Rattle.sim_run.specs.Report.{rate_text, report};
 
 use crate::fault::RunFault;
 use cache_core::{Counts, PerClass};
@@ -71,7 +73,8 @@ fn put_ten_thousandths<W: ByteWriter>(writer: &mut W, rate: u128) -> Result<(), 
 
 fn put_rate<W: ByteWriter>(writer: &mut W, misses: u128, fetches: u128) -> Result<(), DeviceFailed>
     requires { misses < 2 ^ 66 }
-    ensures { Writes W.contents W.failures writer.old writer.new result (column (rate misses fetches)) }
+    ensures { Writes W.contents W.failures writer.old writer.new result
+        (column (rate misses fetches)) }
 {
     let rate = if fetches == 0 {
         0
@@ -100,7 +103,8 @@ fn put_classes<W: ByteWriter>(
     name: &str,
     counts: &PerClass,
 ) -> Result<(), DeviceFailed>
-    ensures { Writes W.contents W.failures writer.old writer.new result (class_line name.now counts.now) }
+    ensures { Writes W.contents W.failures writer.old writer.new result
+        (class_line name.now counts.now) }
 {
     put_name(writer, name)?;
     put_number(writer, counts.total())?;
@@ -131,7 +135,8 @@ fn put_rates<W: ByteWriter>(
 
 /// A line of one count.
 fn put_count<W: ByteWriter>(writer: &mut W, name: &str, count: u64) -> Result<(), DeviceFailed>
-    ensures { Writes W.contents W.failures writer.old writer.new result (count_line name.now count) }
+    ensures { Writes W.contents W.failures writer.old writer.new result
+        (count_line name.now count) }
 {
     put_name(writer, name)?;
     put_number(writer, count as u128)?;
@@ -139,12 +144,9 @@ fn put_count<W: ByteWriter>(writer: &mut W, name: &str, count: u64) -> Result<()
 }
 
 /// The eleven lines of a cache's block.
-fn put_block<W: ByteWriter>(
-    writer: &mut W,
-    name: &str,
-    counts: &Counts,
-) -> Result<(), DeviceFailed>
-    ensures { Writes W.contents W.failures writer.old writer.new result (block name.now counts.now) }
+fn put_block<W: ByteWriter>(writer: &mut W, name: &str, counts: &Counts) -> Result<(), DeviceFailed>
+    ensures { Writes W.contents W.failures writer.old writer.new result
+        (block name.now counts.now) }
 {
     put_heads(writer, name)?;
     put_classes(writer, "Demand Fetches", &counts.fetches)?;
@@ -165,7 +167,8 @@ fn put_next_block<W: ByteWriter>(
     name: &str,
     counts: &Counts,
 ) -> Result<(), DeviceFailed>
-    ensures { Writes W.contents W.failures writer.old writer.new result (10 ∷ block name.now counts.now) }
+    ensures { Writes W.contents W.failures writer.old writer.new result
+        (10 ∷ block name.now counts.now) }
 {
     writer.put(b"\n")?;
     put_block(writer, name, counts)
@@ -188,7 +191,8 @@ pub fn write_block<W: ByteWriter>(
     writer: &mut W,
 ) -> Result<(), RunFault>
     requires { IsCacheName name.now }
-    ensures written { Writes W.contents W.failures writer.old writer.new result (block name.now counts.now) }
+    ensures written { Writes W.contents W.failures writer.old writer.new result
+        (block name.now counts.now) }
     ensures fault { IsOkUnless result RunFault.Write }
 {
     put_block(writer, name, counts).or(Err(RunFault::Write))
@@ -198,7 +202,8 @@ pub fn write_block<W: ByteWriter>(
 /// level, with an empty line between two of them. Then it flushes the writer. Where the writer
 /// fails, how much of the report it took is open.
 pub fn write_report<W: ByteWriter>(totals: &Totals, writer: &mut W) -> Result<(), RunFault>
-    ensures written { Writes W.contents W.failures writer.old writer.new result (report totals.now) }
+    ensures written { Writes W.contents W.failures writer.old writer.new result
+        (report totals.now) }
     ensures fault { IsOkUnless result RunFault.Write }
 {
     put_report(writer, totals).or(Err(RunFault::Write))

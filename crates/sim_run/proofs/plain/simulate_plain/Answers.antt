@@ -1,5 +1,5 @@
 use Rattle.std.proofs.lemmas.Result.{on_ok_weaker}
-use Rattle.std.proofs.Common.{◌≡◌, ◌≢◌, ◌∙◌, List, ℕ, Some, Result, Err, refl, ap}
+use Rattle.std.proofs.Common.{◌≡◌, ◌≢◌, ◌∙◌, List, Some, Result, Err, ap}
 use Rattle.din_trace.specs.declared.record.DinRecord.{DinRecord}
 use Rattle.din_trace.specs.declared.fault.TraceFault.{TraceFault}
 use Rattle.din_trace.specs.declared.fault.TraceFault.TheVariants as trace
@@ -16,8 +16,8 @@ use Rattle.sim_run.specs.Runs.{report_of, source_fault}
 use Rattle.sim_run.proofs.plain.simulate_plain.Goals as goal
 
 -- a fault of the trace is the source's, and no want of memory
-only_trace : (of : TraceFault) (why : TraceFault) (result : Result (Unit {0}) RunFault) → result ≡ Err (source_fault of) → result ≡ Err (Trace why)
-    → (of ≢ trace.Memory) × (of ≡ why)
+only_trace : (of : TraceFault) (why : TraceFault) (result : Result (Unit {0}) RunFault)
+    → result ≡ Err (source_fault of) → result ≡ Err (Trace why) → (of ≢ trace.Memory) × (of ≡ why)
 only_trace (trace.Bad line w) why result is e = (λ m. cc, cc)
 only_trace trace.TooLong why result is e = (λ m. cc, cc)
 only_trace trace.Read why result is e = (λ m. cc, cc)
@@ -27,10 +27,12 @@ pub returns-in-Err-clause-trace : goal.returns-in-Err-clause-trace
 returns-in-Err-clause-trace g c text known why is =
     let reads = c.rest.ensures.reads in
     let same : reader_of c.new-source.result ≡ c.args.reader = c.new-source.ensures.reader in
-    let script = script_of_told g.R.ByteReader.failures c.args.reader (reader_of c.rest.new.self) text c.args.limit reads.1 reads.0 _
-    (rw (same, known) at reads.2.reader) in
-    let told = (rw c.in-Err.is at reads.3 script.0 script.1 _ script.2 (c.new-source.ensures.left script.0)) in
-    let met = only_trace c.in-Err.fault why _ (ap (λ (f : RunFault). Err f) c.fault_of_source.ensures) is in
+    let script = script_of_told g.R.ByteReader.failures c.args.reader (reader_of c.rest.new.self)
+    text c.args.limit reads.1 reads.0 _ (rw (same, known) at reads.2.reader) in
+    let told = (rw c.in-Err.is at reads.3 script.0 script.1 _ script.2
+    (c.new-source.ensures.left script.0)) in
+    let met = only_trace c.in-Err.fault why _
+    (ap (λ (f : RunFault). Err f) c.fault_of_source.ensures) is in
     script.3.some_fault why (told.0 met.0 ∙ ap (λ (f : TraceFault). Some f) met.1)
 
 pub returns-clause-report : goal.returns-clause-report
@@ -38,11 +40,16 @@ unfolding report_of
 returns-clause-report g c text known =
     let reads = c.rest.ensures.reads in
     let same : reader_of c.new-source.result ≡ c.args.reader = c.new-source.ensures.reader in
-    let script = script_of_told g.R.ByteReader.failures c.args.reader (reader_of c.rest.new.self) text c.args.limit reads.1 reads.0 _
-    (rw (same, known) at reads.2.reader) in
-    let told = (rw c.in-Ok.is at reads.3 script.0 script.1 _ script.2 (c.new-source.ensures.left script.0)) in
+    let script = script_of_told g.R.ByteReader.failures c.args.reader (reader_of c.rest.new.self)
+    text c.args.limit reads.1 reads.0 _ (rw (same, known) at reads.2.reader) in
+    let told = (rw c.in-Ok.is at reads.3 script.0 script.1 _ script.2
+    (c.new-source.ensures.left script.0)) in
     let good = script.3.no_fault told.1 in
-    let trace_is : c.deref.result.now ≡ records ADDRESS_MAX text = c.deref.ensures.value ∙ told.0 ∙ good.1 in
-    let counted : c.in-Ok-run_plain.totals ≡ totals (hierarchy_of c.args.config.now) (events c.args.selection.now (records ADDRESS_MAX text)) =
-    c.in-Ok-run_plain.ensures ∙ ap (λ (t : List DinRecord). totals (hierarchy_of c.args.config.now) (events c.args.selection.now t)) trace_is in
-    on_ok_weaker c.write_report.result (λ wrote. (good.0, rw counted at wrote)) c.write_report.ensures.written.ok
+    let trace_is : c.deref.result.now ≡ records ADDRESS_MAX text =
+    c.deref.ensures.value ∙ told.0 ∙ good.1 in
+    let totals_over = λ (t : List DinRecord).
+    totals (hierarchy_of c.args.config.now) (events c.args.selection.now t) in
+    let counted : c.in-Ok-run_plain.totals ≡ totals_over (records ADDRESS_MAX text) =
+    c.in-Ok-run_plain.ensures ∙ ap totals_over trace_is in
+    on_ok_weaker c.write_report.result (λ wrote. (good.0, rw counted at wrote))
+    c.write_report.ensures.written.ok

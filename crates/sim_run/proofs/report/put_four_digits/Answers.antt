@@ -1,4 +1,4 @@
-use Rattle.std.proofs.Common.{◌≡◌, ◌∙◌, ℕ, ◌-◌, ◌≤◌, length, take, replicate, decimal, List, arith}
+use Rattle.std.proofs.Common.{◌≡◌, ◌∙◌, ℕ, ◌-◌, ◌≤◌, length, take, replicate, decimal, arith}
 use Rattle.std.proofs.lemmas.List.{take-replicate}
 use Rattle.din_trace.proofs.WritesLemmas.{writes_then, writes_as}
 use Rattle.sim_run.proofs.report.put_four_digits.Goals as goal
@@ -9,6 +9,8 @@ zeros k h = take-replicate k 4 48 h
 
 pub returns : goal.returns
 returns g c =
-    let text : c.as_bytes-text.result.now ≡ decimal c.args.number = c.as_bytes-text.ensures.value ∙ c.format.ensures.text in
-    writes_as _ _ _ (rw (c.saturating_sub.ensures, text, zeros (4 - length (decimal c.args.number)) (omega arith)))
+    let text : c.as_bytes-text.result.now ≡ decimal c.args.number =
+    c.as_bytes-text.ensures.value ∙ c.format.ensures.text in
+    let filling = zeros (4 - length (decimal c.args.number)) (omega arith) in
+    writes_as _ _ _ (rw (c.saturating_sub.ensures, text, filling))
     (writes_then _ _ _ c.in_ok-put.ensures c.put-2.ensures)

@@ -1,0 +1,133 @@
+//! Runs over traces in memory. What is expected of them was worked out by hand.
+
+ghost use Rattle.std.specs.Prelude.{◌≤◌};
+ghost use Rattle.stage_core.specs.Events.{IsBounded};
+
+mod faults;
+mod layout;
+mod levels;
+mod runs;
+mod writers;
+
+use crate::fault::RunFault;
+use crate::plain::simulate_plain;
+use crate::report::write_report;
+use cache_core::{Counts, PerClass, Policy, Repl};
+use din_trace::{FromRead, FromWrite, MAX_LIMIT};
+use stage_core::{CacheSpec, Config, Selection, Totals};
+use std::alloc::Global;
+use std::test::Fail;
+
+static EVERYTHING: Selection = Selection {
+    skip: 0,
+    max: 0,
+    every: 0,
+};
+
+/// LRU, write back, write allocation: the policy of most caches here.
+static USUAL: Policy = Policy {
+    repl: Repl::Lru,
+    wback: true,
+    walloc: true,
+};
+
+fn spec(size: u64, bsize: u64, assoc: u64, policy: Policy) -> CacheSpec {
+    CacheSpec {
+        size,
+        bsize,
+        assoc,
+        policy,
+    }
+}
+
+/// 16 bytes of instructions, 16 of data in two ways with this policy, and a second level of 32.
+fn config_with(data: Policy) -> Result<Config, Fail> {
+    let i = spec(16, 4, 1, USUAL);
+    let d = spec(16, 4, 2, data);
+    let u = spec(32, 8, 2, USUAL);
+    Ok(Config::new(i, d, u, 2)?)
+}
+
+fn config() -> Result<Config, Fail> {
+    config_with(USUAL)
+}
+
+fn instrs(instr: u64) -> PerClass {
+    PerClass {
+        instr,
+        ..PerClass::default()
+    }
+}
+
+fn reads(read: u64) -> PerClass {
+    PerClass {
+        read,
+        ..PerClass::default()
+    }
+}
+
+fn writes(write: u64) -> PerClass {
+    PerClass {
+        write,
+        ..PerClass::default()
+    }
+}
+
+fn reads_and_writes(read: u64, write: u64) -> PerClass {
+    PerClass {
+        read,
+        write,
+        ..PerClass::default()
+    }
+}
+
+/// Counts in which each miss is the first use of its block, and loads it.
+fn first_misses(fetches: PerClass, misses: PerClass, loaded: u64) -> Counts {
+    Counts {
+        fetches,
+        misses,
+        compulsory: misses,
+        loaded,
+        ..Counts::default()
+    }
+}
+
+/// How a run over a trace ended; what it wrote stands in the list.
+fn run(
+    alloc: Global,
+    config: &Config,
+    selection: &Selection,
+    trace: &[u8],
+    limit: u64,
+    written: &mut Vec<u8>,
+) -> Result<(), RunFault>
+    requires limit { limit ≤ MAX_LIMIT }
+    requires bounded { IsBounded selection.now }
+{
+    let mut writer = FromWrite::new(written);
+    simulate_plain(
+        alloc,
+        config,
+        selection,
+        FromRead::new(trace),
+        limit,
+        &mut writer,
+    )
+}
+
+/// Does a run over a trace end well, with the report of just these totals?
+fn reports(
+    alloc: Global,
+    config: &Config,
+    selection: &Selection,
+    trace: &[u8],
+    totals: &Totals,
+) -> Result<bool, Fail>
+    requires { IsBounded selection.now }
+{
+    let mut written = Vec::new(alloc);
+    run(alloc, config, selection, trace, MAX_LIMIT, &mut written)?;
+    let mut expected = Vec::new(alloc);
+    write_report(totals, &mut FromWrite::new(&mut expected))?;
+    Ok(written.as_slice() == expected.as_slice())
+}

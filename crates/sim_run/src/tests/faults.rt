@@ -1,0 +1,128 @@
+//! Runs that end without a report: faulty lines, limits, readers that fail.
+
+use super::{EVERYTHING, config, run};
+use crate::fault::RunFault;
+use crate::plain::simulate_plain;
+use din_trace::{FromRead, FromWrite, MAX_LIMIT, TraceFault, Why};
+use std::io;
+use std::io::Read;
+use std::test::Fail;
+
+fn bad(line: u64, why: Why) -> RunFault {
+    RunFault::Trace(TraceFault::Bad { line, why })
+}
+
+#[test]
+fn nothing_is_written_for_a_faulty_trace(rt: HostRuntime) -> Result<(), Fail> {
+    let rows: [(&[u8], RunFault); 5] = [
+        (b"0 0\n\n5 0\n", bad(3, Why::Label)),
+        (b"0 10000000000000000\n", bad(1, Why::Range)),
+        (b"0 10000000000000000g\n", bad(1, Why::Range)),
+        (b"2 0\n0 12g\n", bad(2, Why::Tail)),
+        (b"4\n9 0\n", bad(1, Why::Gap)),
+    ];
+    for (trace, fault) in rows {
+        let mut written = Vec::new(rt.alloc());
+        let ended = run(
+            rt.alloc(),
+            &config()?,
+            &EVERYTHING,
+            trace,
+            MAX_LIMIT,
+            &mut written,
+        );
+        assert_eq!(rt; ended, Err(fault));
+        assert!(rt; written.is_empty());
+    }
+    Ok(())
+}
+
+#[test]
+fn a_trace_past_its_limit_is_judged_up_to_there(rt: HostRuntime) -> Result<(), Fail> {
+    let too_long = RunFault::Trace(TraceFault::TooLong);
+    let rows: [(&[u8], u64, Result<(), RunFault>); 5] = [
+        (b"2 0\n2 4\n2 8\n", 8, Err(too_long)),
+        (b"9 0\n2 0\n2 4\n2 8\n", 8, Err(bad(1, Why::Label))),
+        (b"2 0\n2 4\n", 8, Ok(())),
+        (b"2 0\n9 0\n", 8, Err(bad(2, Why::Label))),
+        (b"2 0\n9 0\n", 7, Err(too_long)),
+    ];
+    for (trace, limit, expected) in rows {
+        let mut written = Vec::new(rt.alloc());
+        let ended = run(
+            rt.alloc(),
+            &config()?,
+            &EVERYTHING,
+            trace,
+            limit,
+            &mut written,
+        );
+        assert_eq!(rt; ended, expected);
+        assert_eq!(rt; written.is_empty(), expected.is_err());
+    }
+    Ok(())
+}
+
+/// A reader that gives some bytes, and fails when they are used up.
+#[derive(Drop)]
+struct Broken<'a> {
+    bytes: &'a [u8],
+}
+
+impl Read for Broken<'_> {
+    fn read(&mut self, buffer: &mut [u8]) -> io::Result<usize> {
+        if self.bytes.is_empty() {
+            return Err(io::Error::from(io::ErrorKind::Other));
+        }
+        self.bytes.read(buffer)
+    }
+}
+
+#[test]
+fn whole_lines_are_judged_before_a_failed_read(rt: HostRuntime) -> Result<(), Fail> {
+    let failed = RunFault::Trace(TraceFault::Read);
+    let rows: [(&[u8], RunFault); 3] = [
+        (b"2 0\n9 0\n", bad(2, Why::Label)),
+        (b"2 0\n9", failed),
+        (b"", failed),
+    ];
+    for (bytes, fault) in rows {
+        let mut written = Vec::new(rt.alloc());
+        let mut writer = FromWrite::new(&mut written);
+        let reader = FromRead::new(Broken { bytes });
+        let ended = simulate_plain(
+            rt.alloc(),
+            &config()?,
+            &EVERYTHING,
+            reader,
+            MAX_LIMIT,
+            &mut writer,
+        );
+        assert_eq!(rt; ended, Err(fault));
+        assert!(rt; written.is_empty());
+    }
+    Ok(())
+}
+
+#[test]
+fn a_read_may_fail_behind_each_byte(rt: HostRuntime) -> Result<(), Fail> {
+    let text = b"1 0\n0 8\n0 10\n";
+    for length in 0..=text.len() {
+        let mut written = Vec::new(rt.alloc());
+        let mut writer = FromWrite::new(&mut written);
+        let reader = FromRead::new(Broken {
+            bytes: &text[..length],
+        });
+        let ended = simulate_plain(
+            rt.alloc(),
+            &config()?,
+            &EVERYTHING,
+            reader,
+            MAX_LIMIT,
+            &mut writer,
+        );
+        assert_eq!(rt; ended, Err(RunFault::Trace(TraceFault::Read)));
+        assert!(rt; written.is_empty());
+    }
+    Ok(())
+}

@@ -1,0 +1,266 @@
+//! What each level counts over short traces.
+
+use super::{
+    EVERYTHING, USUAL, config, config_with, first_misses, instrs, reads, reads_and_writes, reports,
+    writes,
+};
+use cache_core::{Counts, PerClass, Policy, Repl};
+use stage_core::Totals;
+use std::test::Fail;
+
+#[test]
+fn an_empty_trace_counts_nothing(rt: HostRuntime) -> Result<(), Fail> {
+    assert!(rt; reports(rt.alloc(), &config()?, &EVERYTHING, b"", &Totals::default())?);
+    Ok(())
+}
+
+#[test]
+fn a_first_fetch_misses_at_both_levels(rt: HostRuntime) -> Result<(), Fail> {
+    let one = first_misses(instrs(1), instrs(1), 1);
+    let totals = Totals {
+        i: one,
+        u: one,
+        ..Totals::default()
+    };
+    assert!(rt; reports(rt.alloc(), &config()?, &EVERYTHING, b"2 0\n", &totals)?);
+    Ok(())
+}
+
+#[test]
+fn fetches_share_a_block_of_the_second_level(rt: HostRuntime) -> Result<(), Fail> {
+    let totals = Totals {
+        i: first_misses(instrs(3), instrs(2), 2),
+        u: first_misses(instrs(2), instrs(1), 1),
+        ..Totals::default()
+    };
+    assert!(rt;
+        reports(
+            rt.alloc(),
+            &config()?,
+            &EVERYTHING,
+            b"2 0\n2 0\n2 4\n",
+            &totals
+        )?
+    );
+    Ok(())
+}
+
+#[test]
+fn blocks_of_one_set_conflict(rt: HostRuntime) -> Result<(), Fail> {
+    let i = Counts {
+        compulsory: instrs(2),
+        conflict: instrs(1),
+        ..first_misses(instrs(3), instrs(3), 3)
+    };
+    let u = first_misses(instrs(3), instrs(2), 2);
+    let totals = Totals {
+        i,
+        u,
+        ..Totals::default()
+    };
+    assert!(rt;
+        reports(
+            rt.alloc(),
+            &config()?,
+            &EVERYTHING,
+            b"2 0\n2 10\n2 0\n",
+            &totals
+        )?
+    );
+    Ok(())
+}
+
+#[test]
+fn a_block_in_use_stays(rt: HostRuntime) -> Result<(), Fail> {
+    let totals = Totals {
+        d: first_misses(reads(5), reads(3), 3),
+        u: first_misses(reads(3), reads(3), 3),
+        ..Totals::default()
+    };
+    let trace = b"0 0\n0 8\n0 0\n0 10\n0 0\n";
+    assert!(rt; reports(rt.alloc(), &config()?, &EVERYTHING, trace, &totals)?);
+    Ok(())
+}
+
+#[test]
+fn first_in_first_out_forgets_uses(rt: HostRuntime) -> Result<(), Fail> {
+    let fifo = config_with(Policy {
+        repl: Repl::Fifo,
+        ..USUAL
+    })?;
+    let d = Counts {
+        compulsory: reads(3),
+        conflict: reads(1),
+        ..first_misses(reads(5), reads(4), 4)
+    };
+    let u = first_misses(reads(4), reads(3), 3);
+    let totals = Totals {
+        d,
+        u,
+        ..Totals::default()
+    };
+    let trace = b"0 0\n0 8\n0 0\n0 10\n0 0\n";
+    assert!(rt; reports(rt.alloc(), &fifo, &EVERYTHING, trace, &totals)?);
+    Ok(())
+}
+
+#[test]
+fn each_write_is_sent_on_under_write_through(rt: HostRuntime) -> Result<(), Fail> {
+    let through = config_with(Policy {
+        wback: false,
+        ..USUAL
+    })?;
+    let d = Counts {
+        sent_on: 2,
+        ..first_misses(writes(2), writes(1), 1)
+    };
+    let u = first_misses(reads_and_writes(1, 2), reads(1), 1);
+    let totals = Totals {
+        d,
+        u,
+        ..Totals::default()
+    };
+    assert!(rt; reports(rt.alloc(), &through, &EVERYTHING, b"1 2\n1 2\n", &totals)?);
+    Ok(())
+}
+
+#[test]
+fn a_write_miss_without_allocation_loads_nothing(rt: HostRuntime) -> Result<(), Fail> {
+    let around = config_with(Policy {
+        walloc: false,
+        ..USUAL
+    })?;
+    let d = Counts {
+        compulsory: writes(1),
+        capacity: reads(1),
+        sent_on: 1,
+        ..first_misses(reads_and_writes(1, 1), reads_and_writes(1, 1), 1)
+    };
+    let u = first_misses(reads_and_writes(1, 1), writes(1), 1);
+    let totals = Totals {
+        d,
+        u,
+        ..Totals::default()
+    };
+    assert!(rt; reports(rt.alloc(), &around, &EVERYTHING, b"1 0\n0 0\n", &totals)?);
+    Ok(())
+}
+
+#[test]
+fn a_flush_writes_dirty_blocks_back_through_both_levels(rt: HostRuntime) -> Result<(), Fail> {
+    let i = Counts {
+        flushes: 1,
+        ..Counts::default()
+    };
+    let d = Counts {
+        written_back: 2,
+        flushes: 1,
+        ..first_misses(writes(2), writes(2), 2)
+    };
+    let u = Counts {
+        written_back: 2,
+        flushes: 1,
+        ..first_misses(reads_and_writes(2, 2), reads(2), 2)
+    };
+    let trace = b"1 8\n1 0\n4 0\n";
+    assert!(rt;
+        reports(
+            rt.alloc(),
+            &config()?,
+            &EVERYTHING,
+            trace,
+            &Totals { i, d, u }
+        )?
+    );
+    Ok(())
+}
+
+#[test]
+fn a_flush_empties_but_does_not_forget(rt: HostRuntime) -> Result<(), Fail> {
+    let i = Counts {
+        flushes: 1,
+        ..Counts::default()
+    };
+    let again = Counts {
+        compulsory: reads(1),
+        capacity: reads(1),
+        flushes: 1,
+        ..first_misses(reads(2), reads(2), 2)
+    };
+    let totals = Totals {
+        i,
+        d: again,
+        u: again,
+    };
+    assert!(rt;
+        reports(
+            rt.alloc(),
+            &config()?,
+            &EVERYTHING,
+            b"0 0\n4 0\n0 0\n",
+            &totals
+        )?
+    );
+    Ok(())
+}
+
+#[test]
+fn the_first_level_to_miss_loads_the_second(rt: HostRuntime) -> Result<(), Fail> {
+    let i = first_misses(instrs(1), instrs(1), 1);
+    let d = first_misses(reads(1), reads(1), 1);
+    let fetches = PerClass {
+        instr: 1,
+        ..reads(1)
+    };
+    let read_first = Totals {
+        i,
+        d,
+        u: first_misses(fetches, reads(1), 1),
+    };
+    assert!(rt;
+        reports(
+            rt.alloc(),
+            &config()?,
+            &EVERYTHING,
+            b"0 0\n2 0\n",
+            &read_first
+        )?
+    );
+    let fetch_first = Totals {
+        i,
+        d,
+        u: first_misses(fetches, instrs(1), 1),
+    };
+    assert!(rt;
+        reports(
+            rt.alloc(),
+            &config()?,
+            &EVERYTHING,
+            b"2 0\n0 0\n",
+            &fetch_first
+        )?
+    );
+    Ok(())
+}
+
+#[test]
+fn a_miscellaneous_reference_is_fetched_as_a_read(rt: HostRuntime) -> Result<(), Fail> {
+    let misc = PerClass {
+        misc: 1,
+        ..PerClass::default()
+    };
+    let totals = Totals {
+        d: first_misses(
+            PerClass {
+                misc: 1,
+                ..reads(1)
+            },
+            misc,
+            1,
+        ),
+        u: first_misses(reads(1), reads(1), 1),
+        ..Totals::default()
+    };
+    assert!(rt; reports(rt.alloc(), &config()?, &EVERYTHING, b"3 0\n0 0\n", &totals)?);
+    Ok(())
+}

@@ -1,0 +1,118 @@
+//! Writers that fail, and when a writer is flushed.
+
+use super::layout::ONE_WRITE_BACK;
+use super::{EVERYTHING, config};
+use crate::fault::RunFault;
+use crate::plain::simulate_plain;
+use crate::report::{write_block, write_report};
+use cache_core::Counts;
+use din_trace::{FromRead, FromWrite, MAX_LIMIT};
+use stage_core::Totals;
+use std::alloc::Global;
+use std::io;
+use std::io::Write;
+use std::test::Fail;
+
+/// A writer that takes so many bytes and then fails, or fails at its flush. It counts its flushes,
+/// and what it had taken at the last one.
+#[derive(Drop)]
+struct Narrow {
+    room: usize,
+    can_flush: bool,
+    taken: usize,
+    flushes: u8,
+    taken_at_flush: usize,
+}
+
+fn with_room(room: usize, can_flush: bool) -> Narrow {
+    Narrow {
+        room,
+        can_flush,
+        taken: 0,
+        flushes: 0,
+        taken_at_flush: 0,
+    }
+}
+
+impl Write for Narrow {
+    fn write(&mut self, bytes: &[u8]) -> io::Result<usize> {
+        if self.room == 0 && !bytes.is_empty() {
+            return Err(io::Error::from(io::ErrorKind::Other));
+        }
+        let count = bytes.len().min(self.room);
+        self.room -= count;
+        self.taken = self.taken.saturating_add(count);
+        Ok(count)
+    }
+
+    fn flush(&mut self) -> io::Result<()> {
+        self.flushes = self.flushes.saturating_add(1);
+        self.taken_at_flush = self.taken;
+        if self.can_flush {
+            Ok(())
+        } else {
+            Err(io::Error::from(io::ErrorKind::Other))
+        }
+    }
+}
+
+fn run(alloc: Global, trace: &[u8], writer: &mut Narrow) -> Result<Result<(), RunFault>, Fail> {
+    let config = config()?;
+    let reader = FromRead::new(trace);
+    let mut writer = FromWrite::new(writer);
+    Ok(simulate_plain(alloc, &config, &EVERYTHING, reader, MAX_LIMIT, &mut writer))
+}
+
+#[test]
+fn a_writer_may_fail_behind_each_byte(rt: HostRuntime) -> Result<(), Fail> {
+    let trace = b"1 0\n0 8\n0 10\n";
+    for room in 0..ONE_WRITE_BACK.len() {
+        let mut writer = with_room(room, true);
+        assert_eq!(rt; run(rt.alloc(), trace, &mut writer)?, Err(RunFault::Write));
+        assert_eq!(rt; writer.taken, room);
+        assert_eq!(rt; writer.flushes, 0);
+    }
+    Ok(())
+}
+
+#[test]
+fn a_writer_may_fail_at_its_flush(rt: HostRuntime) -> Result<(), Fail> {
+    let mut writer = with_room(ONE_WRITE_BACK.len(), false);
+    let ended = run(rt.alloc(), b"1 0\n0 8\n0 10\n", &mut writer)?;
+    assert_eq!(rt; ended, Err(RunFault::Write));
+    Ok(())
+}
+
+#[test]
+fn a_report_is_flushed_once_at_its_end(rt: HostRuntime) -> Result<(), Fail> {
+    let mut writer = with_room(ONE_WRITE_BACK.len(), true);
+    assert_eq!(rt; run(rt.alloc(), b"1 0\n0 8\n0 10\n", &mut writer)?, Ok(()));
+    assert_eq!(rt; writer.flushes, 1);
+    assert_eq!(rt; writer.taken_at_flush, ONE_WRITE_BACK.len());
+    Ok(())
+}
+
+#[test]
+fn totals_are_flushed_and_a_block_is_not(rt: HostRuntime) -> Result<(), Fail> {
+    let mut writer = with_room(10_000, true);
+    write_block(
+        "l1-icache",
+        &Counts::default(),
+        &mut FromWrite::new(&mut writer),
+    )?;
+    assert!(rt; writer.taken > 0);
+    assert_eq!(rt; writer.flushes, 0);
+    write_report(&Totals::default(), &mut FromWrite::new(&mut writer))?;
+    assert_eq!(rt; writer.flushes, 1);
+    assert_eq!(rt; writer.taken_at_flush, writer.taken);
+    Ok(())
+}
+
+#[test]
+fn a_faulty_trace_leaves_the_writer_alone(rt: HostRuntime) -> Result<(), Fail> {
+    let mut writer = with_room(10_000, true);
+    assert!(rt; run(rt.alloc(), b"5 0\n", &mut writer)?.is_err());
+    assert_eq!(rt; writer.taken, 0);
+    assert_eq!(rt; writer.flushes, 0);
+    Ok(())
+}
