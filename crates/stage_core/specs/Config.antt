@@ -10,6 +10,7 @@ use Rattle.stage_core.specs.declared.config.CacheName.TheVariants as cache_name
 use Rattle.stage_core.specs.declared.config.CacheSpec.{CacheSpec}
 use Rattle.stage_core.specs.declared.config.Config.{Config}
 
+-- the shape of each cache, and its policy
 unfoldable pub geometry_in : Config → CacheName → Geometry
 geometry_in c cache_name.I = c.i.0
 geometry_in c cache_name.D = c.d.0

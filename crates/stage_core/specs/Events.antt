@@ -21,7 +21,7 @@ pub record IsBounded (s : Selection) : Type 0 where
   pub max : s.max ≤ 2 ^ 40
   pub every : s.every ≤ 2 ^ 40
 
--- a reference is a record that isn't a flush
+-- is it the label of a flush record?
 abbrev pub is_flush_label : Label → Bool
 is_flush_label label.Read = false
 is_flush_label label.Write = false
@@ -29,6 +29,7 @@ is_flush_label label.Instr = false
 is_flush_label label.Misc = false
 is_flush_label label.Flush = true
 
+-- a reference is a record that isn't a flush
 abbrev pub is_reference : DinRecord → Bool
 is_reference x = not (is_flush_label x.label)
 
@@ -50,6 +51,7 @@ is_selected s r x = if is_reference x then is_selected_reference s r else is_sel
 abbrev pub flush_follows : Selection → ℕ → DinRecord → Bool
 flush_follows s r x = is_reference x && (nat_lt 0 s.every && ((r - s.skip) % s.every == 0))
 
+-- the flush that a selection puts in
 abbrev pub inserted_flush : DinRecord
 inserted_flush = record { label = label.Flush; addr = 0 }
 
@@ -60,6 +62,7 @@ picked s r x = record {
   flush = is_selected s r x && flush_follows s r x;
 }
 
+-- the events that it makes
 abbrev pub picked_events : Picked → List DinRecord
 picked_events p = option_to_list p.event ++ one_if p.flush inserted_flush
 
@@ -89,6 +92,7 @@ asked_by side.D label.Misc a = access_of class.Misc a ∷ []
 asked_by side.D label.Flush a = flush ∷ []
 asked_by side.D label.Instr a = []
 
+-- the same of a whole event
 abbrev pub asked : Side → DinRecord → List Event
 asked side e = asked_by side e.label e.addr
 

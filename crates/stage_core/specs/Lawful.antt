@@ -10,17 +10,19 @@ use Rattle.stage_core.specs.declared.config.ConfigFault.TheVariants as fault
 
 -- why the cache's geometry is refused
 unfoldable pub geometry_refusal : CacheName → CacheSpec → Option ConfigFault
-geometry_refusal which s = option_map (λ why. fault.Geometry which why)
-    (geometry_refused s.size s.bsize s.assoc)
+geometry_refusal which s =
+    option_map (λ why. fault.Geometry which why) (geometry_refused s.size s.bsize s.assoc)
 
--- a block of U holds each block of I and of D
+-- refused where U's block is shorter than I's or D's
 abbrev pub block_refusal : CacheSpec → CacheSpec → CacheSpec → Option ConfigFault
-block_refusal i d u = if nat_lt u.bsize i.bsize || nat_lt u.bsize d.bsize then Some fault.BlockOrder
-    else None
+block_refusal i d u =
+    if nat_lt u.bsize i.bsize || nat_lt u.bsize d.bsize then Some fault.BlockOrder else None
 
+-- refused where the capacity is not from 1 to 65,536
 abbrev pub ring_refusal : ℕ → Option ConfigFault
 ring_refusal ring = if nat_lt ring 1 || nat_lt 65536 ring then Some fault.Ring else None
 
+-- the first refusal of a list
 abbrev pub first_refusal : List (Option ConfigFault) → Option ConfigFault
 first_refusal [] = None
 first_refusal (None ∷ later) = first_refusal later

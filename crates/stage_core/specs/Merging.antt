@@ -61,6 +61,7 @@ pub record Merged : Type 0 where
   pub from_i : List FromStage
   pub from_d : List FromStage
 
+-- with one more taken before all others
 abbrev pub with_what : What → Merged → Merged
 with_what w m = record m { taken = w ∷ m.taken }
 
@@ -72,6 +73,7 @@ up_to_end (from_stage.Part place part w ∷ ms) stopped next = with_what w (up_t
 up_to_end (from_stage.Done place parts ∷ ms) stopped next = next ms
 up_to_end (from_stage.Finish ∷ ms) stopped next = next ms
 
+-- the rule stops here, and leaves these
 abbrev pub stops : Stand → List Turn → List FromStage → List FromStage → Merged
 stops at turns is ds = record { taken = []; at = at; turns = turns; from_i = is; from_d = ds }
 
@@ -81,11 +83,11 @@ merged [] is ds = stops AtOrder [] is ds
 merged (turn.I ∷ ts) is ds = up_to_end is (stops AtI ts [] ds) (λ is'. merged ts is' ds)
 merged (turn.D ∷ ts) is ds = up_to_end ds (stops AtD ts is []) (λ ds'. merged ts is ds')
 merged (turn.Both ∷ ts) is ds =
-    up_to_end is (stops AtBoth ts [] ds) (λ is'. up_to_end ds (stops AtD ts is' [])
-    (λ ds'. merged ts is' ds'))
+    up_to_end is (stops AtBoth ts [] ds) (λ is'.
+    up_to_end ds (stops AtD ts is' []) (λ ds'. merged ts is' ds'))
 merged (turn.Finish ∷ ts) is ds =
-    up_to_end is (stops LastI ts [] ds) (λ is'. up_to_end ds (stops LastD ts is' [])
-    (λ ds'. stops AtEnd ts is' ds'))
+    up_to_end is (stops LastI ts [] ds) (λ is'.
+    up_to_end ds (stops LastD ts is' []) (λ ds'. stops AtEnd ts is' ds'))
 
 -- the rule took these whats, used all three lists up and stands there
 abbrev pub all_used : List What → Stand → Merged

@@ -12,8 +12,8 @@ use Rattle.stage_core.specs.declared.outbox.Owes.TheVariants as owes
 -- the write-backs that are left, and at most three parts more
 abbrev pub parts_left : List ℕ → ℕ → Option ℕ → Option What → Option What → List What
 parts_left backs next first second third =
-    map back (drop next backs) ++ (map back (option_to_list first) ++ option_to_list second
-    ++ option_to_list third)
+    map back (drop next backs)
+    ++ (map back (option_to_list first) ++ option_to_list second ++ option_to_list third)
 
 -- the message that ends them, behind n parts
 abbrev pub last_message : ℕ → ℕ → Owes → List FromStage
@@ -25,6 +25,7 @@ last_message place n owes.Finish = from_stage.Finish ∷ []
 abbrev pub to_send : ℕ → ℕ → List What → Owes → List FromStage
 to_send place sent ws o = numbered place (sent + 1) ws ++ last_message place (sent + length ws) o
 
+-- is Done still to be sent?
 abbrev pub owes_done : Owes → Bool
 owes_done owes.Nothing = false
 owes_done owes.Done = true

@@ -46,6 +46,7 @@ after_answers at (m ∷ ms) = after_answers (after_end at) ms
 abbrev pub brought : Parts → Side → List ToStage → List ToStage → List What
 brought parts s before ms = flat_map (λ m. flat_map what_in (reply parts s before m)) ms
 
+-- the same of this stage and at most one message
 abbrev pub brought_from : L1Stage → List ToStage → Option ToStage → List What
 brought_from stage before message =
     brought (parts_of (rules_of (cache_of stage))) (side_of stage) before (option_to_list message)
@@ -56,6 +57,7 @@ pub record StageRan (s : Side) (stage : L1Stage) (es : List DinRecord) : Type 0 
   pub stands : StageStandsFor stage (over (told s) es)
   pub ready : IsReady stage
 
+-- the rules of the machines' caches
 abbrev pub hierarchy_in : Machines → Hierarchy
 hierarchy_in m = record {
   i = rules_of (cache_of m.i);

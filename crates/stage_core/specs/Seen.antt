@@ -18,6 +18,7 @@ use Rattle.stage_core.specs.declared.message.What.{What}
 use Rattle.stage_core.specs.declared.message.What.TheVariants as what
 use Rattle.stage_core.specs.declared.totals.Totals.{Totals}
 
+-- the write-back of the block that begins at this byte
 abbrev pub back : ℕ → What
 back a = what.Back a
 
@@ -51,6 +52,7 @@ pub record Hierarchy : Type 0 where
   pub d : Rules
   pub u : Rules
 
+-- those of a side's cache
 abbrev pub rules_at : Hierarchy → Side → Rules
 rules_at c side.I = c.i
 rules_at c side.D = c.d

@@ -18,6 +18,7 @@ use Rattle.stage_core.specs.declared.selection.Selection.{Selection}
 use Rattle.stage_core.specs.declared.l1_stage.L1Stage.{L1Stage}
 use Rattle.stage_core.specs.declared.l2_stage.L2Stage.{L2Stage}
 
+-- where the merge stands, as it keeps it
 abbrev pub stand_of : Standing → Stand
 stand_of standing.Order = AtOrder
 stand_of standing.I = AtI
@@ -38,10 +39,11 @@ pub record WasOffered (o : Offers) (offered : List DinRecord) : Type 0 where
   pub count : o.records ≡ length offered
   pub references : o.references ≡ count_by is_reference offered
 
--- what a first-level stage keeps
+-- which of the two a first-level stage is
 unfoldable pub side_of : L1Stage → Side
 side_of s = s.side
 
+-- its cache
 unfoldable pub cache_of : L1Stage → Cache
 cache_of s = s.cache
 
@@ -49,6 +51,7 @@ cache_of s = s.cache
 unfoldable pub outbox_of : L1Stage → List FromStage
 outbox_of s = s.outbox
 
+-- whether it took Finish in
 unfoldable pub took_finish : L1Stage → Bool
 took_finish s = s.took_finish
 
@@ -74,7 +77,7 @@ pub record HasFailedSince (old new : Cache) : Type 0 where
   pub counts : counts_kept new ≡ counts_kept old
   pub served : served_of new ≡ served_of old
 
--- what the second level keeps
+-- the second level's cache
 unfoldable pub second_cache : L2Stage → Cache
 second_cache s = s.cache
 

@@ -67,6 +67,7 @@ asked_in (to_stage.Ref place c a) = access_of c a ∷ []
 asked_in (to_stage.Flush place) = flush ∷ []
 asked_in to_stage.Finish = []
 
+-- is it the last message?
 abbrev pub is_finish : ToStage → Bool
 is_finish (to_stage.Ref place c a) = false
 is_finish (to_stage.Flush place) = false
