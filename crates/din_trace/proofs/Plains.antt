@@ -11,7 +11,9 @@ use Rattle.std.proofs.Math.Nat.{pow-le-pow_right, pow-succ'}
 use Rattle.din_trace.specs.Line.{is_blank, is_label, label_of, is_hex, hex_value, has_prefix, Each}
 use Rattle.din_trace.specs.Line.{StopsAt, IsComment, Din}
 use Rattle.din_trace.specs.Line.{ADDRESS_MAX}
-use Rattle.din_trace.specs.Plain.{BeginsWithLine, IsPrefix}
+use Rattle.din_trace.specs.Plain.{BeginsWithLine, IsPrefix, HasNoLf, Run}
+use Rattle.std.proofs.Common.{slice_index_or}
+use Rattle.std.proofs.lemmas.List.{drop_more}
 use Rattle.std.specs.Prelude.{Some, Ok}
 use Rattle.std.proofs.lemmas.List.{append-nil}
 use Rattle.din_trace.specs.declared.record.DinRecord.{DinRecord}
@@ -61,42 +63,46 @@ hex_not_blank byte h =
           (λ b. nat_lt (digit_value b) 16) byte 13 h refl,
     ) refl
 
-space_is_blank : is_blank 32 ≡ true
+-- two tests that no byte passes both
+apart : (a b : Bool) → (a ≡ true → b ≡ false) → b ≡ true → a ≡ false
+apart true b h k = absurd (false≢true (sym (h refl) ∙ k))
+apart false b h k = refl
+
+blank_not_hex : (byte : ℕ) → is_blank byte ≡ true → is_hex byte ≡ false
+blank_not_hex byte = apart (is_hex byte) (is_blank byte) (hex_not_blank byte)
+
+pub blank_no_lf : (byte : ℕ) → is_blank byte ≡ true → eqb byte 10 ≡ false
+unfolding is_blank
+blank_no_lf byte h = other_than (λ b. eqb b 32 || eqb b 9 || eqb b 13) byte 10 h refl
+
+blank_no_x : (byte : ℕ) → is_blank byte ≡ true → (eqb byte 120 ≡ false) × (eqb byte 88 ≡ false)
+unfolding is_blank
+blank_no_x byte h = (
+  other_than (λ b. eqb b 32 || eqb b 9 || eqb b 13) byte 120 h refl,
+  other_than (λ b. eqb b 32 || eqb b 9 || eqb b 13) byte 88 h refl,
+)
+
+pub space_is_blank : is_blank 32 ≡ true
 unfolding is_blank
 space_is_blank = refl
 
-cr_is_blank : is_blank 13 ≡ true
-unfolding is_blank
-cr_is_blank = refl
-
-cr_is_no_digit : is_hex 13 ≡ false
-unfolding is_hex
-cr_is_no_digit = refl
-
--- nothing, or CRs
-abbrev pub AreCrs : List ℕ → Type 0
-AreCrs tail = AllByRecursion (λ byte. byte ≡ 13) tail
-
-crs_no_lf : (tail : List ℕ) → AreCrs tail → AllByRecursion (λ byte. eqb byte 10 ≡ false) tail
-crs_no_lf [] crs = tt
-crs_no_lf (byte ∷ tail) crs = (rw crs.0 refl, crs_no_lf tail crs.1)
-
-digits_no_lf : (digits tail : List ℕ) → Each is_hex digits → AreCrs tail
-    → AllByRecursion (λ byte. eqb byte 10 ≡ false) (digits ++ tail)
-digits_no_lf [] tail hex crs = crs_no_lf tail crs
-digits_no_lf (byte ∷ digits) tail hex crs =
-    (hex_no_lf byte hex.0, digits_no_lf digits tail hex.1 crs)
+each_no_lf : (test : ℕ → Bool) → ((byte : ℕ) → test byte ≡ true → eqb byte 10 ≡ false)
+    → (run : List ℕ) → Each test run → HasNoLf run
+each_no_lf test no_lf [] each = tt
+each_no_lf test no_lf (byte ∷ run) each =
+    (no_lf byte each.0, each_no_lf test no_lf run each.1)
 
 and_false : (b : Bool) → (b && false) ≡ false
 and_false true = refl
 and_false false = refl
 
-no_prefix : (digits tail : List ℕ) → Each is_hex digits → 0 < length digits → AreCrs tail
-    → has_prefix (digits ++ tail) ≡ false
-no_prefix [] tail hex some crs = absurd (omega arith)
-no_prefix (a ∷ []) [] hex some crs = refl
-no_prefix (a ∷ []) (b ∷ tail) hex some crs = rw crs.0 (and_false (eqb a 48))
-no_prefix (a ∷ b ∷ digits) tail hex some crs = let no =
+no_prefix : (digits comment : List ℕ) → Each is_hex digits → 0 < length digits
+    → IsComment comment → has_prefix (digits ++ comment) ≡ false
+no_prefix [] comment hex some is_comment = absurd (omega arith)
+no_prefix (a ∷ []) [] hex some is_comment = refl
+no_prefix (a ∷ []) (b ∷ comment) hex some is_comment = let no =
+    blank_no_x b is_comment in rw (no.0, no.1) (and_false (eqb a 48))
+no_prefix (a ∷ b ∷ digits) comment hex some is_comment = let no =
     hex_no_x b hex.1.0 in rw (no.0, no.1) (and_false (eqb a 48))
 
 no_blank : (digits tail : List ℕ) → Each is_hex digits → 0 < length digits
@@ -108,7 +114,7 @@ no_blank (byte ∷ digits) tail hex some = hex_not_blank byte hex.0
 record IsPart (prefix text : List ℕ) : Type 0 where
   is : prefix ≡ cond (has_prefix (prefix ++ text)) (take 2 (prefix ++ text)) []
   no_blank : StopsAt is_blank (prefix ++ text)
-  no_lf : AllByRecursion (λ byte. eqb byte 10 ≡ false) prefix
+  no_lf : HasNoLf prefix
 
 x_no_lf : (b : ℕ) → (eqb b 120 || eqb b 88) ≡ true → eqb b 10 ≡ false
 x_no_lf b h = other_than (λ byte. eqb byte 120 || eqb byte 88) b 10 h refl
@@ -118,17 +124,17 @@ and_first true b h = (refl, h)
 and_first false b h = absurd (false≢true h)
 
 prefix_is_part : (prefix digits tail : List ℕ) → IsPrefix prefix → Each is_hex digits
-    → 0 < length digits → AreCrs tail → IsPart prefix (digits ++ tail)
+    → 0 < length digits → IsComment tail → IsPart prefix (digits ++ tail)
 unfolding is_blank
-prefix_is_part [] digits tail p hex some crs =
+prefix_is_part [] digits tail p hex some is_comment =
     record {
-      is = rw (no_prefix digits tail hex some crs) refl;
+      is = rw (no_prefix digits tail hex some is_comment) refl;
       no_blank =
           no_blank digits tail hex some;
       no_lf = tt;
     }
-prefix_is_part (a ∷ []) digits tail p hex some crs = absurd p
-prefix_is_part (a ∷ b ∷ rest) digits tail p hex some crs =
+prefix_is_part (a ∷ []) digits tail p hex some is_comment = absurd p
+prefix_is_part (a ∷ b ∷ rest) digits tail p hex some is_comment =
     let parts = and_first (eqb a 48) (eqb b 120 || eqb b 88) p.0 in
     let zero_is : a ≡ 48 = eqb-true a 48 parts.0 in
     rw p.1 (record {
@@ -138,71 +144,78 @@ prefix_is_part (a ∷ b ∷ rest) digits tail p hex some crs =
           (rw zero_is refl, (x_no_lf b parts.1, tt));
     })
 
-crs_stop : (tail : List ℕ) → AreCrs tail → StopsAt is_hex tail
-crs_stop [] crs = tt
-crs_stop (byte ∷ tail) crs = rw crs.0 cr_is_no_digit
+comment_stops : (comment : List ℕ) → IsComment comment → StopsAt is_hex comment
+comment_stops [] is = tt
+comment_stops (byte ∷ comment) is = blank_not_hex byte is
 
-crs_tail : (tail : List ℕ) → AreCrs tail → IsComment tail
-crs_tail [] crs = tt
-crs_tail (byte ∷ tail) crs = rw crs.0 cr_is_blank
+all-append : (Holds : ℕ → Type 0) (xs ys : List ℕ) → AllByRecursion Holds xs
+    → AllByRecursion Holds ys → AllByRecursion Holds (xs ++ ys)
+all-append Holds [] ys h k = k
+all-append Holds (x ∷ xs) ys h k = (h.0, all-append Holds xs ys h.1 k)
 
-no_lf-append : (xs ys : List ℕ) → AllByRecursion (λ byte. eqb byte 10 ≡ false) xs
-    → AllByRecursion (λ byte. eqb byte 10 ≡ false) ys
-    → AllByRecursion (λ byte. eqb byte 10 ≡ false) (xs ++ ys)
-no_lf-append [] ys h k = k
-no_lf-append (x ∷ xs) ys h k = (h.0, no_lf-append xs ys h.1 k)
+-- one more byte of a run
+pub run-more : (Holds : ℕ → Type 0) (bytes : List ℕ) (start at : ℕ)
+    → (run : Run Holds bytes start at) → at < length bytes → Holds (slice_index_or bytes at 0)
+    → (more : Run Holds bytes start (at + 1))
+    × (more.run ≡ run.run ++ slice_index_or bytes at 0 ∷ [])
+run-more Holds bytes start at run below holds =
+    let byte : ℕ = slice_index_or bytes at 0 in (
+      record {
+        run = run.run ++ byte ∷ [];
+        each = all-append Holds run.run (byte ∷ []) run.each (holds, tt);
+        counted = simp length-append (omega (arith, run.counted));
+        whole = run.whole ∙ rw (drop_more bytes at 0 below)
+            (sym (append_assoc {A = ℕ} run.run (byte ∷ []) (drop (at + 1) bytes)));
+      },
+      refl,
+    )
 
--- a label, a space, a prefix or none, digits and CRs
-pub begins_plain : (bytes : List ℕ) (digit : ℕ) (prefix digits tail : List ℕ) (count : ℕ)
-    → is_label digit ≡ true → IsPrefix prefix
-    → Each is_hex digits → 0 < length digits → hex_value digits ≤ ADDRESS_MAX → AreCrs tail
-    → bytes ≡ digit ∷ 32 ∷ (prefix ++ (digits ++ (tail ++ 10 ∷ drop count bytes)))
-    → count ≡ length prefix + length digits + length tail + 3
+-- a label, blanks, a prefix or none, digits, and nothing or a comment
+pub begins_plain : (bytes : List ℕ) (digit : ℕ) (gap prefix digits comment : List ℕ) (count : ℕ)
+    → is_label digit ≡ true → Each is_blank gap → 0 < length gap → IsPrefix prefix
+    → Each is_hex digits → 0 < length digits → hex_value digits ≤ ADDRESS_MAX
+    → IsComment comment → HasNoLf comment
+    → bytes ≡ digit ∷ (gap ++ (prefix ++ (digits ++ (comment ++ 10 ∷ drop count bytes))))
+    → count ≡ length gap + length prefix + length digits + length comment + 2
     → BeginsWithLine bytes (record { label = label_of digit; addr = hex_value digits }) count
-begins_plain bytes digit prefix digits tail count labeled is_prefix hex some fits crs whole counted
+begins_plain bytes digit gap prefix digits comment count labeled blanks gapped is_prefix hex some
+    fits is_comment no_lf whole counted
     =
-    let part = prefix_is_part prefix digits tail is_prefix hex some crs in
+    let part = prefix_is_part prefix digits comment is_prefix hex some is_comment in
     record {
-      line = digit ∷ 32 ∷ (prefix ++ (digits ++ tail));
-      whole = whole ∙ ap (λ (more : List ℕ). digit ∷ 32 ∷ more) (simp append_assoc);
+      line = digit ∷ (gap ++ (prefix ++ (digits ++ comment)));
+      whole = whole ∙ ap (λ (more : List ℕ). digit ∷ more) (simp append_assoc);
       counted = simp length-append (omega (arith, counted));
       one_line = (
         label_no_lf digit labeled,
-        (
-          refl,
-          no_lf-append prefix (digits ++ tail) part.no_lf
-              (digits_no_lf digits tail hex crs),
-        ),
+        all-append _ gap _ (each_no_lf is_blank blank_no_lf gap blanks)
+            (all-append _ prefix _ part.no_lf
+            (all-append _ digits comment (each_no_lf is_hex hex_no_lf digits hex) no_lf)),
       );
       holds = sym
-          (form_is ADDRESS_MAX (digit ∷ 32 ∷ (prefix ++ (digits ++ tail)))
+          (form_is ADDRESS_MAX (digit ∷ (gap ++ (prefix ++ (digits ++ comment))))
           (Din (record { label = label_of digit; addr = hex_value digits })) (
             digit,
             digits,
-            tail,
+            comment,
             record {
-              gap = 32 ∷ [];
+              gap = gap;
               prefix = prefix;
               begins = record { lead = []; blanks = tt; whole = refl };
               labeled = labeled;
-              blanks = (space_is_blank, tt);
-              some = omega arith;
+              blanks = blanks;
+              some = gapped;
               all_blanks = part.no_blank;
               prefixed = part.is;
               hex = hex;
-              all_hex = crs_stop tail crs;
+              all_hex = comment_stops comment is_comment;
             },
             some,
             fits,
-            crs_tail tail crs,
+            is_comment,
             refl,
           ));
     }
-
-pub each-append : (digits : List ℕ) (byte : ℕ) → Each is_hex digits → is_hex byte ≡ true
-    → Each is_hex (digits ++ byte ∷ [])
-each-append [] byte each is = (is, tt)
-each-append (first ∷ digits) byte each is = (each.0, each-append digits byte each.1 is)
 
 pub value-append : (digits : List ℕ) (byte : ℕ)
     → hex_value (digits ++ byte ∷ []) ≡ 16 * hex_value digits + digit_value byte
@@ -210,9 +223,6 @@ value-append digits byte = fold-append _ _ digits (byte ∷ [])
 
 pub few_digits : (k : ℕ) → k ≤ 15 → 16 ^ k ≤ 2 ^ 60
 few_digits k below = pow-le-pow_right {n = 16} (omega arith) below
-
-pub most_digits : (k : ℕ) → k ≤ 16 → 16 ^ k ≤ 2 ^ 64
-most_digits k below = pow-le-pow_right {n = 16} (omega arith) below
 
 pub one_digit_more : (k value digit : ℕ) → value + 1 ≤ 16 ^ k → digit < 16
     → 16 * value + digit + 1 ≤ 16 ^ (k + 1)
@@ -223,7 +233,7 @@ one_digit_more k value digit small below = let more : 16 ^ (k + 1) ≡ 16 * 16 ^
 -- A plain line that is passed over.
 
 -- bytes without LF make the line longer
-cut-run : (text run : List ℕ) → AllByRecursion (λ byte. eqb byte 10 ≡ false) run
+cut-run : (text run : List ℕ) → HasNoLf run
     → cut (text ++ run) ≡ record { ended = (cut text).ended; rest = (cut text).rest ++ run }
 cut-run text [] h = rw (append-nil text, append-nil (cut text).rest) refl
 cut-run text (byte ∷ run) h =
@@ -233,7 +243,7 @@ cut-run text (byte ∷ run) h =
     (append_assoc {A = ℕ} (cut text).rest (byte ∷ []) run))
 
 grown : (text line : List ℕ) → (cut text).rest ≡ []
-    → AllByRecursion (λ byte. eqb byte 10 ≡ false) line
+    → HasNoLf line
     → cut ((text ++ line) ++ 10 ∷ []) ≡ record { ended = (cut text).ended ++ line ∷ []; rest = [] }
 grown text line at_start no_lf = cut-ended (text ++ line)
     ∙ rw (cut-run text line no_lf, at_start) refl
@@ -247,7 +257,7 @@ pub record Passed (old new : LineReader) (count : ℕ) : Type 0 where
   pub fault : new.fault ≡ old.fault
 
 stands-past : (old new : LineReader) (count : ℕ) (text line : List ℕ) (r : DinRecord)
-    → Passed old new count → AllByRecursion (λ byte. eqb byte 10 ≡ false) line
+    → Passed old new count → HasNoLf line
     → form ADDRESS_MAX line ≡ Din r → Stands old text → Stands new ((text ++ line) ++ 10 ∷ [])
 stands-past old new count text line r p no_lf holds s =
     let at_start = s.empty p.empty in

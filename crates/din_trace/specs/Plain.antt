@@ -2,14 +2,18 @@
 use Rattle.std.specs.Prelude.{◌≡◌, ℕ, ◌+◌, ◌==◌, true, false, List, [], ◌∷◌, ◌++◌, length, drop}
 use Rattle.std.specs.List.{AllByRecursion}
 use Rattle.din_trace.specs.declared.record.DinRecord.{DinRecord}
-use Rattle.din_trace.specs.Line.{ADDRESS_MAX, has_prefix, Din, form}
+use Rattle.din_trace.specs.Line.{ADDRESS_MAX, is_blank, is_hex, has_prefix, Din, form}
+
+-- no byte is an LF
+abbrev pub HasNoLf : List ℕ → Type 0
+HasNoLf text = AllByRecursion (λ byte. (byte == 10) ≡ false) text
 
 -- the bytes begin with a line that holds this record, and that takes this many bytes with its LF
 pub record BeginsWithLine (bytes : List ℕ) (r : DinRecord) (count : ℕ) : Type 0 where
   pub line : List ℕ
   pub whole : bytes ≡ line ++ 10 ∷ drop count bytes
   pub counted : count ≡ length line + 1
-  pub one_line : AllByRecursion (λ byte. (byte == 10) ≡ false) line
+  pub one_line : HasNoLf line
   pub holds : form ADDRESS_MAX line ≡ Din r
 
 -- `0x`, `0X` or nothing
@@ -17,3 +21,20 @@ abbrev pub IsPrefix : List ℕ → Type 0
 IsPrefix [] = Unit {0}
 IsPrefix (a ∷ []) = ⊥
 IsPrefix (a ∷ b ∷ rest) = (has_prefix (a ∷ b ∷ []) ≡ true) × (rest ≡ [])
+
+-- the bytes from one place up to another, each of which has a property
+pub record Run (Holds : ℕ → Type 0) (bytes : List ℕ) (start stop : ℕ) : Type 0 where
+  pub run : List ℕ
+  pub each : AllByRecursion Holds run
+  pub counted : stop ≡ start + length run
+  pub whole : drop start bytes ≡ run ++ drop stop bytes
+
+-- blanks, hexadecimal digits, and bytes without LF, from one place up to another
+abbrev pub Blanks : List ℕ → ℕ → ℕ → Type 0
+Blanks bytes start stop = Run (λ byte. is_blank byte ≡ true) bytes start stop
+
+abbrev pub Digits : List ℕ → ℕ → ℕ → Type 0
+Digits bytes start stop = Run (λ byte. is_hex byte ≡ true) bytes start stop
+
+abbrev pub Others : List ℕ → ℕ → ℕ → Type 0
+Others bytes start stop = Run (λ byte. (byte == 10) ≡ false) bytes start stop

@@ -38,7 +38,7 @@ const FULL: u64 = 1 << 60;
 
 /// A space, a tab or a CR.
 #[tactic(auto, unfolding(crate::specs::Line::is_blank))]
-fn is_blank(byte: u8) -> bool
+pub fn is_blank(byte: u8) -> bool
     ensures { result ≡ is_blank byte }
 {
     matches!(byte, b' ' | b'\t' | b'\r')

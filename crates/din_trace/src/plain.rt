@@ -1,31 +1,92 @@
-//! Plain lines, of which most traces consist, each read in one go.
+//! Lines that hold a record and are held whole, each read in one go. Most traces consist of these.
 
 ghost use Rattle.std.specs.Prelude.{◌≡◌, ℕ, ◌+◌, ◌<◌, ◌≤◌, List, ◌++◌, IfSome, length, drop};
-ghost use Rattle.din_trace.specs.Plain.{BeginsWithLine, IsPrefix};
+ghost use Rattle.std.specs.Prelude.{slice_index_or};
+ghost use Rattle.din_trace.specs.Line.{hex_value, IsComment};
+ghost use Rattle.din_trace.specs.Plain.{BeginsWithLine, IsPrefix, Blanks, Digits, Others};
 
 use crate::digits::digit;
-use crate::line::label;
+use crate::line::{is_blank, label};
 use crate::record::DinRecord;
 
-/// The most bytes that such a line takes: a label, a space, a prefix, 16 digits, CR LF.
-const WINDOW: usize = 22;
+/// The most bytes of an address and of the byte behind it: a prefix, 16 digits, and this byte.
+const WINDOW: usize = 19;
 
 /// The record of the line at the front, and how many bytes the line takes with its LF, where it is
-/// a label, a space, `0x` or not, and up to 16 digits, ended by LF or CR LF. Else `None`.
+/// a label, blanks, `0x` or not, up to 16 digits, and nothing or a comment. `None` for other lines,
+/// and where too few bytes are held.
 pub fn plain_line(bytes: &[u8]) -> Option<(DinRecord, usize)>
     ensures line { IfSome result (λ found. BeginsWithLine bytes.now found.0 found.1) }
     ensures count { IfSome result (λ found. (0 < found.1) × (found.1 ≤ length bytes.now)) }
 {
-    if bytes.len() < WINDOW {
+    if bytes.len() < 2 + WINDOW {
         return None;
     }
     let Some(label) = label(bytes[0]) else {
         return None;
     };
-    if bytes[1] != b' ' {
+    let gap = gap_end(bytes)?;
+    let start = digits_start(bytes, gap);
+    let (addr, end) = address(bytes, start);
+    if end == start {
         return None;
     }
-    let start = digits_start(bytes);
+    let lf = line_end(bytes, end)?;
+    Some((DinRecord { label, addr }, lf + 1))
+}
+
+/// Where the blanks behind the label end, if there is one and room for an address behind them.
+fn gap_end(bytes: &[u8]) -> Option<usize>
+    requires { 21 ≤ length bytes.now }
+    ensures blanks { IfSome result (λ gap. Blanks bytes.now 1 gap) }
+    ensures bounds { IfSome result (λ gap. (1 < gap) × (gap + 19 ≤ length bytes.now)) }
+{
+    // Most gaps are one space, which this test takes faster than the loop.
+    if bytes[1] == b' ' && bytes[2] > b' ' {
+        return Some(2);
+    }
+    let gap = blanks_end(bytes, 1);
+    if gap > 1 && bytes.len() - gap >= WINDOW {
+        Some(gap)
+    } else {
+        None
+    }
+}
+
+/// Where the blanks end that stand in a row from a place on.
+fn blanks_end(bytes: &[u8], start: usize) -> usize
+    requires { start ≤ length bytes.now }
+    ensures blanks { Blanks bytes.now start result }
+    ensures bound { result ≤ length bytes.now }
+{
+    let mut at = start;
+    'blanks: while at < bytes.len() && is_blank(bytes[at]) {
+        at += 1;
+    }
+    at
+}
+
+/// Where the digits start, behind `0x` where that stands at the place.
+fn digits_start(bytes: &[u8], at: usize) -> usize
+    requires { at + 2 ≤ length bytes.now }
+    ensures prefix { (prefix : List ℕ) × IsPrefix prefix × (result ≡ at + length prefix)
+        × (drop at bytes.now ≡ prefix ++ drop result bytes.now) }
+    ensures bound { result ≤ at + 2 }
+{
+    if bytes[at] == b'0' && (bytes[at + 1] == b'x' || bytes[at + 1] == b'X') {
+        at + 2
+    } else {
+        at
+    }
+}
+
+/// The address that the digits from a place on write, and where these end, or the first 16 of them.
+fn address(bytes: &[u8], start: usize) -> (u64, usize)
+    requires { start + 17 ≤ length bytes.now }
+    ensures digits { (digits : Digits bytes.now start result.1)
+        × (result.0 ≡ hex_value digits.run) }
+    ensures bound { result.1 ≤ start + 16 }
+{
     let mut addr = 0u64;
     let mut at = start;
     'digits: while at < start + 16 {
@@ -36,32 +97,41 @@ pub fn plain_line(bytes: &[u8]) -> Option<(DinRecord, usize)>
         addr = 16 * addr + next as u64;
         at += 1;
     }
-    if at == start {
-        return None;
+    (addr, at)
+}
+
+/// Where the LF stands that ends the line, behind nothing or a comment from a place on.
+fn line_end(bytes: &[u8], start: usize) -> Option<usize>
+    requires { start < length bytes.now }
+    ensures comment { IfSome result (λ lf. (comment : Others bytes.now start lf)
+        × IsComment comment.run) }
+    ensures lf { IfSome result (λ lf.
+        (lf < length bytes.now) × (slice_index_or bytes.now lf 0 ≡ 10)) }
+{
+    if bytes[start] == b'\n' {
+        return Some(start);
     }
-    match bytes[at] {
-        b'\n' => Some((DinRecord { label, addr }, at + 1)),
-        b'\r' => {
-            if bytes[at + 1] == b'\n' {
-                Some((DinRecord { label, addr }, at + 2))
-            } else {
-                None
-            }
-        }
-        _ => None,
+    let lf = first_lf(bytes, start + 1)?;
+    if is_blank(bytes[start]) {
+        Some(lf)
+    } else {
+        None
     }
 }
 
-/// Where the digits start, behind a label, a space, and `0x` where that stands there.
-fn digits_start(bytes: &[u8]) -> usize
-    requires { 4 ≤ length bytes.now }
-    ensures prefix { (prefix : List ℕ) × IsPrefix prefix
-        × (drop 2 bytes.now ≡ prefix ++ drop result bytes.now) × (result ≡ length prefix + 2) }
-    ensures bound { result ≤ 4 }
+/// Where the first LF stands from a place on.
+fn first_lf(bytes: &[u8], start: usize) -> Option<usize>
+    requires { start ≤ length bytes.now }
+    ensures before { IfSome result (λ lf. Others bytes.now start lf) }
+    ensures lf { IfSome result (λ lf.
+        (lf < length bytes.now) × (slice_index_or bytes.now lf 0 ≡ 10)) }
 {
-    if bytes[2] == b'0' && (bytes[3] == b'x' || bytes[3] == b'X') {
-        4
-    } else {
-        2
+    let mut at = start;
+    'bytes: while at < bytes.len() {
+        if bytes[at] == b'\n' {
+            return Some(at);
+        }
+        at += 1;
     }
+    None
 }

@@ -130,6 +130,70 @@ fn reads_each_form_of_an_address(rt: HostRuntime) {
 }
 
 #[test]
+fn reads_gaps_and_comments_of_lines_that_are_held_whole(rt: HostRuntime) {
+    // Behind each line but the last ones stand more bytes than an address takes.
+    let text = b"1  7f\n1\t7e\n1 \t\r 0x7D\n0 \t  \t \t  \t  \t  \t 0Xffffffffffffffff\n\
+        2 0x40 a comment with a number 0x80\n3   40\t; 4 80\n4 0\r\n4\t\t10 \r\n\
+        1 0000000000000001 \n1 00000000000000002 c\n2 3 \n2 4\n2 5\n2 6\n2 7\n2 8\n2 9\n";
+    let want = [
+        write(0x7f),
+        write(0x7e),
+        write(0x7d),
+        read(u64::MAX),
+        fetch(0x40),
+        miscellaneous(0x40),
+        flush(0),
+        flush(0x10),
+        write(1),
+        write(2),
+        fetch(3),
+        fetch(4),
+        fetch(5),
+        fetch(6),
+        fetch(7),
+        fetch(8),
+        fetch(9),
+    ];
+    expect(&rt, rt.alloc(), text, MAX_LIMIT, Ok(want.as_slice()));
+}
+
+#[test]
+fn refuses_faulty_lines_that_are_held_whole(rt: HostRuntime) {
+    for (text, why) in [
+        (
+            "0 1\n0 12g comment\n2 1000\n2 2000\n2 3000\n2 4000\n",
+            Why::Tail,
+        ),
+        (
+            "0 1\n0  12; comment\n2 1000\n2 2000\n2 3000\n2 4000\n",
+            Why::Tail,
+        ),
+        (
+            "0 1\n0 \t comment\n2 1000\n2 2000\n2 3000\n2 4000\n",
+            Why::Tail,
+        ),
+        ("0 1\n0 \t \n2 1000\n2 2000\n2 3000\n2 4000\n", Why::Address),
+        (
+            "0 1\n0  0x 1\n2 1000\n2 2000\n2 3000\n2 4000\n",
+            Why::Address,
+        ),
+        ("0 1\n0\n 2 1000\n2 2000\n2 3000\n2 4000\n", Why::Gap),
+        (
+            "0 1\n0  10000000000000000 c\n2 1000\n2 2000\n2 3000\n",
+            Why::Range,
+        ),
+    ] {
+        expect(
+            &rt,
+            rt.alloc(),
+            text.as_bytes(),
+            MAX_LIMIT,
+            Err(bad(2, why)),
+        );
+    }
+}
+
+#[test]
 fn counts_lines_that_hold_no_record(rt: HostRuntime) {
     let alloc = rt.alloc();
     expect(&rt, alloc, b"", MAX_LIMIT, Ok([].as_slice()));
