@@ -21,7 +21,14 @@ fn run(rt: &HostRuntime) -> Result<(), RunFault> {
     };
     let mut writer = FromWrite::new(output);
     let reader = FromRead::new(rt.stdin());
-    simulate_plain(alloc, &configuration(), &EVERYTHING, reader, MAX_LIMIT, &mut writer)
+    simulate_plain(
+        alloc,
+        &configuration(),
+        &EVERYTHING,
+        reader,
+        MAX_LIMIT,
+        &mut writer,
+    )
 }
 
 /// Prints the line of a fault, and answers its status, also where the line can't be printed.

@@ -9,13 +9,26 @@ use cache_core::{Policy, Repl};
 use stage_core::{CacheSpec, Config, Selection};
 
 /// All of a trace, with no flush put in.
-pub static EVERYTHING: Selection = Selection { skip: 0, max: 0, every: 0 };
+pub static EVERYTHING: Selection = Selection {
+    skip: 0,
+    max: 0,
+    every: 0,
+};
 
 fn lru(size: u64, bsize: u64, assoc: u64) -> CacheSpec
     ensures { result ≡ lru_spec size bsize assoc }
 {
-    let policy = Policy { repl: Repl::Lru, wback: true, walloc: true };
-    CacheSpec { size, bsize, assoc, policy }
+    let policy = Policy {
+        repl: Repl::Lru,
+        wback: true,
+        walloc: true,
+    };
+    CacheSpec {
+        size,
+        bsize,
+        assoc,
+        policy,
+    }
 }
 
 /// 16 bytes of instructions, direct mapped, and 16 bytes of data in two ways, both in blocks of 4;

@@ -20,4 +20,4 @@ is_lawful (Err fault) refused = absurd cc
 pub unwrap-requires : goal.unwrap-requires
 unwrap-requires c =
     is_lawful c.new.result
-        (rw (c.lru.ensures, c.lru-2.ensures, c.lru-3.ensures) at c.new.ensures.refused)
+    (rw (c.lru.ensures, c.lru-2.ensures, c.lru-3.ensures) at c.new.ensures.refused)
