@@ -1,26 +1,38 @@
-//! What went wrong with a run: the line that is printed, and the exit status.
+//! What went wrong with a run or with the words: the line that is printed, and the exit status.
 
 ghost use Rattle.std.specs.Prelude.{◌≡◌};
 ghost use Rattle.din_trace.specs.Device.{Writes};
-ghost use Rattle.dinero_pipe.specs.FaultText.{fault_line, fault_words, status_of, trace_words};
-ghost use Rattle.dinero_pipe.specs.FaultText.{why_word};
+ghost use Rattle.dinero_pipe.specs.FaultText.{asks_for_help, cache_words, config_words, fault_line, fault_words, geometry_words, run_words, status_of, trace_words, why_word, words_words};
 
+use crate::words::WordsFault;
+use cache_core::GeometryFault;
 use din_trace::{ByteWriter, DeviceFailed, TraceFault, Why};
 use itoa::Buffer;
 use sim_run::RunFault;
+use stage_core::{CacheName, ConfigFault};
+use thiserror::Error;
 
-/// The exit status: 1 for a faulty trace, 3 where memory or a thread was refused or a stage was cut
-/// off, 4 where a device failed.
-pub fn status(fault: &RunFault) -> u8
+/// Why the program ends without a report. What is printed of it is the line of [`fault_text`].
+#[derive(Clone, Copy, Debug, PartialEq, Eq, Error)]
+pub enum Fault {
+    #[error("the run failed")]
+    Run(RunFault),
+    #[error("the command line gives no run")]
+    Words(WordsFault),
+}
+
+/// The exit status: 0 where help was asked for, 1 for a faulty trace, 2 for a refused command line,
+/// 3 where memory or a thread was refused or a stage was cut off, 4 where a device failed.
+pub fn status(fault: &Fault) -> u8
     ensures { result ≡ status_of fault.now }
 {
     match fault {
-        RunFault::Trace(TraceFault::Bad { .. } | TraceFault::TooLong) => 1,
-        RunFault::Trace(TraceFault::Read) | RunFault::Write => 4,
-        RunFault::Trace(TraceFault::Memory)
-        | RunFault::Memory
-        | RunFault::Threads
-        | RunFault::Cut => 3,
+        Fault::Run(RunFault::Trace(TraceFault::Bad { .. } | TraceFault::TooLong)) => 1,
+        Fault::Run(RunFault::Trace(TraceFault::Read) | RunFault::Write) => 4,
+        Fault::Run(_) => 3,
+        Fault::Words(WordsFault::Help) => 0,
+        Fault::Words(WordsFault::Memory) => 3,
+        Fault::Words(_) => 2,
     }
 }
 
@@ -53,11 +65,11 @@ fn put_trace<W: ByteWriter>(fault: TraceFault, writer: &mut W) -> Result<(), Dev
     }
 }
 
-fn put_fault<W: ByteWriter>(fault: &RunFault, writer: &mut W) -> Result<(), DeviceFailed>
-    ensures { Writes W.contents W.failures writer.old writer.new result (fault_words fault.now) }
+fn put_run<W: ByteWriter>(fault: RunFault, writer: &mut W) -> Result<(), DeviceFailed>
+    ensures { Writes W.contents W.failures writer.old writer.new result (run_words fault) }
 {
     match fault {
-        RunFault::Trace(fault) => put_trace(*fault, writer),
+        RunFault::Trace(fault) => put_trace(fault, writer),
         RunFault::Memory => writer.put(b"out of memory"),
         RunFault::Threads => writer.put(b"no thread"),
         RunFault::Cut => writer.put(b"pipeline cut"),
@@ -65,10 +77,84 @@ fn put_fault<W: ByteWriter>(fault: &RunFault, writer: &mut W) -> Result<(), Devi
     }
 }
 
-/// Writes the one line that tells of a fault.
-pub fn fault_text<W: ByteWriter>(fault: &RunFault, writer: &mut W) -> Result<(), DeviceFailed>
+fn cache_text(name: CacheName) -> &'static str
+    ensures { result.now ≡ cache_words name }
+{
+    match name {
+        CacheName::I => "l1-icache",
+        CacheName::D => "l1-dcache",
+        CacheName::U => "l2-ucache",
+    }
+}
+
+fn geometry_text(fault: GeometryFault) -> &'static str
+    ensures { result.now ≡ geometry_words fault }
+{
+    match fault {
+        GeometryFault::SizeNotPower => "size is not a power of two",
+        GeometryFault::SizeRange => "size is out of range",
+        GeometryFault::BlockNotPower => "block is not a power of two",
+        GeometryFault::BlockRange => "block is out of range",
+        GeometryFault::AssocNotPower => "associativity is not a power of two",
+        GeometryFault::AssocTooLarge => "associativity is too large",
+    }
+}
+
+fn put_config<W: ByteWriter>(fault: ConfigFault, writer: &mut W) -> Result<(), DeviceFailed>
+    ensures { Writes W.contents W.failures writer.old writer.new result (config_words fault) }
+{
+    match fault {
+        ConfigFault::Geometry(which, fault) => {
+            writer.put(cache_text(which).as_bytes())?;
+            writer.put(b": ")?;
+            writer.put(geometry_text(fault).as_bytes())
+        }
+        ConfigFault::BlockOrder => writer.put(b"l2 block is shorter than an l1 block"),
+        ConfigFault::Ring => writer.put(b"ring is not from 1 to 65536"),
+    }
+}
+
+fn put_words<W: ByteWriter>(fault: WordsFault, writer: &mut W) -> Result<(), DeviceFailed>
+    ensures { Writes W.contents W.failures writer.old writer.new result (words_words fault) }
+{
+    match fault {
+        WordsFault::Words => writer.put(b"command line refused, try --help"),
+        WordsFault::Number(option) => {
+            writer.put(option.name().as_bytes())?;
+            writer.put(b": not a number")
+        }
+        WordsFault::Choice(option) => {
+            writer.put(option.name().as_bytes())?;
+            writer.put(b": not a lawful letter")
+        }
+        WordsFault::Config(fault) => put_config(fault, writer),
+        WordsFault::Help => writer.put(b""),
+        WordsFault::Memory => writer.put(b"out of memory"),
+    }
+}
+
+fn put_fault<W: ByteWriter>(fault: &Fault, writer: &mut W) -> Result<(), DeviceFailed>
+    ensures { Writes W.contents W.failures writer.old writer.new result (fault_words fault.now) }
+{
+    match fault {
+        Fault::Run(fault) => put_run(*fault, writer),
+        Fault::Words(fault) => put_words(*fault, writer),
+    }
+}
+
+fn is_help(fault: &Fault) -> bool
+    ensures { result ≡ asks_for_help fault.now }
+{
+    matches!(fault, Fault::Words(WordsFault::Help))
+}
+
+/// Writes the one line that tells of a fault. Help has none.
+pub fn fault_text<W: ByteWriter>(fault: &Fault, writer: &mut W) -> Result<(), DeviceFailed>
     ensures { Writes W.contents W.failures writer.old writer.new result (fault_line fault.now) }
 {
+    if is_help(fault) {
+        return Ok(());
+    }
     writer.put(b"dinero_pipe: ")?;
     put_fault(fault, writer)?;
     writer.put(b"\n")

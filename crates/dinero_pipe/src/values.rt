@@ -1,0 +1,93 @@
+//! How the value of an option is read: sizes, counts and letters.
+
+ghost use Rattle.std.specs.Prelude.{◌≡◌, ◌<◌, ◌≤◌, ◌^◌, IfSome};
+ghost use Rattle.std.specs.Char.{is_ascii_digit};
+ghost use Rattle.std.specs.List.{list_all};
+ghost use Rattle.dinero_pipe.specs.Values.{bounded_value, choice_value, count_value, replacement_value, size_value, unit_value};
+
+use cache_core::Repl;
+
+/// Reads a count: 1 to 12 decimal digits.
+pub fn read_count(text: &str) -> Option<u64>
+    ensures { result ≡ count_value text.now }
+{
+    count_of(text.as_bytes())
+}
+
+/// Reads a number of bytes: 1 to 12 decimal digits, and behind them nothing, `k` or `K` for 1,024
+/// of them, or `m` or `M` for 1,048,576.
+pub fn read_size(text: &str) -> Option<u64>
+    ensures { result ≡ size_value text.now }
+{
+    let bytes = text.as_bytes();
+    let (last, front) = bytes.split_last()?;
+    match unit(*last) {
+        Some(unit) => {
+            let count = count_of(front)?;
+            Some(count * unit)
+        }
+        None => count_of(bytes),
+    }
+}
+
+/// Reads a count of at most 2^40.
+pub(crate) fn read_bounded(text: &str) -> Option<u64>
+    ensures value { result ≡ bounded_value text.now }
+    ensures bound { IfSome result (λ n. n ≤ 2 ^ 40) }
+{
+    let count = read_count(text)?;
+    if count <= 1 << 40 { Some(count) } else { None }
+}
+
+/// What a letter behind the digits multiplies by.
+fn unit(byte: u8) -> Option<u64>
+    ensures { result ≡ unit_value byte }
+{
+    match byte {
+        b'k' | b'K' => Some(1024),
+        b'm' | b'M' => Some(1_048_576),
+        _ => None,
+    }
+}
+
+fn are_digits(bytes: &[u8]) -> bool
+    ensures { result ≡ list_all is_ascii_digit bytes.now }
+{
+    bytes.iter().all(|b| b.is_ascii_digit())
+}
+
+fn count_of(digits: &[u8]) -> Option<u64>
+    ensures value { result ≡ count_value digits.now }
+    ensures bound { IfSome result (λ n. n < 10 ^ 12) }
+{
+    if digits.is_empty() || digits.len() > 12 || !are_digits(digits) {
+        return None;
+    }
+    let mut value = 0u64;
+    for digit in digits {
+        value = value * 10 + u64::from(*digit - b'0');
+    }
+    Some(value)
+}
+
+/// Reads which block is replaced: `l` or `f`.
+pub(crate) fn read_replacement(text: &str) -> Option<Repl>
+    ensures { result ≡ replacement_value text.now }
+{
+    match text {
+        "l" => Some(Repl::Lru),
+        "f" => Some(Repl::Fifo),
+        _ => None,
+    }
+}
+
+/// Reads `a` for always or `n` for never.
+pub(crate) fn read_choice(text: &str) -> Option<bool>
+    ensures { result ≡ choice_value text.now }
+{
+    match text {
+        "a" => Some(true),
+        "n" => Some(false),
+        _ => None,
+    }
+}

@@ -1,0 +1,70 @@
+//! From the words behind the program's name to a configuration and a selection.
+
+ghost use Rattle.std.specs.Prelude.{◌≡◌, IfOk, map, string_bytes};
+ghost use Rattle.clap.specs.Words.{found_of, rows_of};
+ghost use Rattle.stage_core.specs.Events.{IsBounded};
+ghost use Rattle.dinero_pipe.specs.Answer.{AnswersRows, AnswersWords, refusal_by_kind};
+
+use crate::command::command;
+use crate::opt::Opt;
+use crate::wanted::read_wanted;
+use clap::ArgMatches;
+use clap::error::ErrorKind;
+use stage_core::{Config, ConfigFault, Selection};
+use std::alloc::Global;
+
+/// Why the words give no configuration. What clap refuses comes first, then the first option whose
+/// value can't be read, then the first rule that the configuration breaks.
+#[derive(Clone, Copy, Debug, PartialEq, Eq)]
+pub enum WordsFault {
+    /// clap refused the words: an unknown option, one given twice or without a value, or one that
+    /// is required and missing.
+    Words,
+    /// The value of the option is no size or no count, or a selection's is above 2^40.
+    Number(Opt),
+    /// The value of the option is none of its two letters.
+    Choice(Opt),
+    Config(ConfigFault),
+    /// Help was asked for.
+    Help,
+    /// A growth of memory was refused.
+    Memory,
+}
+
+/// The configuration and the selection of what clap found.
+fn answer(matches: &ArgMatches) -> Result<(Config, Selection), WordsFault>
+    ensures value { AnswersRows (rows_of (found_of matches.now)) result }
+    ensures bound { IfOk result (λ p. IsBounded p.1) }
+{
+    let wanted = read_wanted(matches)?;
+    match Config::new(wanted.i, wanted.d, wanted.u, wanted.ring) {
+        Ok(config) => Ok((config, wanted.selection)),
+        Err(fault) => Err(WordsFault::Config(fault)),
+    }
+}
+
+/// What a refusal of clap comes to.
+fn refusal(kind: ErrorKind) -> WordsFault
+    ensures { result ≡ refusal_by_kind kind }
+{
+    match kind {
+        ErrorKind::DisplayHelp => WordsFault::Help,
+        ErrorKind::OutOfMemory => WordsFault::Memory,
+        _ => WordsFault::Words,
+    }
+}
+
+/// Reads the words behind the program's name. Each number of the selection is at most 2^40.
+/// `Memory` may stand in the place of any answer.
+pub fn parse_words(alloc: Global, words: &[String]) -> Result<(Config, Selection), WordsFault>
+    ensures answer { AnswersWords (map string_bytes words.now) result }
+    ensures bound { IfOk result (λ p. IsBounded p.1) }
+{
+    let Ok(command) = command(alloc) else {
+        return Err(WordsFault::Memory);
+    };
+    match command.try_get_matches_from(words) {
+        Ok(matches) => answer(&matches),
+        Err(error) => Err(refusal(error.kind())),
+    }
+}

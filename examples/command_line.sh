@@ -1,0 +1,146 @@
+#!/usr/bin/env bash
+# Runs the simulator as a user does, and compares what each call prints on both streams and its exit
+# status with what it has to. The first argument is the program; without one the launcher is taken.
+set -u
+top=$(cd "$(dirname "$0")/.." && pwd)
+program=${1:-$top/bin/dinero_pipe}
+work=$(mktemp -d)
+trap 'rm -rf "$work"' EXIT
+passed=0
+failed=0
+
+caches=(--l1-isize 16 --l1-ibsize 4 --l1-dsize 16 --l1-dbsize 4 --l1-dassoc 2
+    --l2-usize 32 --l2-ubsize 8 --l2-uassoc 2 --ring 2)
+
+# The block of a cache at which nothing happened.
+idle() {
+    local line
+    printf '%-18s%12s%12s%12s%12s%12s\n' "$1" Total Instrn Read Write Misc
+    for line in 'Demand Fetches' 'Demand Misses'; do
+        printf '%-18s%12s%12s%12s%12s%12s\n' "$line" 0 0 0 0 0
+    done
+    printf '%-18s%12s%12s%12s%12s%12s\n' 'Miss Rate' 0.0000 0.0000 0.0000 0.0000 0.0000
+    for line in Compulsory Capacity Conflict; do
+        printf '%-18s%12s%12s%12s%12s%12s\n' "$line" 0 0 0 0 0
+    done
+    for line in 'Blocks Fetched' 'Written Back' 'Writes Sent On' Flushes; do
+        printf '%-18s%12s\n' "$line" 0
+    done
+}
+
+{ idle l1-icache; echo; idle l1-dcache; echo; idle l2-ucache; } >"$work/idle"
+
+{
+    idle l1-icache
+    cat <<'END'
+
+l1-dcache                Total      Instrn        Read       Write        Misc
+Demand Fetches               3           0           2           1           0
+Demand Misses                3           0           2           1           0
+Miss Rate               1.0000      0.0000      1.0000      1.0000      0.0000
+Compulsory                   3           0           2           1           0
+Capacity                     0           0           0           0           0
+Conflict                     0           0           0           0           0
+Blocks Fetched               3
+Written Back                 1
+Writes Sent On               0
+Flushes                      0
+
+l2-ucache                Total      Instrn        Read       Write        Misc
+Demand Fetches               4           0           3           1           0
+Demand Misses                3           0           3           0           0
+Miss Rate               0.7500      0.0000      1.0000      0.0000      0.0000
+Compulsory                   3           0           3           0           0
+Capacity                     0           0           0           0           0
+Conflict                     0           0           0           0           0
+Blocks Fetched               3
+Written Back                 0
+Writes Sent On               0
+Flushes                      0
+END
+} >"$work/worked"
+: >"$work/nothing"
+printf '1 0\n0 8\n0 10\n' >"$work/worked.din"
+printf '0 0\n\n5 0\n' >"$work/faulty.din"
+
+# judge NAME STATUS OUTPUT LINE: compares the call that has just left its streams and its status.
+judge() {
+    printf '%s' "$4" >"$work/line"
+    if [ "$status" = "$2" ] && cmp -s "$work/out" "$3" && cmp -s "$work/err" "$work/line"; then
+        passed=$((passed + 1))
+        echo "passed: $1"
+    else
+        failed=$((failed + 1))
+        echo "failed: $1 (status $status, wanted $2)"
+        diff "$3" "$work/out" | head -n 5
+        diff "$work/line" "$work/err" | head -n 5
+    fi
+}
+
+# call NAME STATUS OUTPUT LINE INPUT WORD..: runs the program and judges it.
+call() {
+    local name=$1 want=$2 output=$3 line=$4 input=$5
+    shift 5
+    "$program" "$@" <"$input" >"$work/out" 2>"$work/err"
+    status=$?
+    judge "$name" "$want" "$output" "$line"
+}
+
+refused='dinero_pipe: command line refused, try --help
+'
+no_write='dinero_pipe: report write failed
+'
+nothing=$work/nothing
+trace=$work/worked.din
+
+call 'good words' 0 "$work/worked" '' "$trace" "${caches[@]}"
+call 'no input' 0 "$work/idle" '' /dev/null "${caches[@]}"
+call 'a required option is missing' 2 "$nothing" "$refused" "$trace" "${caches[@]:2}"
+call 'no words at all' 2 "$nothing" "$refused" "$trace"
+call 'an option twice' 2 "$nothing" "$refused" "$trace" "${caches[@]}" --ring 3
+call 'an unknown option' 2 "$nothing" "$refused" "$trace" "${caches[@]}" --l3-usize 64
+call 'words that are no text' 2 "$nothing" "$refused" "$trace" "${caches[@]}" $'\xff'
+call 'a bad number' 2 "$nothing" 'dinero_pipe: --maxcount: not a number
+' "$trace" "${caches[@]}" --maxcount two
+call 'a bad letter' 2 "$nothing" 'dinero_pipe: --l1-irepl: not a lawful letter
+' "$trace" "${caches[@]}" --l1-irepl r
+call 'too many ways' 2 "$nothing" 'dinero_pipe: l1-icache: associativity is too large
+' "$trace" "${caches[@]}" --l1-iassoc 8
+call 'a size that is no power of two' 2 "$nothing" 'dinero_pipe: l1-icache: size is not a power of two
+' "$trace" --l1-isize 24 "${caches[@]:2}"
+call 'a short block behind a long one' 2 "$nothing" 'dinero_pipe: l2 block is shorter than an l1 block
+' "$trace" --l1-isize 16 --l1-ibsize 16 "${caches[@]:4}"
+call 'a ring of no messages' 2 "$nothing" 'dinero_pipe: ring is not from 1 to 65536
+' "$trace" "${caches[@]:0:16}" --ring 0
+call 'a faulty line' 1 "$nothing" 'dinero_pipe: line 3: label
+' "$work/faulty.din" "${caches[@]}"
+call 'an input that can not be read' 4 "$nothing" 'dinero_pipe: trace read failed
+' / "${caches[@]}"
+
+: >"$work/out"
+"$program" "${caches[@]}" <"$trace" >/dev/full 2>"$work/err"
+status=$?
+judge 'a full output' 4 "$nothing" "$no_write"
+"$program" "${caches[@]}" <"$trace" >&- 2>"$work/err"
+status=$?
+judge 'a closed output' 4 "$nothing" "$no_write"
+"$program" --help >/dev/full 2>"$work/err"
+status=$?
+judge 'help to a full output' 4 "$nothing" "$no_write"
+: >"$work/err"
+"$program" "${caches[@]}" --ring <"$trace" >"$work/out" 2>/dev/full
+status=$?
+judge 'a line that can not be printed' 2 "$nothing" ''
+
+# Help is right where it names every option; its text is clap's.
+"$program" --help >"$work/help" 2>"$work/err"
+status=$?
+: >"$work/out"
+for option in l1-{i,d}size l1-{i,d}bsize l1-{i,d}assoc l1-{i,d}repl l1-dwback l1-dwalloc \
+    l2-u{size,bsize,assoc,repl,wback,walloc} ring skipcount maxcount flushcount; do
+    grep -q -e " --$option <" "$work/help" || echo "--$option is missing" >>"$work/out"
+done
+judge 'help' 0 "$nothing" ''
+
+echo "$passed passed, $failed failed"
+[ "$failed" -eq 0 ]
