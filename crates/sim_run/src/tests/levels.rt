@@ -33,12 +33,53 @@ fn fetches_share_a_block_of_the_second_level(rt: HostRuntime) -> Result<(), Fail
         u: first_misses(instrs(2), instrs(1), 1),
         ..Totals::default()
     };
+    let traces: [&[u8]; 2] = [b"2 0\n2 0\n2 4\n", b"2 0\n2 4\n2 0\n"];
+    for trace in traces {
+        assert!(rt; reports(rt.alloc(), &config()?, &EVERYTHING, trace, &totals)?);
+    }
+    Ok(())
+}
+
+#[test]
+fn a_loop_that_does_not_fit_misses_in_one_set(rt: HostRuntime) -> Result<(), Fail> {
+    let i = Counts {
+        compulsory: instrs(5),
+        capacity: instrs(2),
+        ..first_misses(instrs(10), instrs(7), 7)
+    };
+    let totals = Totals {
+        i,
+        u: first_misses(instrs(7), instrs(3), 3),
+        ..Totals::default()
+    };
+    let trace = b"2 0\n2 4\n2 8\n2 c\n2 10\n2 0\n2 4\n2 8\n2 c\n2 10\n";
+    assert!(rt; reports(rt.alloc(), &config()?, &EVERYTHING, trace, &totals)?);
+    Ok(())
+}
+
+#[test]
+fn a_flush_empties_the_instruction_cache(rt: HostRuntime) -> Result<(), Fail> {
+    let again = Counts {
+        compulsory: instrs(1),
+        capacity: instrs(1),
+        flushes: 1,
+        ..first_misses(instrs(2), instrs(2), 2)
+    };
+    let d = Counts {
+        flushes: 1,
+        ..Counts::default()
+    };
+    let totals = Totals {
+        i: again,
+        d,
+        u: again,
+    };
     assert!(rt;
         reports(
             rt.alloc(),
             &config()?,
             &EVERYTHING,
-            b"2 0\n2 0\n2 4\n",
+            b"2 0\n4 0\n2 0\n",
             &totals
         )?
     );
