@@ -1,4 +1,4 @@
-use Rattle.std.proofs.Common.{◌≡◌, ◌∙◌, ap₂, sym}
+use Rattle.std.proofs.Common.{◌∙◌, ap₂, sym}
 use Rattle.std.proofs.lemmas.List.Sums.{fold_more}
 use Rattle.clap.specs.Words.{with_rule}
 use Rattle.dinero_pipe.specs.Options.{bare_app, options, rule_of_option}

@@ -1,4 +1,4 @@
-use Rattle.std.proofs.Common.{◌≡◌, refl, sym}
+use Rattle.std.proofs.Common.{refl}
 use Rattle.din_trace.proofs.WritesLemmas.{writes_then, writes_as}
 use Rattle.dinero_pipe.proofs.fault.put_words.Goals as goal
 

@@ -1,7 +1,5 @@
-use Rattle.std.proofs.Common.{◌≡◌, ◌<◌, ◌≤◌, length, arith, rules, true}
-use Rattle.std.specs.List.{list_all}
-use Rattle.std.specs.Char.{is_ascii_digit}
-use Rattle.dinero_pipe.proofs.CountLemmas.{below_end, below_room, digit_at, one_more}
+use Rattle.std.proofs.Common.{arith, rules}
+use Rattle.dinero_pipe.proofs.CountLemmas.{below_end, below_room, one_more}
 use Rattle.dinero_pipe.proofs.values.count_of.Goals as goal
 
 pub overflow_mul-value : goal.overflow_mul-value

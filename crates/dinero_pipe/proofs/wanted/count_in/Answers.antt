@@ -1,4 +1,4 @@
-use Rattle.std.proofs.Common.{◌≡◌, ◌∙◌, sym, ap}
+use Rattle.std.proofs.Common.{◌∙◌, sym, ap}
 use Rattle.clap.specs.Words.{found_of, rows_of}
 use Rattle.dinero_pipe.specs.Values.{count_value}
 use Rattle.dinero_pipe.proofs.AnswerLemmas.{good_count, bad_count}

@@ -1,5 +1,5 @@
-use Rattle.std.proofs.Common.{◌≡◌, ◌∙◌, ℕ, List, Option, Some, None, ap, sym, refl}
-use Rattle.clap.specs.Words.{Text, first_of, first_value, found_of, rows_of}
+use Rattle.std.proofs.Common.{◌≡◌, ◌∙◌, Some, None, ap, sym, refl}
+use Rattle.clap.specs.Words.{first_of, first_value, found_of, rows_of}
 use Rattle.clap.proofs.WalkLemmas.{first_value-rows}
 use Rattle.dinero_pipe.specs.Options.{id_of}
 use Rattle.dinero_pipe.proofs.wanted.text_in.Goals as goal

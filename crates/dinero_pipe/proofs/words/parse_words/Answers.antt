@@ -1,6 +1,5 @@
-use Rattle.std.proofs.Common.{◌≡◌, ◌∙◌, ap, refl, true, map}
-use Rattle.std.specs.Prelude.{string_bytes}
-use Rattle.clap.specs.Words.{app_of, is_simple, is_simple_and_free}
+use Rattle.std.proofs.Common.{◌≡◌, ◌∙◌, ap, refl, true}
+use Rattle.clap.specs.Words.{is_simple, is_simple_and_free}
 use Rattle.dinero_pipe.specs.Answer.{refusal_by_kind}
 use Rattle.dinero_pipe.specs.Options.{command_app}
 use Rattle.dinero_pipe.proofs.AnswerLemmas.{refused, taken}
