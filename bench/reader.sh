@@ -33,22 +33,6 @@ make() {
     }'
 }
 
-# best COMMAND.. < TRACE: the best of five times.
-best() {
-    python3 - "$@" <<'PYTHON'
-import subprocess, sys, time
-
-best = None
-for _ in range(5):
-    with open(sys.argv[1]) as trace:
-        begin = time.perf_counter()
-        subprocess.run(sys.argv[2:], stdin=trace, stdout=subprocess.DEVNULL, check=True)
-        seconds = time.perf_counter() - begin
-    best = seconds if best is None else min(best, seconds)
-print(f"{best:.3f}")
-PYTHON
-}
-
 # instructions TRACE: how many the processor takes for it.
 instructions() {
     valgrind --tool=callgrind --callgrind-out-file=/dev/null "$program" < "$1" 2>&1 > /dev/null |
@@ -59,8 +43,8 @@ printf '%-8s %9s %9s %9s %14s %14s\n' form megabytes next 'wc -l' 'records/s' 'n
 for form in plain prefix cr-lf spaced; do
     trace=$folder/$form
     make $form "$records" > "$trace"
-    next=$(best "$trace" "$program")
-    lines=$(best "$trace" wc -l)
+    read -r next _ < <("$top/bench/best.py" 5 "$trace" "$program")
+    read -r lines _ < <("$top/bench/best.py" 5 "$trace" wc -l)
     awk -v form=$form -v bytes="$(stat -c %s "$trace")" -v next_="$next" -v lines="$lines" \
         -v records="$records" 'BEGIN {
         printf "%-8s %9.0f %9s %9s %14.0f %14.1f\n", form, bytes / 1e6, next_, lines,
