@@ -1,5 +1,7 @@
 -- What the parts of `Cache::access` tell, put together.
-use Rattle.std.proofs.Common.{◌≡◌, ◌≢◌, ℕ, zero, suc, pred, ◌*◌, ◌%◌, ◌<◌, Bool, cond, not, ◌&&◌, ◌||◌, nat_eq, List, ◌∷◌, map, Option, is_some, refl, ap, ◌∙◌, arith, true, false, sym}
+use Rattle.std.proofs.Common.{◌≡◌, ◌≢◌, ℕ, zero, suc, pred, ◌*◌, ◌%◌, ◌<◌, Bool, cond, not, ◌&&◌}
+use Rattle.std.proofs.Common.{◌||◌, nat_eq, List, ◌∷◌, map, Option, is_some, refl, ap, ◌∙◌, arith}
+use Rattle.std.proofs.Common.{true, false, sym}
 use Rattle.std.specs.List.{find, list_any}
 use Rattle.std.specs.Map.{lookup}
 use Rattle.std.proofs.Math.Nat.{mod-lt}

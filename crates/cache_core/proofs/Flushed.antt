@@ -1,10 +1,13 @@
 -- The dirty ways of all sets are the dirty blocks of the history.
-use Rattle.std.proofs.Common.{◌≡◌, ℕ, zero, suc, ◌+◌, ◌*◌, ◌%◌, ◌<◌, Bool, true, false, cond, ◌&&◌, ◌||◌, eqb, List, [], ◌∷◌, ◌++◌, length, take, drop, map, filter, replicate, refl, sym, ap, subst, ◌∙◌, ◌⊎◌, inl, inr, arith}
+use Rattle.std.proofs.Common.{◌≡◌, ℕ, zero, suc, ◌+◌, ◌*◌, ◌%◌, ◌<◌, Bool, true, false, cond, ◌&&◌}
+use Rattle.std.proofs.Common.{◌||◌, eqb, List, [], ◌∷◌, ◌++◌, length, take, drop, map, filter}
+use Rattle.std.proofs.Common.{replicate, refl, sym, ap, subst, ◌∙◌, ◌⊎◌, inl, inr, arith}
 use Rattle.std.specs.List.{list_any, dedup}
 use Rattle.std.specs.List.Sorted.{IsPermutation, IsSorted}
 use Rattle.std.specs.Ordering.{nat_cmp}
 use Rattle.std.proofs.Math.Nat.{mod-lt}
-use Rattle.std.proofs.lemmas.Bool.{eqb-true, eq-eqb, false≢true, or_left, or_right, or_cases, and_parts, and_from, true_from_ne_false}
+use Rattle.std.proofs.lemmas.Bool.{eqb-true, eq-eqb, false≢true, or_left, or_right, or_cases}
+use Rattle.std.proofs.lemmas.Bool.{and_parts, and_from, true_from_ne_false}
 use Rattle.std.proofs.lemmas.List.{length-drop, drop-drop}
 use Rattle.cache_core.specs.declared.ways.Way.{Way}
 use Rattle.cache_core.specs.History.{Rules, History}
@@ -15,7 +18,8 @@ use Rattle.cache_core.specs.Row.{empty_way, row, is_dirty_way, first_of, way_at,
 use Rattle.cache_core.proofs.Reuse.{has, has-ways_of, has-take, has-filter}
 use Rattle.cache_core.proofs.Turns.{absent}
 use Rattle.cache_core.proofs.Victim.{resident-marked}
-use Rattle.cache_core.proofs.Ascending.{same_test, same-rising, rises-rising, has-rising, rises-times, has-permutation, has-dedup, rises-dedup}
+use Rattle.cache_core.proofs.Ascending.{same_test, same-rising, rises-rising, has-rising}
+use Rattle.cache_core.proofs.Ascending.{rises-times, has-permutation, has-dedup, rises-dedup}
 
 -- whether some dirty way has this first byte
 abbrev holds_dirty : ℕ → Way → Bool

@@ -1,5 +1,6 @@
 -- The ways of a cache hold the residents of the history that it stands for.
-use Rattle.std.proofs.Common.{◌≡◌, ℕ, zero, suc, ◌*◌, List, [], ◌∷◌, ◌++◌, take, map, filter, replicate, refl, ap, ◌∙◌}
+use Rattle.std.proofs.Common.{◌≡◌, ℕ, zero, suc, ◌*◌, List, [], ◌∷◌, ◌++◌, take, map, filter}
+use Rattle.std.proofs.Common.{replicate, refl, ap, ◌∙◌}
 use Rattle.cache_core.specs.declared.cache.Cache.{Cache}
 use Rattle.cache_core.specs.History.{Rules, History}
 use Rattle.cache_core.specs.Residents.{renewals}

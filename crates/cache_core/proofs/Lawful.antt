@@ -1,9 +1,11 @@
 -- What a lawful geometry is.
-use Rattle.std.proofs.Common.{◌≡◌, ℕ, zero, suc, ◌*◌, ◌/◌, ◌^◌, ◌<◌, ◌≤◌, Bool, true, false, cond, not, ◌||◌, ltb, Option, Some, None, refl, subst, arith}
+use Rattle.std.proofs.Common.{◌≡◌, ℕ, zero, suc, ◌*◌, ◌/◌, ◌^◌, ◌<◌, ◌≤◌, Bool, true, false, cond}
+use Rattle.std.proofs.Common.{not, ◌||◌, ltb, Option, Some, None, refl, subst, arith}
 use Rattle.std.proofs.lemmas.Bool.{not-false, eqb-true, ltb-false, or_parts}
 use Rattle.std.specs.Int.{is_power_of_two, w64}
 use Rattle.std.proofs.lemmas.Nat.Bits.{bit_at-trailing_zeros}
-use Rattle.std.proofs.Math.Nat.{mul_comm, mul-pos, le-div_iff_mul-le, div-mul-le_self, div-le_self, le-mul_of_pos_right, mul-le-mul_left}
+use Rattle.std.proofs.Math.Nat.{mul_comm, mul-pos, le-div_iff_mul-le, div-mul-le_self, div-le_self}
+use Rattle.std.proofs.Math.Nat.{le-mul_of_pos_right, mul-le-mul_left}
 use Rattle.std.proofs.lemmas.Nat.{le-div}
 use lib.Count.{ones, count_trailing_zeros}
 use Rattle.cache_core.specs.declared.geometry.Geometry.{Geometry}

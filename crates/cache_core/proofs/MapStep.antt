@@ -1,5 +1,8 @@
 -- A set that is kept as a map takes the same step as a row.
-use Rattle.std.proofs.Common.{◌≡◌, ℕ, zero, suc, ◌-◌, ◌<◌, ◌≤◌, Bool, true, false, cond, not, ◌&&◌, ◌||◌, eqb, nat_eq, List, [], ◌∷◌, ◌++◌, length, take, map, replicate, slice_get, Option, Some, None, is_some, refl, sym, ap, subst, ◌∙◌, arith}
+use Rattle.std.proofs.Common.{◌≡◌, ℕ, zero, suc, ◌-◌, ◌<◌, ◌≤◌, Bool, true, false, cond, not, ◌&&◌}
+use Rattle.std.proofs.Common.{◌||◌, eqb, nat_eq, List, [], ◌∷◌, ◌++◌, length, take, map, replicate}
+use Rattle.std.proofs.Common.{slice_get, Option, Some, None, is_some, refl, sym, ap, subst, ◌∙◌}
+use Rattle.std.proofs.Common.{arith}
 use Rattle.std.specs.List.{find, list_any}
 use Rattle.std.specs.Map.{lookup, lookup_entry, remove_entry, set_value}
 use Rattle.std.specs.Option.{option_map, option_map_or}
@@ -7,7 +10,8 @@ use Rattle.std.proofs.lemmas.Bool.{eqb-true, eq-eqb, cond-true, cond-false}
 use Rattle.std.proofs.lemmas.List.{length-replicate}
 use Rattle.lru.specs.LruCache.{lru_cache, promoted, put_entries, displaced}
 use Rattle.cache_core.specs.declared.ways.Way.{Way}
-use Rattle.cache_core.specs.Row.{holds_block, shifted, leaving, changed, dirtied, empty_way, dirty_block, next_row, pushed_out}
+use Rattle.cache_core.specs.Row.{holds_block, shifted, leaving, changed, dirtied, empty_way}
+use Rattle.cache_core.specs.Row.{dirty_block, next_row, pushed_out}
 use Rattle.cache_core.specs.Mapped.{way_of, shown, used_entries, touched_entries, dirty_entry}
 use Rattle.cache_core.proofs.Shift.{shifted-none, changed-none}
 use Rattle.cache_core.proofs.RowStep.{held_way, next-hit, next-miss}

@@ -1,5 +1,6 @@
 -- Sets by a shift and a mask.
-use Rattle.std.proofs.Common.{◌≡◌, ℕ, ◌+◌, ◌*◌, ◌-◌, ◌/◌, ◌%◌, ◌^◌, ◌<◌, ◌≤◌, None, sym, ap, ◌∙◌, inl, inr, arith}
+use Rattle.std.proofs.Common.{◌≡◌, ℕ, ◌+◌, ◌*◌, ◌-◌, ◌/◌, ◌%◌, ◌^◌, ◌<◌, ◌≤◌, None, sym, ap, ◌∙◌}
+use Rattle.std.proofs.Common.{inl, inr, arith}
 use Rattle.std.specs.Prelude.{bit_and}
 use Rattle.std.proofs.Math.Nat.{mul_comm, mul-div_cancel}
 use Rattle.std.proofs.Math.Pow.{pow_pos, pow-add, pow-lt, pow_mono}

@@ -1,9 +1,11 @@
 -- An LRU cache of one set is its own shadow, so it has no conflict miss.
-use Rattle.std.proofs.Common.{◌≡◌, ℕ, ◌+◌, Bool, true, false, cond, ◌&&◌, ◌==◌, [], ◌∷◌, Some, None, refl, sym, ap, ◌∙◌, arith}
+use Rattle.std.proofs.Common.{◌≡◌, ℕ, ◌+◌, Bool, true, false, cond, ◌&&◌, ◌==◌, [], ◌∷◌, Some, None}
+use Rattle.std.proofs.Common.{refl, sym, ap, ◌∙◌, arith}
 use Rattle.std.specs.List.{list_any}
 use Rattle.cache_core.specs.declared.access.Access.{Access}
 use Rattle.cache_core.specs.declared.access.MissKind.TheVariants.{Compulsory, Capacity, Conflict}
-use Rattle.cache_core.specs.History.{Rules, History, access, flush, block_of, is_instr, is_read, is_write, is_misc}
+use Rattle.cache_core.specs.History.{Rules, History, access, flush, block_of, is_instr, is_read}
+use Rattle.cache_core.specs.History.{is_write, is_misc}
 use Rattle.cache_core.specs.Residents.{hits, renewals}
 use Rattle.cache_core.specs.Kinds.{known_blocks, shadow_of, kind_of_miss, is_kind}
 use Rattle.cache_core.specs.Parts.{one_if, outcome_of}

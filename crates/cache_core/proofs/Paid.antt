@@ -1,9 +1,13 @@
 -- Each dirty way was paid for by an access.
-use Rattle.std.proofs.Common.{◌≡◌, ℕ, zero, suc, ◌+◌, ◌≤◌, Bool, true, false, cond, not, ◌&&◌, ◌||◌, List, [], ◌∷◌, ◌++◌, length, take, drop, map, filter, replicate, Option, Some, None, is_some, refl, sym, ap, subst, ◌∙◌, arith}
+use Rattle.std.proofs.Common.{◌≡◌, ℕ, zero, suc, ◌+◌, ◌≤◌, Bool, true, false, cond, not, ◌&&◌, ◌||◌}
+use Rattle.std.proofs.Common.{List, [], ◌∷◌, ◌++◌, length, take, drop, map, filter, replicate}
+use Rattle.std.proofs.Common.{Option, Some, None, is_some, refl, sym, ap, subst, ◌∙◌, arith}
 use Rattle.std.proofs.lemmas.List.{take-append-drop}
 use borrow.Rule.Slice.PartMut.{put_mid}
 use Rattle.cache_core.specs.declared.ways.Way.{Way}
-use Rattle.cache_core.specs.Row.{shifted, leaving, changed, dirtied, is_dirty_way, first_of, dirty_count, dirty_block, next_row, pushed_out, holds_block, empty_way}
+use Rattle.cache_core.specs.Row.{shifted, leaving, changed, dirtied, is_dirty_way, first_of}
+use Rattle.cache_core.specs.Row.{dirty_count, dirty_block, next_row, pushed_out, holds_block}
+use Rattle.cache_core.specs.Row.{empty_way}
 use Rattle.std.proofs.lemmas.Bool.{cond-true, cond-false}
 use Rattle.cache_core.proofs.RowStep.{held_way, next-hit, next-miss}
 use Rattle.cache_core.proofs.Steps.{out-hit, out-miss, out-none}

@@ -1,5 +1,6 @@
 -- The last step of a pass over a row: the way at i passes.
-use Rattle.std.proofs.Common.{◌≡◌, ℕ, ◌<◌, Bool, true, List, ◌++◌, length, take, drop, set, get_or, add-one}
+use Rattle.std.proofs.Common.{◌≡◌, ℕ, ◌<◌, Bool, true, List, ◌++◌, length, take, drop, set, get_or}
+use Rattle.std.proofs.Common.{add-one}
 use Rattle.std.proofs.lemmas.List.{drop_more, set_split}
 use Rattle.cache_core.specs.Row.{shifted, changed}
 

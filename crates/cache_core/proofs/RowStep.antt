@@ -1,5 +1,6 @@
 -- The row of the set of an access, afterwards: the step that the code makes.
-use Rattle.std.proofs.Common.{◌≡◌, ℕ, ◌%◌, ◌*◌, ◌<◌, Bool, true, false, cond, not, ◌&&◌, ◌||◌, List, [], ◌∷◌, Some, None, refl, sym, ap, ◌∙◌}
+use Rattle.std.proofs.Common.{◌≡◌, ℕ, ◌%◌, ◌*◌, ◌<◌, Bool, true, false, cond, not, ◌&&◌, ◌||◌, List}
+use Rattle.std.proofs.Common.{[], ◌∷◌, Some, None, refl, sym, ap, ◌∙◌}
 use Rattle.std.specs.List.{find}
 use Rattle.std.proofs.lemmas.Bool.{cond-true, cond-false, and_parts, and_from, or_left, or_right}
 use Rattle.cache_core.specs.declared.access.Access.{Access}
@@ -8,7 +9,8 @@ use Rattle.cache_core.specs.History.{Rules, History, access, block_of, is_write}
 use Rattle.cache_core.specs.Residents.{hits, uses, renewals}
 use Rattle.cache_core.specs.Dirty.{is_written}
 use Rattle.cache_core.specs.Row.{holds_block, shifted, changed, dirtied, next_row, way_at, row_of}
-use Rattle.cache_core.proofs.Turns.{find-row_of, is_written-used, row_of-unused, row_of-lru, row_of-load, row_of-fifo_hit}
+use Rattle.cache_core.proofs.Turns.{find-row_of, is_written-used, row_of-unused, row_of-lru}
+use Rattle.cache_core.proofs.Turns.{row_of-load, row_of-fifo_hit}
 
 changed-same : {X : Type 0} (p : X → Bool) (xs : List X) → changed p (λ w. w) xs ≡ xs
 changed-same p [] = refl

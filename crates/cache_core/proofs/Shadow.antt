@@ -1,5 +1,7 @@
 -- The shadow is an LRU cache of one set.
-use Rattle.std.proofs.Common.{◌≡◌, ℕ, zero, suc, ◌-◌, ◌%◌, Bool, true, false, cond, not, ◌&&◌, ◌||◌, eqb, nat_eq, List, [], ◌∷◌, take, map, Some, None, is_some, refl, sym, ap, subst, ◌∙◌, arith}
+use Rattle.std.proofs.Common.{◌≡◌, ℕ, zero, suc, ◌-◌, ◌%◌, Bool, true, false, cond, not, ◌&&◌, ◌||◌}
+use Rattle.std.proofs.Common.{eqb, nat_eq, List, [], ◌∷◌, take, map, Some, None, is_some, refl, sym}
+use Rattle.std.proofs.Common.{ap, subst, ◌∙◌, arith}
 use Rattle.std.specs.Map.{lookup, lookup_entry, remove_entry}
 use Rattle.std.specs.Option.{option_map_or}
 use Rattle.std.proofs.lemmas.Bool.{eqb-true, eq-eqb, eqb-false, ne_eqb, or_parts, or_right}
@@ -12,7 +14,8 @@ use Rattle.cache_core.specs.Order.{ranked, ways_of}
 use Rattle.cache_core.specs.declared.access.Access.{Access}
 use Rattle.cache_core.proofs.Reuse.{has, has-ways_of}
 use Rattle.cache_core.proofs.Turns.{renewals-yes, renewals-no, ranked-lru}
-use Rattle.cache_core.proofs.Shift.{without, without-absent, IsOnce, IsOnce-take, IsOnce-distinct, has-take_absent}
+use Rattle.cache_core.proofs.Shift.{without, without-absent, IsOnce, IsOnce-take, IsOnce-distinct}
+use Rattle.cache_core.proofs.Shift.{has-take_absent}
 
 pub eqb-comm : (a b : ℕ) → eqb a b ≡ eqb b a
 eqb-comm a b = (elim (eqb a b) as (λ t. eqb a b ≡ t → t ≡ eqb b a) [

@@ -1,5 +1,7 @@
 -- One access to a cache that stands for a history.
-use Rattle.std.proofs.Common.{◌≡◌, ◌≢◌, ℕ, suc, ◌+◌, ◌*◌, ◌%◌, ◌<◌, Bool, true, false, cond, not, ◌&&◌, ◌||◌, eqb, nat_eq, List, ◌∷◌, length, Option, Some, None, is_some, refl, sym, ap, subst, ◌∙◌, add_assoc, arith}
+use Rattle.std.proofs.Common.{◌≡◌, ◌≢◌, ℕ, suc, ◌+◌, ◌*◌, ◌%◌, ◌<◌, Bool, true, false, cond, not}
+use Rattle.std.proofs.Common.{◌&&◌, ◌||◌, eqb, nat_eq, List, ◌∷◌, length, Option, Some, None}
+use Rattle.std.proofs.Common.{is_some, refl, sym, ap, subst, ◌∙◌, add_assoc, arith}
 use Rattle.std.specs.List.{find, list_any}
 use Rattle.std.proofs.lemmas.Bool.{eqb-true, eqb-false, cond-true, cond-false, and_from}
 use Rattle.cache_core.specs.declared.access.Access.{Access}
@@ -10,9 +12,11 @@ use Rattle.cache_core.specs.Dirty.{dirty_blocks}
 use Rattle.cache_core.specs.Kinds.{known_blocks, shadow_of, kind_of_miss}
 use Rattle.cache_core.specs.Parts.{dirty_victim, outcome_of, one_if}
 use Rattle.cache_core.specs.Counts.{tally, counts_of, flushes_in, flushed_back}
-use Rattle.cache_core.specs.Row.{holds_block, leaving, dirty_block, next_row, pushed_out, row, outcome_made, way_at, row_of}
+use Rattle.cache_core.specs.Row.{holds_block, leaving, dirty_block, next_row, pushed_out, row}
+use Rattle.cache_core.specs.Row.{outcome_made, way_at, row_of}
 use Rattle.cache_core.specs.Counting.{with_access, with_flush}
-use Rattle.cache_core.proofs.Turns.{block-fifo, block-lru, unused-block, hit-block, find-row_of, row_of-other}
+use Rattle.cache_core.proofs.Turns.{block-fifo, block-lru, unused-block, hit-block, find-row_of}
+use Rattle.cache_core.proofs.Turns.{row_of-other}
 use Rattle.cache_core.proofs.RowStep.{held_way, row_of-next, uses-hit, uses-miss}
 use Rattle.cache_core.proofs.Victim.{unmarked, lru-hit, out-is}
 

@@ -1,9 +1,12 @@
 -- How one access moves the rows of all sets.
-use Rattle.std.proofs.Common.{◌≡◌, ℕ, zero, suc, ◌*◌, ◌/◌, ◌%◌, ◌<◌, ◌≤◌, Bool, true, false, cond, not, ◌&&◌, ◌||◌, eqb, List, [], ◌∷◌, ◌++◌, length, take, map, replicate, Some, None, refl, sym, ap, subst, ◌∙◌, arith}
+use Rattle.std.proofs.Common.{◌≡◌, ℕ, zero, suc, ◌*◌, ◌/◌, ◌%◌, ◌<◌, ◌≤◌, Bool, true, false, cond}
+use Rattle.std.proofs.Common.{not, ◌&&◌, ◌||◌, eqb, List, [], ◌∷◌, ◌++◌, length, take, map}
+use Rattle.std.proofs.Common.{replicate, Some, None, refl, sym, ap, subst, ◌∙◌, arith}
 use Rattle.std.specs.List.{find}
 use Rattle.std.proofs.Math.Nat.{mul-div_cancel}
 use Rattle.std.proofs.lemmas.List.{take-take, length-append, length-replicate}
-use Rattle.std.proofs.lemmas.Bool.{eqb-true, eq-eqb, eqb-false, ne_eqb, and_left, and_right, not-true, and_parts, cond-true, cond-false}
+use Rattle.std.proofs.lemmas.Bool.{eqb-true, eq-eqb, eqb-false, ne_eqb, and_left, and_right}
+use Rattle.std.proofs.lemmas.Bool.{not-true, and_parts, cond-true, cond-false}
 use Rattle.cache_core.specs.declared.access.Access.{Access}
 use Rattle.cache_core.specs.declared.ways.Way.{Way}
 use Rattle.cache_core.specs.History.{Rules, History, access, flush, block_of, is_write}
@@ -12,7 +15,10 @@ use Rattle.cache_core.specs.Dirty.{is_written}
 use Rattle.cache_core.specs.Order.{ranked, ways_of}
 use Rattle.cache_core.specs.Row.{holds_block, empty_way, shifted, changed, way_at, row_of}
 use Rattle.cache_core.proofs.Reuse.{has, has-distinct, has-ways_of}
-use Rattle.cache_core.proofs.Shift.{without, IsOnce, IsOnce-take, IsOnce-distinct, has-filter_not, has-take_absent, padded, find-padded, any-padded, shifted-none, shifted-padded, map-without, padded-agree, changed-padded, take-cons_take}
+use Rattle.cache_core.proofs.Shift.{without, IsOnce, IsOnce-take, IsOnce-distinct, has-filter_not}
+use Rattle.cache_core.proofs.Shift.{has-take_absent, padded, find-padded, any-padded, shifted-none}
+use Rattle.cache_core.proofs.Shift.{shifted-padded, map-without, padded-agree, changed-padded}
+use Rattle.cache_core.proofs.Shift.{take-cons_take}
 
 -- blocks are told apart by their first bytes
 eqb-times : (n y b : ℕ) → 0 < n → eqb (y * n) (b * n) ≡ eqb y b

@@ -1,20 +1,30 @@
 -- The block that leaves is the last of a full row.
-use Rattle.std.proofs.Common.{◌≡◌, ℕ, zero, suc, ◌*◌, ◌-◌, ◌%◌, ◌<◌, ◌≤◌, Bool, true, false, cond, not, ◌&&◌, ◌||◌, eqb, ltb, List, [], ◌∷◌, ◌++◌, length, take, map, replicate, get_or, Some, None, inl, inr, refl, sym, ap, subst, ◌∙◌, add-one, arith}
+use Rattle.std.proofs.Common.{◌≡◌, ℕ, zero, suc, ◌*◌, ◌-◌, ◌%◌, ◌<◌, ◌≤◌, Bool, true, false, cond}
+use Rattle.std.proofs.Common.{not, ◌&&◌, ◌||◌, eqb, ltb, List, [], ◌∷◌, ◌++◌, length, take, map}
+use Rattle.std.proofs.Common.{replicate, get_or, Some, None, inl, inr, refl, sym, ap, subst, ◌∙◌}
+use Rattle.std.proofs.Common.{add-one, arith}
 use Rattle.std.specs.List.{find, list_any}
-use Rattle.std.proofs.lemmas.Bool.{eqb-true, eq-eqb, false≢true, or_parts, or_from, or_left, or_right, true_from_ne_false, false_from_ne_true, cond-true, and_parts, and_right, ltb-true, cases_lt}
-use Rattle.std.proofs.lemmas.List.{take_more, take_all, take-take, length-map, get_or-append_right, get_or_append_left, get_or-map, get_or-replicate}
+use Rattle.std.proofs.lemmas.Bool.{eqb-true, eq-eqb, false≢true, or_parts, or_from, or_left}
+use Rattle.std.proofs.lemmas.Bool.{or_right, true_from_ne_false, false_from_ne_true, cond-true}
+use Rattle.std.proofs.lemmas.Bool.{and_parts, and_right, ltb-true, cases_lt}
+use Rattle.std.proofs.lemmas.List.{take_more, take_all, take-take, length-map, get_or-append_right}
+use Rattle.std.proofs.lemmas.List.{get_or_append_left, get_or-map, get_or-replicate}
 use Rattle.cache_core.specs.declared.access.Access.{Access}
 use Rattle.cache_core.specs.declared.ways.Way.{Way}
 use Rattle.cache_core.specs.History.{Rules, History, access, block_of}
-use Rattle.cache_core.specs.Residents.{leaves, renews, before, hits, uses, renewals, is_resident, reuse_distance, victim}
+use Rattle.cache_core.specs.Residents.{leaves, renews, before, hits, uses, renewals, is_resident}
+use Rattle.cache_core.specs.Residents.{reuse_distance, victim}
 use Rattle.cache_core.specs.Dirty.{is_written, is_dirty}
 use Rattle.cache_core.specs.Parts.{dirty_victim}
 use Rattle.cache_core.specs.Order.{ranked}
 use Rattle.cache_core.specs.Row.{holds_block, empty_way, leaving, dirty_block, way_at, row_of}
 use Rattle.cache_core.proofs.Reuse.{has, has-take, has-ways_of, has-filter}
-use Rattle.cache_core.proofs.Shift.{without, IsOnce, has-take_absent, padded, any-padded, leaving-none}
+use Rattle.cache_core.proofs.Shift.{without, IsOnce, has-take_absent, padded, any-padded}
+use Rattle.cache_core.proofs.Shift.{leaving-none}
 use Rattle.cache_core.proofs.Shadow.{eqb-comm, take-without_there, take-without_absent}
-use Rattle.cache_core.proofs.Turns.{renewals-yes, renewals-no, block-fifo, block-lru, ranked-fifo, ranked-lru, ranked-other, IsOnce-ranked, IsOnce-ways_of, absent, at_block, room}
+use Rattle.cache_core.proofs.Turns.{renewals-yes, renewals-no, block-fifo, block-lru, ranked-fifo}
+use Rattle.cache_core.proofs.Turns.{ranked-lru, ranked-other, IsOnce-ranked, IsOnce-ways_of, absent}
+use Rattle.cache_core.proofs.Turns.{at_block, room}
 
 -- a search for one number
 find-one : (test : ℕ → Bool) (v : ℕ) → ((y : ℕ) → test y ≡ eqb v y) → (ms : List ℕ)

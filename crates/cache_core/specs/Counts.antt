@@ -4,7 +4,8 @@ use Rattle.cache_core.specs.declared.access.Access.{Access}
 use Rattle.cache_core.specs.declared.access.MissKind.TheVariants.{Compulsory, Capacity, Conflict}
 use Rattle.cache_core.specs.declared.counts.PerClass.{PerClass}
 use Rattle.cache_core.specs.declared.counts.Counts.{Counts}
-use Rattle.cache_core.specs.History.{access, flush, History, Rules, is_instr, is_read, is_write, is_misc}
+use Rattle.cache_core.specs.History.{access, flush, History, Rules, is_instr, is_read, is_write}
+use Rattle.cache_core.specs.History.{is_misc}
 use Rattle.cache_core.specs.Dirty.{dirty_blocks}
 use Rattle.cache_core.specs.Kinds.{is_kind}
 use Rattle.cache_core.specs.Parts.{one_if, outcome_of}

@@ -1,5 +1,6 @@
 -- Which blocks differ from the next level.
-use Rattle.std.specs.Prelude.{ℕ, Bool, false, ◌&&◌, ◌||◌, if◌then◌else◌, nat_lt, ◌==◌, List, [], ◌∷◌, filter}
+use Rattle.std.specs.Prelude.{ℕ, Bool, false, ◌&&◌, ◌||◌, if◌then◌else◌, nat_lt, ◌==◌, List, []}
+use Rattle.std.specs.Prelude.{◌∷◌, filter}
 use Rattle.cache_core.specs.History.{access, flush, History, Rules, block_of, is_write}
 use Rattle.cache_core.specs.Residents.{hits, uses, renewals, is_resident}
 

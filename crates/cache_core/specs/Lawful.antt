@@ -1,8 +1,12 @@
 -- Which geometries are lawful.
-use Rattle.std.specs.Prelude.{ℕ, ◌/◌, ◌^◌, Bool, not, ◌||◌, if◌then◌else◌, nat_lt, Option, Some, None}
+use Rattle.std.specs.Prelude.{ℕ, ◌/◌, ◌^◌, Bool, not, ◌||◌, if◌then◌else◌, nat_lt, Option, Some}
+use Rattle.std.specs.Prelude.{None}
 use Rattle.std.specs.Int.{is_power_of_two}
 use Rattle.cache_core.specs.declared.geometry.GeometryFault.{GeometryFault}
-use Rattle.cache_core.specs.declared.geometry.GeometryFault.TheVariants.{SizeNotPower, SizeRange, BlockNotPower, BlockRange, AssocNotPower, AssocTooLarge}
+use Rattle.cache_core.specs.declared.geometry.GeometryFault.TheVariants.{SizeNotPower, SizeRange}
+use Rattle.cache_core.specs.declared.geometry.GeometryFault.TheVariants.{BlockNotPower, BlockRange}
+use Rattle.cache_core.specs.declared.geometry.GeometryFault.TheVariants.{AssocNotPower}
+use Rattle.cache_core.specs.declared.geometry.GeometryFault.TheVariants.{AssocTooLarge}
 
 abbrev pub is_outside : ℕ → ℕ → ℕ → Bool
 is_outside low high n = nat_lt n low || nat_lt high n

@@ -1,5 +1,6 @@
 -- Which blocks are resident after a history, by reuse distance (Mattson and others, 1970).
-use Rattle.std.specs.Prelude.{ℕ, ◌%◌, Bool, ◌&&◌, ◌||◌, not, if◌then◌else◌, nat_lt, ◌==◌, List, [], ◌∷◌, length, filter, Option}
+use Rattle.std.specs.Prelude.{ℕ, ◌%◌, Bool, ◌&&◌, ◌||◌, not, if◌then◌else◌, nat_lt, ◌==◌, List, []}
+use Rattle.std.specs.Prelude.{◌∷◌, length, filter, Option}
 use Rattle.std.specs.List.{find, list_any}
 use Rattle.cache_core.specs.declared.access.Access.{Access}
 use Rattle.cache_core.specs.History.{access, flush, History, Rules, block_of, is_write}

@@ -1,5 +1,7 @@
 -- The code's side: a set as a row of ways, and what a pass over it does.
-use Rattle.std.specs.Prelude.{ℕ, ◌+◌, ◌*◌, take, drop, map, replicate, Bool, true, false, ◌&&◌, ◌||◌, not, ◌==◌, cond, if◌then◌else◌, List, [], ◌∷◌, ◌++◌, Option, Some, None, is_some}
+use Rattle.std.specs.Prelude.{ℕ, ◌+◌, ◌*◌, take, drop, map, replicate, Bool, true, false, ◌&&◌}
+use Rattle.std.specs.Prelude.{◌||◌, not, ◌==◌, cond, if◌then◌else◌, List, [], ◌∷◌, ◌++◌, Option}
+use Rattle.std.specs.Prelude.{Some, None, is_some}
 use Rattle.std.specs.Option.{option_map_or}
 use Rattle.cache_core.specs.declared.access.Outcome.{Outcome}
 use Rattle.cache_core.specs.declared.access.MissKind.TheVariants.{Compulsory, Capacity, Conflict}

@@ -1,5 +1,6 @@
 -- What a cache has to do with a history: the one bridge from the definitions to the code.
-use Rattle.std.specs.Prelude.{◌≡◌, ℕ, ◌*◌, ◌%◌, ◌<◌, Bool, false, ◌==◌, nat_eq, List, length, map, filter}
+use Rattle.std.specs.Prelude.{◌≡◌, ℕ, ◌*◌, ◌%◌, ◌<◌, Bool, false, ◌==◌, nat_eq, List, length, map}
+use Rattle.std.specs.Prelude.{filter}
 use Rattle.std.specs.List.{list_any}
 use Rattle.std.specs.HashSet.{contains}
 use Rattle.cache_core.specs.declared.policy.Policy.{Policy}

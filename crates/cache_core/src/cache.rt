@@ -68,12 +68,14 @@ fn outcome_from(policy: Policy, write: bool, served: Served, seen: Seen) -> Outc
 
 #[tactic(auto, unfolding(crate::specs::Standing::rules_of, crate::specs::Standing::served_of, crate::specs::Standing::counts_kept, crate::specs::Standing::has_failed))]
 impl Cache {
-    ghost use Rattle.std.specs.Prelude.{◌≡◌, ◌≢◌, ◌<◌, ◌≤◌, ◌+◌, ◌*◌, ◌^◌, ◌++◌, map, length, [], ◌∷◌, ℕ, true, false, IfOk, OnOk, OnErr, IsErr};
+    ghost use Rattle.std.specs.Prelude.{◌≡◌, ◌≢◌, ◌<◌, ◌≤◌, ◌+◌, ◌*◌, ◌^◌, ◌++◌, map, length, []};
+    ghost use Rattle.std.specs.Prelude.{◌∷◌, ℕ, true, false, IfOk, OnOk, OnErr, IsErr};
     ghost use Rattle.cache_core.specs.History.{History, access as accessed, flush as flushed};
     ghost use Rattle.cache_core.specs.Dirty.{dirty_blocks};
     ghost use Rattle.cache_core.specs.Parts.{outcome_of};
     ghost use Rattle.cache_core.specs.Counts.{counts_of, no_counts, none_by_class, KindsAddUp};
-    ghost use Rattle.cache_core.specs.Standing.{StandsFor, HoldsResidents, rules_of, rules_from, served_of, counts_kept, has_failed};
+    ghost use Rattle.cache_core.specs.Standing.{StandsFor, HoldsResidents, rules_of, rules_from};
+    ghost use Rattle.cache_core.specs.Standing.{served_of, counts_kept, has_failed};
 
     /// A cache that holds nothing and has counted nothing.
     pub fn new(alloc: Global, geometry: Geometry, policy: Policy) -> Result<Cache, NoMemory>

@@ -1,7 +1,8 @@
 //! Laws over the definitions. Each is a function that does nothing, whose contract is the law.
 
 ghost use Rattle.cache_core.specs.Examples.{WorkedExamples};
-ghost use Rattle.cache_core.specs.Laws.{AccessesPay, AtMostOneLeaves, FlushesPay, OneLruSetHasNoConflict, OrderedWaysAreResidents};
+ghost use Rattle.cache_core.specs.Laws.{AccessesPay, AtMostOneLeaves, FlushesPay};
+ghost use Rattle.cache_core.specs.Laws.{OneLruSetHasNoConflict, OrderedWaysAreResidents};
 
 /// The stack property of LRU (Mattson and others), and its like for FIFO: blocks ordered by last
 /// use (by last load) and cut at the number of ways are the residents by reuse distance, writes

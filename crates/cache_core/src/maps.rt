@@ -1,14 +1,17 @@
 //! Sets of many ways: each a map in order from the first byte of a block to its dirty mark, the
 //! block that was used last (FIFO: loaded last) first. An access takes no longer for more ways.
 
-ghost use Rattle.std.specs.Prelude.{◌≡◌, ◌≢◌, ◌<◌, ◌≤◌, ◌+◌, ◌*◌, ◌&&◌, ◌||◌, ℕ, None, true, is_some, nat_eq, length, map, filter, replicate, vec_len, [], IfOk, OnOk, OnErr};
+ghost use Rattle.std.specs.Prelude.{◌≡◌, ◌≢◌, ◌<◌, ◌≤◌, ◌+◌, ◌*◌, ◌&&◌, ◌||◌, ℕ, None, true};
+ghost use Rattle.std.specs.Prelude.{is_some, nat_eq, length, map, filter, replicate, vec_len, []};
+ghost use Rattle.std.specs.Prelude.{IfOk, OnOk, OnErr};
 ghost use Rattle.std.specs.Map.{lookup, set_value};
 ghost use Rattle.std.specs.Option.{option_map_or};
 ghost use Rattle.std.specs.NonZero.{non_zero_usize_get};
 ghost use Rattle.cache_core.specs.Parts.{one_if};
 ghost use Rattle.cache_core.specs.Policy.{is_fifo};
 ghost use Rattle.cache_core.specs.Row.{row, empty_way, is_dirty_way, first_of, dirty_count};
-ghost use Rattle.cache_core.specs.Mapped.{shown, used_entries, touched_entries, dirty_entry, dirty_keys_of, cap_of, emptied, flat};
+ghost use Rattle.cache_core.specs.Mapped.{shown, used_entries, touched_entries, dirty_entry};
+ghost use Rattle.cache_core.specs.Mapped.{dirty_keys_of, cap_of, emptied, flat};
 ghost use Rattle.cache_core.specs.Serving.{ServesRow};
 ghost use Rattle.lru.specs.LruCache.{lru_cache, put_entries, displaced};
 

@@ -1,6 +1,7 @@
 //! All sets of a cache, in the form that suits their number of ways.
 
-ghost use Rattle.std.specs.Prelude.{◌≡◌, ◌<◌, ◌≤◌, ◌≢◌, ◌+◌, ◌*◌, ◌^◌, ℕ, List, true, is_some, length, map, filter, nat_eq, replicate, vec_len, IfOk, OnErr};
+ghost use Rattle.std.specs.Prelude.{◌≡◌, ◌<◌, ◌≤◌, ◌≢◌, ◌+◌, ◌*◌, ◌^◌, ℕ, List, true, is_some};
+ghost use Rattle.std.specs.Prelude.{length, map, filter, nat_eq, replicate, vec_len, IfOk, OnErr};
 ghost use Rattle.std.specs.List.{dedup};
 ghost use Rattle.std.specs.List.Sorted.{IsPermutation, IsSorted};
 ghost use Rattle.std.specs.Ordering.{nat_cmp};

@@ -1,11 +1,13 @@
 //! Sets of few ways: each a row of ways in order, the block that was used last (FIFO: loaded last)
 //! first, and empty ways behind the blocks. The rows lie one after another.
 
-ghost use Rattle.std.specs.Prelude.{◌≡◌, ◌≢◌, ◌≤◌, ◌+◌, ◌*◌, ℕ, length, is_some, false, IfOk, map, filter, replicate, vec_len};
+ghost use Rattle.std.specs.Prelude.{◌≡◌, ◌≢◌, ◌≤◌, ◌+◌, ◌*◌, ℕ, length, is_some, false, IfOk, map};
+ghost use Rattle.std.specs.Prelude.{filter, replicate, vec_len};
 ghost use Rattle.std.specs.List.{find};
 ghost use Rattle.std.specs.Option.{option_map_or};
 ghost use Rattle.cache_core.specs.Parts.{one_if};
-ghost use Rattle.cache_core.specs.Row.{holds_block, shifted, leaving, changed, dirtied, row, empty_way, is_dirty_way, first_of, dirty_count};
+ghost use Rattle.cache_core.specs.Row.{holds_block, shifted, leaving, changed, dirtied, row};
+ghost use Rattle.cache_core.specs.Row.{empty_way, is_dirty_way, first_of, dirty_count};
 ghost use Rattle.cache_core.specs.Serving.{ServesRow};
 
 use crate::policy::{Policy, Repl};

@@ -1,5 +1,7 @@
 -- What a run over a reader that tells its text comes to.
-use Rattle.std.proofs.Common.{◌≡◌, ℕ, ◌+◌, ◌<◌, ◌≤◌, Bool, true, false, List, [], ◌++◌, length, take, Option, Some, None, refl, ap, sym, ◌∙◌, subst, inl, inr, arith, length-append}
+use Rattle.std.proofs.Common.{◌≡◌, ℕ, ◌+◌, ◌<◌, ◌≤◌, Bool, true, false, List, [], ◌++◌, length}
+use Rattle.std.proofs.Common.{take, Option, Some, None, refl, ap, sym, ◌∙◌, subst, inl, inr, arith}
+use Rattle.std.proofs.Common.{length-append}
 use Rattle.std.proofs.lemmas.Bool.{cases_Bool, leb-false, leb-true, lt-leb}
 use Rattle.std.proofs.lemmas.List.{take-append-le, append-nil}
 use Rattle.std.specs.Prelude.{nat_le}
@@ -8,7 +10,8 @@ use Rattle.din_trace.specs.declared.fault.TraceFault.{TraceFault}
 use Rattle.din_trace.specs.Faults.{FailedBehind, IsFaultOf}
 use Rattle.din_trace.specs.Line.{ADDRESS_MAX}
 use Rattle.din_trace.specs.Text.{records, fault}
-use Rattle.din_trace.specs.Left.{Left, Script, Fate, Open, Ended, Failed, Follows, FateIs, text_left}
+use Rattle.din_trace.specs.Left.{Left, Script, Fate, Open, Ended, Failed, Follows, FateIs}
+use Rattle.din_trace.specs.Left.{text_left}
 use Rattle.din_trace.proofs.Texts.{text_left-fault, text_left-records, leaves_text}
 
 -- a text that is too long leaves what its front leaves that is too long

@@ -1,16 +1,22 @@
 -- One option after another.
-use Rattle.std.proofs.Common.{◌≡◌, Bool, true, false, List, [], ◌∷◌, ◌++◌, ℕ, Some, None, Result, Ok, Err, refl, sym, ap, subst, inl, inr, ◌∙◌}
-use Rattle.clap.specs.Words.{App, HasKind, IsAmong, Row, Text, fault_of, found_of, is_simple, is_simple_and_free, kind_of, matches_of, rows_of, subcommand_of, subcommand_rows_of, takes}
+use Rattle.std.proofs.Common.{◌≡◌, Bool, true, false, List, [], ◌∷◌, ◌++◌, ℕ, Some, None, Result}
+use Rattle.std.proofs.Common.{Ok, Err, refl, sym, ap, subst, inl, inr, ◌∙◌}
+use Rattle.clap.specs.Words.{App, HasKind, IsAmong, Row, Text, fault_of, found_of, is_simple}
+use Rattle.clap.specs.Words.{is_simple_and_free, kind_of, matches_of, rows_of, subcommand_of}
+use Rattle.clap.specs.Words.{subcommand_rows_of, takes}
 use Rattle.clap.specs.declared.error.kind.ErrorKind.TheVariants as kind
 use Rattle.clap.specs.declared.error.Error.{Error}
 use Rattle.clap.specs.declared.parser.matches.ArgMatches.{ArgMatches}
 use Rattle.stage_core.specs.declared.config.Config.{Config}
 use Rattle.stage_core.specs.declared.selection.Selection.{Selection}
 use Rattle.cache_core.specs.declared.policy.Repl.{Repl}
-use Rattle.dinero_pipe.specs.Answer.{AnswersRows, AnswersWords, bounded_at, choice_at, count_at, is_good, refusal_by_kind, refusal_by_option, replacement_at, size_at, text_of, unless_bad}
+use Rattle.dinero_pipe.specs.Answer.{AnswersRows, AnswersWords, bounded_at, choice_at, count_at}
+use Rattle.dinero_pipe.specs.Answer.{is_good, refusal_by_kind, refusal_by_option, replacement_at}
+use Rattle.dinero_pipe.specs.Answer.{size_at, text_of, unless_bad}
 use Rattle.dinero_pipe.specs.Options as opt
 use Rattle.dinero_pipe.specs.Options.{command_app, kind_of_option, options}
-use Rattle.dinero_pipe.specs.Values.{bounded_value, choice_value, count_value, replacement_value, size_value}
+use Rattle.dinero_pipe.specs.Values.{bounded_value, choice_value, count_value, replacement_value}
+use Rattle.dinero_pipe.specs.Values.{size_value}
 use Rattle.dinero_pipe.specs.declared.words.WordsFault.TheVariants as fault
 use Rattle.dinero_pipe.specs.declared.opt.Opt.{Opt}
 use Rattle.dinero_pipe.specs.declared.words.WordsFault.{WordsFault}

@@ -1,5 +1,6 @@
 -- What the words of the command line come to.
-use Rattle.std.specs.Prelude.{◌≡◌, ◌⊎◌, ℕ, Bool, true, false, not, List, [], find, Option, Some, None, is_some, option_map, unwrap_or, Result, Ok, Err}
+use Rattle.std.specs.Prelude.{◌≡◌, ◌⊎◌, ℕ, Bool, true, false, not, List, [], find, Option, Some}
+use Rattle.std.specs.Prelude.{None, is_some, option_map, unwrap_or, Result, Ok, Err}
 use Rattle.std.specs.Option.{option_map_or}
 use Rattle.clap.specs.Words.{IsAmong, Row, Text, fault_of, first_of, matches_of, takes}
 use Rattle.clap.specs.declared.error.kind.ErrorKind.{ErrorKind}
@@ -12,8 +13,10 @@ use Rattle.stage_core.specs.declared.config.CacheName.TheVariants as cache_name
 use Rattle.stage_core.specs.declared.config.CacheSpec.{CacheSpec}
 use Rattle.stage_core.specs.declared.config.Config.{Config}
 use Rattle.stage_core.specs.declared.selection.Selection.{Selection}
-use Rattle.dinero_pipe.specs.Options.{Kind, size, count, bounded, replacement, choice, command_app, id_of, kind_of_option, options}
-use Rattle.dinero_pipe.specs.Values.{bounded_value, choice_value, count_value, replacement_value, size_value}
+use Rattle.dinero_pipe.specs.Options.{Kind, size, count, bounded, replacement, choice, command_app}
+use Rattle.dinero_pipe.specs.Options.{id_of, kind_of_option, options}
+use Rattle.dinero_pipe.specs.Values.{bounded_value, choice_value, count_value, replacement_value}
+use Rattle.dinero_pipe.specs.Values.{size_value}
 use Rattle.dinero_pipe.specs.declared.opt.Opt.{Opt}
 use Rattle.dinero_pipe.specs.declared.opt.Opt.TheVariants as o
 use Rattle.dinero_pipe.specs.declared.wanted.Wanted.{Wanted}

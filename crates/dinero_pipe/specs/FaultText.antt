@@ -1,5 +1,6 @@
 -- The line and the exit status of each fault.
-use Rattle.std.specs.Prelude.{ℕ, List, [], ◌∷◌, ◌++◌, codes, decimal, Bool, true, false, if◌then◌else◌}
+use Rattle.std.specs.Prelude.{ℕ, List, [], ◌∷◌, ◌++◌, codes, decimal, Bool, true, false}
+use Rattle.std.specs.Prelude.{if◌then◌else◌}
 use Rattle.din_trace.specs.declared.fault.Why.{Why}
 use Rattle.din_trace.specs.declared.fault.Why.TheVariants as why
 use Rattle.din_trace.specs.declared.fault.TraceFault.{TraceFault}

@@ -3,7 +3,11 @@ use Rattle.std.specs.Prelude.{List, [], ◌∷◌, ◌++◌, fold, codes, true, 
 use Rattle.std.specs.Option.{option_map_or}
 use Rattle.clap.specs.Words.{App, Rule, Text, new_app, new_rule, with_rule}
 use Rattle.dinero_pipe.specs.declared.opt.Opt.{Opt}
-use Rattle.dinero_pipe.specs.declared.opt.Opt.TheVariants.{L1Isize, L1Ibsize, L1Iassoc, L1Irepl, L1Dsize, L1Dbsize, L1Dassoc, L1Drepl, L1Dwback, L1Dwalloc, L2Usize, L2Ubsize, L2Uassoc, L2Urepl, L2Uwback, L2Uwalloc, Ring, Skipcount, Maxcount, Flushcount}
+use Rattle.dinero_pipe.specs.declared.opt.Opt.TheVariants.{L1Isize, L1Ibsize, L1Iassoc, L1Irepl}
+use Rattle.dinero_pipe.specs.declared.opt.Opt.TheVariants.{L1Dsize, L1Dbsize, L1Dassoc, L1Drepl}
+use Rattle.dinero_pipe.specs.declared.opt.Opt.TheVariants.{L1Dwback, L1Dwalloc, L2Usize, L2Ubsize}
+use Rattle.dinero_pipe.specs.declared.opt.Opt.TheVariants.{L2Uassoc, L2Urepl, L2Uwback, L2Uwalloc}
+use Rattle.dinero_pipe.specs.declared.opt.Opt.TheVariants.{Ring, Skipcount, Maxcount, Flushcount}
 
 -- the options of each cache
 abbrev pub instruction_options : List Opt

@@ -2,7 +2,9 @@
 
 ghost use Rattle.std.specs.Prelude.{◌≡◌};
 ghost use Rattle.din_trace.specs.Device.{Writes};
-ghost use Rattle.dinero_pipe.specs.FaultText.{asks_for_help, cache_words, config_words, fault_line, fault_words, geometry_words, run_words, status_of, trace_words, why_word, words_words};
+ghost use Rattle.dinero_pipe.specs.FaultText.{asks_for_help, cache_words, config_words, fault_line};
+ghost use Rattle.dinero_pipe.specs.FaultText.{fault_words, geometry_words, run_words, status_of};
+ghost use Rattle.dinero_pipe.specs.FaultText.{trace_words, why_word, words_words};
 
 use crate::words::WordsFault;
 use cache_core::GeometryFault;

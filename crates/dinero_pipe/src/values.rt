@@ -3,7 +3,8 @@
 ghost use Rattle.std.specs.Prelude.{◌≡◌, ◌<◌, ◌≤◌, ◌^◌, IfSome};
 ghost use Rattle.std.specs.Char.{is_ascii_digit};
 ghost use Rattle.std.specs.List.{list_all};
-ghost use Rattle.dinero_pipe.specs.Values.{bounded_value, choice_value, count_value, replacement_value, size_value, unit_value};
+ghost use Rattle.dinero_pipe.specs.Values.{bounded_value, choice_value, count_value};
+ghost use Rattle.dinero_pipe.specs.Values.{replacement_value, size_value, unit_value};
 
 use cache_core::Repl;
 

@@ -3,8 +3,14 @@
 ghost use Rattle.std.specs.Prelude.{◌≡◌, ◌≤◌, ◌^◌, IfErr, IfOk, false, true};
 ghost use Rattle.clap.specs.Words.{found_of, rows_of};
 ghost use Rattle.stage_core.specs.Events.{IsBounded};
-ghost use Rattle.dinero_pipe.specs.Answer.{bounded_at, choice_at, count_at, data_cache, instruction_cache, is_good, refusal_by_option, replacement_at, second_level, selection_at, size_at, text_of, unless_bad, wanted};
-ghost use Rattle.dinero_pipe.specs.Options.{bounded, choice, count, data_options, instruction_options, kind_of_option, options, replacement, second_level_options, selection_options, size};
+ghost use Rattle.dinero_pipe.specs.Answer.{bounded_at, choice_at, count_at, data_cache};
+ghost use Rattle.dinero_pipe.specs.Answer.{instruction_cache, is_good, refusal_by_option};
+ghost use Rattle.dinero_pipe.specs.Answer.{replacement_at, second_level, selection_at, size_at};
+ghost use Rattle.dinero_pipe.specs.Answer.{text_of, unless_bad, wanted};
+ghost use Rattle.dinero_pipe.specs.Options.{bounded, choice, count, data_options};
+ghost use Rattle.dinero_pipe.specs.Options.{instruction_options, kind_of_option, options};
+ghost use Rattle.dinero_pipe.specs.Options.{replacement, second_level_options, selection_options};
+ghost use Rattle.dinero_pipe.specs.Options.{size};
 
 use crate::opt::Opt;
 use crate::values::{read_bounded, read_choice, read_count, read_replacement, read_size};

@@ -3,7 +3,8 @@ use Rattle.std.specs.Option.{option_map_or}
 use Rattle.lru.specs.LruCache.{lru_cache, put_entries, displaced}
 use Rattle.cache_core.specs.Policy.{is_fifo}
 use Rattle.cache_core.specs.Mapped.{shown, dirty_entry}
-use Rattle.cache_core.proofs.MapStep.{hit-row, hit-is, hit-back, miss-same, pass-row, pass-back, load-row, load-back, suc_pred, or-nothing}
+use Rattle.cache_core.proofs.MapStep.{hit-row, hit-is, hit-back, miss-same, pass-row, pass-back}
+use Rattle.cache_core.proofs.MapStep.{load-row, load-back, suc_pred, or-nothing}
 use Rattle.cache_core.proofs.maps.serve_map.Goals as goal
 
 pub returns-then-hit-clause-served : goal.returns-then-hit-clause-served

@@ -2,8 +2,10 @@ use Rattle.std.proofs.Common.{◌≡◌, ◌∙◌, ◌++◌, ◌∷◌, [], Lis
 use Rattle.std.proofs.lemmas.Result.{err_from_is_err_and}
 use Rattle.clap.specs.Words.{Row, found_of, rows_of}
 use Rattle.stage_core.specs.declared.config.CacheSpec.{CacheSpec}
-use Rattle.dinero_pipe.specs.Answer.{data_cache, instruction_cache, second_level, selection_at, unless_bad, wanted}
-use Rattle.dinero_pipe.specs.Options.{data_options, instruction_options, options, second_level_options, selection_options}
+use Rattle.dinero_pipe.specs.Answer.{data_cache, instruction_cache, second_level, selection_at}
+use Rattle.dinero_pipe.specs.Answer.{unless_bad, wanted}
+use Rattle.dinero_pipe.specs.Options.{data_options, instruction_options, options}
+use Rattle.dinero_pipe.specs.Options.{second_level_options, selection_options}
 use Rattle.dinero_pipe.specs.declared.opt.Opt.{Opt}
 use Rattle.dinero_pipe.specs.declared.opt.Opt.TheVariants as o
 use Rattle.dinero_pipe.proofs.AnswerLemmas.{bad_first, bad_stays, good_first, good_stays, none_left}

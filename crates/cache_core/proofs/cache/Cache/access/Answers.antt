@@ -1,4 +1,5 @@
-use Rattle.std.proofs.Common.{◌≡◌, ℕ, ◌+◌, ◌/◌, ◌%◌, not, nat_eq, ◌||◌, is_some, sym, ap, subst, ◌∙◌, arith, ◌&&◌}
+use Rattle.std.proofs.Common.{◌≡◌, ℕ, ◌+◌, ◌/◌, ◌%◌, not, nat_eq, ◌||◌, is_some, sym, ap, subst}
+use Rattle.std.proofs.Common.{◌∙◌, arith, ◌&&◌}
 use Rattle.std.specs.HashSet.{contains}
 use Rattle.std.proofs.Math.Nat.{mod-lt}
 use Rattle.cache_core.specs.History.{access}

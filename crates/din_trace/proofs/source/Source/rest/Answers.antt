@@ -1,4 +1,5 @@
-use Rattle.std.proofs.Common.{◌≡◌, ◌+◌, ◌<◌, [], ◌∷◌, ◌++◌, Option, Ok, refl, ap, ◌∙◌, subst, arith, vec_len}
+use Rattle.std.proofs.Common.{◌≡◌, ◌+◌, ◌<◌, [], ◌∷◌, ◌++◌, Option, Ok, refl, ap, ◌∙◌, subst, arith}
+use Rattle.std.proofs.Common.{vec_len}
 use Rattle.din_trace.specs.declared.record.DinRecord.{DinRecord}
 use Rattle.din_trace.specs.Left.{Open, behind_first}
 use Rattle.din_trace.specs.Source as words
