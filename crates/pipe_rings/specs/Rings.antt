@@ -1,0 +1,30 @@
+-- What a contract sees of the two ends of a ring: which ring it is, what was sent, and what was received.
+use Rattle.std.specs.Prelude.{◌≡◌, ℕ, List, ◌++◌, length}
+use Rattle.rtrb.specs.Ring as ring
+use Rattle.pipe_rings.specs.declared.tx.Tx.{Tx}
+use Rattle.pipe_rings.specs.declared.rx.Rx.{Rx}
+
+module _ {T : Type 0} where
+  -- every item sent so far, oldest first
+  abbrev pub sent : Tx T → List T
+  sent tx = ring.sent tx.end
+
+  -- every item received so far, oldest first
+  abbrev pub received : Rx T → List T
+  received rx = ring.received rx.end
+
+  -- the two ends of one ring
+  abbrev pub AreEnds : Tx T → Rx T → Type 0
+  AreEnds tx rx = ring.IsPair tx.end rx.end
+
+  -- the sending end of the same ring
+  abbrev pub SameTx : Tx T → Tx T → Type 0
+  SameTx was now = ring.SameProducer was.end now.end
+
+  -- the receiving end of the same ring
+  abbrev pub SameRx : Rx T → Rx T → Type 0
+  SameRx was now = ring.SameConsumer was.end now.end
+
+  -- the first list is the second one, followed by `count` items that are still on their way
+  abbrev pub IsBehindBy : ℕ → List T → List T → Type 0
+  IsBehindBy count sent received = (rest : List T) × (length rest ≡ count) × (sent ≡ received ++ rest)

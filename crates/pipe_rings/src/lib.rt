@@ -1,0 +1,52 @@
+//! Carries items from one thread to another, through a ring with room for a fixed number of them.
+//!
+//! [`ring`] makes the two ends. [`Tx`] sends and waits where the ring is full, [`Rx`] receives and
+//! waits where it is empty, and [`settle`] counts what is still on its way once both ends are in
+//! one thread again. The ring itself is rtrb's: one producer, one consumer, no lock. The rooms: `tx`
+//! and `rx` the ends, `wait` how one end waits for the other.
+//!
+//! Proved: what was sent and what was received are lists that only grow at their end, by the item of
+//! the call and by no other; an item that is handed back was not sent; and what was sent is what
+//! was received, followed by as many items as `settle` counts. Tested only: that an end is told to
+//! be gone only where it was dropped, and that memory for a ring is granted.
+#![tactic(auto)]
+
+mod rx;
+#[cfg(test)]
+mod tests;
+mod tx;
+mod wait;
+
+ghost use Rattle.std.specs.Prelude.{◌≡◌, ◌≤◌, [], IfOk};
+ghost use Rattle.pipe_rings.specs.Rings.{sent, received, AreEnds, SameTx, SameRx, IsBehindBy};
+
+use rtrb::RingBuffer;
+pub use rx::{Rx, SenderGone};
+use std::alloc::Global;
+pub use tx::{Gone, Tx};
+
+/// The memory for a ring was refused.
+#[derive(Debug, Clone, Copy, PartialEq, Eq)]
+pub struct NoMemory;
+
+/// The two ends of one new ring with room for `capacity` items, all of whose memory is taken here.
+pub fn ring<T: Copy>(alloc: Global, capacity: usize) -> Result<(Tx<T>, Rx<T>), NoMemory>
+    requires { (1 ≤ capacity) × (capacity ≤ 65536) }
+    ensures one { IfOk result (λ r. AreEnds r.0 r.1) }
+    ensures new { IfOk result (λ r. (sent r.0 ≡ []) × (received r.1 ≡ [])) }
+{
+    match RingBuffer::new(alloc, capacity) {
+        Ok((producer, consumer)) => Ok((Tx { end: producer }, Rx { end: consumer })),
+        Err(_) => Err(NoMemory),
+    }
+}
+
+/// How many items were sent and not yet received.
+pub fn settle<T: Copy>(tx: &mut Tx<T>, rx: &mut Rx<T>) -> usize
+    requires { AreEnds tx.old rx.old }
+    ensures sender { SameTx tx.old tx.new × (sent tx.new ≡ sent tx.old) }
+    ensures receiver { SameRx rx.old rx.new × (received rx.new ≡ received rx.old) }
+    ensures left { IsBehindBy result (sent tx.new) (received rx.new) }
+{
+    rx.end.slots_beside(&mut tx.end)
+}
