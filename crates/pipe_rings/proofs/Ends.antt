@@ -13,4 +13,8 @@ module _ {T : Type 0} where
 
   pub ends_stay : (a b : Tx T) (c d : Rx T) → SameTx a b → SameRx c d → AreEnds a c → AreEnds b d
   ends_stay a b c d s r e =
-      (r.0.0 ∙ e.0 ∙ sym s.0.0, r.0.1 ∙ e.1 ∙ sym s.0.1, r.0.2 ∙ e.2 ∙ sym s.0.2, r.0.3 ∙ e.3 ∙ sym s.0.3)
+      let words = r.0.0 ∙ e.0 ∙ sym s.0.0 in
+      let slots = r.0.1 ∙ e.1 ∙ sym s.0.1 in
+      let names = r.0.2 ∙ e.2 ∙ sym s.0.2 in
+      let heap = r.0.3 ∙ e.3 ∙ sym s.0.3 in
+      (words, slots, names, heap)

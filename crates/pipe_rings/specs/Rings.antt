@@ -1,4 +1,4 @@
--- What a contract sees of the two ends of a ring: which ring it is, what was sent, and what was received.
+-- What a contract sees of the two ends of a ring: which ring, what was sent, what was received.
 use Rattle.std.specs.Prelude.{◌≡◌, ℕ, List, ◌++◌, length}
 use Rattle.rtrb.specs.Ring as ring
 use Rattle.pipe_rings.specs.declared.tx.Tx.{Tx}
@@ -25,6 +25,7 @@ module _ {T : Type 0} where
   abbrev pub SameRx : Rx T → Rx T → Type 0
   SameRx was now = ring.SameConsumer was.end now.end
 
-  -- the first list is the second one, followed by `count` items that are still on their way
+  -- the first list is the second one, followed by `count` more items
   abbrev pub IsBehindBy : ℕ → List T → List T → Type 0
-  IsBehindBy count sent received = (rest : List T) × (length rest ≡ count) × (sent ≡ received ++ rest)
+  IsBehindBy count sent received =
+      (rest : List T) × (length rest ≡ count) × (sent ≡ received ++ rest)
