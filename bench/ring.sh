@@ -1,0 +1,35 @@
+#!/usr/bin/env bash
+# How fast messages pass through one ring between two threads, and what a thread costs that waits.
+#
+#   bench/ring.sh [MESSAGES]        10,000,000 messages, if no number is given
+#
+# A ring of 1 passes one message in 64 of them, a ring of 16 one in four. Each figure is the best and
+# the median of nine rounds, in millions a second. Then the processor time of a thread that waits
+# for another one, which sends a message a second.
+set -euo pipefail
+messages=${1:-10000000}
+top=$(cd "$(dirname "$0")/.." && pwd)
+program=$top/crates/ring_bench/out/ring_bench
+folder=$(mktemp -d)
+trap 'rm -rf "$folder"' EXIT
+
+# rt run builds the program where it isn't there, or isn't that of the sources.
+(cd "$top/crates/ring_bench" && rt run --jobs 1 -- 1000 > "$folder/build.log" 2>&1) || {
+    cat "$folder/build.log" >&2
+    exit 1
+}
+
+for _ in 1 2 3 4 5 6 7 8 9; do
+    "$program" "$messages" time | grep 'a second'
+done > "$folder/rounds"
+printf '%-10s %8s %8s\n' capacity best median
+for capacity in 1 16 64 1024 65536; do
+    grep "^capacity $capacity:" "$folder/rounds" | awk '{ print $3 / 1e6 }' | sort -g |
+        awk -v capacity=$capacity '
+            { speeds[NR] = $1 }
+            END { printf "%-10s %8.2f %8.2f\n", capacity, speeds[NR], speeds[int((NR + 1) / 2)] }'
+done
+
+echo
+echo "processor time of a thread that waits, and of its sender, which sleeps:"
+time "$program" 4 wait
