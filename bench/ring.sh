@@ -31,5 +31,5 @@ for capacity in 1 16 64 1024 65536; do
 done
 
 echo
-echo "processor time of a thread that waits, and of its sender, which sleeps:"
-time "$program" 4 wait
+echo "processor time of a thread that waits, with that of its sender, which sleeps:"
+time "$program" 4 wait > /dev/null
