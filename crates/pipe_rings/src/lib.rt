@@ -1,8 +1,8 @@
 //! Carries items from one thread to another, through a ring with room for a fixed number of them.
 //!
-//! [`ring`] makes the two ends. [`Tx`] sends, and waits where the ring is full; [`Rx`] receives, and
-//! waits where it is empty; and [`settle`] counts what is still on its way once both ends are in
-//! one thread again. The ring itself is rtrb's: one producer, one consumer, no lock. The rooms:
+//! [`ring`] makes the two ends. [`Tx`] sends, and waits where the ring is full; [`Rx`] receives,
+//! and waits where it is empty; and [`settle`] counts what is still on its way once both ends are
+//! in one thread again. The ring itself is rtrb's: one producer, one consumer, no lock. The rooms:
 //! `tx` and `rx` the ends, `wait` how one end waits for the other.
 //!
 //! Proved: what was sent and what was received are lists that only grow at their end, by the item
