@@ -6,8 +6,9 @@ use crate::{
 use std::alloc::Global;
 use std::process::Abort;
 
+mod geometries;
 mod many_ways;
-mod refusals;
+mod memory;
 mod traces;
 
 const HIT: Outcome = Outcome {

@@ -1,5 +1,6 @@
-//! Tests of the words, of the values and of the lines of faults.
+//! Tests of the words, of the values, of the lines of faults and of want of memory.
 
 mod faults;
+mod memory;
 mod values;
 mod words;

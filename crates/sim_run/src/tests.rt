@@ -6,6 +6,7 @@ ghost use Rattle.stage_core.specs.Events.{IsBounded};
 mod faults;
 mod layout;
 mod levels;
+mod memory;
 mod runs;
 mod writers;
 

@@ -1,5 +1,6 @@
 //! Worked traces. What is expected of them was worked out by hand.
 
+mod memory;
 mod selections;
 mod streams;
 mod totals;

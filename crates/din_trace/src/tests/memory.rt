@@ -1,26 +1,72 @@
-//! Want of memory. The test holds with ample memory, and where any allocation is refused.
+//! Want of memory. Each test holds with ample memory, and where any one growth is refused.
 
-use super::fakes::{fetch, in_pieces};
-use crate::{MAX_LIMIT, Source, TraceFault, read_all};
+use super::fakes::{bad, fetch, in_pieces};
+use crate::{DinRecord, MAX_LIMIT, Source, TraceFault, Why, read_all};
+use std::alloc::Global;
+use std::process::Abort;
+
+static TWELVE: &[u8] = b"2 0\n2 0\n2 0\n2 0\n2 0\n2 0\n2 0\n2 0\n2 0\n2 0\n2 0\n2 0\n";
+
+/// All that is left of a text in pieces is these records, or this fault, and so it stays; or
+/// memory is wanted, and so that stays.
+fn leaves(rt: &impl Abort, alloc: Global, text: &[u8], want: Result<&[DinRecord], TraceFault>) {
+    let mut source = Source::new(in_pieces(text, 5, false), MAX_LIMIT);
+    let fault = match source.rest(alloc) {
+        Ok(records) => {
+            assert!(rt; want == Ok(records.as_slice()));
+            assert!(rt; source.next() == Ok(None));
+            return;
+        }
+        Err(fault) => fault,
+    };
+    assert!(rt; want.err() == Some(fault) || fault == TraceFault::Memory);
+    assert!(rt; source.next() == Err(fault));
+    assert!(rt; source.rest(alloc).err() == Some(fault));
+    assert!(rt; source.next() == Err(fault));
+}
+
+/// A text has these records, or this fault; or memory is wanted.
+fn reads(
+    rt: &impl Abort,
+    alloc: Global,
+    text: &[u8],
+    limit: u64,
+    want: Result<&[DinRecord], TraceFault>,
+) {
+    assert!(rt; limit <= MAX_LIMIT);
+    match read_all(alloc, text, limit) {
+        Ok(records) => assert!(rt; want == Ok(records.as_slice())),
+        Err(fault) => assert!(rt; want.err() == Some(fault) || fault == TraceFault::Memory),
+    }
+}
 
 #[test]
-fn repeats_a_want_of_memory(rt: HostRuntime) {
-    let text = b"2 0\n2 0\n2 0\n2 0\n2 0\n2 0\n2 0\n2 0\n2 0\n2 0\n2 0\n2 0\n";
-    let mut source = Source::new(in_pieces(text, 5, false), MAX_LIMIT);
-    match source.rest(rt.alloc()) {
-        Ok(records) => {
-            assert!(rt; records.as_slice() == [fetch(0); 12].as_slice());
-            assert!(rt; source.next() == Ok(None));
-        }
-        Err(fault) => {
-            assert!(rt; fault == TraceFault::Memory);
-            assert!(rt; source.next() == Err(TraceFault::Memory));
-            assert!(rt; source.rest(rt.alloc()).err() == Some(TraceFault::Memory));
-            assert!(rt; source.next() == Err(TraceFault::Memory));
-        }
-    }
-    match read_all(rt.alloc(), text, MAX_LIMIT) {
-        Ok(records) => assert!(rt; records.as_slice() == [fetch(0); 12].as_slice()),
-        Err(fault) => assert!(rt; fault == TraceFault::Memory),
-    }
+fn all_records_are_left_or_memory_is_wanted(rt: HostRuntime) {
+    let all = [fetch(0); 12];
+    leaves(&rt, rt.alloc(), TWELVE, Ok(all.as_slice()));
+}
+
+#[test]
+fn a_fault_behind_records_is_left_or_memory_is_wanted(rt: HostRuntime) {
+    let gap = Err(bad(6, Why::Gap));
+    leaves(&rt, rt.alloc(), b"2 0\n2 0\n2 0\n2 0\n2 0\n2\n2 0\n", gap);
+}
+
+#[test]
+fn a_text_has_its_records_or_memory_is_wanted(rt: HostRuntime) {
+    let all = [fetch(0); 12];
+    reads(&rt, rt.alloc(), TWELVE, MAX_LIMIT, Ok(all.as_slice()));
+}
+
+#[test]
+fn a_text_is_too_long_or_memory_is_wanted(rt: HostRuntime) {
+    reads(&rt, rt.alloc(), TWELVE, 40, Err(TraceFault::TooLong));
+}
+
+#[test]
+fn no_memory_is_wanted_for_a_fault_before_all_records(rt: HostRuntime) {
+    let mut source = Source::new(in_pieces(b"\n2\n2 0\n", 5, false), MAX_LIMIT);
+    assert!(rt; source.rest(rt.alloc()).err() == Some(bad(2, Why::Gap)));
+    let fault = read_all(rt.alloc(), b"9 0\n2 0\n", MAX_LIMIT).err();
+    assert!(rt; fault == Some(bad(1, Why::Label)));
 }

@@ -30,7 +30,7 @@ fn changed<'a>(changes: &'a str, name: &str) -> Option<&'a str> {
 }
 
 /// The answer to the worked words, with the values of these options in their places or behind them.
-fn parsed(
+pub fn parsed(
     alloc: Global,
     changes: &str,
 ) -> Result<Result<(Config, Selection), WordsFault>, AllocError> {
@@ -81,28 +81,31 @@ fn is_cache(cache: (Geometry, Policy), blocks: u64, bsize: u64, sets: u64, polic
         && cache.1 == policy
 }
 
-#[test]
-fn reads_the_worked_caches_and_the_whole_trace(rt: HostRuntime) -> Result<(), Fail> {
-    let answer = parsed(rt.alloc(), "")?;
-    assert!(rt; answer.is_ok());
+/// Are these the worked caches and ring, and is the whole trace selected?
+pub fn worked_caches(config: &Config, selection: Selection) -> bool {
     let lru = Policy {
         repl: Repl::Lru,
         wback: true,
         walloc: true,
     };
+    let everything = Selection {
+        skip: 0,
+        max: 0,
+        every: 0,
+    };
+    is_cache(config.i(), 4, 4, 4, lru)
+        && is_cache(config.d(), 4, 4, 2, lru)
+        && is_cache(config.u(), 4, 8, 2, lru)
+        && config.ring() == 2
+        && selection == everything
+}
+
+#[test]
+fn reads_the_worked_caches_and_the_whole_trace(rt: HostRuntime) -> Result<(), Fail> {
+    let answer = parsed(rt.alloc(), "")?;
+    assert!(rt; answer.is_ok());
     if let Ok((config, selection)) = answer {
-        assert!(rt; is_cache(config.i(), 4, 4, 4, lru));
-        assert!(rt; is_cache(config.d(), 4, 4, 2, lru));
-        assert!(rt; is_cache(config.u(), 4, 8, 2, lru));
-        assert_eq!(rt; config.ring(), 2);
-        assert_eq!(rt;
-            selection,
-            Selection {
-                skip: 0,
-                max: 0,
-                every: 0
-            }
-        );
+        assert!(rt; worked_caches(&config, selection));
     }
     Ok(())
 }

@@ -1,0 +1,132 @@
+//! Want of memory. Each test holds with ample memory, and where any one growth is refused.
+
+use super::{FIFO, LRU, missed, writes};
+use crate::{
+    Access, Cache, Class, Counts, Geometry, MAX_EVENTS, MissKind, NoMemory, Outcome, Policy,
+};
+use std::alloc::Global;
+use std::process::Abort;
+
+/// What a cache is to be after a refusal: as before the call, and failed for ever. So is the list
+/// that a flush was lent.
+fn stays_failed(rt: &impl Abort, cache: &mut Cache, before: (Counts, u64), out: &mut Vec<u64>) {
+    assert!(rt; cache.failed());
+    assert_eq!(rt; (cache.counts(), cache.served()), before);
+    assert!(rt; cache.served() < MAX_EVENTS);
+    let again = cache.access(Access {
+        class: Class::Read,
+        addr: 0,
+    });
+    assert_eq!(rt; again, Err(NoMemory));
+    assert!(rt; cache.served() < MAX_EVENTS);
+    assert_eq!(rt; cache.flush(out), Err(NoMemory));
+    assert!(rt; cache.failed());
+    assert_eq!(rt; (cache.counts(), cache.served()), before);
+    assert_eq!(rt; out.as_slice(), [7].as_slice());
+}
+
+/// A cache that holds nothing, if memory is granted.
+fn made(rt: &impl Abort, alloc: Global, shape: (u64, u64, u64), policy: Policy) -> Option<Cache> {
+    let geometry = Geometry::new(shape.0, shape.1, shape.2).expect(rt, "a lawful geometry");
+    let cache = Cache::new(alloc, geometry, policy).ok()?;
+    assert!(rt; !cache.failed());
+    assert_eq!(rt; (cache.counts(), cache.served()), (Counts::default(), 0));
+    Some(cache)
+}
+
+/// The list that a flush is lent, which holds one number, if memory is granted.
+fn lent(alloc: Global) -> Option<Vec<u64>> {
+    let mut out = Vec::new(alloc);
+    out.push(7).ok()?;
+    Some(out)
+}
+
+/// Writes to a block, with this outcome. If memory is refused, the cache stays failed.
+fn wrote(rt: &impl Abort, cache: &mut Cache, out: &mut Vec<u64>, addr: u64, want: Outcome) -> bool {
+    let before = (cache.counts(), cache.served());
+    assert!(rt; cache.served() < MAX_EVENTS);
+    let served = cache.access(Access {
+        class: Class::Write,
+        addr,
+    });
+    if served.is_err() {
+        stays_failed(rt, cache, before, out);
+        return false;
+    }
+    assert_eq!(rt; served, Ok(want));
+    true
+}
+
+/// Flushes. If memory is refused, the cache stays failed and the list as it was.
+fn flushed(rt: &impl Abort, cache: &mut Cache, out: &mut Vec<u64>) -> bool {
+    let before = (cache.counts(), cache.served());
+    assert!(rt; cache.served() < MAX_EVENTS);
+    if cache.flush(out).is_err() {
+        stays_failed(rt, cache, before, out);
+        return false;
+    }
+    true
+}
+
+/// Writes the first blocks and flushes, up to the first refusal.
+fn serves_or_fails(rt: &impl Abort, alloc: Global, shape: (u64, u64, u64), policy: Policy) {
+    let Some(mut out) = lent(alloc) else {
+        return;
+    };
+    let Some(mut cache) = made(rt, alloc, shape, policy) else {
+        return;
+    };
+    let first_use = missed(MissKind::Compulsory);
+    for block in 0..200 {
+        if !wrote(rt, &mut cache, &mut out, 4 * block, first_use) {
+            return;
+        }
+    }
+    if !flushed(rt, &mut cache, &mut out) {
+        return;
+    }
+    assert_eq!(rt; out.len(), 201);
+    assert_eq!(rt; cache.counts().misses, writes(200));
+    assert_eq!(rt; cache.counts().written_back, 200);
+    assert_eq!(rt; cache.served(), 201);
+}
+
+#[test]
+fn two_blocks_are_written_and_flushed_or_the_cache_fails(rt: HostRuntime) {
+    let Some(mut out) = lent(rt.alloc()) else {
+        return;
+    };
+    let Some(mut cache) = made(&rt, rt.alloc(), (16, 4, 2), LRU) else {
+        return;
+    };
+    let first_use = missed(MissKind::Compulsory);
+    if !wrote(&rt, &mut cache, &mut out, 8, first_use)
+        || !wrote(&rt, &mut cache, &mut out, 0, first_use)
+        || !flushed(&rt, &mut cache, &mut out)
+    {
+        return;
+    }
+    assert_eq!(rt; out.as_slice(), [7, 0, 8].as_slice());
+    let counts = Counts {
+        fetches: writes(2),
+        misses: writes(2),
+        compulsory: writes(2),
+        loaded: 2,
+        written_back: 2,
+        flushes: 1,
+        ..Counts::default()
+    };
+    assert_eq!(rt; (cache.counts(), cache.served()), (counts, 3));
+    assert!(rt; !cache.failed());
+}
+
+#[test]
+fn a_cache_of_few_ways_serves_all_or_fails(rt: HostRuntime) {
+    serves_or_fails(&rt, rt.alloc(), (1_024, 4, 4), LRU);
+}
+
+#[test]
+fn a_cache_of_many_ways_serves_all_or_fails(rt: HostRuntime) {
+    serves_or_fails(&rt, rt.alloc(), (1_024, 4, 256), FIFO);
+    serves_or_fails(&rt, rt.alloc(), (1_024, 4, 256), LRU);
+}

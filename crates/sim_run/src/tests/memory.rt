@@ -1,0 +1,126 @@
+//! Want of memory. Each test holds with ample memory, and where any one growth is refused.
+
+use super::{EVERYTHING, config};
+use crate::fault::RunFault;
+use crate::plain::simulate_plain;
+use din_trace::{FromRead, FromWrite, MAX_LIMIT, TraceFault, Why};
+use std::io;
+use std::io::Write;
+use std::test::Fail;
+
+/// The report of two writes and a flush, which writes both blocks back.
+static TWO_FLUSHED: &str = "\
+l1-icache                Total      Instrn        Read       Write        Misc
+Demand Fetches               0           0           0           0           0
+Demand Misses                0           0           0           0           0
+Miss Rate               0.0000      0.0000      0.0000      0.0000      0.0000
+Compulsory                   0           0           0           0           0
+Capacity                     0           0           0           0           0
+Conflict                     0           0           0           0           0
+Blocks Fetched               0
+Written Back                 0
+Writes Sent On               0
+Flushes                      1
+
+l1-dcache                Total      Instrn        Read       Write        Misc
+Demand Fetches               2           0           0           2           0
+Demand Misses                2           0           0           2           0
+Miss Rate               1.0000      0.0000      0.0000      1.0000      0.0000
+Compulsory                   2           0           0           2           0
+Capacity                     0           0           0           0           0
+Conflict                     0           0           0           0           0
+Blocks Fetched               2
+Written Back                 2
+Writes Sent On               0
+Flushes                      1
+
+l2-ucache                Total      Instrn        Read       Write        Misc
+Demand Fetches               4           0           2           2           0
+Demand Misses                2           0           2           0           0
+Miss Rate               0.5000      0.0000      1.0000      0.0000      0.0000
+Compulsory                   2           0           2           0           0
+Capacity                     0           0           0           0           0
+Conflict                     0           0           0           0           0
+Blocks Fetched               2
+Written Back                 2
+Writes Sent On               0
+Flushes                      1
+";
+
+/// A writer that takes just this text, and asks for no memory.
+#[derive(Drop)]
+struct Awaiting<'a> {
+    rest: &'a [u8],
+    flushes: u8,
+}
+
+impl Write for Awaiting<'_> {
+    fn write(&mut self, bytes: &[u8]) -> io::Result<usize> {
+        if !self.rest.starts_with(bytes) {
+            return Err(io::Error::from(io::ErrorKind::Other));
+        }
+        self.rest = &self.rest[bytes.len()..];
+        Ok(bytes.len())
+    }
+
+    fn flush(&mut self) -> io::Result<()> {
+        self.flushes = self.flushes.saturating_add(1);
+        Ok(())
+    }
+}
+
+#[test]
+fn a_run_writes_its_report_or_nothing(rt: HostRuntime) -> Result<(), Fail> {
+    let text = TWO_FLUSHED.as_bytes();
+    let mut output = Awaiting {
+        rest: text,
+        flushes: 0,
+    };
+    let trace: &[u8] = b"1 8\n1 0\n4 0\n";
+    let ended = simulate_plain(
+        rt.alloc(),
+        &config()?,
+        &EVERYTHING,
+        FromRead::new(trace),
+        MAX_LIMIT,
+        &mut FromWrite::new(&mut output),
+    );
+    match ended {
+        Ok(()) => {
+            assert!(rt; output.rest.is_empty());
+            assert_eq!(rt; output.flushes, 1);
+        }
+        Err(fault) => {
+            assert_eq!(rt; fault, RunFault::Memory);
+            assert!(rt; output.rest == text);
+            assert_eq!(rt; output.flushes, 0);
+        }
+    }
+    Ok(())
+}
+
+#[test]
+fn a_fault_behind_records_is_answered_or_memory_is_wanted(rt: HostRuntime) -> Result<(), Fail> {
+    let text = TWO_FLUSHED.as_bytes();
+    let mut output = Awaiting {
+        rest: text,
+        flushes: 0,
+    };
+    let trace: &[u8] = b"1 8\n1 0\n4 0\n9 0\n";
+    let ended = simulate_plain(
+        rt.alloc(),
+        &config()?,
+        &EVERYTHING,
+        FromRead::new(trace),
+        MAX_LIMIT,
+        &mut FromWrite::new(&mut output),
+    );
+    let label = RunFault::Trace(TraceFault::Bad {
+        line: 4,
+        why: Why::Label,
+    });
+    assert!(rt; ended == Err(label) || ended == Err(RunFault::Memory));
+    assert!(rt; output.rest == text);
+    assert_eq!(rt; output.flushes, 0);
+    Ok(())
+}

@@ -1,0 +1,216 @@
+//! Want of memory. Each test holds with ample memory, and where any one growth is refused.
+
+use super::{config, data, flush, write};
+use crate::config::Config;
+use crate::l1_stage::L1Stage;
+use crate::l2_stage::L2Stage;
+use crate::memory::NoMemory;
+use crate::message::{FromStage, Side, ToStage, What};
+use crate::plain::run_plain;
+use crate::selection::Selection;
+use crate::totals::Totals;
+use cache_core::{Class, Counts, MAX_EVENTS, PerClass};
+use std::alloc::Global;
+use std::process::Abort;
+use std::test::Fail;
+
+// What a first-level stage is to be after a refusal: as before, with nothing to send, and failed.
+fn stays_failed(rt: &impl Abort, stage: &mut L1Stage, before: (Counts, u64)) {
+    for message in [ToStage::Flush { place: 9 }, ToStage::Finish] {
+        assert!(rt; stage.failed());
+        assert!(rt; !stage.finished());
+        assert_eq!(rt; (stage.counts(), stage.served()), before);
+        assert_eq!(rt; stage.outbox_next(), None);
+        assert!(rt; stage.ready());
+        assert!(rt; stage.served() < MAX_EVENTS);
+        assert_eq!(rt; stage.on(message), Err(NoMemory));
+    }
+    assert!(rt; stage.failed());
+    assert!(rt; !stage.finished());
+    assert_eq!(rt; (stage.counts(), stage.served()), before);
+    assert_eq!(rt; stage.outbox_next(), None);
+}
+
+// Takes a message in and sends just this. If memory is refused, the stage stays failed.
+fn answers(rt: &impl Abort, stage: &mut L1Stage, message: ToStage, want: &[FromStage]) -> bool {
+    let before = (stage.counts(), stage.served());
+    assert!(rt; stage.ready());
+    assert!(rt; stage.served() < MAX_EVENTS);
+    if stage.on(message).is_err() {
+        stays_failed(rt, stage, before);
+        return false;
+    }
+    assert!(rt; !stage.failed());
+    for message in want {
+        assert_eq!(rt; stage.outbox_next(), Some(*message));
+    }
+    assert_eq!(rt; stage.outbox_next(), None);
+    true
+}
+
+fn made(alloc: Global, side: Side) -> Result<Option<L1Stage>, Fail> {
+    let config = config(data())?;
+    let (geometry, policy) = match side {
+        Side::I => config.i(),
+        Side::D => config.d(),
+    };
+    Ok(L1Stage::new(alloc, side, geometry, policy).ok())
+}
+
+fn reference(place: u64, class: Class, addr: u64) -> ToStage {
+    ToStage::Ref { place, class, addr }
+}
+
+fn part(place: u64, part: u32, what: What) -> FromStage {
+    FromStage::Part { place, part, what }
+}
+
+#[test]
+fn the_data_stage_answers_or_fails(rt: HostRuntime) -> Result<(), Fail> {
+    let Some(mut stage) = made(rt.alloc(), Side::D)? else {
+        return Ok(());
+    };
+    let first = [
+        part(1, 1, What::Fetch(Class::Read, 8)),
+        FromStage::Done { place: 1, parts: 1 },
+    ];
+    let second = [
+        part(2, 1, What::Fetch(Class::Read, 0)),
+        FromStage::Done { place: 2, parts: 1 },
+    ];
+    let flushed = [
+        part(3, 1, What::Back(0)),
+        part(3, 2, What::Back(8)),
+        part(3, 3, What::FlushAll),
+        FromStage::Done { place: 3, parts: 3 },
+    ];
+    if answers(&rt, &mut stage, reference(1, Class::Write, 8), &first)
+        && answers(&rt, &mut stage, reference(2, Class::Write, 0), &second)
+        && answers(&rt, &mut stage, ToStage::Flush { place: 3 }, &flushed)
+        && answers(&rt, &mut stage, ToStage::Finish, &[FromStage::Finish])
+    {
+        assert!(rt; stage.finished());
+        assert_eq!(rt; (stage.counts(), stage.served()), (two_written_back(), 3));
+    }
+    Ok(())
+}
+
+#[test]
+fn the_instruction_stage_answers_or_fails(rt: HostRuntime) -> Result<(), Fail> {
+    let Some(mut stage) = made(rt.alloc(), Side::I)? else {
+        return Ok(());
+    };
+    let fetched = [
+        part(1, 1, What::Fetch(Class::Instr, 4)),
+        FromStage::Done { place: 1, parts: 1 },
+    ];
+    let flushed = [FromStage::Done { place: 2, parts: 0 }];
+    if answers(&rt, &mut stage, reference(1, Class::Instr, 6), &fetched)
+        && answers(&rt, &mut stage, ToStage::Flush { place: 2 }, &flushed)
+        && answers(&rt, &mut stage, ToStage::Finish, &[FromStage::Finish])
+    {
+        assert!(rt; stage.finished());
+        assert_eq!(rt; stage.served(), 2);
+    }
+    Ok(())
+}
+
+// Serves what the first level sends. If memory is refused, the second level stays failed.
+fn serves(rt: &impl Abort, stage: &mut L2Stage, what: What) -> bool {
+    let before = (stage.counts(), stage.served());
+    assert!(rt; stage.served() < MAX_EVENTS);
+    if stage.on(what).is_ok() {
+        assert!(rt; !stage.failed());
+        return true;
+    }
+    for what in [What::Back(0), What::FlushAll] {
+        assert!(rt; stage.failed());
+        assert_eq!(rt; (stage.counts(), stage.served()), before);
+        assert!(rt; stage.served() < MAX_EVENTS);
+        assert_eq!(rt; stage.on(what), Err(NoMemory));
+    }
+    assert!(rt; stage.failed());
+    assert_eq!(rt; (stage.counts(), stage.served()), before);
+    false
+}
+
+#[test]
+fn the_second_level_serves_or_fails(rt: HostRuntime) -> Result<(), Fail> {
+    let (geometry, policy) = config(data())?.u();
+    let Ok(mut stage) = L2Stage::new(rt.alloc(), geometry, policy) else {
+        return Ok(());
+    };
+    let sent = [
+        What::Fetch(Class::Read, 8),
+        What::Fetch(Class::Read, 0),
+        What::Back(0),
+        What::Back(8),
+        What::FlushAll,
+    ];
+    for what in sent {
+        if !serves(&rt, &mut stage, what) {
+            return Ok(());
+        }
+    }
+    assert_eq!(rt;
+        (stage.counts(), stage.served()),
+        (two_read_and_written(), 5)
+    );
+    Ok(())
+}
+
+// Two blocks of data were written, and written back at a flush.
+fn two_written_back() -> Counts {
+    let writes = PerClass {
+        write: 2,
+        ..PerClass::default()
+    };
+    Counts {
+        fetches: writes,
+        misses: writes,
+        compulsory: writes,
+        loaded: 2,
+        written_back: 2,
+        flushes: 1,
+        ..Counts::default()
+    }
+}
+
+// What the second level serves for that.
+fn two_read_and_written() -> Counts {
+    let reads = PerClass {
+        read: 2,
+        ..PerClass::default()
+    };
+    Counts {
+        fetches: PerClass { write: 2, ..reads },
+        misses: reads,
+        compulsory: reads,
+        loaded: 2,
+        written_back: 2,
+        flushes: 1,
+        ..Counts::default()
+    }
+}
+
+static EVERYTHING: Selection = Selection {
+    skip: 0,
+    max: 0,
+    every: 0,
+};
+
+#[test]
+fn a_run_counts_all_or_wants_memory(rt: HostRuntime) -> Result<(), Fail> {
+    let config: Config = config(data())?;
+    let records = [write(8), write(0), flush()];
+    let Ok(totals) = run_plain(rt.alloc(), &config, &EVERYTHING, &records) else {
+        return Ok(());
+    };
+    let i = Counts {
+        flushes: 1,
+        ..Counts::default()
+    };
+    let (d, u) = (two_written_back(), two_read_and_written());
+    assert_eq!(rt; totals, Totals { i, d, u });
+    Ok(())
+}
