@@ -31,7 +31,7 @@ use din_trace::{FromRead, FromWrite, MAX_LIMIT};
 use sim_run::{RunFault, simulate_plain};
 use stage_core::{Config, Selection};
 use std::env;
-use std::io::{BufWriter, Write};
+use std::io::{BufWriter, ErrorKind, Write};
 use std::process::ExitCode;
 
 /// The buffer turns the report into one write.
@@ -57,11 +57,19 @@ fn write_help(rt: &HostRuntime) -> Result<(), Fault> {
     }
 }
 
-/// Words that are no text are refused as words.
+/// What words come to that can't be taken: memory was refused, or one of them is no text.
+fn untaken(kind: ErrorKind) -> WordsFault {
+    match kind {
+        ErrorKind::OutOfMemory => WordsFault::Memory,
+        _ => WordsFault::Words,
+    }
+}
+
 fn run(rt: &HostRuntime) -> Result<(), Fault> {
     let alloc = rt.alloc();
-    let Ok(mut arguments) = env::args(rt) else {
-        return Err(Fault::Words(WordsFault::Words));
+    let mut arguments = match env::args(rt) {
+        Ok(arguments) => arguments,
+        Err(error) => return Err(Fault::Words(untaken(error.kind()))),
     };
     let _program = arguments.next();
     let Ok(words) = arguments.collect::<Vec<String>>(alloc) else {
