@@ -3,6 +3,7 @@
 ghost use Rattle.std.specs.Prelude.{◌≤◌};
 ghost use Rattle.stage_core.specs.Events.{IsBounded};
 
+mod devices;
 mod faults;
 mod layout;
 mod levels;

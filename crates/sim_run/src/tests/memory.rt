@@ -1,11 +1,10 @@
 //! Want of memory. Each test holds with ample memory, and where any one growth is refused.
 
+use super::devices::to_take;
 use super::{EVERYTHING, config};
 use crate::fault::RunFault;
 use crate::plain::simulate_plain;
 use din_trace::{FromRead, FromWrite, MAX_LIMIT, TraceFault, Why};
-use std::io;
-use std::io::Write;
 use std::test::Fail;
 
 /// The report of two writes and a flush, which writes both blocks back.
@@ -47,35 +46,10 @@ Writes Sent On               0
 Flushes                      1
 ";
 
-/// A writer that takes just this text, and asks for no memory.
-#[derive(Drop)]
-struct Awaiting<'a> {
-    rest: &'a [u8],
-    flushes: u8,
-}
-
-impl Write for Awaiting<'_> {
-    fn write(&mut self, bytes: &[u8]) -> io::Result<usize> {
-        if !self.rest.starts_with(bytes) {
-            return Err(io::Error::from(io::ErrorKind::Other));
-        }
-        self.rest = &self.rest[bytes.len()..];
-        Ok(bytes.len())
-    }
-
-    fn flush(&mut self) -> io::Result<()> {
-        self.flushes = self.flushes.saturating_add(1);
-        Ok(())
-    }
-}
-
 #[test]
 fn a_run_writes_its_report_or_nothing(rt: HostRuntime) -> Result<(), Fail> {
     let text = TWO_FLUSHED.as_bytes();
-    let mut output = Awaiting {
-        rest: text,
-        flushes: 0,
-    };
+    let mut output = to_take(text, 65_536);
     let trace: &[u8] = b"1 8\n1 0\n4 0\n";
     let ended = simulate_plain(
         rt.alloc(),
@@ -102,10 +76,7 @@ fn a_run_writes_its_report_or_nothing(rt: HostRuntime) -> Result<(), Fail> {
 #[test]
 fn a_fault_behind_records_is_answered_or_memory_is_wanted(rt: HostRuntime) -> Result<(), Fail> {
     let text = TWO_FLUSHED.as_bytes();
-    let mut output = Awaiting {
-        rest: text,
-        flushes: 0,
-    };
+    let mut output = to_take(text, 65_536);
     let trace: &[u8] = b"1 8\n1 0\n4 0\n9 0\n";
     let ended = simulate_plain(
         rt.alloc(),

@@ -76,6 +76,15 @@ fn a_writer_may_fail_behind_each_byte(rt: HostRuntime) -> Result<(), Fail> {
 }
 
 #[test]
+fn a_writer_may_fail_at_once(rt: HostRuntime) -> Result<(), Fail> {
+    for trace in [b"".as_slice(), b"2 0\n".as_slice()] {
+        let mut writer = with_room(0, true);
+        assert_eq!(rt; run(rt.alloc(), trace, &mut writer)?, Err(RunFault::Write));
+    }
+    Ok(())
+}
+
+#[test]
 fn a_writer_may_fail_at_its_flush(rt: HostRuntime) -> Result<(), Fail> {
     let mut writer = with_room(ONE_WRITE_BACK.len(), false);
     let ended = run(rt.alloc(), b"1 0\n0 8\n0 10\n", &mut writer)?;

@@ -1,0 +1,89 @@
+//! Readers and writers that take few bytes at a time.
+
+use super::layout::ONE_WRITE_BACK;
+use super::{EVERYTHING, config};
+use crate::fault::RunFault;
+use crate::plain::simulate_plain;
+use din_trace::{FromRead, FromWrite, MAX_LIMIT};
+use std::alloc::Global;
+use std::io;
+use std::io::{Read, Write};
+use std::test::Fail;
+
+/// Gives a text in pieces of at most one size.
+#[derive(Drop)]
+struct Pieces<'a> {
+    rest: &'a [u8],
+    size: usize,
+}
+
+impl Read for Pieces<'_> {
+    fn read(&mut self, buffer: &mut [u8]) -> io::Result<usize> {
+        let count = buffer.len().min(self.rest.len()).min(self.size);
+        let (front, back) = self.rest.split_at(count);
+        buffer[..count].copy_from_slice(front);
+        self.rest = back;
+        Ok(count)
+    }
+}
+
+/// A writer that takes just one text, at most so many bytes at a time, and asks for no memory.
+#[derive(Drop)]
+pub struct Awaiting<'a> {
+    pub rest: &'a [u8],
+    pub flushes: u8,
+    most: usize,
+}
+
+pub fn to_take(text: &[u8], most: usize) -> Awaiting<'_> {
+    Awaiting {
+        rest: text,
+        flushes: 0,
+        most,
+    }
+}
+
+impl Write for Awaiting<'_> {
+    fn write(&mut self, bytes: &[u8]) -> io::Result<usize> {
+        let count = bytes.len().min(self.most);
+        if !self.rest.starts_with(&bytes[..count]) {
+            return Err(io::Error::from(io::ErrorKind::Other));
+        }
+        self.rest = &self.rest[count..];
+        Ok(count)
+    }
+
+    fn flush(&mut self) -> io::Result<()> {
+        self.flushes = self.flushes.saturating_add(1);
+        Ok(())
+    }
+}
+
+fn run(alloc: Global, size: usize, writer: &mut Awaiting) -> Result<Result<(), RunFault>, Fail> {
+    let config = config()?;
+    let rest = b"1 0\n0 8\n0 10\n";
+    let reader = FromRead::new(Pieces { rest, size });
+    let mut writer = FromWrite::new(writer);
+    Ok(simulate_plain(alloc, &config, &EVERYTHING, reader, MAX_LIMIT, &mut writer))
+}
+
+#[test]
+fn a_report_is_the_same_however_bytes_are_cut(rt: HostRuntime) -> Result<(), Fail> {
+    for size in [1, 2, 3, 5, 65_536] {
+        for most in [1, 7, 65_536] {
+            let mut writer = to_take(ONE_WRITE_BACK.as_bytes(), most);
+            assert_eq!(rt; run(rt.alloc(), size, &mut writer)?, Ok(()));
+            assert!(rt; writer.rest.is_empty());
+            assert_eq!(rt; writer.flushes, 1);
+        }
+    }
+    Ok(())
+}
+
+#[test]
+fn a_writer_that_takes_nothing_has_failed(rt: HostRuntime) -> Result<(), Fail> {
+    let mut writer = to_take(ONE_WRITE_BACK.as_bytes(), 0);
+    assert_eq!(rt; run(rt.alloc(), 65_536, &mut writer)?, Err(RunFault::Write));
+    assert_eq!(rt; writer.flushes, 0);
+    Ok(())
+}
