@@ -21,6 +21,7 @@ pub struct LineReader {
     so_far: LineSoFar,
     fault: Option<Why>,
     ghost bounded: { bytes ≤ 2 ^ 40 },
+    ghost numbered: { 0 < line },
     ghost counted: { line + begun so_far ≤ bytes + 1 },
 }
 

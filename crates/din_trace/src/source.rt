@@ -61,6 +61,7 @@ impl<R: ByteReader> Source<R> {
         // So no more than `limit` records are answered, whatever the reader tells.
         ensures records { IfOk result (λ found. IsSome found
             → room_of self.new < room_of self.old) }
+        ensures room { room_of self.old ≤ MAX_LIMIT }
     {
         'asks: loop {
             if let Some(answer) = self.backlog.answer() {
