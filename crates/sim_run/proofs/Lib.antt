@@ -1,1 +1,5 @@
 pub mod RateLemmas
+pub mod Serving
+pub mod Merging
+pub mod Merges
+pub mod Splitting

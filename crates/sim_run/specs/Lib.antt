@@ -1,2 +1,5 @@
 pub mod Report
+pub mod Faults
+pub mod Ends
+pub mod Threads
 pub mod Runs

@@ -1,7 +1,7 @@
 //! Why a run gives no report.
 
-ghost use Rattle.std.specs.Prelude.{◌≡◌};
-ghost use Rattle.sim_run.specs.Runs.{source_fault};
+ghost use Rattle.std.specs.Prelude.{◌≡◌, ◌⊎◌, ◌≤◌, Some, IfSome, option_map};
+ghost use Rattle.sim_run.specs.Faults.{source_fault, stopped, rank};
 
 use din_trace::TraceFault;
 
@@ -20,6 +20,19 @@ pub enum RunFault {
     Write,
 }
 
+/// Why a thread stopped before its end.
+#[derive(Clone, Copy, Debug, PartialEq, Eq)]
+pub enum Stop {
+    /// Memory was refused.
+    Memory,
+    /// The other end of a ring was gone.
+    Cut,
+}
+
+/// A thread was not granted. What it was to own was dropped.
+#[derive(Drop)]
+pub struct NoThread;
+
 /// What a run answers for a fault of its source: want of memory has a name of its own.
 pub fn fault_of_source(fault: TraceFault) -> RunFault
     ensures { result ≡ source_fault fault }
@@ -28,4 +41,62 @@ pub fn fault_of_source(fault: TraceFault) -> RunFault
         TraceFault::Memory => RunFault::Memory,
         _ => RunFault::Trace(fault),
     }
+}
+
+/// The fault that a run answers where a thread stopped so.
+fn told(stop: Stop) -> RunFault
+    ensures { result ≡ stopped stop }
+{
+    match stop {
+        Stop::Memory => RunFault::Memory,
+        Stop::Cut => RunFault::Cut,
+    }
+}
+
+/// Where a fault stands in the order in which faults are answered.
+fn rank(fault: RunFault) -> u8
+    ensures { result ≡ rank fault }
+{
+    match fault {
+        RunFault::Trace(_) => 0,
+        RunFault::Memory => 1,
+        RunFault::Threads => 2,
+        RunFault::Cut => 3,
+        RunFault::Write => 4,
+    }
+}
+
+/// The one that goes before the other, of a fault and what a thread came to.
+fn graver(fault: RunFault, end: Option<Stop>) -> RunFault
+    ensures one { (result ≡ fault) ⊎ (option_map stopped end ≡ Some result) }
+    ensures fault { rank result ≤ rank fault }
+    ensures end { IfSome end (λ stop. rank result ≤ rank (stopped stop)) }
+{
+    let Some(stop) = end else {
+        return fault;
+    };
+    let other = told(stop);
+    if rank(other) < rank(fault) {
+        other
+    } else {
+        fault
+    }
+}
+
+/// What a run that came to no end answers: the gravest of what its splitter met, or met in its
+/// place, and of why each other thread stopped that did not come to its end.
+pub fn gravest(
+    splitter: RunFault,
+    i: Option<Stop>,
+    d: Option<Stop>,
+    merge: Option<Stop>,
+) -> RunFault
+    ensures one { (result ≡ splitter) ⊎ ((option_map stopped i ≡ Some result)
+        ⊎ ((option_map stopped d ≡ Some result) ⊎ (option_map stopped merge ≡ Some result))) }
+    ensures splitter { rank result ≤ rank splitter }
+    ensures i { IfSome i (λ stop. rank result ≤ rank (stopped stop)) }
+    ensures d { IfSome d (λ stop. rank result ≤ rank (stopped stop)) }
+    ensures merge { IfSome merge (λ stop. rank result ≤ rank (stopped stop)) }
+{
+    graver(graver(graver(splitter, i), d), merge)
 }

@@ -12,12 +12,19 @@
 //! flushed behind the report is shown by tests alone: no contract can see it.
 #![tactic(auto)]
 
+mod ends;
 mod fault;
+mod gate;
+mod merge_thread;
 mod plain;
 mod report;
+mod split;
+mod stage_thread;
 #[cfg(test)]
 mod tests;
 
+pub use ends::Rings;
 pub use fault::RunFault;
+pub use gate::{Gate, OpenGate, Who};
 pub use plain::simulate_plain;
 pub use report::{write_block, write_report};

@@ -12,7 +12,8 @@ use Rattle.stage_core.specs.Events.{events}
 use Rattle.stage_core.specs.Seen.{totals}
 use Rattle.sim_run.specs.declared.fault.RunFault.{RunFault}
 use Rattle.sim_run.specs.declared.fault.RunFault.TheVariants.{Trace}
-use Rattle.sim_run.specs.Runs.{report_of, source_fault}
+use Rattle.sim_run.specs.Faults.{source_fault}
+use Rattle.sim_run.specs.Runs.{report_of}
 use Rattle.sim_run.proofs.plain.simulate_plain.Goals as goal
 
 -- a fault of the trace is the source's, and no want of memory

@@ -1,0 +1,98 @@
+-- What each of the four threads has done with its ends.
+use Rattle.std.specs.Prelude.{◌≡◌, ℕ, false, List, [], ◌∷◌, ◌++◌, map, length, option_to_list}
+use Rattle.std.specs.Prelude.{None, Result, Ok, Err}
+use Rattle.std.specs.List.{list_any}
+use Rattle.pipe_rings.specs.Rings.{sent, received}
+use Rattle.din_trace.specs.declared.record.DinRecord.{DinRecord}
+use Rattle.din_trace.specs.Left.{Left}
+use Rattle.cache_core.specs.Standing.{rules_of}
+use Rattle.stage_core.specs.Events.{events}
+use Rattle.stage_core.specs.Places.{over}
+use Rattle.stage_core.specs.Seen.{parts_of}
+use Rattle.stage_core.specs.Streams as streams
+use Rattle.stage_core.specs.Streams.{turn_of, told, replies, is_finish}
+use Rattle.stage_core.specs.Merging.{Stand, merged, all_used}
+use Rattle.stage_core.specs.Standing.{StageStandsFor, SecondStandsFor, cache_of, side_of}
+use Rattle.stage_core.specs.Standing.{second_cache}
+use Rattle.stage_core.specs.declared.message.Side.TheVariants as side
+use Rattle.stage_core.specs.declared.message.Routed.{Routed}
+use Rattle.stage_core.specs.declared.message.What.{What}
+use Rattle.stage_core.specs.declared.message.ToStage.{ToStage}
+use Rattle.stage_core.specs.declared.message.ToStage.TheVariants as to_stage
+use Rattle.stage_core.specs.declared.selection.Selection.{Selection}
+use Rattle.stage_core.specs.declared.l1_stage.L1Stage.{L1Stage}
+use Rattle.stage_core.specs.declared.l2_stage.L2Stage.{L2Stage}
+use Rattle.sim_run.specs.declared.ends.SplitterEnds.{SplitterEnds}
+use Rattle.sim_run.specs.declared.ends.StageEnds.{StageEnds}
+use Rattle.sim_run.specs.declared.ends.MergeEnds.{MergeEnds}
+use Rattle.sim_run.specs.declared.fault.RunFault.{RunFault}
+use Rattle.sim_run.specs.Faults.{MayAnswer}
+use Rattle.sim_run.specs.Ends.{SameStageEnds, SameMergeEnds}
+
+-- the messages of one event, or those of the end, were sent
+pub record Sends (was : SplitterEnds) (routed : Routed) (now : SplitterEnds) : Type 0 where
+  pub order : sent now.order ≡ sent was.order ++ routed.turn ∷ []
+  pub to_i : sent now.to_i ≡ sent was.to_i ++ option_to_list routed.i
+  pub to_d : sent now.to_d ≡ sent was.to_d ++ option_to_list routed.d
+
+-- the splitter has sent all messages of these events, the last of which has this place
+pub record HasSent (events : List DinRecord) (place : ℕ) (ends : SplitterEnds) : Type 0 where
+  pub last : place ≡ length events
+  pub order : sent ends.order ≡ map (λ e. turn_of e.label) events
+  pub to_i : sent ends.to_i ≡ over (told side.I) events
+  pub to_d : sent ends.to_d ≡ over (told side.D) events
+
+-- and the messages of the end too
+pub record HasSentAll (events : List DinRecord) (ends : SplitterEnds) : Type 0 where
+  pub order : sent ends.order ≡ streams.order events
+  pub to_i : sent ends.to_i ≡ streams.to_side side.I events
+  pub to_d : sent ends.to_d ≡ streams.to_side side.D events
+
+-- records were taken off what a source had left; what it then has left is the rest
+pub record LeavesRest (l : Left) (HasLeft : Left → Type 0) : Type 0 where
+  pub gone : List DinRecord
+  pub rest : Left
+  pub records : l.records ≡ gone ++ rest.records
+  pub fault : rest.fault ≡ l.fault
+  pub left : HasLeft rest
+
+-- nothing is left of a source, and it has met no fault
+abbrev pub at_end : Left
+at_end = record { records = []; fault = None }
+
+-- the splitter has split up what a source had left, to its end, or stopped somewhere
+abbrev pub SplitUp : Selection → Left → (Left → Type 0) → SplitterEnds → Result (Unit {0}) RunFault
+    → Type 0
+SplitUp selection l HasLeft ends (Ok done) =
+    (l.fault ≡ None) × HasSentAll (events selection l.records) ends × HasLeft at_end
+SplitUp selection l HasLeft ends (Err why) = MayAnswer l.fault why × LeavesRest l HasLeft
+
+-- one Finish stands in these messages, as the last
+pub record EndInFinish (messages : List ToStage) : Type 0 where
+  pub before : List ToStage
+  pub last : messages ≡ before ++ to_stage.Finish ∷ []
+  pub only : list_any is_finish before ≡ false
+
+-- a stage that began so has sent what it answers to what it received
+pub record HasServed (began : L1Stage) (was : StageEnds) (stage : L1Stage) (now : StageEnds) : Type 0 where
+  pub rings : SameStageEnds was now
+  pub side : side_of stage ≡ side_of began
+  pub rules : rules_of (cache_of stage) ≡ rules_of (cache_of began)
+  pub stands : StageStandsFor stage (received now.from_splitter)
+  pub answered : sent now.to_merge
+      ≡ replies (parts_of (rules_of (cache_of began))) (side_of began) (received now.from_splitter)
+
+-- it has ended well
+pub record StageEnded (began : L1Stage) (was : StageEnds) (stage : L1Stage) (now : StageEnds) : Type 0 where
+  pub served : HasServed began was stage now
+  pub finish : EndInFinish (received now.from_splitter)
+
+-- the merge's rule has used up what was received and stands there, and the second level has served
+-- what the rule took
+pub record HasMerged (at : Stand) (began : L2Stage) (was : MergeEnds) (u : L2Stage) (now : MergeEnds) : Type 0 where
+  pub rings : SameMergeEnds was now
+  pub rules : rules_of (second_cache u) ≡ rules_of (second_cache began)
+  pub whats : List What
+  pub used : merged (received now.order) (received now.from_i) (received now.from_d)
+      ≡ all_used whats at
+  pub stands : SecondStandsFor u whats
