@@ -2,4 +2,5 @@ pub mod Report
 pub mod Faults
 pub mod Ends
 pub mod Threads
+pub mod Machines
 pub mod Runs

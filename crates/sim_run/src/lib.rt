@@ -16,8 +16,10 @@ mod ends;
 mod fault;
 mod gate;
 mod merge_thread;
+mod pipeline;
 mod plain;
 mod report;
+mod simulation;
 mod split;
 mod stage_thread;
 #[cfg(test)]
@@ -26,5 +28,7 @@ mod tests;
 pub use ends::Rings;
 pub use fault::RunFault;
 pub use gate::{Gate, OpenGate, Who};
+pub use pipeline::{Settled, run_pipeline};
 pub use plain::simulate_plain;
 pub use report::{write_block, write_report};
+pub use simulation::simulate;

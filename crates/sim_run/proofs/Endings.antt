@@ -1,0 +1,82 @@
+-- What a run over a source comes to, from what its splitter and its other threads came to.
+use Rattle.std.proofs.Common.{◌≡◌, List, [], None, Option, Result, Ok, Err, refl, sym}
+use Rattle.std.proofs.Common.{◌⊎◌, inl, inr, Some, subst, append-nil}
+use Rattle.std.specs.Prelude.{OnOk, IfOk, IfErr, IsOk, option_map}
+use Rattle.din_trace.specs.Left.{Left}
+use Rattle.din_trace.specs.declared.record.DinRecord.{DinRecord}
+use Rattle.din_trace.specs.declared.fault.TraceFault.{TraceFault}
+use Rattle.stage_core.specs.Events.{events}
+use Rattle.stage_core.specs.Seen.{Hierarchy}
+use Rattle.stage_core.specs.declared.selection.Selection.{Selection}
+use Rattle.sim_run.specs.declared.ends.SplitterEnds.{SplitterEnds}
+use Rattle.sim_run.specs.declared.fault.RunFault.{RunFault}
+use Rattle.sim_run.specs.declared.pipeline.Settled.{Settled}
+use Rattle.sim_run.specs.declared.fault.RunFault.TheVariants.{Memory, Threads, Cut}
+use Rattle.sim_run.specs.declared.fault.Stop.{Stop}
+use Rattle.sim_run.specs.declared.fault.Stop.TheVariants as stop
+use Rattle.sim_run.specs.Faults.{MayAnswer, stopped}
+use Rattle.sim_run.specs.Threads.{HasSentAll, LeavesRest, SplitUp, at_end}
+use Rattle.sim_run.specs.Runs.{HasRun, RunsOver}
+
+-- what holds of the fault of the splitter, of want of memory and of a gone end holds of the gravest
+module _ (P : RunFault → Type 0) (memory : P Memory) (cut : P Cut) (result : RunFault) where
+  of-stopped : (end : Option Stop) → option_map stopped end ≡ Some result → P result
+  of-stopped None is = cc
+  of-stopped (Some stop.Memory) is = let same : Memory ≡ result = cc in subst P same memory
+  of-stopped (Some stop.Cut) is = let same : Cut ≡ result = cc in subst P same cut
+
+  pub of-gravest : (splitter : RunFault) (i d merge : Option Stop) → P splitter
+      → (result ≡ splitter) ⊎ ((option_map stopped i ≡ Some result)
+      ⊎ ((option_map stopped d ≡ Some result) ⊎ (option_map stopped merge ≡ Some result)))
+      → P result
+  of-gravest splitter i d merge fault one = elim one [
+    | inl e ↦ subst P (sym e) fault
+    | inr rest ↦ elim rest [
+      | inl e ↦ of-stopped i e
+      | inr last ↦ elim last [ inl e ↦ of-stopped d e | inr e ↦ of-stopped merge e ]
+    ]
+  ]
+
+-- of a source that was not read all is left
+pub leaves-all : (l : Left) (HasLeft : Left → Type 0) → HasLeft l → LeavesRest l HasLeft
+leaves-all l HasLeft left = record {
+  gone = [];
+  rest = l;
+  records = refl;
+  fault = refl;
+  left = left;
+}
+
+pub runs-over : (c : Hierarchy) (selection : Selection) (l : Left) (HasLeft : Left → Type 0)
+    (ends : SplitterEnds) (fed : Result (Unit {0}) RunFault) (result : Result Settled RunFault)
+    → SplitUp selection l HasLeft ends fed → OnOk result (IsOk fed)
+    → IfOk result (λ s. (es : List DinRecord) → HasSentAll es ends → HasRun c es s)
+    → IfErr result (λ why. (left : Option TraceFault) → IfErr fed (MayAnswer left)
+    → MayAnswer left why) → RunsOver c selection l HasLeft result
+runs-over c selection l HasLeft ends (Ok done) (Ok settled) up fine whole answers =
+    (up.0, whole (events selection l.records) up.1, up.2)
+runs-over c selection l HasLeft ends (Ok done) (Err why) up fine whole answers = (
+  answers l.fault tt,
+  record {
+    gone = l.records;
+    rest = at_end;
+    records = sym (append-nil l.records);
+    fault = sym up.0;
+    left = up.2;
+  },
+)
+runs-over c selection l HasLeft ends (Err f) (Ok settled) up fine whole answers = absurd cc
+runs-over c selection l HasLeft ends (Err f) (Err why) up fine whole answers =
+    (answers l.fault up.0, up.1)
+
+-- the same where no thread was fed
+pub runs-refused : (c : Hierarchy) (selection : Selection) (l : Left) (HasLeft : Left → Type 0)
+    (why : RunFault) → (why ≡ Memory) ⊎ (why ≡ Threads) → HasLeft l
+    → RunsOver c selection l HasLeft (Err why)
+runs-refused c selection l HasLeft why refused left = (
+  elim refused [
+    | inl e ↦ subst (MayAnswer l.fault) (sym e) tt
+    | inr e ↦ subst (MayAnswer l.fault) (sym e) tt
+  ],
+  leaves-all l HasLeft left,
+)

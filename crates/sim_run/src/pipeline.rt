@@ -1,0 +1,263 @@
+//! The run of threads: the stages are started, fed, joined and settled.
+
+ghost use Rattle.std.specs.Prelude.{◌≡◌, ◌⊎◌, List, ℕ, Option, IfOk, IfErr, IsOk, OnOk};
+ghost use Rattle.din_trace.specs.Left.{Left, Script, Fate, Follows};
+ghost use Rattle.din_trace.specs.Source.{HasLeft, Takes};
+ghost use Rattle.din_trace.specs.declared.fault.TraceFault.{TraceFault};
+ghost use Rattle.din_trace.specs.declared.record.DinRecord.{DinRecord};
+ghost use Rattle.stage_core.specs.Config.{hierarchy_of};
+ghost use Rattle.stage_core.specs.Events.{IsBounded};
+ghost use Rattle.sim_run.specs.Faults.{IsMet, MayAnswer};
+ghost use Rattle.sim_run.specs.Ends.{ArePaired, AreUnused};
+ghost use Rattle.sim_run.specs.Threads.{HasSentAll};
+ghost use Rattle.sim_run.specs.Machines.{AreNew, rules_in, machines_at, rings_at};
+ghost use Rattle.sim_run.specs.Runs.{HasRun, RunsOver};
+
+use crate::ends::{Rings, SplitterEnds};
+use crate::fault::{NoThread, RunFault, Stop, gravest};
+use crate::gate::{Gate, Who};
+use crate::merge_thread::{MergeEnd, MergeHandle, start_merge};
+use crate::split::split;
+use crate::stage_thread::{StageEnd, StageHandle, start_stage};
+use din_trace::{ByteReader, Source};
+use stage_core::{
+    Config, L1Stage, L2Stage, NoMemory, Selection, Side, Totals, merge_takes_what_is_seen,
+    stages_answer_their_streams,
+};
+use std::alloc::Global;
+use std::sync::Wait;
+use std::thread;
+use std::thread::{Scope, Threads};
+
+/// What a run that came to its end has left: the counts, and the rings that carried its messages.
+#[derive(Drop)]
+pub struct Settled {
+    pub totals: Totals,
+    pub rings: Rings,
+}
+
+/// The machines that go into threads of their own.
+#[derive(Drop)]
+pub struct Machines {
+    pub i: L1Stage,
+    pub d: L1Stage,
+    pub u: L2Stage,
+}
+
+impl Machines {
+    fn new(alloc: Global, config: &Config) -> Result<Machines, NoMemory>
+        ensures new { IfOk result (λ machines. AreNew machines) }
+        ensures rules { IfOk result (λ machines. rules_in machines ≡ hierarchy_of config.now) }
+    {
+        let (i_geometry, i_policy) = config.i();
+        let (d_geometry, d_policy) = config.d();
+        let (u_geometry, u_policy) = config.u();
+        Ok(Machines {
+            i: L1Stage::new(alloc, Side::I, i_geometry, i_policy)?,
+            d: L1Stage::new(alloc, Side::D, d_geometry, d_policy)?,
+            u: L2Stage::new(alloc, u_geometry, u_policy)?,
+        })
+    }
+}
+
+/// A run whose threads were started, and the ends that feed them.
+#[derive(Drop)]
+pub struct Started {
+    pub splitter: SplitterEnds,
+    pub i: StageHandle,
+    pub d: StageHandle,
+    pub merge: MergeHandle,
+}
+
+// Why a stage's thread stopped before its end, if it was started and did.
+fn stop_of<H: Threads>(rt: &H, stage: Option<StageHandle>) -> Option<Stop> {
+    match stage {
+        Some(handle) => handle.join(rt).err(),
+        None => None,
+    }
+}
+
+/// Joins the stages' threads that were started before another was not granted. The ends that feed
+/// them must be gone.
+pub fn wind_up<H: Threads>(rt: &H, i: Option<StageHandle>, d: Option<StageHandle>) -> RunFault
+    ensures { (result ≡ RunFault.Memory) ⊎ (result ≡ RunFault.Threads) }
+{
+    let i = stop_of(rt, i);
+    let d = stop_of(rt, d);
+    gravest(RunFault::Threads, i, d, None)
+}
+
+// Starts the three threads. Where one isn't granted, all ends are dropped, so that those which were
+// started end too.
+fn start<'s, E, H: Threads + Wait + Sync, G: Gate>(
+    scope: &Scope<'s, E>,
+    rt: &'s H,
+    gate: &'s G,
+    machines: Machines,
+    rings: Rings,
+) -> Result<Started, RunFault>
+    requires new { AreNew machines }
+    requires unused { AreUnused rings }
+    ensures machines { IfOk result (λ s. machines_at s ≡ machines) }
+    ensures rings { IfOk result (λ s. rings_at s ≡ rings) }
+    ensures refused { IfErr result (λ why. (why ≡ RunFault.Memory) ⊎ (why ≡ RunFault.Threads)) }
+{
+    let Machines { i, d, u } = machines;
+    let Rings {
+        splitter,
+        i: i_ends,
+        d: d_ends,
+        merge,
+    } = rings;
+    let Ok(i) = start_stage(scope, rt, gate, Who::I, i, i_ends) else {
+        return Err(wind_up(rt, None, None));
+    };
+    let Ok(d) = start_stage(scope, rt, gate, Who::D, d, d_ends) else {
+        drop(splitter);
+        drop(merge);
+        return Err(wind_up(rt, Some(i), None));
+    };
+    let Ok(merge) = start_merge(scope, rt, gate, u, merge) else {
+        drop(splitter);
+        return Err(wind_up(rt, Some(i), Some(d)));
+    };
+    Ok(Started {
+        splitter,
+        i,
+        d,
+        merge,
+    })
+}
+
+// Joins the threads of a run, whose splitter came to this, and settles its rings.
+fn finish<H: Threads>(
+    rt: &H,
+    started: Started,
+    fed: Result<(), RunFault>,
+) -> Result<Settled, RunFault>
+    requires paired { ArePaired (rings_at started) }
+    requires met { IfErr fed IsMet }
+    ensures fed { OnOk result (IsOk fed) }
+    ensures whole { IfOk result (λ settled. (es : List DinRecord) → AreNew (machines_at started)
+        → HasSentAll es started.splitter → HasRun (rules_in (machines_at started)) es settled) }
+    ensures met { IfErr result IsMet }
+    ensures answers { IfErr result (λ why. (left : Option TraceFault)
+        → IfErr fed (MayAnswer left) → MayAnswer left why) }
+{
+    merge_takes_what_is_seen();
+    stages_answer_their_streams();
+    let Started {
+        splitter,
+        i,
+        d,
+        merge,
+    } = started;
+    if let Err(fault) = fed {
+        drop(splitter);
+        let (i, d, merge) = (i.join(rt).err(), d.join(rt).err(), merge.join(rt).err());
+        return Err(gravest(fault, i, d, merge));
+    }
+    let i = i.join(rt);
+    let d = d.join(rt);
+    let merge = merge.join(rt);
+    match (i, d, merge) {
+        (Ok((i, i_ends)), Ok((d, d_ends)), Ok((u, merge))) => {
+            let totals = Totals {
+                i: i.counts(),
+                d: d.counts(),
+                u: u.counts(),
+            };
+            let mut rings = Rings {
+                splitter,
+                i: i_ends,
+                d: d_ends,
+                merge,
+            };
+            if rings.are_settled() {
+                Ok(Settled { totals, rings })
+            } else {
+                Err(RunFault::Cut)
+            }
+        }
+        (i, d, merge) => Err(gravest(RunFault::Cut, i.err(), d.err(), merge.err())),
+    }
+}
+
+// Runs what the source gives through the machines.
+fn run_in<'s, E, H: Threads + Wait + Sync, R: ByteReader + Drop, G: Gate>(
+    scope: &Scope<'s, E>,
+    rt: &'s H,
+    gate: &'s G,
+    selection: Selection,
+    source: Source<R>,
+    machines: Machines,
+    rings: Rings,
+) -> (Source<R>, Result<Settled, RunFault>)
+    requires bounded { IsBounded selection }
+    requires new { AreNew machines }
+    requires paired { ArePaired rings }
+    requires unused { AreUnused rings }
+    ensures met { IfErr result.1 IsMet }
+    ensures reads { (given : List ℕ) × (fate : Fate)
+        × Takes R.remaining R.failures source result.0 given fate
+        × ((before later : Script) (l : Left)
+        → Follows fate given before later → HasLeft source before l
+        → RunsOver (rules_in machines) selection l (HasLeft result.0 later) result.1) }
+{
+    let mut source = source;
+    let mut started = match start(scope, rt, gate, machines, rings) {
+        Ok(started) => started,
+        Err(fault) => return (source, Err(fault)),
+    };
+    let fed = split(rt, gate, selection, &mut source, &mut started.splitter);
+    (source, finish(rt, started, fed))
+}
+
+/// Runs what a source gives, as far as it is selected, through four threads: the splitter in the
+/// caller's, and one for each first-level stage and for the merge with the second level. It comes
+/// back when all of them have ended. The source is handed back with either answer. Each number of
+/// the selection is at most 2^40.
+pub fn run_pipeline<H: Threads + Wait + Sync, R: ByteReader + Drop, G: Gate>(
+    rt: &H,
+    alloc: Global,
+    config: &Config,
+    selection: &Selection,
+    source: Source<R>,
+    gate: &G,
+) -> (Source<R>, Result<Settled, RunFault>)
+    requires bounded { IsBounded selection.now }
+    // A fault of the trace is never want of memory, and no writer can have failed.
+    ensures met { IfErr result.1 IsMet }
+    // Whatever the reader did: `Ok` is for a source that has ended without a fault, all of whose
+    // records have gone their way. After a refusal the records that are left are the last of those
+    // that were.
+    ensures reads { (given : List ℕ) × (fate : Fate)
+        × Takes R.remaining R.failures source result.0 given fate
+        × ((before later : Script) (l : Left)
+        → Follows fate given before later → HasLeft source before l
+        → RunsOver (hierarchy_of config.now) selection.now l (HasLeft result.0 later) result.1) }
+{
+    let Ok(machines) = Machines::new(alloc, config) else {
+        return (source, Err(RunFault::Memory));
+    };
+    let Ok(rings) = Rings::new(alloc, config.ring()) else {
+        return (source, Err(RunFault::Memory));
+    };
+    let selection = *selection;
+    thread::scope(
+        thread::scope_env(),
+        rt,
+        move |scope| -> (Source<R>, Result<Settled, RunFault>)
+            requires bounded { IsBounded selection }
+            requires new { AreNew machines }
+            requires paired { ArePaired rings }
+            requires unused { AreUnused rings }
+            ensures met { IfErr result.1 IsMet }
+            ensures reads { (given : List ℕ) × (fate : Fate)
+                × Takes R.remaining R.failures source result.0 given fate
+                × ((before later : Script) (l : Left)
+                → Follows fate given before later → HasLeft source before l
+                → RunsOver (rules_in machines) selection l (HasLeft result.0 later) result.1) }
+        { run_in(scope, rt, gate, selection, source, machines, rings) },
+    )
+}

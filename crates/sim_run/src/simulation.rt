@@ -1,0 +1,70 @@
+//! The run of threads, from the bytes of a trace to the bytes of its report.
+
+ghost use Rattle.std.specs.Prelude.{◌≡◌, ◌≢◌, ℕ, List, Some, None, ◌≤◌, OnOk, IfOk, IfErr};
+ghost use Rattle.std.specs.Io.KnownBytes.{Appends};
+ghost use Rattle.din_trace.specs.Device.{once_more};
+ghost use Rattle.din_trace.specs.Line.{ADDRESS_MAX};
+ghost use Rattle.din_trace.specs.Text.{fault, records};
+ghost use Rattle.din_trace.specs.Faults.{IsFaultOf};
+ghost use Rattle.stage_core.specs.Config.{hierarchy_of};
+ghost use Rattle.stage_core.specs.Events.{IsBounded, events};
+ghost use Rattle.sim_run.specs.Report.{report};
+ghost use Rattle.sim_run.specs.Runs.{HasRun};
+
+use crate::fault::RunFault;
+use crate::gate::Gate;
+use crate::pipeline::{Settled, run_pipeline};
+use crate::report::write_report;
+use din_trace::{ByteReader, ByteWriter, MAX_LIMIT, Source, TraceFault};
+use stage_core::{Config, Selection};
+use std::alloc::Global;
+use std::sync::Wait;
+use std::thread::Threads;
+
+/// Reads a trace of at most `limit` bytes, simulates what is selected of it in four threads while
+/// it is read, writes the report and flushes the writer. No more of the trace is kept than the
+/// rings hold. Each number of the selection is at most 2^40.
+///
+/// `Ok` hands out the counts and the rings: every stage has ended, and each message that was sent
+/// was received, once and in order.
+pub fn simulate<H: Threads + Wait + Sync, R: ByteReader + Drop, G: Gate, W: ByteWriter>(
+    rt: &H,
+    alloc: Global,
+    config: &Config,
+    selection: &Selection,
+    reader: R,
+    limit: u64,
+    gate: &G,
+    writer: &mut W,
+) -> Result<Settled, RunFault>
+    requires limit { limit ≤ MAX_LIMIT }
+    requires bounded { IsBounded selection.now }
+    // Of a reader that tells its bytes: `Ok` is for a text without fault, all of whose selected
+    // records have gone their whole way, and counts what the definitions count over all of them.
+    ensures run { (text : List ℕ) → R.remaining reader ≡ Some text → IfOk result (λ settled.
+        (fault ADDRESS_MAX text limit ≡ None)
+        × HasRun (hierarchy_of config.now) (events selection.now (records ADDRESS_MAX text))
+        settled) }
+    // The writer was given the report of those counts.
+    ensures report { IfOk result (λ settled.
+        Appends (W.contents writer.old) (W.contents writer.new) (report settled.totals)) }
+    ensures trace { (text : List ℕ) → R.remaining reader ≡ Some text
+        → (why : TraceFault) → result ≡ Err (RunFault.Trace why)
+        → IsFaultOf R.failures reader text limit why }
+    ensures memory { result ≢ Err (RunFault.Trace TraceFault.Memory) }
+    ensures sound { OnOk result (W.failures writer.new ≡ W.failures writer.old) }
+    ensures write { result ≡ Err RunFault.Write
+        → W.failures writer.new ≡ once_more (W.failures writer.old) }
+    ensures unwritten { IfErr result (λ why. why ≢ RunFault.Write → writer.new ≡ writer.old) }
+{
+    let source = Source::new(reader, limit);
+    let (_source, ended) = run_pipeline(rt, alloc, config, selection, source, gate);
+    let settled = match ended {
+        Ok(settled) => settled,
+        Err(fault) => return Err(fault),
+    };
+    let Ok(()) = write_report(&settled.totals, writer) else {
+        return Err(RunFault::Write);
+    };
+    Ok(settled)
+}
