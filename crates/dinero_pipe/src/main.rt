@@ -22,29 +22,52 @@ mod values;
 mod wanted;
 mod words;
 
+ghost use Rattle.std.specs.Prelude.{IfOk};
 ghost use Rattle.stage_core.specs.Events.{IsBounded};
 
 use crate::command::help_text;
 use crate::fault::{Fault, fault_text, status};
 use crate::words::{WordsFault, parse_words};
 use din_trace::{FromRead, FromWrite, MAX_LIMIT};
-use sim_run::{RunFault, simulate_plain};
+use sim_run::{OpenGate, RunFault, simulate};
 use stage_core::{Config, Selection};
+use std::alloc::Global;
 use std::env;
-use std::io::{BufWriter, ErrorKind, Write};
+use std::io::{BufWriter, ErrorKind, Read, Write};
 use std::process::ExitCode;
+use std::sync::Wait;
+use std::thread::Threads;
 
-/// The buffer turns the report into one write.
-fn simulate(rt: &HostRuntime, config: &Config, selection: &Selection) -> Result<(), RunFault>
+/// Simulates the trace that is read from `input`, and writes its report to `output`. The buffer turns
+/// the report into one write.
+fn report<H: Threads + Wait + Sync, R: Read + Drop, W: Write + Drop>(
+    rt: &H,
+    alloc: Global,
+    config: &Config,
+    selection: &Selection,
+    input: R,
+    output: W,
+) -> Result<(), Fault>
     requires { IsBounded selection.now }
 {
-    let alloc = rt.alloc();
-    let Ok(output) = BufWriter::new(alloc, rt.stdout()) else {
-        return Err(RunFault::Memory);
+    let Ok(output) = BufWriter::new(alloc, output) else {
+        return Err(Fault::Run(RunFault::Memory));
     };
     let mut writer = FromWrite::new(output);
-    let reader = FromRead::new(rt.stdin());
-    simulate_plain(alloc, config, selection, reader, MAX_LIMIT, &mut writer)
+    let reader = FromRead::new(input);
+    match simulate(
+        rt,
+        alloc,
+        config,
+        selection,
+        reader,
+        MAX_LIMIT,
+        &OpenGate,
+        &mut writer,
+    ) {
+        Ok(_settled) => Ok(()),
+        Err(fault) => Err(Fault::Run(fault)),
+    }
 }
 
 fn write_help(rt: &HostRuntime) -> Result<(), Fault> {
@@ -65,7 +88,10 @@ fn untaken(kind: ErrorKind) -> WordsFault {
     }
 }
 
-fn run(rt: &HostRuntime) -> Result<(), Fault> {
+/// What the words ask for.
+fn asked_for(rt: &HostRuntime) -> Result<(Config, Selection), Fault>
+    ensures { IfOk result (λ asked. IsBounded asked.1) }
+{
     let alloc = rt.alloc();
     let mut arguments = match env::args(rt) {
         Ok(arguments) => arguments,
@@ -76,8 +102,7 @@ fn run(rt: &HostRuntime) -> Result<(), Fault> {
         return Err(Fault::Words(WordsFault::Memory));
     };
     match parse_words(alloc, words.as_slice()) {
-        Ok((config, selection)) => simulate(rt, &config, &selection).map_err(Fault::Run),
-        Err(WordsFault::Help) => write_help(rt),
+        Ok(asked) => Ok(asked),
         Err(fault) => Err(Fault::Words(fault)),
     }
 }
@@ -90,7 +115,19 @@ fn refuse(rt: &HostRuntime, fault: Fault) -> ExitCode {
 }
 
 fn main(rt: HostRuntime) -> ExitCode {
-    match run(&rt) {
+    let ended = match asked_for(&rt) {
+        Ok((config, selection)) => report(
+            &rt,
+            rt.alloc(),
+            &config,
+            &selection,
+            rt.stdin(),
+            rt.stdout(),
+        ),
+        Err(Fault::Words(WordsFault::Help)) => write_help(&rt),
+        Err(fault) => Err(fault),
+    };
+    match ended {
         Ok(()) => ExitCode::SUCCESS,
         Err(fault) => refuse(&rt, fault),
     }
