@@ -5,20 +5,28 @@ ghost use Rattle.stage_core.specs.Events.{IsBounded};
 
 mod devices;
 mod faults;
+mod gates;
+mod gone;
 mod layout;
 mod levels;
 mod memory;
+mod pipelines;
 mod runs;
 mod writers;
 
 use crate::fault::RunFault;
+use crate::gate::OpenGate;
 use crate::plain::simulate_plain;
 use crate::report::write_report;
+use crate::simulation::simulate;
 use cache_core::{Counts, PerClass, Policy, Repl};
 use din_trace::{FromRead, FromWrite, MAX_LIMIT};
 use stage_core::{CacheSpec, Config, Selection, Totals};
 use std::alloc::Global;
+use std::process::Abort;
+use std::sync::Wait;
 use std::test::Fail;
+use std::thread::Threads;
 
 static EVERYTHING: Selection = Selection {
     skip: 0,
@@ -42,12 +50,17 @@ fn spec(size: u64, bsize: u64, assoc: u64, policy: Policy) -> CacheSpec {
     }
 }
 
-/// 16 bytes of instructions, 16 of data in two ways with this policy, and a second level of 32.
-fn config_with(data: Policy) -> Result<Config, Fail> {
+/// 16 bytes of instructions, 16 of data in two ways with this policy, and a second level of 32; each
+/// ring holds so many messages.
+fn config_of(data: Policy, ring: u64) -> Result<Config, Fail> {
     let i = spec(16, 4, 1, USUAL);
     let d = spec(16, 4, 2, data);
     let u = spec(32, 8, 2, USUAL);
-    Ok(Config::new(i, d, u, 2)?)
+    Ok(Config::new(i, d, u, ring)?)
+}
+
+fn config_with(data: Policy) -> Result<Config, Fail> {
+    config_of(data, 2)
 }
 
 fn config() -> Result<Config, Fail> {
@@ -94,8 +107,10 @@ fn first_misses(fetches: PerClass, misses: PerClass, loaded: u64) -> Counts {
     }
 }
 
-/// How a run over a trace ended; what it wrote stands in the list.
-fn run(
+/// How a run over a trace ended; what it wrote stands in the list. It is made on one thread and in
+/// threads, and both end alike and write the same.
+fn run<H: Threads + Wait + Abort + Sync>(
+    rt: &H,
     alloc: Global,
     config: &Config,
     selection: &Selection,
@@ -106,19 +121,33 @@ fn run(
     requires limit { limit ≤ MAX_LIMIT }
     requires bounded { IsBounded selection.now }
 {
-    let mut writer = FromWrite::new(written);
-    simulate_plain(
+    let plain = simulate_plain(
         alloc,
         config,
         selection,
         FromRead::new(trace),
         limit,
-        &mut writer,
-    )
+        &mut FromWrite::new(&mut *written),
+    );
+    let mut threaded = Vec::new(alloc);
+    let ended = simulate(
+        rt,
+        alloc,
+        config,
+        selection,
+        FromRead::new(trace),
+        limit,
+        &OpenGate,
+        &mut FromWrite::new(&mut threaded),
+    );
+    assert_eq!(rt; ended.err(), plain.err());
+    assert_eq!(rt; threaded.as_slice(), written.as_slice());
+    plain
 }
 
 /// Does a run over a trace end well, with the report of just these totals?
-fn reports(
+fn reports<H: Threads + Wait + Abort + Sync>(
+    rt: &H,
     alloc: Global,
     config: &Config,
     selection: &Selection,
@@ -128,7 +157,7 @@ fn reports(
     requires { IsBounded selection.now }
 {
     let mut written = Vec::new(alloc);
-    run(alloc, config, selection, trace, MAX_LIMIT, &mut written)?;
+    run(rt, alloc, config, selection, trace, MAX_LIMIT, &mut written)?;
     let mut expected = Vec::new(alloc);
     write_report(totals, &mut FromWrite::new(&mut expected))?;
     Ok(written.as_slice() == expected.as_slice())

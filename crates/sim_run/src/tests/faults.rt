@@ -2,11 +2,17 @@
 
 use super::{EVERYTHING, config, run};
 use crate::fault::RunFault;
+use crate::gate::OpenGate;
 use crate::plain::simulate_plain;
+use crate::simulation::simulate;
 use din_trace::{FromRead, FromWrite, MAX_LIMIT, TraceFault, Why};
+use std::alloc::Global;
 use std::io;
 use std::io::Read;
+use std::process::Abort;
+use std::sync::Wait;
 use std::test::Fail;
+use std::thread::Threads;
 
 fn bad(line: u64, why: Why) -> RunFault {
     RunFault::Trace(TraceFault::Bad { line, why })
@@ -24,6 +30,7 @@ fn nothing_is_written_for_a_faulty_trace(rt: HostRuntime) -> Result<(), Fail> {
     for (trace, fault) in rows {
         let mut written = Vec::new(rt.alloc());
         let ended = run(
+            &rt,
             rt.alloc(),
             &config()?,
             &EVERYTHING,
@@ -50,6 +57,7 @@ fn a_trace_past_its_limit_is_judged_up_to_there(rt: HostRuntime) -> Result<(), F
     for (trace, limit, expected) in rows {
         let mut written = Vec::new(rt.alloc());
         let ended = run(
+            &rt,
             rt.alloc(),
             &config()?,
             &EVERYTHING,
@@ -78,6 +86,37 @@ impl Read for Broken<'_> {
     }
 }
 
+/// How both runs over a reader end that fails behind these bytes. Neither writes a byte.
+fn run_broken<H: Threads + Wait + Abort + Sync>(
+    rt: &H,
+    alloc: Global,
+    bytes: &[u8],
+) -> Result<Result<(), RunFault>, Fail> {
+    let config = config()?;
+    let mut written = Vec::new(alloc);
+    let plain = simulate_plain(
+        alloc,
+        &config,
+        &EVERYTHING,
+        FromRead::new(Broken { bytes }),
+        MAX_LIMIT,
+        &mut FromWrite::new(&mut written),
+    );
+    let ended = simulate(
+        rt,
+        alloc,
+        &config,
+        &EVERYTHING,
+        FromRead::new(Broken { bytes }),
+        MAX_LIMIT,
+        &OpenGate,
+        &mut FromWrite::new(&mut written),
+    );
+    assert_eq!(rt; ended.err(), plain.err());
+    assert!(rt; written.is_empty());
+    Ok(plain)
+}
+
 #[test]
 fn whole_lines_are_judged_before_a_failed_read(rt: HostRuntime) -> Result<(), Fail> {
     let failed = RunFault::Trace(TraceFault::Read);
@@ -87,19 +126,7 @@ fn whole_lines_are_judged_before_a_failed_read(rt: HostRuntime) -> Result<(), Fa
         (b"", failed),
     ];
     for (bytes, fault) in rows {
-        let mut written = Vec::new(rt.alloc());
-        let mut writer = FromWrite::new(&mut written);
-        let reader = FromRead::new(Broken { bytes });
-        let ended = simulate_plain(
-            rt.alloc(),
-            &config()?,
-            &EVERYTHING,
-            reader,
-            MAX_LIMIT,
-            &mut writer,
-        );
-        assert_eq!(rt; ended, Err(fault));
-        assert!(rt; written.is_empty());
+        assert_eq!(rt; run_broken(&rt, rt.alloc(), bytes)?, Err(fault));
     }
     Ok(())
 }
@@ -108,21 +135,8 @@ fn whole_lines_are_judged_before_a_failed_read(rt: HostRuntime) -> Result<(), Fa
 fn a_read_may_fail_behind_each_byte(rt: HostRuntime) -> Result<(), Fail> {
     let text = b"1 0\n0 8\n0 10\n";
     for length in 0..=text.len() {
-        let mut written = Vec::new(rt.alloc());
-        let mut writer = FromWrite::new(&mut written);
-        let reader = FromRead::new(Broken {
-            bytes: &text[..length],
-        });
-        let ended = simulate_plain(
-            rt.alloc(),
-            &config()?,
-            &EVERYTHING,
-            reader,
-            MAX_LIMIT,
-            &mut writer,
-        );
+        let ended = run_broken(&rt, rt.alloc(), &text[..length])?;
         assert_eq!(rt; ended, Err(RunFault::Trace(TraceFault::Read)));
-        assert!(rt; written.is_empty());
     }
     Ok(())
 }

@@ -50,6 +50,7 @@ fn a_whole_report_byte_for_byte(rt: HostRuntime) -> Result<(), Fail> {
     let mut written = Vec::new(rt.alloc());
     let trace = b"1 0\n0 8\n0 10\n";
     run(
+        &rt,
         rt.alloc(),
         &config()?,
         &EVERYTHING,

@@ -10,7 +10,16 @@ use std::test::Fail;
 
 #[test]
 fn an_empty_trace_counts_nothing(rt: HostRuntime) -> Result<(), Fail> {
-    assert!(rt; reports(rt.alloc(), &config()?, &EVERYTHING, b"", &Totals::default())?);
+    assert!(rt;
+        reports(
+            &rt,
+            rt.alloc(),
+            &config()?,
+            &EVERYTHING,
+            b"",
+            &Totals::default()
+        )?
+    );
     Ok(())
 }
 
@@ -22,7 +31,7 @@ fn a_first_fetch_misses_at_both_levels(rt: HostRuntime) -> Result<(), Fail> {
         u: one,
         ..Totals::default()
     };
-    assert!(rt; reports(rt.alloc(), &config()?, &EVERYTHING, b"2 0\n", &totals)?);
+    assert!(rt; reports(&rt, rt.alloc(), &config()?, &EVERYTHING, b"2 0\n", &totals)?);
     Ok(())
 }
 
@@ -35,7 +44,7 @@ fn fetches_share_a_block_of_the_second_level(rt: HostRuntime) -> Result<(), Fail
     };
     let traces: [&[u8]; 2] = [b"2 0\n2 0\n2 4\n", b"2 0\n2 4\n2 0\n"];
     for trace in traces {
-        assert!(rt; reports(rt.alloc(), &config()?, &EVERYTHING, trace, &totals)?);
+        assert!(rt; reports(&rt, rt.alloc(), &config()?, &EVERYTHING, trace, &totals)?);
     }
     Ok(())
 }
@@ -53,7 +62,7 @@ fn a_loop_that_does_not_fit_misses_in_one_set(rt: HostRuntime) -> Result<(), Fai
         ..Totals::default()
     };
     let trace = b"2 0\n2 4\n2 8\n2 c\n2 10\n2 0\n2 4\n2 8\n2 c\n2 10\n";
-    assert!(rt; reports(rt.alloc(), &config()?, &EVERYTHING, trace, &totals)?);
+    assert!(rt; reports(&rt, rt.alloc(), &config()?, &EVERYTHING, trace, &totals)?);
     Ok(())
 }
 
@@ -76,6 +85,7 @@ fn a_flush_empties_the_instruction_cache(rt: HostRuntime) -> Result<(), Fail> {
     };
     assert!(rt;
         reports(
+            &rt,
             rt.alloc(),
             &config()?,
             &EVERYTHING,
@@ -101,6 +111,7 @@ fn blocks_of_one_set_conflict(rt: HostRuntime) -> Result<(), Fail> {
     };
     assert!(rt;
         reports(
+            &rt,
             rt.alloc(),
             &config()?,
             &EVERYTHING,
@@ -119,7 +130,7 @@ fn a_block_in_use_stays(rt: HostRuntime) -> Result<(), Fail> {
         ..Totals::default()
     };
     let trace = b"0 0\n0 8\n0 0\n0 10\n0 0\n";
-    assert!(rt; reports(rt.alloc(), &config()?, &EVERYTHING, trace, &totals)?);
+    assert!(rt; reports(&rt, rt.alloc(), &config()?, &EVERYTHING, trace, &totals)?);
     Ok(())
 }
 
@@ -141,7 +152,7 @@ fn first_in_first_out_forgets_uses(rt: HostRuntime) -> Result<(), Fail> {
         ..Totals::default()
     };
     let trace = b"0 0\n0 8\n0 0\n0 10\n0 0\n";
-    assert!(rt; reports(rt.alloc(), &fifo, &EVERYTHING, trace, &totals)?);
+    assert!(rt; reports(&rt, rt.alloc(), &fifo, &EVERYTHING, trace, &totals)?);
     Ok(())
 }
 
@@ -161,7 +172,16 @@ fn each_write_is_sent_on_under_write_through(rt: HostRuntime) -> Result<(), Fail
         u,
         ..Totals::default()
     };
-    assert!(rt; reports(rt.alloc(), &through, &EVERYTHING, b"1 2\n1 2\n", &totals)?);
+    assert!(rt;
+        reports(
+            &rt,
+            rt.alloc(),
+            &through,
+            &EVERYTHING,
+            b"1 2\n1 2\n",
+            &totals
+        )?
+    );
     Ok(())
 }
 
@@ -183,7 +203,16 @@ fn a_write_miss_without_allocation_loads_nothing(rt: HostRuntime) -> Result<(), 
         u,
         ..Totals::default()
     };
-    assert!(rt; reports(rt.alloc(), &around, &EVERYTHING, b"1 0\n0 0\n", &totals)?);
+    assert!(rt;
+        reports(
+            &rt,
+            rt.alloc(),
+            &around,
+            &EVERYTHING,
+            b"1 0\n0 0\n",
+            &totals
+        )?
+    );
     Ok(())
 }
 
@@ -206,6 +235,7 @@ fn a_flush_writes_dirty_blocks_back_through_both_levels(rt: HostRuntime) -> Resu
     let trace = b"1 8\n1 0\n4 0\n";
     assert!(rt;
         reports(
+            &rt,
             rt.alloc(),
             &config()?,
             &EVERYTHING,
@@ -235,6 +265,7 @@ fn a_flush_empties_but_does_not_forget(rt: HostRuntime) -> Result<(), Fail> {
     };
     assert!(rt;
         reports(
+            &rt,
             rt.alloc(),
             &config()?,
             &EVERYTHING,
@@ -260,6 +291,7 @@ fn the_first_level_to_miss_loads_the_second(rt: HostRuntime) -> Result<(), Fail>
     };
     assert!(rt;
         reports(
+            &rt,
             rt.alloc(),
             &config()?,
             &EVERYTHING,
@@ -274,6 +306,7 @@ fn the_first_level_to_miss_loads_the_second(rt: HostRuntime) -> Result<(), Fail>
     };
     assert!(rt;
         reports(
+            &rt,
             rt.alloc(),
             &config()?,
             &EVERYTHING,
@@ -302,6 +335,15 @@ fn a_miscellaneous_reference_is_fetched_as_a_read(rt: HostRuntime) -> Result<(),
         u: first_misses(reads(1), reads(1), 1),
         ..Totals::default()
     };
-    assert!(rt; reports(rt.alloc(), &config()?, &EVERYTHING, b"3 0\n0 0\n", &totals)?);
+    assert!(rt;
+        reports(
+            &rt,
+            rt.alloc(),
+            &config()?,
+            &EVERYTHING,
+            b"3 0\n0 0\n",
+            &totals
+        )?
+    );
     Ok(())
 }

@@ -30,6 +30,7 @@ fn a_selection_puts_flushes_in(rt: HostRuntime) -> Result<(), Fail> {
     let trace = b"1 0\n0 8\n0 10\n";
     assert!(rt;
         reports(
+            &rt,
             rt.alloc(),
             &config()?,
             &every_second,
@@ -53,7 +54,16 @@ fn only_what_is_selected_is_simulated(rt: HostRuntime) -> Result<(), Fail> {
         u: one,
         ..Totals::default()
     };
-    assert!(rt; reports(rt.alloc(), &config()?, &second, b"0 0\n2 4\n1 8\n", &totals)?);
+    assert!(rt;
+        reports(
+            &rt,
+            rt.alloc(),
+            &config()?,
+            &second,
+            b"0 0\n2 4\n1 8\n",
+            &totals
+        )?
+    );
     Ok(())
 }
 
@@ -66,6 +76,7 @@ fn lines_that_are_not_selected_are_judged(rt: HostRuntime) -> Result<(), Fail> {
     };
     let mut written = Vec::new(rt.alloc());
     let ended = run(
+        &rt,
         rt.alloc(),
         &config()?,
         &second,
@@ -90,7 +101,7 @@ fn a_line_may_have_blanks_a_prefix_and_a_comment(rt: HostRuntime) -> Result<(), 
         ..Totals::default()
     };
     let trace = b"0 0x1F comment\r\n 1 ffffffff";
-    assert!(rt; reports(rt.alloc(), &config()?, &EVERYTHING, trace, &totals)?);
+    assert!(rt; reports(&rt, rt.alloc(), &config()?, &EVERYTHING, trace, &totals)?);
     Ok(())
 }
 
@@ -114,7 +125,7 @@ fn the_highest_address_lies_in_the_last_block(rt: HostRuntime) -> Result<(), Fai
         b"0 0000ffffffffffffffff\n2 fffffffffffffff8\n",
     ];
     for trace in traces {
-        assert!(rt; reports(rt.alloc(), &config()?, &EVERYTHING, trace, &totals)?);
+        assert!(rt; reports(&rt, rt.alloc(), &config()?, &EVERYTHING, trace, &totals)?);
     }
     Ok(())
 }
@@ -129,6 +140,7 @@ fn addresses_keep_their_high_bits(rt: HostRuntime) -> Result<(), Fail> {
     };
     assert!(rt;
         reports(
+            &rt,
             rt.alloc(),
             &config()?,
             &EVERYTHING,
@@ -146,6 +158,7 @@ fn a_cut_text_has_a_report_unless_its_last_line_is_cut(rt: HostRuntime) -> Resul
         let mut written = Vec::new(rt.alloc());
         let cut = &text[..length];
         let ended = run(
+            &rt,
             rt.alloc(),
             &config()?,
             &EVERYTHING,
@@ -189,6 +202,7 @@ fn a_shorter_address_at_the_cut_is_simulated(rt: HostRuntime) -> Result<(), Fail
     };
     assert!(rt;
         reports(
+            &rt,
             rt.alloc(),
             &config()?,
             &EVERYTHING,

@@ -3,15 +3,20 @@
 use super::layout::ONE_WRITE_BACK;
 use super::{EVERYTHING, config};
 use crate::fault::RunFault;
+use crate::gate::OpenGate;
 use crate::plain::simulate_plain;
 use crate::report::{write_block, write_report};
+use crate::simulation::simulate;
 use cache_core::Counts;
 use din_trace::{FromRead, FromWrite, MAX_LIMIT};
 use stage_core::Totals;
 use std::alloc::Global;
 use std::io;
 use std::io::Write;
+use std::process::Abort;
+use std::sync::Wait;
 use std::test::Fail;
+use std::thread::Threads;
 
 /// A writer that takes so many bytes and then fails, or fails at its flush. It counts its flushes,
 /// and what it had taken at the last one.
@@ -56,11 +61,38 @@ impl Write for Narrow {
     }
 }
 
-fn run(alloc: Global, trace: &[u8], writer: &mut Narrow) -> Result<Result<(), RunFault>, Fail> {
+/// How both runs over a trace end, each with a writer like this one, which they leave alike.
+fn run<H: Threads + Wait + Abort + Sync>(
+    rt: &H,
+    alloc: Global,
+    trace: &[u8],
+    writer: &mut Narrow,
+) -> Result<Result<(), RunFault>, Fail> {
     let config = config()?;
-    let reader = FromRead::new(trace);
-    let mut writer = FromWrite::new(writer);
-    Ok(simulate_plain(alloc, &config, &EVERYTHING, reader, MAX_LIMIT, &mut writer))
+    let mut other = with_room(writer.room, writer.can_flush);
+    let ended = simulate(
+        rt,
+        alloc,
+        &config,
+        &EVERYTHING,
+        FromRead::new(trace),
+        MAX_LIMIT,
+        &OpenGate,
+        &mut FromWrite::new(&mut other),
+    );
+    let plain = simulate_plain(
+        alloc,
+        &config,
+        &EVERYTHING,
+        FromRead::new(trace),
+        MAX_LIMIT,
+        &mut FromWrite::new(&mut *writer),
+    );
+    assert_eq!(rt; ended.err(), plain.err());
+    assert_eq!(rt; other.taken, writer.taken);
+    assert_eq!(rt; other.flushes, writer.flushes);
+    assert_eq!(rt; other.taken_at_flush, writer.taken_at_flush);
+    Ok(plain)
 }
 
 #[test]
@@ -68,7 +100,10 @@ fn a_writer_may_fail_behind_each_byte(rt: HostRuntime) -> Result<(), Fail> {
     let trace = b"1 0\n0 8\n0 10\n";
     for room in 0..ONE_WRITE_BACK.len() {
         let mut writer = with_room(room, true);
-        assert_eq!(rt; run(rt.alloc(), trace, &mut writer)?, Err(RunFault::Write));
+        assert_eq!(rt;
+            run(&rt, rt.alloc(), trace, &mut writer)?,
+            Err(RunFault::Write)
+        );
         assert_eq!(rt; writer.taken, room);
         assert_eq!(rt; writer.flushes, 0);
     }
@@ -87,7 +122,7 @@ fn a_writer_may_fail_at_once(rt: HostRuntime) -> Result<(), Fail> {
 #[test]
 fn a_writer_may_fail_at_its_flush(rt: HostRuntime) -> Result<(), Fail> {
     let mut writer = with_room(ONE_WRITE_BACK.len(), false);
-    let ended = run(rt.alloc(), b"1 0\n0 8\n0 10\n", &mut writer)?;
+    let ended = run(&rt, rt.alloc(), b"1 0\n0 8\n0 10\n", &mut writer)?;
     assert_eq!(rt; ended, Err(RunFault::Write));
     Ok(())
 }
@@ -95,7 +130,10 @@ fn a_writer_may_fail_at_its_flush(rt: HostRuntime) -> Result<(), Fail> {
 #[test]
 fn a_report_is_flushed_once_at_its_end(rt: HostRuntime) -> Result<(), Fail> {
     let mut writer = with_room(ONE_WRITE_BACK.len(), true);
-    assert_eq!(rt; run(rt.alloc(), b"1 0\n0 8\n0 10\n", &mut writer)?, Ok(()));
+    assert_eq!(rt;
+        run(&rt, rt.alloc(), b"1 0\n0 8\n0 10\n", &mut writer)?,
+        Ok(())
+    );
     assert_eq!(rt; writer.flushes, 1);
     assert_eq!(rt; writer.taken_at_flush, ONE_WRITE_BACK.len());
     Ok(())
@@ -120,7 +158,7 @@ fn totals_are_flushed_and_a_block_is_not(rt: HostRuntime) -> Result<(), Fail> {
 #[test]
 fn a_faulty_trace_leaves_the_writer_alone(rt: HostRuntime) -> Result<(), Fail> {
     let mut writer = with_room(10_000, true);
-    assert!(rt; run(rt.alloc(), b"5 0\n", &mut writer)?.is_err());
+    assert!(rt; run(&rt, rt.alloc(), b"5 0\n", &mut writer)?.is_err());
     assert_eq!(rt; writer.taken, 0);
     assert_eq!(rt; writer.flushes, 0);
     Ok(())
