@@ -59,12 +59,7 @@ pub fn simulate<H: Threads + Wait + Sync, R: ByteReader + Drop, G: Gate, W: Byte
 {
     let source = Source::new(reader, limit);
     let (_source, ended) = run_pipeline(rt, alloc, config, selection, source, gate);
-    let settled = match ended {
-        Ok(settled) => settled,
-        Err(fault) => return Err(fault),
-    };
-    let Ok(()) = write_report(&settled.totals, writer) else {
-        return Err(RunFault::Write);
-    };
+    let settled = ended?;
+    write_report(&settled.totals, writer)?;
     Ok(settled)
 }

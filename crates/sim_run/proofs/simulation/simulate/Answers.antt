@@ -1,25 +1,24 @@
-use Rattle.std.proofs.Common.{◌≡◌, List, subst}
+use Rattle.std.proofs.Common.{rules, Err, ◌≡◌, List, subst}
 use Rattle.din_trace.specs.declared.record.DinRecord.{DinRecord}
 use Rattle.din_trace.specs.Source.{reader_of}
 use Rattle.din_trace.proofs.Told.{script_of_told}
 use Rattle.stage_core.specs.Config.{hierarchy_of}
 use Rattle.stage_core.specs.Events.{events}
 use Rattle.sim_run.specs.declared.fault.RunFault.TheVariants.{Trace}
-use Rattle.sim_run.specs.Faults.{MayAnswer}
 use Rattle.sim_run.specs.Runs.{HasRun}
 use Rattle.sim_run.proofs.simulation.simulate.Goals as goal
 
-pub returns-in-Err-clause-trace : goal.returns-in-Err-clause-trace
-returns-in-Err-clause-trace g c text known why is =
+pub returns-in_err-settled-clause-trace : goal.returns-in_err-settled-clause-trace
+returns-in_err-settled-clause-trace g c text known why is =
     let reads = c.run_pipeline-source.ensures.reads in
     let same : reader_of c.new-source.result ≡ c.args.reader = c.new-source.ensures.reader in
     let script = script_of_told g.R.ByteReader.failures c.args.reader
     (reader_of c.run_pipeline-source.result.0) text c.args.limit reads.1 reads.0 _
     (rw (same, known) at reads.2.reader) in
-    let ended = rw c.in-Err.is at reads.3 script.0 script.1 _ script.2
+    let met : c.run_pipeline-source.result.1 ≡ Err (Trace why) = search rules in
+    let ended = rw met at reads.3 script.0 script.1 _ script.2
     (c.new-source.ensures.left script.0) in
-    let met : c.in-Err.fault ≡ Trace why = cc in
-    script.3.some_fault why (subst (MayAnswer _) met ended.0)
+    script.3.some_fault why ended.0
 
 pub returns-clause-run : goal.returns-clause-run
 returns-clause-run g c text known =
@@ -28,10 +27,10 @@ returns-clause-run g c text known =
     let script = script_of_told g.R.ByteReader.failures c.args.reader
     (reader_of c.run_pipeline-source.result.0) text c.args.limit reads.1 reads.0 _
     (rw (same, known) at reads.2.reader) in
-    let ended = rw c.in-Ok.is at reads.3 script.0 script.1 _ script.2
+    let ended = rw c.in_ok-settled.was at reads.3 script.0 script.1 _ script.2
     (c.new-source.ensures.left script.0) in
     let good = script.3.no_fault ended.0 in (
       good.0,
       subst (λ (t : List DinRecord). HasRun (hierarchy_of c.args.config.now)
-          (events c.args.selection.now t) c.in-Ok.settled) good.1 ended.1,
+          (events c.args.selection.now t) c.in_ok-settled.settled) good.1 ended.1,
     )
