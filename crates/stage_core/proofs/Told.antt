@@ -9,7 +9,7 @@ use Rattle.stage_core.specs.Places.{along, over}
 use Rattle.stage_core.specs.Events.{asked, newest_first, history}
 use Rattle.stage_core.specs.Seen.{Parts, sent_up}
 use Rattle.stage_core.specs.Streams.{numbered, answer, answered, reply, message, told}
-use Rattle.stage_core.specs.Streams.{asked_in, taken_in}
+use Rattle.stage_core.specs.Streams.{asked_in, taken_in, to_side}
 use Rattle.stage_core.specs.Merging.{what_in}
 use Rattle.stage_core.specs.Plain.{brought}
 use Rattle.stage_core.specs.Laws.{StagesAnswerTheirStreams}
@@ -20,6 +20,7 @@ use Rattle.stage_core.specs.declared.message.ToStage.TheVariants as to_stage
 use Rattle.stage_core.specs.declared.message.FromStage.TheVariants as from_stage
 use Rattle.stage_core.proofs.Place.{along-append, over-more}
 use Rattle.stage_core.proofs.Few.{few-asked}
+use Rattle.stage_core.proofs.Stands.{taken_in-more}
 
 asked_in-message : (p : ℕ) (e : Event) → asked_in (message p e) ≡ e ∷ []
 asked_in-message p (access x) = refl
@@ -111,3 +112,7 @@ module _ (parts : Parts) (s : Side) where
 
 pub replies-to_side : StagesAnswerTheirStreams
 replies-to_side parts s es = replies-along parts s [] es
+
+-- the history of a stage's cache, from the whole stream to it
+pub taken_in-to_side : (s : Side) (es : List DinRecord) → taken_in (to_side s es) ≡ history s es
+taken_in-to_side s es = taken_in-more (over (told s) es) to_stage.Finish ∙ taken_in-told s es

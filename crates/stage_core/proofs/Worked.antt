@@ -71,7 +71,7 @@ pub seen-more : (parts : Parts) (es : List DinRecord) (e : DinRecord)
 seen-more parts es e = over-more (λ before f. sent_up parts side.I before f
     ++ sent_up parts side.D before f) es e
 
-length-second_history : (ws : List What) → length (second_history ws) ≡ length ws
+pub length-second_history : (ws : List What) → length (second_history ws) ≡ length ws
 length-second_history ws = length-reverse (map read_as ws) ∙ length-map ws read_as
 
 -- there is room for the event at the second level

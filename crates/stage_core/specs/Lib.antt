@@ -10,3 +10,9 @@ pub mod Config
 pub mod Laws
 pub mod Plain
 pub mod Examples
+pub mod Rings
+pub mod Pushes
+pub mod Network
+pub mod NetworkLaws
+pub mod Lanes
+pub mod Cores

@@ -5,8 +5,7 @@ ghost use Rattle.std.specs.Prelude.{length, option_to_list, false};
 ghost use Rattle.std.specs.List.{flat_map, list_any};
 ghost use Rattle.cache_core.specs.Standing.{rules_of, served_of};
 ghost use Rattle.din_trace.specs.declared.record.DinRecord.{DinRecord};
-ghost use Rattle.stage_core.specs.Events.{IsBounded, events, inserted_flush};
-ghost use Rattle.stage_core.specs.Places.{one_if};
+ghost use Rattle.stage_core.specs.Events.{IsBounded, events};
 ghost use Rattle.stage_core.specs.Seen.{totals};
 ghost use Rattle.stage_core.specs.Streams.{is_finish};
 ghost use Rattle.stage_core.specs.Merging.{what_in};
@@ -25,11 +24,11 @@ use crate::laws::{second_level_sees_few, selections_make_few};
 use crate::memory::NoMemory;
 use crate::merge::Merge;
 use crate::message::{Side, ToStage};
-use crate::selection::{Selection, Selector};
+use crate::selection::{Selection, Selector, inserted};
 use crate::splitter::Splitter;
 use crate::totals::Totals;
 use cache_core::MAX_EVENTS;
-use din_trace::{DinRecord, Label, MAX_LIMIT};
+use din_trace::{DinRecord, MAX_LIMIT};
 use std::alloc::Global;
 
 // Hands a stage's whole outbox to the merge, and what it brings to the second level.
@@ -84,20 +83,6 @@ fn serve(
     };
     stage.on(message)?;
     drain(stage, merge, u)
-}
-
-// The flush that a selection puts in.
-fn inserted(flush: bool) -> Option<DinRecord>
-    ensures { option_to_list result ≡ one_if flush inserted_flush }
-{
-    if flush {
-        Some(DinRecord {
-            label: Label::Flush,
-            addr: 0,
-        })
-    } else {
-        None
-    }
 }
 
 // The machines of the run.

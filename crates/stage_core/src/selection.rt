@@ -1,11 +1,15 @@
 //! Which records of a trace are simulated.
 
-ghost use Rattle.std.specs.Prelude.{◌≡◌, ◌<◌, ◌+◌, ◌++◌, ◌∷◌, [], List, count_by};
-ghost use Rattle.stage_core.specs.Events.{IsBounded, is_reference, picked};
+ghost use Rattle.std.specs.Prelude.{◌≡◌, ◌<◌, ◌≤◌, ◌+◌, ◌++◌, ◌∷◌, [], List, count_by, IfOk};
+ghost use Rattle.std.specs.Prelude.{length, OnOk, option_to_list};
+ghost use Rattle.stage_core.specs.Places.{one_if};
+ghost use Rattle.stage_core.specs.Events.{IsBounded, is_reference, picked, events, inserted_flush};
 ghost use Rattle.stage_core.specs.Standing.{WasOffered};
 ghost use Rattle.din_trace.specs.declared.record.DinRecord.{DinRecord};
 
+use crate::memory::NoMemory;
 use din_trace::{DinRecord, Label, MAX_LIMIT};
+use std::alloc::Global;
 use std::marker::Model;
 
 /// A part of a trace: `skip` references are left out, then at most `max` are taken (0: no bound),
@@ -98,4 +102,50 @@ impl Selector {
             flush,
         }
     }
+}
+
+/// The flush that a selection puts in.
+pub fn inserted(flush: bool) -> Option<DinRecord>
+    ensures { option_to_list result ≡ one_if flush inserted_flush }
+{
+    if flush {
+        Some(DinRecord {
+            label: Label::Flush,
+            addr: 0,
+        })
+    } else {
+        None
+    }
+}
+
+// Adds an event, if there is one.
+fn add(events: &mut Vec<DinRecord>, event: Option<DinRecord>) -> Result<(), NoMemory>
+    ensures { OnOk result (events.new.items ≡ events.old.items ++ option_to_list event) }
+{
+    if let Some(event) = event {
+        let Ok(()) = events.push(event) else {
+            return Err(NoMemory);
+        };
+    }
+    Ok(())
+}
+
+/// The event list of a trace.
+pub fn events_of(
+    alloc: Global,
+    selection: Selection,
+    records: &[DinRecord],
+) -> Result<Vec<DinRecord>, NoMemory>
+    requires bounded { IsBounded selection }
+    requires short { length records.now ≤ MAX_LIMIT }
+    ensures { IfOk result (λ made. made.items ≡ events selection records.now) }
+{
+    let mut made = Vec::new(alloc);
+    let mut selector = Selector::new(selection);
+    for next in records {
+        let picked = selector.offer(*next);
+        add(&mut made, picked.event)?;
+        add(&mut made, inserted(picked.flush))?;
+    }
+    Ok(made)
 }

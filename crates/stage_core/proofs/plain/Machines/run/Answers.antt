@@ -1,13 +1,13 @@
 use Rattle.std.proofs.Common.{◌++◌, ◌∷◌, [], List, count_by, get_or, option_to_list, take}
-use Rattle.std.proofs.Common.{sym, ap, subst, ◌∙◌, append_assoc}
+use Rattle.std.proofs.Common.{sym, ap, subst, ◌∙◌}
 use Rattle.std.proofs.lemmas.List.{take_more}
 use Rattle.din_trace.specs.declared.record.DinRecord.{DinRecord}
 use Rattle.din_trace.specs.declared.record.Label.TheVariants as label
-use Rattle.stage_core.specs.Events.{events, events_at, picked, picked_events, is_reference}
+use Rattle.stage_core.specs.Events.{events, picked, is_reference}
 use Rattle.stage_core.specs.Standing.{WasOffered}
 use Rattle.stage_core.specs.Plain.{Ran}
 use Rattle.stage_core.specs.declared.selection.Selection.{Selection}
-use Rattle.stage_core.proofs.Place.{over-more}
+use Rattle.stage_core.proofs.Picks.{events-more}
 use Rattle.stage_core.proofs.plain.Machines.run.Goals as goal
 
 pub loop-next-preserved : goal.loop-next-preserved
@@ -22,12 +22,8 @@ loop-next-preserved c =
     let picks = c.offer-picked.ensures.picked before inv.offered
     ∙ ap (λ (s : Selection). picked s (count_by is_reference (before ++ next ∷ [])) next)
     inv.selection in
-    let longer = append_assoc es (option_to_list c.offer-picked.result.event)
-    (option_to_list c.inserted.result)
-    ∙ ap (λ l. es ++ (option_to_list c.offer-picked.result.event ++ l)) c.inserted.ensures
-    ∙ ap (λ p. es ++ picked_events p) picks
-    ∙ sym (over-more (events_at selection) before next)
-    ∙ ap (events selection) (sym more) in
+    let longer = events-more selection before next c.offer-picked.result
+    (option_to_list c.inserted.result) c.inserted.ensures picks ∙ ap (events selection) (sym more) in
     record {
       selection = c.offer-picked.ensures.selection ∙ inv.selection;
       offered = subst (WasOffered c.offer-picked.new.self) (sym more)

@@ -1,0 +1,168 @@
+-- The network: five rings and four machines, of which one makes one push or one pop at a time.
+use Rattle.std.specs.Prelude.{◌≡◌, ℕ, ◌+◌, Bool, true, List, [], ◌∷◌, ◌++◌, length, filter, Option}
+use Rattle.std.specs.Prelude.{Some, None, is_some, option_and_then, if◌then◌else◌}
+use Rattle.std.specs.Option.{option_map}
+use Rattle.std.specs.List.{list_any}
+use Rattle.din_trace.specs.declared.record.DinRecord.{DinRecord}
+use Rattle.stage_core.specs.Seen.{Parts}
+use Rattle.stage_core.specs.Streams.{order, to_side, from_side, is_finish, reply, replies}
+use Rattle.stage_core.specs.Merging.{Stand, AtOrder, wanted, after_turn, after_message, what_in}
+use Rattle.stage_core.specs.Merging.{merged, all_used}
+use Rattle.stage_core.specs.Rings.{Ring, carried, empty_ring, push, pop, ring_events}
+use Rattle.stage_core.specs.Pushes.{Push, Order, To, pushes, turns_in, sent_to}
+use Rattle.stage_core.specs.declared.message.Side.{Side}
+use Rattle.stage_core.specs.declared.message.Side.TheVariants as side
+use Rattle.stage_core.specs.declared.message.What.{What}
+use Rattle.stage_core.specs.declared.message.Turn.{Turn}
+use Rattle.stage_core.specs.declared.message.Want.{Want}
+use Rattle.stage_core.specs.declared.message.Want.TheVariants as want
+use Rattle.stage_core.specs.declared.message.ToStage.{ToStage}
+use Rattle.stage_core.specs.declared.message.FromStage.{FromStage}
+pub use Rattle.stage_core.specs.declared.network.Machine.{Machine}
+pub use Rattle.stage_core.specs.declared.network.Machine.TheVariants.{Splitter, Stage, Merging}
+
+-- a first-level stage between its two rings
+pub record Lane : Type 0 where
+  pub to : Ring ToStage
+  pub outbox : List FromStage
+  pub from : Ring FromStage
+
+-- the stage took Finish in
+abbrev pub finish_taken : Lane → Bool
+finish_taken l = list_any is_finish l.to.popped
+
+-- a state: what the splitter has still to push, the order ring, the two lanes, where the merge
+-- stands, and what the second level was given
+pub record Network : Type 0 where
+  pub still : List Push
+  pub order : Ring Turn
+  pub i : Lane
+  pub d : Lane
+  pub at : Stand
+  pub given : List What
+
+-- the lane of a side
+abbrev pub lane : Side → Network → Lane
+lane side.I n = n.i
+lane side.D n = n.d
+
+-- with this lane in its place
+abbrev pub with_lane : Side → Lane → Network → Network
+with_lane side.I l n = record n { i = l }
+with_lane side.D l n = record n { d = l }
+
+-- the splitter pushes its next message
+abbrev pub split : ℕ → List Push → Network → Option Network
+split capacity [] n = None
+split capacity (Order t ∷ rest) n =
+    option_map (λ r. record n { still = rest; order = r }) (push capacity t n.order)
+split capacity (To s m ∷ rest) n =
+    option_map (λ r. with_lane s record (lane s n) { to = r } record n { still = rest })
+    (push capacity m (lane s n).to)
+
+-- a stage with an empty outbox takes its next message in, up to Finish
+abbrev pub take_in : Parts → Side → Lane → Option Lane
+take_in parts s l =
+    option_map (λ x. record { to = x.1; outbox = reply parts s l.to.popped x.0; from = l.from })
+    (if finish_taken l then None else pop l.to)
+
+-- a stage pushes the front of its outbox, or takes a message in
+abbrev pub stage : Parts → ℕ → Side → List FromStage → Lane → Option Lane
+stage parts capacity s [] l = take_in parts s l
+stage parts capacity s (m ∷ rest) l =
+    option_map (λ r. record { to = l.to; outbox = rest; from = r }) (push capacity m l.from)
+
+-- the merge takes a turn
+abbrev pub take_turn : Network → Option Network
+take_turn n = option_map (λ x. record n { order = x.1; at = after_turn x.0 }) (pop n.order)
+
+-- the merge takes a message of a side, and the second level is given what it brings
+abbrev pub take_from : Side → Network → Option Network
+take_from s n =
+    option_map (λ x. with_lane s record (lane s n) { from = x.1 }
+    record n { at = after_message n.at x.0; given = n.given ++ what_in x.0 })
+    (pop (lane s n).from)
+
+-- the merge pops the ring that it wants
+abbrev pub merge : Want → Network → Option Network
+merge want.Order n = take_turn n
+merge want.I n = take_from side.I n
+merge want.D n = take_from side.D n
+merge want.Nothing n = None
+
+-- the state after the next event of a machine, where that event is possible
+abbrev pub next : Parts → ℕ → Machine → Network → Option Network
+next parts capacity Splitter n = split capacity n.still n
+next parts capacity (Stage s) n =
+    option_map (λ l. with_lane s l n) (stage parts capacity s (lane s n).outbox (lane s n))
+next parts capacity Merging n = merge (wanted n.at) n
+
+-- is it possible?
+abbrev pub can : Parts → ℕ → Network → Machine → Bool
+can parts capacity n m = is_some (next parts capacity m n)
+
+-- the machines, in their order
+abbrev pub machines : List Machine
+machines = Splitter ∷ Stage side.I ∷ Stage side.D ∷ Merging ∷ []
+
+-- those whose next event is possible
+abbrev pub enabled : Parts → ℕ → Network → List Machine
+enabled parts capacity n = filter (can parts capacity n) machines
+
+-- no machine has a next event: all was pushed, both stages took Finish in and sent all that they
+-- had to, and the merge wants nothing
+pub record IsFinished (n : Network) : Type 0 where
+  pub splitter : n.still ≡ []
+  pub sent : (s : Side) → (lane s n).outbox ≡ []
+  pub took : (s : Side) → finish_taken (lane s n) ≡ true
+  pub merge : wanted n.at ≡ want.Nothing
+
+-- a lane at the start
+abbrev pub empty_lane : Lane
+empty_lane = record { to = empty_ring; outbox = []; from = empty_ring }
+
+-- the state at the start: all is still to be pushed, and all else is empty
+abbrev pub start : List DinRecord → Network
+start events = record {
+  still = pushes events;
+  order = empty_ring;
+  i = empty_lane;
+  d = empty_lane;
+  at = AtOrder;
+  given = [];
+}
+
+-- a schedule: each machine that it names makes its next event, where that is possible
+abbrev pub run : Parts → ℕ → List Machine → Network → Option Network
+run parts capacity [] n = Some n
+run parts capacity (m ∷ ms) n = option_and_then (run parts capacity ms) (next parts capacity m n)
+
+-- the events that were made with a lane's rings
+abbrev pub lane_events : Lane → ℕ
+lane_events l = ring_events l.to + ring_events l.from
+
+-- the events that were made: the pushes and the pops of all five rings
+abbrev pub events_made : Network → ℕ
+events_made n = ring_events n.order + lane_events n.i + lane_events n.d
+
+-- the messages of a side's two streams
+abbrev pub side_messages : Parts → List DinRecord → Side → ℕ
+side_messages parts events s = length (to_side s events) + length (from_side parts s events)
+
+-- the messages of all five streams
+abbrev pub messages : Parts → List DinRecord → ℕ
+messages parts events = length (order events) + side_messages parts events side.I
+    + side_messages parts events side.D
+
+-- What each state keeps. The splitter has pushed a front of its list, and these messages are, ring
+-- by ring, what its rings have carried; what a stage has sent, with its outbox, is what it has to
+-- send for what it took in; the merge's rule, fed with what was popped, uses it up, stands where
+-- the state says, and has taken what the second level was given.
+pub record Consistent (parts : Parts) (events : List DinRecord) (n : Network) : Type 0 where
+  pub pushed : List Push
+  pub front : pushed ++ n.still ≡ pushes events
+  pub turns : carried n.order ≡ turns_in pushed
+  pub to_side : (s : Side) → carried (lane s n).to ≡ sent_to s pushed
+  pub from_side : (s : Side) →
+      carried (lane s n).from ++ (lane s n).outbox ≡ replies parts s (lane s n).to.popped
+  pub merge : merged n.order.popped n.i.from.popped n.d.from.popped ≡ all_used n.given n.at
