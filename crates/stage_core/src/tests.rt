@@ -1,11 +1,16 @@
 //! Worked traces. What is expected of them was worked out by hand.
 
 mod memory;
+mod network;
 mod selections;
 mod streams;
 mod totals;
+mod worked;
+
+ghost use Rattle.std.specs.Prelude.{◌≡◌};
 
 use crate::config::{CacheSpec, Config};
+use crate::selection::Selection;
 use cache_core::{Policy, Repl};
 use din_trace::{DinRecord, Label};
 use std::test::Fail;
@@ -64,6 +69,21 @@ fn data() -> CacheSpec {
     lru(16, 4, 2)
 }
 
+fn config_of(d: CacheSpec, ring: u64) -> Result<Config, Fail> {
+    Ok(Config::new(lru(16, 4, 1), d, lru(32, 8, 2), ring)?)
+}
+
 fn config(d: CacheSpec) -> Result<Config, Fail> {
-    Ok(Config::new(lru(16, 4, 1), d, lru(32, 8, 2), 2)?)
+    config_of(d, 2)
+}
+
+// The whole trace, with a flush behind every so many references.
+fn selection(every: u64) -> Selection
+    ensures { result ≡ record { skip = 0; max = 0; every = every } }
+{
+    Selection {
+        skip: 0,
+        max: 0,
+        every,
+    }
 }

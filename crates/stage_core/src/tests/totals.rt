@@ -2,10 +2,13 @@
 
 ghost use Rattle.std.specs.Prelude.{◌≤◌, ◌^◌, length};
 
-use super::{config, data, flush, instr, lru, misc, read, write};
+use super::worked::{
+    both, first_misses, flushed, flushed_totals, instrs, put_in_totals, reads, sweep, sweep_totals,
+    victim, victim_totals, writes,
+};
+use super::{config, config_of, data, flush, instr, lru, misc, read, selection, write};
 use crate::config::{CacheName, CacheSpec, Config, ConfigFault};
 use crate::plain::run_plain;
-use crate::selection::Selection;
 use crate::totals::Totals;
 use cache_core::{Counts, GeometryFault, PerClass, Policy, Repl};
 use din_trace::DinRecord;
@@ -16,57 +19,7 @@ fn totals_of(alloc: Global, d: CacheSpec, every: u64, records: &[DinRecord]) -> 
     requires every { every ≤ 2 ^ 40 }
     requires short { length records.now ≤ 2 ^ 40 }
 {
-    let config = config(d)?;
-    Ok(run_plain(
-        alloc,
-        &config,
-        &Selection {
-            skip: 0,
-            max: 0,
-            every,
-        },
-        records,
-    )?)
-}
-
-fn reads(read: u64) -> PerClass {
-    PerClass {
-        read,
-        ..PerClass::default()
-    }
-}
-
-fn writes(write: u64) -> PerClass {
-    PerClass {
-        write,
-        ..PerClass::default()
-    }
-}
-
-fn instrs(instr: u64) -> PerClass {
-    PerClass {
-        instr,
-        ..PerClass::default()
-    }
-}
-
-fn both(read: u64, write: u64) -> PerClass {
-    PerClass {
-        read,
-        write,
-        ..PerClass::default()
-    }
-}
-
-// The counts of first misses alone.
-fn first_misses(fetches: PerClass, misses: PerClass, loaded: u64) -> Counts {
-    Counts {
-        fetches,
-        misses,
-        compulsory: misses,
-        loaded,
-        ..Counts::default()
-    }
+    Ok(run_plain(alloc, &config(d)?, &selection(every), records)?)
 }
 
 #[test]
@@ -103,19 +56,6 @@ fn first_in_first_out_forgets_uses(rt: HostRuntime) -> Result<(), Fail> {
     };
     assert_eq!(rt; totals.d, d);
     assert_eq!(rt; totals.u, first_misses(reads(4), reads(3), 3));
-    Ok(())
-}
-
-#[test]
-fn a_dirty_victim_is_written_back(rt: HostRuntime) -> Result<(), Fail> {
-    let totals = totals_of(rt.alloc(), data(), 0, &[write(0), read(8), read(16)])?;
-    assert_eq!(rt; totals.i, Counts::default());
-    let d = Counts {
-        written_back: 1,
-        ..first_misses(both(2, 1), both(2, 1), 3)
-    };
-    assert_eq!(rt; totals.d, d);
-    assert_eq!(rt; totals.u, first_misses(both(3, 1), reads(3), 3));
     Ok(())
 }
 
@@ -164,27 +104,38 @@ fn a_write_without_allocation_brings_nothing_in(rt: HostRuntime) -> Result<(), F
 }
 
 #[test]
-fn a_flush_writes_back_before_the_second_level_is_flushed(rt: HostRuntime) -> Result<(), Fail> {
-    let totals = totals_of(rt.alloc(), data(), 0, &[write(8), write(0), flush()])?;
+fn a_dirty_victim_is_written_back(rt: HostRuntime) -> Result<(), Fail> {
     assert_eq!(rt;
-        totals.i,
-        Counts {
-            flushes: 1,
-            ..Counts::default()
-        }
+        totals_of(rt.alloc(), data(), 0, &victim())?,
+        victim_totals()
     );
-    let d = Counts {
-        written_back: 2,
-        flushes: 1,
-        ..first_misses(writes(2), writes(2), 2)
-    };
-    assert_eq!(rt; totals.d, d);
-    let u = Counts {
-        written_back: 2,
-        flushes: 1,
-        ..first_misses(both(2, 2), reads(2), 2)
-    };
-    assert_eq!(rt; totals.u, u);
+    Ok(())
+}
+
+#[test]
+fn a_flush_writes_back_before_the_second_level_is_flushed(rt: HostRuntime) -> Result<(), Fail> {
+    assert_eq!(rt;
+        totals_of(rt.alloc(), data(), 0, &flushed())?,
+        flushed_totals()
+    );
+    Ok(())
+}
+
+#[test]
+fn a_flush_is_put_in(rt: HostRuntime) -> Result<(), Fail> {
+    assert_eq!(rt;
+        totals_of(rt.alloc(), data(), 2, &victim())?,
+        put_in_totals()
+    );
+    Ok(())
+}
+
+#[test]
+fn a_sweep_over_more_than_fits_always_misses(rt: HostRuntime) -> Result<(), Fail> {
+    let trace = sweep(rt.alloc())?;
+    assert!(rt; trace.len() <= 10_000);
+    let totals = run_plain(rt.alloc(), &config_of(data(), 1)?, &selection(0), &trace)?;
+    assert_eq!(rt; totals, sweep_totals());
     Ok(())
 }
 
@@ -206,35 +157,6 @@ fn a_flushed_block_stays_known(rt: HostRuntime) -> Result<(), Fail> {
     };
     assert_eq!(rt; totals.d, twice);
     assert_eq!(rt; totals.u, twice);
-    Ok(())
-}
-
-#[test]
-fn a_sweep_over_more_than_fits_always_misses(rt: HostRuntime) -> Result<(), Fail> {
-    let mut trace = Vec::new(rt.alloc());
-    for k in 0..10_000u64 {
-        trace.push(read(4 * k % 64))?;
-    }
-    assert!(rt; trace.len() <= 10_000);
-    let config = Config::new(lru(16, 4, 1), data(), lru(32, 8, 2), 1)?;
-    let selection = Selection {
-        skip: 0,
-        max: 0,
-        every: 0,
-    };
-    let totals = run_plain(rt.alloc(), &config, &selection, &trace)?;
-    let d = Counts {
-        compulsory: reads(16),
-        capacity: reads(9_984),
-        ..first_misses(reads(10_000), reads(10_000), 10_000)
-    };
-    assert_eq!(rt; totals.d, d);
-    let u = Counts {
-        compulsory: reads(8),
-        capacity: reads(4_992),
-        ..first_misses(reads(10_000), reads(5_000), 5_000)
-    };
-    assert_eq!(rt; totals.u, u);
     Ok(())
 }
 
@@ -272,31 +194,6 @@ fn a_miscellaneous_reference_is_read_above(rt: HostRuntime) -> Result<(), Fail> 
         )
     );
     assert_eq!(rt; totals.u, first_misses(reads(1), reads(1), 1));
-    Ok(())
-}
-
-#[test]
-fn a_flush_is_put_in(rt: HostRuntime) -> Result<(), Fail> {
-    let totals = totals_of(rt.alloc(), data(), 2, &[write(0), read(8), read(16)])?;
-    assert_eq!(rt;
-        totals.i,
-        Counts {
-            flushes: 1,
-            ..Counts::default()
-        }
-    );
-    let d = Counts {
-        written_back: 1,
-        flushes: 1,
-        ..first_misses(both(2, 1), both(2, 1), 3)
-    };
-    assert_eq!(rt; totals.d, d);
-    let u = Counts {
-        written_back: 1,
-        flushes: 1,
-        ..first_misses(both(3, 1), reads(3), 3)
-    };
-    assert_eq!(rt; totals.u, u);
     Ok(())
 }
 

@@ -1,0 +1,115 @@
+//! Runs of the network, event by event.
+
+ghost use Rattle.std.specs.Prelude.{◌≤◌, ◌^◌, length};
+
+use super::worked::{
+    flushed, flushed_totals, put_in_totals, sweep, sweep_totals, victim, victim_totals,
+};
+use super::{config_of, data, selection};
+use crate::memory::NoMemory;
+use crate::network::Core;
+use crate::schedule::drive;
+use crate::totals::Totals;
+use din_trace::DinRecord;
+use std::alloc::Global;
+use std::process::Abort;
+use std::test::Fail;
+
+// The run makes so many events and has these counts, whether the first machine that can makes each
+// event, or another one, or the first two in turn.
+fn driven(
+    rt: &impl Abort,
+    alloc: Global,
+    every: u64,
+    ring: u64,
+    records: &[DinRecord],
+    totals: Totals,
+    events: u64,
+) -> Result<(), Fail>
+    requires every { every ≤ 2 ^ 40 }
+    requires short { length records.now ≤ 2 ^ 40 }
+{
+    let config = config_of(data(), ring)?;
+    for pattern in [[0, 0], [6, 6], [0, 1]] {
+        let mut choices = Vec::new(alloc);
+        for k in 0..events {
+            choices.push(if k % 2 == 0 { pattern[0] } else { pattern[1] })?;
+        }
+        let answer = drive(alloc, &config, &selection(every), records, &choices)?;
+        assert_eq!(rt; answer, (totals, events));
+    }
+    Ok(())
+}
+
+#[test]
+fn a_trace_has_as_many_events_whatever_the_choices(rt: HostRuntime) -> Result<(), Fail> {
+    driven(&rt, rt.alloc(), 0, 2, &victim(), victim_totals(), 36)?;
+    driven(&rt, rt.alloc(), 0, 1, &flushed(), flushed_totals(), 42)?;
+    driven(&rt, rt.alloc(), 2, 2, &victim(), put_in_totals(), 48)?;
+    driven(&rt, rt.alloc(), 0, 1, &[], Totals::default(), 10)
+}
+
+#[test]
+fn choices_may_be_fewer_or_more(rt: HostRuntime) -> Result<(), Fail> {
+    let config = config_of(data(), 2)?;
+    for choices in [[].as_slice(), &[3, 1], &[6; 100]] {
+        let answer = drive(rt.alloc(), &config, &selection(0), &victim(), choices)?;
+        assert_eq!(rt; answer, (victim_totals(), 36));
+    }
+    Ok(())
+}
+
+#[test]
+fn a_long_trace_goes_through_rings_of_one_message(rt: HostRuntime) -> Result<(), Fail> {
+    let trace = sweep(rt.alloc())?;
+    assert!(rt; trace.len() <= 10_000);
+    driven(&rt, rt.alloc(), 0, 1, &trace, sweep_totals(), 80_010)
+}
+
+#[test]
+fn the_machines_that_can_are_counted(rt: HostRuntime) -> Result<(), Fail> {
+    let mut core = Core::new(rt.alloc(), &config_of(data(), 1)?, &selection(0), &[])?;
+    assert_eq!(rt; core.enabled(), 1);
+    core.step(0)?;
+    assert_eq!(rt; core.enabled(), 2);
+    core.step(1)?;
+    assert_eq!(rt; core.enabled(), 1);
+    assert!(rt; !core.finished());
+    assert!(rt; !core.failed());
+    Ok(())
+}
+
+// Where a growth is refused, that is the answer.
+#[test]
+fn a_refused_run_answers_want_of_memory(rt: HostRuntime) -> Result<(), Fail> {
+    let config = config_of(data(), 1)?;
+    let answer = drive(rt.alloc(), &config, &selection(0), &flushed(), &[]);
+    if answer != Err(NoMemory) {
+        assert_eq!(rt; answer, Ok((flushed_totals(), 42)));
+    }
+    Ok(())
+}
+
+// Where a step is refused, nothing is enabled from then on.
+#[test]
+fn a_refused_step_leaves_nothing_enabled(rt: HostRuntime) -> Result<(), Fail> {
+    let config = config_of(data(), 1)?;
+    let Ok(mut core) = Core::new(rt.alloc(), &config, &selection(0), &flushed()) else {
+        return Ok(());
+    };
+    for _ in 0..42 {
+        assert!(rt; core.enabled() > 0);
+        assert!(rt; !core.failed());
+        assert!(rt; !core.finished());
+        if core.step(0).is_err() {
+            assert!(rt; core.failed());
+            assert!(rt; !core.finished());
+            assert_eq!(rt; core.enabled(), 0);
+            return Ok(());
+        }
+    }
+    assert_eq!(rt; core.enabled(), 0);
+    assert!(rt; core.finished());
+    assert_eq!(rt; core.totals(), flushed_totals());
+    Ok(())
+}
