@@ -55,6 +55,11 @@ pub record MakesEvent (m : Machine) (old new : CoreState) : Type 0 where
   pub event : next_in old m ≡ Some new.network
   pub works : new.failed ≡ false
 
+-- the configuration and the event list are as before
+pub record IsSameRun (old new : CoreState) : Type 0 where
+  pub config : new.config ≡ old.config
+  pub events : new.events ≡ old.events
+
 -- the machine number nth of those that can, from 0
 abbrev pub IsChosen : ℕ → CoreState → Machine → Type 0
 IsChosen nth c m = slice_get (enabled_in c) nth ≡ Some m

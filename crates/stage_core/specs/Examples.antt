@@ -12,6 +12,7 @@ use Rattle.din_trace.specs.declared.record.Label.TheVariants as label
 use Rattle.stage_core.specs.Events.{access_of, events}
 use Rattle.stage_core.specs.Seen.{Hierarchy, parts_of, parts_in, seen, second_history, totals}
 use Rattle.stage_core.specs.Streams.{order, to_side, from_side}
+use Rattle.stage_core.specs.Network.{messages}
 use Rattle.stage_core.specs.declared.message.Side.TheVariants as side
 use Rattle.stage_core.specs.declared.message.What.TheVariants as what
 use Rattle.stage_core.specs.declared.message.Turn.TheVariants as turn
@@ -73,6 +74,12 @@ unfolding parts_of outcome_of victim renewals is_resident reuse_distance dirty_b
     is_written counts_of tally flushes_in flushed_back
 misses-victim = refl
 
+-- the messages of its five streams
+messages-victim : messages (parts_in small) victim_trace ≡ 18
+unfolding parts_of outcome_of victim renewals is_resident reuse_distance dirty_blocks is_dirty
+    is_written
+messages-victim = refl
+
 abbrev flush_trace : List DinRecord
 flush_trace = at_label label.Write 8 ∷ at_label label.Write 0 ∷ at_label label.Flush 0 ∷ []
 
@@ -108,10 +115,19 @@ unfolding parts_of outcome_of victim renewals is_resident reuse_distance dirty_b
     is_written
 second-flush = refl
 
+messages-flush : messages (parts_in small) flush_trace ≡ 21
+unfolding parts_of outcome_of victim renewals is_resident reuse_distance dirty_blocks is_dirty
+    is_written
+messages-flush = refl
+
 backs-flush : (totals small flush_trace).u.written_back ≡ 2
 unfolding parts_of outcome_of victim renewals is_resident reuse_distance dirty_blocks is_dirty
     is_written counts_of tally flushes_in flushed_back
 backs-flush = refl
+
+-- an empty trace has Finish in each ring
+messages-none : messages (parts_in small) [] ≡ 5
+messages-none = refl
 
 -- a flush behind every second reference
 put_in : events record { skip = 0; max = 0; every = 2 } victim_trace

@@ -71,16 +71,15 @@ fn serve(u: &mut L2Stage, what: Option<What>) -> Result<(), NoMemory>
 }
 
 impl Core {
-    ghost use Rattle.std.specs.Prelude.{◌≡◌, ◌<◌, ◌≤◌, ◌↔◌, ◌⊎◌, Some, IsTrue, IsSome, IfOk, OnOk};
-    ghost use Rattle.std.specs.Prelude.{OnErr, Bool, true, false, length, is_some, filter, slice_get};
+    ghost use Rattle.std.specs.Prelude.{◌≡◌, ◌<◌, ◌≤◌, ◌↔◌, Some, IsTrue, IsSome, IfOk, OnOk, OnErr};
+    ghost use Rattle.std.specs.Prelude.{true, false, length, filter, slice_get};
     ghost use Rattle.stage_core.specs.Events.{IsBounded, events};
     ghost use Rattle.stage_core.specs.Seen.{totals};
     ghost use Rattle.stage_core.specs.Merging.{wanted};
-    ghost use Rattle.stage_core.specs.Config.{hierarchy_of, ring_of};
-    ghost use Rattle.stage_core.specs.Network.{Consistent, IsFinished, split, merge, can, Stage};
-    ghost use Rattle.stage_core.specs.Network.{Splitter, Merging};
+    ghost use Rattle.stage_core.specs.Config.{hierarchy_of};
+    ghost use Rattle.stage_core.specs.Network.{IsFinished, Splitter, Stage, Merging};
     ghost use Rattle.stage_core.specs.Cores.{started, next_in, can_in, enabled_in, IsChosen};
-    ghost use Rattle.stage_core.specs.Cores.{MakesEvent, IsConsistent, IsOver};
+    ghost use Rattle.stage_core.specs.Cores.{MakesEvent, IsSameRun, IsConsistent, IsOver};
     ghost use Rattle.stage_core.specs.declared.network.Machine.{Machine};
     ghost use Rattle.stage_core.specs.declared.message.Side.TheVariants as side;
     ghost use Rattle.stage_core.specs.declared.message.Want.TheVariants as want;
@@ -162,8 +161,7 @@ impl Core {
         requires possible { IsSome (next_in self.old Splitter) }
         ensures made { OnOk result (MakesEvent Splitter self.old self.new) }
         ensures refused { OnErr result (self.new.failed ≡ true) }
-        ensures config { self.new.config ≡ self.old.config }
-        ensures events { self.new.events ≡ self.old.events }
+        ensures run { IsSameRun self.old self.new }
     {
         let push = self.pushes[self.pushed];
         self.pushed += 1;
@@ -178,8 +176,7 @@ impl Core {
         requires possible { IsSome (next_in self.old (Stage side.I)) }
         ensures made { OnOk result (MakesEvent (Stage side.I) self.old self.new) }
         ensures refused { OnErr result (self.new.failed ≡ true) }
-        ensures config { self.new.config ≡ self.old.config }
-        ensures events { self.new.events ≡ self.old.events }
+        ensures run { IsSameRun self.old self.new }
     {
         let made = self.i.step(self.config.ring());
         self.failed = made.is_err();
@@ -192,8 +189,7 @@ impl Core {
         requires possible { IsSome (next_in self.old (Stage side.D)) }
         ensures made { OnOk result (MakesEvent (Stage side.D) self.old self.new) }
         ensures refused { OnErr result (self.new.failed ≡ true) }
-        ensures config { self.new.config ≡ self.old.config }
-        ensures events { self.new.events ≡ self.old.events }
+        ensures run { IsSameRun self.old self.new }
     {
         let made = self.d.step(self.config.ring());
         self.failed = made.is_err();
@@ -206,8 +202,7 @@ impl Core {
         requires wants { wanted self.old.network.at ≡ want.Order }
         requires waits { 0 < length self.old.network.order.waiting }
         ensures made { MakesEvent Merging self.old self.new }
-        ensures config { self.new.config ≡ self.old.config }
-        ensures events { self.new.events ≡ self.old.events }
+        ensures run { IsSameRun self.old self.new }
     {
         let turn = self.order.pop();
         self.merge.turn(turn);
@@ -220,8 +215,7 @@ impl Core {
         requires waits { 0 < length self.old.network.i.from.waiting }
         ensures made { OnOk result (MakesEvent Merging self.old self.new) }
         ensures refused { OnErr result (self.new.failed ≡ true) }
-        ensures config { self.new.config ≡ self.old.config }
-        ensures events { self.new.events ≡ self.old.events }
+        ensures run { IsSameRun self.old self.new }
     {
         second_level_sees_few();
         let message = self.i.from.pop();
@@ -238,8 +232,7 @@ impl Core {
         requires waits { 0 < length self.old.network.d.from.waiting }
         ensures made { OnOk result (MakesEvent Merging self.old self.new) }
         ensures refused { OnErr result (self.new.failed ≡ true) }
-        ensures config { self.new.config ≡ self.old.config }
-        ensures events { self.new.events ≡ self.old.events }
+        ensures run { IsSameRun self.old self.new }
     {
         second_level_sees_few();
         let message = self.d.from.pop();
@@ -255,8 +248,7 @@ impl Core {
         requires possible { IsSome (next_in self.old Merging) }
         ensures made { OnOk result (MakesEvent Merging self.old self.new) }
         ensures refused { OnErr result (self.new.failed ≡ true) }
-        ensures config { self.new.config ≡ self.old.config }
-        ensures events { self.new.events ≡ self.old.events }
+        ensures run { IsSameRun self.old self.new }
     {
         match self.wants() {
             Want::Order => {
@@ -282,8 +274,7 @@ impl Core {
         requires possible { IsSome (next_in self.old machine) }
         ensures made { OnOk result (MakesEvent machine self.old self.new) }
         ensures refused { OnErr result (self.new.failed ≡ true) }
-        ensures config { self.new.config ≡ self.old.config }
-        ensures events { self.new.events ≡ self.old.events }
+        ensures run { IsSameRun self.old self.new }
     {
         match machine {
             Machine::Splitter => self.split(),
@@ -339,8 +330,7 @@ impl Core {
         ensures event { OnOk result ((m : Machine) × IsChosen nth self.old m
             × MakesEvent m self.old self.new) }
         ensures refused { OnErr result (self.new.failed ≡ true) }
-        ensures config { self.new.config ≡ self.old.config }
-        ensures events { self.new.events ≡ self.old.events }
+        ensures run { IsSameRun self.old self.new }
     {
         let machine = self.nth_of(
             &[

@@ -54,8 +54,8 @@ pub run-preserved : goal.run-preserved
 run-preserved c =
     record {
       works = c.in_ok-step.ensures.event.2.works;
-      config = c.step.ensures.config ∙ c.run.invariant.config;
-      events = c.step.ensures.events ∙ c.run.invariant.events;
+      config = c.step.ensures.run.config ∙ c.run.invariant.config;
+      events = c.step.ensures.run.events ∙ c.run.invariant.events;
       made = omega (arith, (after c).1, c.run.invariant.made);
     }
 
