@@ -1,3 +1,5 @@
+mod memory;
+
 use super::*;
 use std::sync::Wait;
 use std::test::Fail;
