@@ -3,8 +3,11 @@
 use super::devices::to_take;
 use super::{EVERYTHING, config};
 use crate::fault::RunFault;
+use crate::gate::OpenGate;
+use crate::pipeline::run_pipeline;
 use crate::plain::simulate_plain;
-use din_trace::{FromRead, FromWrite, MAX_LIMIT, TraceFault, Why};
+use crate::simulation::simulate;
+use din_trace::{DinRecord, FromRead, FromWrite, Label, MAX_LIMIT, Source, TraceFault, Why};
 use std::test::Fail;
 
 /// The report of two writes and a flush, which writes both blocks back.
@@ -68,6 +71,73 @@ fn a_run_writes_its_report_or_nothing(rt: HostRuntime) -> Result<(), Fail> {
             assert_eq!(rt; fault, RunFault::Memory);
             assert!(rt; output.rest == text);
             assert_eq!(rt; output.flushes, 0);
+        }
+    }
+    Ok(())
+}
+
+#[test]
+fn a_run_in_threads_writes_its_report_or_nothing(rt: HostRuntime) -> Result<(), Fail> {
+    let text = TWO_FLUSHED.as_bytes();
+    let mut output = to_take(text, 65_536);
+    let trace: &[u8] = b"1 8\n1 0\n4 0\n";
+    let ended = simulate(
+        &rt,
+        rt.alloc(),
+        &config()?,
+        &EVERYTHING,
+        FromRead::new(trace),
+        MAX_LIMIT,
+        &OpenGate,
+        &mut FromWrite::new(&mut output),
+    );
+    match ended {
+        Ok(settled) => {
+            assert_eq!(rt; settled.totals.u.written_back, 2);
+            assert!(rt; output.rest.is_empty());
+            assert_eq!(rt; output.flushes, 1);
+        }
+        Err(fault) => {
+            // The start of a thread doesn't say what it was refused.
+            assert!(rt; fault == RunFault::Memory || fault == RunFault::Threads);
+            assert!(rt; output.rest == text);
+            assert_eq!(rt; output.flushes, 0);
+        }
+    }
+    Ok(())
+}
+
+fn event(label: Label, addr: u64) -> DinRecord {
+    DinRecord { label, addr }
+}
+
+#[test]
+fn a_run_leaves_its_source_at_the_end_or_further_on(rt: HostRuntime) -> Result<(), Fail> {
+    let trace: &[u8] = b"1 8\n1 0\n4 0\n";
+    let source = Source::new(FromRead::new(trace), MAX_LIMIT);
+    let config = config()?;
+    let (mut source, ended) = run_pipeline(
+        &rt,
+        rt.alloc(),
+        &config,
+        &EVERYTHING,
+        source,
+        &OpenGate,
+    );
+    match ended {
+        Ok(_) => assert!(rt; source.next() == Ok(None)),
+        Err(fault) => {
+            assert!(rt; fault == RunFault::Memory || fault == RunFault::Threads);
+            let left = source.rest(rt.alloc());
+            assert!(rt; left.is_ok());
+            if let Ok(left) = left {
+                let all = [
+                    event(Label::Write, 8),
+                    event(Label::Write, 0),
+                    event(Label::Flush, 0),
+                ];
+                assert!(rt; all.as_slice().ends_with(&left));
+            }
         }
     }
     Ok(())
