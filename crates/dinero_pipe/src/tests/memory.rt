@@ -1,5 +1,5 @@
-//! Want of memory. Each test holds with ample memory, and where any one growth is refused. The words
-//! themselves may be refused too.
+//! Want of memory. Each test holds with ample memory, and where any one growth is refused. The
+//! words themselves may be refused too.
 
 use super::words::{parsed, worked_caches};
 use crate::command::{NoMemory, help_text};
