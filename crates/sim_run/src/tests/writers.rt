@@ -114,7 +114,10 @@ fn a_writer_may_fail_behind_each_byte(rt: HostRuntime) -> Result<(), Fail> {
 fn a_writer_may_fail_at_once(rt: HostRuntime) -> Result<(), Fail> {
     for trace in [b"".as_slice(), b"2 0\n".as_slice()] {
         let mut writer = with_room(0, true);
-        assert_eq!(rt; run(rt.alloc(), trace, &mut writer)?, Err(RunFault::Write));
+        assert_eq!(rt;
+            run(&rt, rt.alloc(), trace, &mut writer)?,
+            Err(RunFault::Write)
+        );
     }
     Ok(())
 }
