@@ -3,12 +3,17 @@
 use super::layout::ONE_WRITE_BACK;
 use super::{EVERYTHING, config};
 use crate::fault::RunFault;
+use crate::gate::OpenGate;
 use crate::plain::simulate_plain;
+use crate::simulation::simulate;
 use din_trace::{FromRead, FromWrite, MAX_LIMIT};
 use std::alloc::Global;
 use std::io;
 use std::io::{Read, Write};
+use std::process::Abort;
+use std::sync::Wait;
 use std::test::Fail;
+use std::thread::Threads;
 
 /// Gives a text in pieces of at most one size.
 #[derive(Drop)]
@@ -59,12 +64,39 @@ impl Write for Awaiting<'_> {
     }
 }
 
-fn run(alloc: Global, size: usize, writer: &mut Awaiting) -> Result<Result<(), RunFault>, Fail> {
+/// How both runs end over a trace in pieces, each with a writer like this one, which they leave
+/// alike.
+fn run<H: Threads + Wait + Abort + Sync>(
+    rt: &H,
+    alloc: Global,
+    size: usize,
+    writer: &mut Awaiting,
+) -> Result<Result<(), RunFault>, Fail> {
     let config = config()?;
     let rest = b"1 0\n0 8\n0 10\n";
-    let reader = FromRead::new(Pieces { rest, size });
-    let mut writer = FromWrite::new(writer);
-    Ok(simulate_plain(alloc, &config, &EVERYTHING, reader, MAX_LIMIT, &mut writer))
+    let mut other = to_take(writer.rest, writer.most);
+    let ended = simulate(
+        rt,
+        alloc,
+        &config,
+        &EVERYTHING,
+        FromRead::new(Pieces { rest, size }),
+        MAX_LIMIT,
+        &OpenGate,
+        &mut FromWrite::new(&mut other),
+    );
+    let plain = simulate_plain(
+        alloc,
+        &config,
+        &EVERYTHING,
+        FromRead::new(Pieces { rest, size }),
+        MAX_LIMIT,
+        &mut FromWrite::new(&mut *writer),
+    );
+    assert_eq!(rt; ended.err(), plain.err());
+    assert!(rt; other.rest == writer.rest);
+    assert_eq!(rt; other.flushes, writer.flushes);
+    Ok(plain)
 }
 
 #[test]
@@ -72,7 +104,7 @@ fn a_report_is_the_same_however_bytes_are_cut(rt: HostRuntime) -> Result<(), Fai
     for size in [1, 2, 3, 5, 65_536] {
         for most in [1, 7, 65_536] {
             let mut writer = to_take(ONE_WRITE_BACK.as_bytes(), most);
-            assert_eq!(rt; run(rt.alloc(), size, &mut writer)?, Ok(()));
+            assert_eq!(rt; run(&rt, rt.alloc(), size, &mut writer)?, Ok(()));
             assert!(rt; writer.rest.is_empty());
             assert_eq!(rt; writer.flushes, 1);
         }
@@ -83,7 +115,10 @@ fn a_report_is_the_same_however_bytes_are_cut(rt: HostRuntime) -> Result<(), Fai
 #[test]
 fn a_writer_that_takes_nothing_has_failed(rt: HostRuntime) -> Result<(), Fail> {
     let mut writer = to_take(ONE_WRITE_BACK.as_bytes(), 0);
-    assert_eq!(rt; run(rt.alloc(), 65_536, &mut writer)?, Err(RunFault::Write));
+    assert_eq!(rt;
+        run(&rt, rt.alloc(), 65_536, &mut writer)?,
+        Err(RunFault::Write)
+    );
     assert_eq!(rt; writer.flushes, 0);
     Ok(())
 }
