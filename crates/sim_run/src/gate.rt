@@ -1,5 +1,8 @@
 //! A caller's hold on the threads of a run.
 
+ghost use Rattle.std.specs.Prelude.{◌≡◌, ◌+◌, ◌≤◌, IfOk, IfErr};
+ghost use Rattle.sim_run.specs.declared.fault.Stop.{Stop};
+
 use crate::fault::Stop;
 use cache_core::MAX_EVENTS;
 use std::sync::Wait;
@@ -31,7 +34,10 @@ impl Gate for OpenGate {
 
 /// Counts one message more and passes the gate with it. A thread can't know that what it receives
 /// is lawful, so it stops where the count would leave what a cache can serve.
-pub fn pass<H: Wait, G: Gate>(rt: &H, gate: &G, who: Who, received: u64) -> Result<u64, Stop> {
+pub fn pass<H: Wait, G: Gate>(rt: &H, gate: &G, who: Who, received: u64) -> Result<u64, Stop>
+    ensures counted { IfOk result (λ nth. nth ≡ received + 1) }
+    ensures cut { IfErr result (λ why. (why ≡ Stop.Cut) × (MAX_EVENTS ≤ received)) }
+{
     if received >= MAX_EVENTS {
         return Err(Stop::Cut);
     }

@@ -1,12 +1,14 @@
 //! Runs whose gates show that the stages run at once, and that they run while the trace is read. A
 //! gate gives up after many turns and notes it, so that each test ends by itself.
 
+ghost use Rattle.std.specs.Prelude.{◌≤◌, ◌^◌};
+
 use super::{EVERYTHING, config, first_misses, instrs, reads};
 use crate::gate::{Gate, Who};
 use crate::simulation::simulate;
 use cache_core::PerClass;
 use din_trace::{FromRead, FromWrite, MAX_LIMIT};
-use stage_core::Totals;
+use stage_core::{Selection, Totals};
 use std::alloc::Global;
 use std::io::Read;
 use std::process::Abort;
@@ -182,5 +184,86 @@ fn the_stages_run_while_the_trace_is_read(rt: HostRuntime) -> Result<(), Fail> {
     )?;
     assert_eq!(rt; settled.totals.i, first_misses(instrs(2), instrs(2), 2));
     assert!(rt; !gate.sign.was_missed());
+    Ok(())
+}
+
+/// Counts the arrivals of each of the four, and notes one that has another number.
+#[derive(Drop)]
+struct Counting {
+    splitter: AtomicU64,
+    i: AtomicU64,
+    d: AtomicU64,
+    merge: AtomicU64,
+    misnumbered: AtomicU64,
+}
+
+impl Counting {
+    fn new() -> Counting {
+        Counting {
+            splitter: AtomicU64::new(0),
+            i: AtomicU64::new(0),
+            d: AtomicU64::new(0),
+            merge: AtomicU64::new(0),
+            misnumbered: AtomicU64::new(0),
+        }
+    }
+
+    fn counter(&self, who: Who) -> &AtomicU64 {
+        match who {
+            Who::Splitter => &self.splitter,
+            Who::I => &self.i,
+            Who::D => &self.d,
+            Who::Merge => &self.merge,
+        }
+    }
+
+    fn arrivals(&self) -> [u64; 4] {
+        [Who::Splitter, Who::I, Who::D, Who::Merge].map(|who| self
+            .counter(who)
+            .load(Ordering::SeqCst))
+    }
+}
+
+impl Gate for Counting {
+    fn arrive<H: Wait>(&self, _rt: &H, who: Who, nth: u64) {
+        let before = self.counter(who).fetch_add(1, Ordering::SeqCst);
+        if nth != before.wrapping_add(1) {
+            self.misnumbered.store(1, Ordering::SeqCst);
+        }
+    }
+}
+
+/// How many records and messages pass the gates, where as many references are left out.
+fn arrivals_of<H: Threads + Wait + Abort + Sync>(
+    rt: &H,
+    alloc: Global,
+    skip: u64,
+) -> Result<[u64; 4], Fail>
+    requires { skip ≤ 2 ^ 40 }
+{
+    let gate = Counting::new();
+    let config = config()?;
+    let mut written = Vec::new(alloc);
+    simulate(
+        rt,
+        alloc,
+        &config,
+        &Selection { skip, ..EVERYTHING },
+        FromRead::new(b"1 8\n1 0\n4 0\n".as_slice()),
+        MAX_LIMIT,
+        &gate,
+        &mut FromWrite::new(&mut written),
+    )?;
+    assert_eq!(rt; gate.misnumbered.load(Ordering::SeqCst), 0);
+    Ok(gate.arrivals())
+}
+
+#[test]
+fn each_message_passes_its_gate_once(rt: HostRuntime) -> Result<(), Fail> {
+    // Three turns and Finish; a flush and Finish to I; two references, a flush and Finish to D. I
+    // answers with two messages, D with nine.
+    assert_eq!(rt; arrivals_of(&rt, rt.alloc(), 0)?, [3, 2, 4, 4 + 2 + 9]);
+    // Records that are not selected pass the splitter's gate, and bring no message.
+    assert_eq!(rt; arrivals_of(&rt, rt.alloc(), 5)?, [3, 1, 1, 1 + 1 + 1]);
     Ok(())
 }
