@@ -20,8 +20,8 @@ use crate::plain::simulate_plain;
 use crate::report::write_report;
 use crate::simulation::simulate;
 use cache_core::{Counts, PerClass, Policy, Repl};
-use din_trace::{FromRead, FromWrite, MAX_LIMIT};
-use stage_core::{CacheSpec, Config, Selection, Totals};
+use din_trace::{FromRead, FromWrite, MAX_LIMIT, Source};
+use stage_core::{CacheSpec, Config, Selection, Totals, drive};
 use std::alloc::Global;
 use std::process::Abort;
 use std::sync::Wait;
@@ -145,7 +145,23 @@ fn run<H: Threads + Wait + Abort + Sync>(
     plain
 }
 
-/// Does a run over a trace end well, with the report of just these totals?
+/// Do the machines of the network come to these totals, event by event, whichever is chosen next?
+fn is_driven_to(
+    alloc: Global,
+    config: &Config,
+    selection: &Selection,
+    trace: &[u8],
+    totals: &Totals,
+) -> Result<bool, Fail>
+    requires { IsBounded selection.now }
+{
+    let records = Source::new(FromRead::new(trace), MAX_LIMIT).rest(alloc)?;
+    let (driven, _events) = drive(alloc, config, selection, &records, &[3, 0, 1, 2, 1])?;
+    Ok(driven == *totals)
+}
+
+/// Does a run over a trace end well, with the report of just these totals, to which the network comes
+/// too?
 fn reports<H: Threads + Wait + Abort + Sync>(
     rt: &H,
     alloc: Global,
@@ -160,5 +176,8 @@ fn reports<H: Threads + Wait + Abort + Sync>(
     run(rt, alloc, config, selection, trace, MAX_LIMIT, &mut written)?;
     let mut expected = Vec::new(alloc);
     write_report(totals, &mut FromWrite::new(&mut expected))?;
-    Ok(written.as_slice() == expected.as_slice())
+    Ok(
+        written.as_slice() == expected.as_slice()
+            && is_driven_to(alloc, config, selection, trace, totals)?,
+    )
 }
