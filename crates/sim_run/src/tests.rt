@@ -9,6 +9,7 @@ mod gates;
 mod gone;
 mod layout;
 mod levels;
+mod many;
 mod memory;
 mod pipelines;
 mod runs;
