@@ -1,8 +1,11 @@
 -- What a run over a source comes to, from what its splitter and its other threads came to.
 use Rattle.std.proofs.Common.{◌≡◌, List, [], None, Option, Result, Ok, Err, refl, sym}
-use Rattle.std.proofs.Common.{◌⊎◌, inl, inr, Some, subst, append-nil}
+use Rattle.std.proofs.Common.{◌++◌, true, false, ◌∙◌, ℕ, ◌⊎◌, inl, inr, Some, subst, append-nil}
 use Rattle.std.specs.Prelude.{OnOk, IfOk, IfErr, IsOk, option_map}
-use Rattle.din_trace.specs.Left.{Left}
+use Rattle.din_trace.specs.Line.{ADDRESS_MAX}
+use Rattle.din_trace.specs.Text.{records, fault}
+use Rattle.din_trace.specs.Left.{Left, Script, Fate, Open, Ended, Failed, Follows, text_left}
+use Rattle.din_trace.proofs.Texts.{leaves_text}
 use Rattle.din_trace.specs.declared.record.DinRecord.{DinRecord}
 use Rattle.din_trace.specs.declared.fault.TraceFault.{TraceFault}
 use Rattle.stage_core.specs.Events.{events}
@@ -17,6 +20,35 @@ use Rattle.sim_run.specs.declared.fault.Stop.TheVariants as stop
 use Rattle.sim_run.specs.Faults.{MayAnswer, stopped}
 use Rattle.sim_run.specs.Threads.{HasSentAll, LeavesRest, SplitUp, at_end}
 use Rattle.sim_run.specs.Runs.{HasRun, RunsOver}
+
+-- what holds of the records that are left, whatever a reader did, holds of the records of some
+-- text, where no fault is left
+module _ (limit : ℕ) (P : List DinRecord → Type 0) where
+  abbrev LeavesGood : Script → Type 0
+  LeavesGood script =
+      let l = text_left ADDRESS_MAX 1 script.given limit script.fails in
+      (l.fault ≡ None) × P l.records
+
+  of-text : (text : List ℕ) → LeavesGood (record { given = text; fails = false })
+      → (fault ADDRESS_MAX text limit ≡ None) × P (records ADDRESS_MAX text)
+  of-text text good =
+      let law = leaves_text ADDRESS_MAX text limit in
+      let none = sym law.fault_is ∙ good.0 in (none, subst P (law.records_are none) good.1)
+
+  pub of-some-text : (fate : Fate) (given : List ℕ) → ((before later : Script)
+      → Follows fate given before later → LeavesGood before) → (text : List ℕ)
+      × (fault ADDRESS_MAX text limit ≡ None) × P (records ADDRESS_MAX text)
+  of-some-text Open given left =
+      let end : Script = record { given = []; fails = false } in
+      let good = of-text (given ++ []) (left _ end refl) in (given ++ [], good.0, good.1)
+  of-some-text Ended given left =
+      let end : Script = record { given = []; fails = false } in
+      let good = of-text given (left (record { given = given; fails = false }) end refl) in
+      (given, good.0, good.1)
+  of-some-text Failed given left =
+      let end : Script = record { given = []; fails = false } in
+      let good = left (record { given = given; fails = true }) end refl in
+      absurd ((leaves_text ADDRESS_MAX given limit).fails good.0)
 
 -- what holds of the fault of the splitter, of want of memory and of a gone end holds of the gravest
 module _ (P : RunFault → Type 0) (memory : P Memory) (cut : P Cut) (result : RunFault) where

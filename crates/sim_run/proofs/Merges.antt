@@ -47,8 +47,10 @@ module _ (began : L2Stage) (start : MergeEnds) (at : Stand) (u : L2Stage) (was :
     rules = going.rules;
     whats = going.whats ++ [];
     used = ap (λ turns. merged turns (received now.from_i) (received now.from_d)) got
-        ∙ ap (λ end. merged (received was.order ++ t ∷ []) (received end) (received now.from_d)) same_i
-        ∙ ap (λ end. merged (received was.order ++ t ∷ []) (received was.from_i) (received end)) same_d
+        ∙ ap (λ end. merged (received was.order ++ t ∷ []) (received end) (received now.from_d))
+        same_i
+        ∙ ap (λ end. merged (received was.order ++ t ∷ []) (received was.from_i) (received end))
+        same_d
         ∙ turn-more t (received was.order) (received was.from_i) (received was.from_d) going.whats
         at going.used wants
         ∙ ap (all_used (going.whats ++ [])) (sym to);

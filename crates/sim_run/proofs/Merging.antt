@@ -65,7 +65,8 @@ used-nothing here at ws none same =
 ends-turn : (here : Stand) (turns : List Turn) (is ds : List FromStage)
     (then : List Turn → List FromStage → List FromStage → Merged)
     → then [] [] [] ≡ all_used [] (after_end here) → (ws : List What) (at : Stand)
-    → stops here turns is ds ≡ all_used ws at → then turns is ds ≡ all_used (ws ++ []) (after_end at)
+    → stops here turns is ds ≡ all_used ws at
+    → then turns is ds ≡ all_used (ws ++ []) (after_end at)
 ends-turn here [] [] [] then behind ws at e =
     behind ∙ used-nothing here at ws (sym (ap (λ (x : Merged). x.taken) e))
     (ap (λ (x : Merged). x.at) e)
@@ -124,7 +125,8 @@ module _ (t : Turn) where
   turned now ws none same =
       ap (λ us. all_used (us ++ []) now) (sym none) ∙ ap (λ a. all_used (ws ++ []) a) same
 
-one-turn : (t : Turn) (ws : List What) → ws ≡ [] → merged (t ∷ []) [] [] ≡ all_used (ws ++ []) (after_turn t)
+one-turn : (t : Turn) (ws : List What) → ws ≡ []
+    → merged (t ∷ []) [] [] ≡ all_used (ws ++ []) (after_turn t)
 one-turn turn.I ws none = turned turn.I AtI ws none refl
 one-turn turn.D ws none = turned turn.D AtD ws none refl
 one-turn turn.Both ws none = turned turn.Both AtBoth ws none refl
@@ -134,7 +136,8 @@ elsewhere-turn : (t : Turn) (here : Stand) (turns : List Turn) (is ds : List Fro
     → (wanted here ≡ want.Order → ⊥)
     → Turns t (stops here turns is ds) (stops here (with_turn t turns) is ds)
 elsewhere-turn t here turns is ds other =
-    goes-elsewhere want.Order [] (λ at. after_turn t) here turns (with_turn t turns) is is ds ds other
+    goes-elsewhere want.Order [] (λ at. after_turn t) here turns (with_turn t turns) is is ds ds
+    other
 
 through-turn : (t : Turn) (ms : List FromStage) (stopped stopped' : Merged)
     (then then' : List FromStage → Merged) → Turns t stopped stopped'

@@ -16,7 +16,8 @@ use Rattle.sim_run.specs.declared.ends.StageEnds.{StageEnds}
 use Rattle.sim_run.specs.Threads.{HasServed, StageEnded}
 
 -- the stage received a message, took it in and sent its answer
-pub record Serves (stage : L1Stage) (was : StageEnds) (m : ToStage) (next : L1Stage) (now : StageEnds) : Type 0 where
+pub record Serves (stage : L1Stage) (was : StageEnds) (m : ToStage) (next : L1Stage)
+    (now : StageEnds) : Type 0 where
   pub from_splitter : SameRx was.from_splitter now.from_splitter
   pub to_merge : SameTx was.to_merge now.to_merge
   pub got : received now.from_splitter ≡ received was.from_splitter ++ m ∷ []

@@ -56,10 +56,12 @@ sends-event es e place next routed was now going is_next turn i d sends = record
       ∙ ap (λ t. map (λ (x : DinRecord). turn_of x.label) es ++ t ∷ []) turn
       ∙ sym (map-append (λ (x : DinRecord). turn_of x.label) es (e ∷ []));
   to_i = sends.to_i ∙ ap (λ l. l ++ option_to_list routed.i) going.to_i
-      ∙ ap (λ l. over (told side.I) es ++ l) (i ∙ ap (λ n. map (message (n + 1)) (asked side.I e)) going.last)
+      ∙ ap (λ l. over (told side.I) es ++ l)
+      (i ∙ ap (λ n. map (message (n + 1)) (asked side.I e)) going.last)
       ∙ sym (over-more (told side.I) es e);
   to_d = sends.to_d ∙ ap (λ l. l ++ option_to_list routed.d) going.to_d
-      ∙ ap (λ l. over (told side.D) es ++ l) (d ∙ ap (λ n. map (message (n + 1)) (asked side.D e)) going.last)
+      ∙ ap (λ l. over (told side.D) es ++ l)
+      (d ∙ ap (λ n. map (message (n + 1)) (asked side.D e)) going.last)
       ∙ sym (over-more (told side.D) es e);
 }
 
@@ -98,7 +100,8 @@ pub record Splits {R : Type 0} (remaining : R → Option (List ℕ)) (failures :
 
 module _ {R : Type 0} (remaining : R → Option (List ℕ)) (failures : R → ℕ) (selection : Selection)
     (start : Source R) (began : SplitterEnds) (offers : Offers) (place : ℕ) (now : Source R)
-    (ends : SplitterEnds) (going : Splits remaining failures selection start began offers place now ends)
+    (ends : SplitterEnds)
+    (going : Splits remaining failures selection start began offers place now ends)
     (next : Source R) (result : Result (Option DinRecord) TraceFault) (given : List ℕ) (fate : Fate)
     (all : Calls remaining failures start next going.given given going.fate fate)
     (reads : (before later : Script) (l : Left) → Follows fate given before later
@@ -106,7 +109,8 @@ module _ {R : Type 0} (remaining : R → Option (List ℕ)) (failures : R → �
   -- what was left before the last call, and what it answered
   before-last : (first last : Script) (l : Left) → Follows all.fate all.given first last
       → HasLeft start first l → (rest : Left) × (l.records ≡ going.past ++ rest.records)
-      × (rest.fault ≡ l.fault) × (result ≡ first_answer rest) × HasLeft next last (behind_first rest)
+      × (rest.fault ≡ l.fault) × (result ≡ first_answer rest)
+      × HasLeft next last (behind_first rest)
   before-last first last l is has =
       let mid = all.between first last is in
       let rest = going.left first mid.0 l mid.1 has in

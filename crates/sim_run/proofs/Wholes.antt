@@ -9,7 +9,8 @@ use Rattle.cache_core.specs.Standing.{rules_of}
 use Rattle.cache_core.specs.declared.counts.Counts.{Counts}
 use Rattle.stage_core.specs.Places.{along, over}
 use Rattle.stage_core.specs.Events.{history}
-use Rattle.stage_core.specs.Seen.{Hierarchy, Parts, parts_of, parts_in, rules_at, seen, second_history}
+use Rattle.stage_core.specs.Seen.{Hierarchy, Parts, parts_of, parts_in, rules_at, seen}
+use Rattle.stage_core.specs.Seen.{second_history}
 use Rattle.stage_core.specs.Streams as streams
 use Rattle.stage_core.specs.Streams.{answered, replies, taken_in, to_side, from_side, told}
 use Rattle.stage_core.specs.Merging.{merged, all_used, AtEnd, Merged}
@@ -65,7 +66,8 @@ carried-whole c xs all is =
 
 -- a stage answers with the parts of its own cache
 own-parts : (c : Hierarchy) (s : Side) (before es : List DinRecord)
-    → along (answered (parts_of (rules_at c s)) s) before es ≡ along (answered (parts_in c) s) before es
+    → along (answered (parts_of (rules_at c s)) s) before es
+    ≡ along (answered (parts_in c) s) before es
 own-parts c s before [] = refl
 own-parts c s before (e ∷ es) =
     ap (λ l. answered (parts_in c) s before e ++ l) (own-parts c s (before ++ e ∷ []) es)

@@ -74,7 +74,8 @@ pub record EndInFinish (messages : List ToStage) : Type 0 where
   pub only : list_any is_finish before ≡ false
 
 -- a stage that began so has sent what it answers to what it received
-pub record HasServed (began : L1Stage) (was : StageEnds) (stage : L1Stage) (now : StageEnds) : Type 0 where
+pub record HasServed (began : L1Stage) (was : StageEnds) (stage : L1Stage) (now : StageEnds)
+    : Type 0 where
   pub rings : SameStageEnds was now
   pub side : side_of stage ≡ side_of began
   pub rules : rules_of (cache_of stage) ≡ rules_of (cache_of began)
@@ -83,13 +84,15 @@ pub record HasServed (began : L1Stage) (was : StageEnds) (stage : L1Stage) (now 
       ≡ replies (parts_of (rules_of (cache_of began))) (side_of began) (received now.from_splitter)
 
 -- it has ended well
-pub record StageEnded (began : L1Stage) (was : StageEnds) (stage : L1Stage) (now : StageEnds) : Type 0 where
+pub record StageEnded (began : L1Stage) (was : StageEnds) (stage : L1Stage) (now : StageEnds)
+    : Type 0 where
   pub served : HasServed began was stage now
   pub finish : EndInFinish (received now.from_splitter)
 
 -- the merge's rule has used up what was received and stands there, and the second level has served
 -- what the rule took
-pub record HasMerged (at : Stand) (began : L2Stage) (was : MergeEnds) (u : L2Stage) (now : MergeEnds) : Type 0 where
+pub record HasMerged (at : Stand) (began : L2Stage) (was : MergeEnds) (u : L2Stage)
+    (now : MergeEnds) : Type 0 where
   pub rings : SameMergeEnds was now
   pub rules : rules_of (second_cache u) ≡ rules_of (second_cache began)
   pub whats : List What

@@ -1,15 +1,26 @@
 //! Whole runs of the simulator: from the bytes of a trace to the bytes of its report.
 //!
-//! [`simulate_plain`] reads a trace, moves its records through the machines of `stage_core` on one
-//! thread, and writes the report. [`write_report`] writes the report of given totals, and
-//! [`write_block`] the block of one cache. The rooms: `fault` names each way in which a run may end
-//! without a report, `report` lays out the lines, `plain` is the run on one thread.
+//! [`simulate`] reads a trace record by record and moves what is selected of it through four
+//! threads: the splitter in the caller's, one for each first-level stage, and one for the merge
+//! with the second level. They share nothing but five rings. [`run_pipeline`] is the same without
+//! the report, [`simulate_plain`] the same on one thread. [`write_report`] writes the report of
+//! given totals, and [`write_block`] the block of one cache.
+//!
+//! The rooms: `ends` has the rings, and which end each thread owns; `gate` holds threads for tests;
+//! `split`, `stage_thread` and `merge_thread` are the bodies of the threads; `pipeline` starts,
+//! joins and settles them; `simulation` and `plain` are the two runs; `report` lays out the lines;
+//! `fault` names each way in which a run may end without a report, and says which of several is
+//! told.
 //!
 //! Proved, of every reader that tells its bytes, every lawful configuration and every selection: a
-//! run that ends well had a text without fault, and appended exactly the report (`specs/Report`) of
-//! the counts that the definitions give over the whole trace. A fault is the first one of that text
-//! or of its reader; with any fault but a failed writer's, nothing was written. That the writer is
-//! flushed behind the report is shown by tests alone: no contract can see it.
+//! run that ends well had a text without fault; each ring has carried exactly its stream of the
+//! definitions, each message once and in order, and all of it was received; the merge's rule took
+//! what the second level is to see, by place; and what was written is exactly the report
+//! (`specs/Report`) of the counts that the definitions give over the whole trace. A fault is the
+//! first one of that text or of its reader; with any fault but a failed writer's, nothing was
+//! written. Nothing is claimed of a run that does not end. Shown by tests alone: that the threads
+//! run at once and while the trace is read, that a gone end or a missing thread is met only where
+//! there is one, and that the writer is flushed behind the report.
 #![tactic(auto)]
 
 mod ends;

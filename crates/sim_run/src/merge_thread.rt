@@ -101,7 +101,8 @@ pub fn run_merge<H: Wait, G: Gate>(
     unreachable!()
 }
 
-/// Starts the thread of the merge. Where it isn't granted, the second level and its ends are dropped.
+/// Starts the thread of the merge. Where it isn't granted, the second level and the ends are
+/// dropped.
 pub fn start_merge<'s, E, H: Threads + Wait + Sync, G: Gate>(
     scope: &Scope<'s, E>,
     rt: &'s H,

@@ -45,6 +45,11 @@ pub fn simulate<H: Threads + Wait + Sync, R: ByteReader + Drop, G: Gate, W: Byte
         (fault ADDRESS_MAX text limit ≡ None)
         × HasRun (hierarchy_of config.now) (events selection.now (records ADDRESS_MAX text))
         settled) }
+    // Whatever the reader, it is so for some text.
+    ensures whole { IfOk result (λ settled. (text : List ℕ)
+        × (fault ADDRESS_MAX text limit ≡ None)
+        × HasRun (hierarchy_of config.now) (events selection.now (records ADDRESS_MAX text))
+        settled) }
     // The writer was given the report of those counts.
     ensures report { IfOk result (λ settled.
         Appends (W.contents writer.old) (W.contents writer.new) (report settled.totals)) }

@@ -1,7 +1,7 @@
 //! The splitter, in the caller's thread: from a source to the rings.
 
-ghost use Rattle.std.specs.Prelude.{◌≡◌, ◌≢◌, ◌<◌, ◌≤◌, ◌+◌, ◌*◌, ◌++◌, ◌∷◌, [], List, ℕ, OnOk, IfErr};
-ghost use Rattle.std.specs.Prelude.{option_to_list};
+ghost use Rattle.std.specs.Prelude.{◌≡◌, ◌<◌, ◌≤◌, ◌+◌, ◌*◌, ◌++◌, ◌∷◌, [], List, ℕ, OnOk};
+ghost use Rattle.std.specs.Prelude.{IfErr, option_to_list};
 ghost use Rattle.pipe_rings.specs.Rings.{sent};
 ghost use Rattle.din_trace.specs.Left.{Left, Script, Fate, Follows};
 ghost use Rattle.din_trace.specs.Source.{HasLeft, Takes};
@@ -81,9 +81,8 @@ fn send_picked<H: Wait>(
     send_some(rt, splitter, ends, picked.flush.then_some(INSERTED))
 }
 
-/// Reads record after record, and sends the messages of what is selected of it, and at the end those
-/// of the end. It stops at a fault of the trace, and where an end is gone; what follows is then
-/// not read.
+/// Reads record after record, sends the messages of what is selected of each, and then those of the
+/// end. It stops at a fault of the trace, and where an end is gone; what follows is then not read.
 pub fn split<H: Wait, R: ByteReader, G: Gate>(
     rt: &H,
     gate: &G,

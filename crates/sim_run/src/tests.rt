@@ -51,8 +51,8 @@ fn spec(size: u64, bsize: u64, assoc: u64, policy: Policy) -> CacheSpec {
     }
 }
 
-/// 16 bytes of instructions, 16 of data in two ways with this policy, and a second level of 32; each
-/// ring holds so many messages.
+/// 16 bytes of instructions, 16 of data in two ways with this policy, and a second level of 32.
+/// Each ring holds so many messages.
 fn config_of(data: Policy, ring: u64) -> Result<Config, Fail> {
     let i = spec(16, 4, 1, USUAL);
     let d = spec(16, 4, 2, data);

@@ -15,7 +15,8 @@ returns-in_default-clause-reads g c = (
   Open,
   no_calls g.R.ByteReader.remaining g.R.ByteReader.failures c.args.source,
   λ first last l is left. runs-refused (hierarchy_of c.args.config.now) c.args.selection.now l
-      (HasLeft c.args.source last) Memory (inl refl) (subst (λ s. HasLeft c.args.source s l) is left),
+      (HasLeft c.args.source last) Memory (inl refl)
+      (subst (λ s. HasLeft c.args.source s l) is left),
 )
 
 pub returns-in_default-new-clause-reads : goal.returns-in_default-new-clause-reads
@@ -24,7 +25,8 @@ returns-in_default-new-clause-reads g c = (
   Open,
   no_calls g.R.ByteReader.remaining g.R.ByteReader.failures c.args.source,
   λ first last l is left. runs-refused (hierarchy_of c.args.config.now) c.args.selection.now l
-      (HasLeft c.args.source last) Memory (inl refl) (subst (λ s. HasLeft c.args.source s l) is left),
+      (HasLeft c.args.source last) Memory (inl refl)
+      (subst (λ s. HasLeft c.args.source s l) is left),
 )
 
 pub scoped-requires : goal.scoped-requires

@@ -6,6 +6,7 @@ use Rattle.stage_core.specs.Config.{hierarchy_of}
 use Rattle.stage_core.specs.Events.{events}
 use Rattle.sim_run.specs.declared.fault.RunFault.TheVariants.{Trace}
 use Rattle.sim_run.specs.Runs.{HasRun}
+use Rattle.sim_run.proofs.Endings.{of-some-text}
 use Rattle.sim_run.proofs.simulation.simulate.Goals as goal
 
 pub returns-in_err-settled-clause-trace : goal.returns-in_err-settled-clause-trace
@@ -34,3 +35,11 @@ returns-clause-run g c text known =
       subst (λ (t : List DinRecord). HasRun (hierarchy_of c.args.config.now)
           (events c.args.selection.now t) c.in_ok-settled.settled) good.1 ended.1,
     )
+
+pub returns-clause-whole : goal.returns-clause-whole
+returns-clause-whole g c =
+    let reads = c.run_pipeline-source.ensures.reads in
+    of-some-text c.args.limit (λ t. HasRun (hierarchy_of c.args.config.now)
+    (events c.args.selection.now t) c.in_ok-settled.settled) reads.1 reads.0
+    (λ before later is. let ended = rw c.in_ok-settled.was at reads.3 before later _ is
+    (c.new-source.ensures.left before) in (ended.0, ended.1))

@@ -36,7 +36,8 @@ loop-init g c = (
     given = [];
     fate = Open;
     went = no_calls g.R.ByteReader.remaining g.R.ByteReader.failures c.args.source.now;
-    left = λ first last l is left. (l, refl, refl, subst (λ s. HasLeft c.args.source.now s l) is left);
+    left = λ first last l is left.
+        (l, refl, refl, subst (λ s. HasLeft c.args.source.now s l) is left);
     chosen = c.new-selector.ensures.selection;
     offered = c.new-selector.ensures.none;
     room = inl c.new-selector.ensures.none.count;
@@ -59,7 +60,8 @@ loop-preserved g c =
     let next = c.in-Ok-Some.next in
     let answered : c.next-in-loop.result ≡ Ok (Some next) =
     c.in-Ok-Some.is ∙ ap (λ (found : Option DinRecord). Ok found) c.in-Ok-Some.field-0-is in
-    let less : room_of c.next-in-loop.new.self < room_of c.loop.source = (rw answered at c.next-in-loop.ensures.records) refl in
+    let less : room_of c.next-in-loop.new.self < room_of c.loop.source =
+    (rw answered at c.next-in-loop.ensures.records) refl in
     let offers = c.offer-picked.ensures in
     let picks = offers.picked going.past going.offered
     ∙ ap (λ (s : Selection). picked s (count_by is_reference (going.past ++ next ∷ [])) next)
@@ -90,7 +92,8 @@ loop-preserved g c =
         few = omega (arith, offers.offered, c.send_picked.ensures.place, going.few);
         rings = ends-stay c.args.ends.now c.loop.ends c.send_picked.new.ends going.rings
             c.send_picked.ensures.rings;
-        sends = subst (λ (l : List DinRecord). HasSent l c.send_picked.new.splitter c.send_picked.new.ends) longer
+        sends = subst (λ (l : List DinRecord).
+            HasSent l c.send_picked.new.splitter c.send_picked.new.ends) longer
             (sent es going.sends);
       },
     )
@@ -168,7 +171,8 @@ returns-in-Ok-None-clause-reads g c =
           c.loop.ends going c.next-in-loop.new.self c.next-in-loop.result _ _ all
           c.next-in-loop.ensures.reads.3 answered first last l is left in (
             none.0,
-            subst (λ (rs : List DinRecord). HasSentAll (events c.args.selection rs) c.send_routed.new.ends)
+            subst (λ (rs : List DinRecord).
+                HasSentAll (events c.args.selection rs) c.send_routed.new.ends)
                 (sym none.1)
                 (sends-end (events c.args.selection going.past) c.loop.splitter c.finish.result
                 c.loop.ends c.send_routed.new.ends going.sends end.turn end.i end.d (search rules)),
