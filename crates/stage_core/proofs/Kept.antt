@@ -48,7 +48,6 @@ carried-push x r = sym (append_assoc r.popped r.waiting (x ∷ []))
 pub record Popped {A : Type 0} (r : Ring A) (x : A) (r' : Ring A) : Type 0 where
   pub popped : r'.popped ≡ r.popped ++ x ∷ []
   pub carried_same : carried r' ≡ carried r
-  pub waited : r.waiting ≡ x ∷ r'.waiting
 
 pop_from-some : {A : Type 0} (popped waiting : List A) (p : A × Ring A)
     → pop_from popped waiting ≡ Some p → Popped record {
@@ -59,7 +58,7 @@ pop_from-some popped [] p h = absurd (cc)
 pop_from-some popped (x ∷ xs) p h =
     let e : (x, record { popped = popped ++ x ∷ []; waiting = xs }) ≡ p = cc in
     subst (λ q. Popped record { popped = popped; waiting = x ∷ xs } q.0 q.1) e
-    record { popped = refl; carried_same = append_assoc popped (x ∷ []) xs; waited = refl }
+    record { popped = refl; carried_same = append_assoc popped (x ∷ []) xs }
 
 pub pop-some : {A : Type 0} (r : Ring A) (p : A × Ring A) → pop r ≡ Some p → Popped r p.0 p.1
 pop-some r p h = pop_from-some r.popped r.waiting p h

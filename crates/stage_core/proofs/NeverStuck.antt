@@ -55,8 +55,9 @@ module _ (parts : Parts) (es : List DinRecord) (n : Network) (k : Consistent par
 
   -- each message that a stage took in has one end, popped by the merge, in the ring or in the
   -- outbox
-  stage-count : (s : Side) → ends (lane s n).from.popped + ends (lane s n).from.waiting + ends
-      (lane s n).outbox ≡ length (lane s n).to.popped
+  stage-count : (s : Side)
+      → ends (lane s n).from.popped + ends (lane s n).from.waiting + ends (lane s n).outbox
+      ≡ length (lane s n).to.popped
   stage-count s =
       omega (
         arith,
@@ -71,8 +72,9 @@ module _ (parts : Parts) (es : List DinRecord) (n : Network) (k : Consistent par
 
   -- each visit of a turn that was pushed has a message, popped by the stage, in the ring, or next
   -- to be pushed
-  split-count : (s : Side) → length (lane s n).to.popped + length
-      (lane s n).to.waiting + pending s n.still ≡ visits s n.order.popped + visits s n.order.waiting
+  split-count : (s : Side)
+      → length (lane s n).to.popped + length (lane s n).to.waiting + pending s n.still
+      ≡ visits s n.order.popped + visits s n.order.waiting
   split-count side.I =
       omega (
         arith,
@@ -262,8 +264,9 @@ module _ (parts : Parts) (es : List DinRecord) (n : Network) (k : Consistent par
       let all : n.order.waiting ++ turns_in n.still ≡ [] = last-all o.2 in
       let owed-none : (s : Side) → owed s n.at ≡ 0 =
       λ s. elim s as (λ x. owed x n.at ≡ 0) [ side.I ↦ o.0 | side.D ↦ o.1 ] in
-      let count : (s : Side) → (length (lane s n).to.waiting + pending s n.still + ends
-      (lane s n).from.waiting + ends (lane s n).outbox) ≡ 0 =
+      let count : (s : Side)
+      → (length (lane s n).to.waiting + pending s n.still + ends (lane s n).from.waiting
+      + ends (lane s n).outbox) ≡ 0 =
       λ s. omega (
         arith,
         owed-none s,
