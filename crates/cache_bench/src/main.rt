@@ -1,4 +1,5 @@
-//! Serves the same generated references to caches of one size and 1, 8, 256 and 4,096 ways, and says what missed.
+//! Serves the same generated references to caches of one size and 1, 8, 256 and 4,096 ways, and says
+//! what missed.
 //!
 //! Words: the number of references, and `time` where the time of one access is wanted.
 #![tactic(auto)]
@@ -25,7 +26,8 @@ fn next(state: u64) -> u64 {
         .wrapping_add(1_442_695_040_888_963_407)
 }
 
-/// The access that a state stands for: one in four writes, and three in four go to a sixteenth of all blocks.
+/// The access that a state stands for: one in four writes, and three in four go to a sixteenth of
+/// all blocks.
 fn access_from(state: u64) -> Access {
     let bits = state >> 32;
     let class = if bits % 4 == 0 {

@@ -6,14 +6,16 @@ use Rattle.din_trace.specs.Line.{ADDRESS_MAX}
 use Rattle.din_trace.specs.Text.{fault, failed_fault}
 
 -- the reader came to fail once, after it gave this front of its text
-pub record FailedBehind {R : Type 0} (failures : R → ℕ) (reader : R) (text given : List ℕ) : Type 0 where
+pub record FailedBehind {R : Type 0} (failures : R → ℕ) (reader : R) (text given : List ℕ)
+    : Type 0 where
   pub rest : List ℕ
   pub whole : text ≡ given ++ rest
   -- the reader as it then was
   pub last : R
   pub failed : failures last ≡ once_more (failures reader)
 
--- the fault of the reader's text under the limit, or that of a reader which failed behind a front of it
+-- the fault of the reader's text under the limit, or that of a reader which failed behind a front of
+-- it
 abbrev pub IsFaultOf : {R : Type 0} → (R → ℕ) → R → List ℕ → ℕ → TraceFault → Type 0
 IsFaultOf failures reader text limit met =
     (fault ADDRESS_MAX text limit ≡ Some met)

@@ -38,8 +38,8 @@ use std::process::ExitCode;
 use std::sync::Wait;
 use std::thread::Threads;
 
-/// Simulates the trace that is read from `input`, and writes its report to `output`. The buffer turns
-/// the report into one write.
+/// Simulates the trace that is read from `input`, and writes its report to `output`. The buffer
+/// turns the report into one write.
 fn report<H: Threads + Wait + Sync, R: Read + Drop, W: Write + Drop>(
     rt: &H,
     alloc: Global,

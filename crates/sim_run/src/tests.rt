@@ -161,8 +161,8 @@ fn is_driven_to(
     Ok(driven == *totals)
 }
 
-/// Does a run over a trace end well, with the report of just these totals, to which the network comes
-/// too?
+/// Does a run over a trace end well, with the report of just these totals, to which the network
+/// comes too?
 fn reports<H: Threads + Wait + Abort + Sync>(
     rt: &H,
     alloc: Global,

@@ -71,8 +71,8 @@ fn serve(u: &mut L2Stage, what: Option<What>) -> Result<(), NoMemory>
 }
 
 impl Core {
-    ghost use Rattle.std.specs.Prelude.{◌≡◌, ◌<◌, ◌≤◌, ◌↔◌, Some, IsTrue, IsSome, IfOk, OnOk, OnErr};
-    ghost use Rattle.std.specs.Prelude.{true, false, length, filter, slice_get};
+    ghost use Rattle.std.specs.Prelude.{◌≡◌, ◌<◌, ◌≤◌, ◌↔◌, Some, IsTrue, IsSome, IfOk, OnOk};
+    ghost use Rattle.std.specs.Prelude.{OnErr, true, false, length, filter, slice_get};
     ghost use Rattle.stage_core.specs.Events.{IsBounded, events};
     ghost use Rattle.stage_core.specs.Seen.{totals};
     ghost use Rattle.stage_core.specs.Merging.{wanted};
