@@ -2,15 +2,15 @@
 # What a long and a slow trace cost: the memory for 2 GB of one line, and the processor's time while a
 # pipe gives a line a second.
 #
-#   bench/waiting.sh [BYTES [SECONDS]]        2,000,000,000 bytes and 10 seconds, if none are given
+#   bench/waiting.sh [LINES [SECONDS]]        222,222,222 lines and 10 seconds, if none are given
 set -euo pipefail
-bytes=${1:-2000000000}
+lines=${1:-222222222}
 seconds=${2:-10}
 top=$(cd "$(dirname "$0")/.." && pwd)
 words=(--l1-isize 32k --l1-ibsize 64 --l1-iassoc 8 --l1-dsize 32k --l1-dbsize 64 --l1-dassoc 8
     --l2-usize 1m --l2-ubsize 64 --l2-uassoc 16)
 "$top/bin/dinero_pipe" --help > /dev/null
-long() { yes '2 400d7c' | head -c "$bytes"; echo; }
+long() { yes '2 400d7c' | head -n "$lines"; }
 slow() { for ((i = 0; i < seconds; i++)); do echo '0 1000'; sleep 1; done; }
 
 for trace in long slow; do
