@@ -1,6 +1,7 @@
 //! The run of threads: the stages are started, fed, joined and settled.
 
-ghost use Rattle.std.specs.Prelude.{◌≡◌, ◌⊎◌, List, ℕ, Option, IfOk, IfErr, IsOk, OnOk};
+ghost use Rattle.std.specs.Prelude.{◌≡◌, ◌⊎◌, List, ℕ, Option, None, IsNone, IfOk, IfErr, IsOk};
+ghost use Rattle.std.specs.Prelude.{OnOk};
 ghost use Rattle.din_trace.specs.Left.{Left, Script, Fate, Follows};
 ghost use Rattle.din_trace.specs.Source.{HasLeft, Takes};
 ghost use Rattle.din_trace.specs.declared.fault.TraceFault.{TraceFault};
@@ -70,7 +71,9 @@ pub struct Started {
 }
 
 // Why a stage's thread stopped before its end, if it was started and did.
-fn stop_of<H: Threads>(rt: &H, stage: Option<StageHandle>) -> Option<Stop> {
+fn stop_of<H: Threads>(rt: &H, stage: Option<StageHandle>) -> Option<Stop>
+    ensures { IsNone stage → result ≡ None }
+{
     match stage {
         Some(handle) => handle.join(rt).err(),
         None => None,
@@ -80,7 +83,8 @@ fn stop_of<H: Threads>(rt: &H, stage: Option<StageHandle>) -> Option<Stop> {
 /// Joins the stages' threads that were started before another was not granted. The ends that feed
 /// them must be gone.
 pub fn wind_up<H: Threads>(rt: &H, i: Option<StageHandle>, d: Option<StageHandle>) -> RunFault
-    ensures { (result ≡ RunFault.Memory) ⊎ (result ≡ RunFault.Threads) }
+    ensures met { (result ≡ RunFault.Memory) ⊎ (result ≡ RunFault.Threads) }
+    ensures none { IsNone i → IsNone d → result ≡ RunFault.Threads }
 {
     let i = stop_of(rt, i);
     let d = stop_of(rt, d);
