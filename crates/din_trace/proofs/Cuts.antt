@@ -1,6 +1,6 @@
 -- The lines of a text that grows.
-use Rattle.std.proofs.Common.{◌≡◌, ℕ, ◌+◌, false, eqb, List, [], ◌∷◌, ◌++◌, Option, None, refl, inl}
-use Rattle.std.proofs.Common.{inr}
+use Rattle.std.proofs.Common.{◌≡◌, ℕ, ◌+◌, false, eqb, List, [], ◌∷◌, ◌++◌, Option, Some, None, refl}
+use Rattle.std.proofs.Common.{inl, inr}
 use Rattle.std.proofs.lemmas.Bool.{cases_Bool}
 use Rattle.din_trace.specs.declared.fault.TraceFault.{TraceFault}
 use Rattle.din_trace.specs.Line.{Form, Blank, Din, Faulty, form}
@@ -119,3 +119,11 @@ open_line-open (byte ∷ text) =
       | inl e ↦ rw e (open_line-open text)
       | inr e ↦ rw e (with_first-open byte (cut text).ended (cut text).rest e (open_line-open text))
     ]
+
+-- lines with a fault behind them have one
+pub first_fault-some : (bound : ℕ) (f : TraceFault) (number : ℕ) (ls : List (List ℕ))
+    → first_fault bound number ls (Some f) ≡ None → ⊥
+first_fault-some bound f number [] none = cc
+first_fault-some bound f number (line ∷ ls) none =
+    first_fault-some bound f (number + 1) ls
+    (others_none (form bound line) number (first_fault bound (number + 1) ls (Some f)) none)

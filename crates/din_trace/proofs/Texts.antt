@@ -11,7 +11,7 @@ use Rattle.din_trace.specs.Line.{Form, Blank, Din, Faulty, form}
 use Rattle.din_trace.specs.Text.{lines, ended_lines, form_records, line_records, records}
 use Rattle.din_trace.specs.Text.{form_fault, first_fault, fault}
 use Rattle.din_trace.specs.Left.{Left, form_left, lines_left, text_left}
-use Rattle.din_trace.proofs.Cuts.{others_none}
+use Rattle.din_trace.proofs.Cuts.{others_none, first_fault-some}
 
 form_left-fault : (f : Form) (number : ℕ) (others : Left)
     → (form_left f number others).fault ≡ form_fault f number others.fault
@@ -43,13 +43,6 @@ lines_left-records bound number (line ∷ ls) none =
     ∙ ap (λ rs. form_records (form bound line) ++ rs)
     (lines_left-records bound (number + 1) ls
     (others_none (form bound line) number (first_fault bound (number + 1) ls None) none))
-
-first_fault-some : (bound : ℕ) (f : TraceFault) (number : ℕ) (ls : List (List ℕ))
-    → first_fault bound number ls (Some f) ≡ None → ⊥
-first_fault-some bound f number [] none = cc
-first_fault-some bound f number (line ∷ ls) none =
-    first_fault-some bound f (number + 1) ls
-    (others_none (form bound line) number (first_fault bound (number + 1) ls (Some f)) none)
 
 -- a fault of no line is that of what comes behind the lines
 module _ (f : TraceFault) (no_line : (number : ℕ) (why : Why) → Bad number why ≡ f → ⊥) where

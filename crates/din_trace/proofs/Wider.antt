@@ -1,5 +1,5 @@
 -- What is read under a bound on addresses is read alike under a greater one.
-use Rattle.std.proofs.Common.{◌≡◌, ℕ, ◌+◌, ◌≤◌, List, [], ◌∷◌, length, take, Option, Some, None}
+use Rattle.std.proofs.Common.{◌≡◌, ℕ, ◌+◌, ◌≤◌, List, [], ◌∷◌, length, take, Option, None}
 use Rattle.std.proofs.Common.{refl, sym, inl, inr, arith}
 use Rattle.std.specs.Prelude.{nat_le}
 use Rattle.std.proofs.lemmas.Bool.{cases_Bool}
@@ -9,7 +9,7 @@ use Rattle.din_trace.specs.Line.{Form, Blank, Din, Faulty, HasForm, form}
 use Rattle.din_trace.specs.Text.{lines, ended_lines, line_records, records, form_fault, first_fault}
 use Rattle.din_trace.specs.Text.{fault}
 use Rattle.din_trace.proofs.Forms.{has_form, form_is}
-use Rattle.din_trace.proofs.Cuts.{others_none, form_fault-none}
+use Rattle.din_trace.proofs.Cuts.{others_none, form_fault-none, first_fault-some}
 
 module _ (small great : ℕ) (le : small ≤ great) where
   -- a line that isn't faulty keeps its form
@@ -36,17 +36,10 @@ module _ (small great : ℕ) (le : small ≤ great) where
         rw (same, rest.1) refl,
       )
 
-  first_fault-some : (f : TraceFault) (number : ℕ) (ls : List (List ℕ))
-      → first_fault small number ls (Some f) ≡ None → ⊥
-  first_fault-some f number [] none = cc
-  first_fault-some f number (line ∷ ls) none =
-      first_fault-some f (number + 1) ls
-      (others_none (form small line) number (first_fault small (number + 1) ls (Some f)) none)
-
   pub wider : (text : List ℕ) (limit : ℕ) → fault small text limit ≡ None
       → (fault great text limit ≡ None) × (records great text ≡ records small text)
   wider text limit none =
       elim (cases_Bool (nat_le (length text) limit)) [
         | inl e ↦ rw e (lines-wider 1 (lines text) (rw e at none))
-        | inr e ↦ absurd (first_fault-some TooLong 1 (ended_lines (take limit text)) (rw e at none))
+        | inr e ↦ absurd (first_fault-some small TooLong 1 (ended_lines (take limit text)) (rw e at none))
       ]

@@ -7,7 +7,7 @@ use Rattle.cache_core.specs.Counts.{counts_of}
 use Rattle.cache_core.specs.History.{Rules}
 use Rattle.cache_core.specs.Standing.{rules_of}
 use Rattle.cache_core.specs.declared.counts.Counts.{Counts}
-use Rattle.stage_core.specs.Places.{along, over}
+use Rattle.stage_core.specs.Places.{along}
 use Rattle.stage_core.specs.Events.{history}
 use Rattle.stage_core.specs.Seen.{Hierarchy, Parts, parts_of, parts_in, rules_at, seen}
 use Rattle.stage_core.specs.Seen.{second_history}
@@ -22,14 +22,12 @@ use Rattle.stage_core.specs.declared.message.Side.TheVariants as side
 use Rattle.stage_core.specs.declared.message.What.{What}
 use Rattle.stage_core.specs.declared.message.Turn.{Turn}
 use Rattle.stage_core.specs.declared.message.ToStage.{ToStage}
-use Rattle.stage_core.specs.declared.message.ToStage.TheVariants as to_stage
 use Rattle.stage_core.specs.declared.message.FromStage.{FromStage}
 use Rattle.stage_core.specs.declared.message.FromStage.TheVariants as from_stage
 use Rattle.stage_core.specs.declared.totals.Totals.{Totals}
 use Rattle.stage_core.specs.declared.l1_stage.L1Stage.{L1Stage}
 use Rattle.stage_core.specs.declared.l2_stage.L2Stage.{L2Stage}
-use Rattle.stage_core.proofs.Told.{taken_in-told}
-use Rattle.stage_core.proofs.Stands.{taken_in-more}
+use Rattle.stage_core.proofs.Told.{taken_in-to_side}
 use Rattle.sim_run.specs.declared.ends.StageEnds.{StageEnds}
 use Rattle.sim_run.specs.declared.ends.Rings.{Rings}
 use Rattle.sim_run.specs.declared.pipeline.Machines.{Machines}
@@ -72,10 +70,6 @@ own-parts c s before [] = refl
 own-parts c s before (e ∷ es) =
     ap (λ l. answered (parts_in c) s before e ++ l) (own-parts c s (before ++ e ∷ []) es)
 
--- the history of a stage that was sent its whole stream
-taken_in-all : (s : Side) (es : List DinRecord) → taken_in (to_side s es) ≡ history s es
-taken_in-all s es = taken_in-more (over (told s) es) to_stage.Finish ∙ taken_in-told s es
-
 -- what a stage that was sent its whole stream has sent, and what it counts
 module _ (law : StagesAnswerTheirStreams) (c : Hierarchy) (s : Side) (es : List DinRecord)
     (began : L1Stage) (start : StageEnds) (stage : L1Stage) (now : StageEnds)
@@ -97,7 +91,7 @@ module _ (law : StagesAnswerTheirStreams) (c : Hierarchy) (s : Side) (es : List 
       counted (received now.from_splitter) served.stands
       ∙ ap (λ (r : Rules). counts_of r (taken_in (received now.from_splitter))) (served.rules ∙ own)
       ∙ ap (λ ms. counts_of (rules_at c s) (taken_in ms)) got
-      ∙ ap (counts_of (rules_at c s)) (taken_in-all s es)
+      ∙ ap (counts_of (rules_at c s)) (taken_in-to_side s es)
 
 -- the whole of a run
 module _ (stages : StagesAnswerTheirStreams) (merges : MergeTakesWhatIsSeen) (es : List DinRecord)

@@ -13,6 +13,7 @@ use Rattle.stage_core.specs.Seen.{Parts, sent_up}
 use Rattle.stage_core.specs.Streams.{turn_of, answer, numbered, answered}
 use Rattle.stage_core.specs.Merging.{Merged, merged, all_used, up_to_end, with_what, Stand, AtEnd}
 use Rattle.stage_core.specs.Laws.{MergeTakesWhatIsSeen}
+use Rattle.stage_core.proofs.Pops.{with_whats}
 use Rattle.stage_core.specs.declared.message.Side.{Side}
 use Rattle.stage_core.specs.declared.message.Side.TheVariants as side
 use Rattle.stage_core.specs.declared.message.What.{What}
@@ -21,15 +22,9 @@ use Rattle.stage_core.specs.declared.message.Turn.TheVariants as turn
 use Rattle.stage_core.specs.declared.message.FromStage.{FromStage}
 use Rattle.stage_core.specs.declared.message.FromStage.TheVariants as from_stage
 
--- what was taken before
-abbrev with_whats : List What → Merged → Merged
-with_whats [] m = m
-with_whats (w ∷ ws) m = with_what w (with_whats ws m)
-
 with_whats-all_used : (ws us : List What) (at : Stand)
     → with_whats ws (all_used us at) ≡ all_used (ws ++ us) at
-with_whats-all_used [] us at = refl
-with_whats-all_used (w ∷ ws) us at = ap (with_what w) (with_whats-all_used ws us at)
+with_whats-all_used ws us at = refl
 
 up_to_end-numbered : (place n k : ℕ) (ws : List What) (rest : List FromStage) (stopped : Merged)
     (next : List FromStage → Merged) → up_to_end
