@@ -34,7 +34,7 @@ impl<T: Copy> Rx<T> {
                 // What was sent between these two looks is still there.
                 return self.end.pop().map_err(|_| SenderGone);
             }
-            pause(rt, turn);
+            pause(rt, turn, self.end.capacity());
             turn = turn.saturating_add(1);
         }
         unreachable!()

@@ -36,7 +36,7 @@ impl<T: Copy> Tx<T> {
             if self.end.push(item).is_ok() {
                 return Ok(());
             }
-            pause(rt, turn);
+            pause(rt, turn, self.end.capacity());
             turn = turn.saturating_add(1);
         }
         unreachable!()
