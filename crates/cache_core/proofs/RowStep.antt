@@ -1,4 +1,5 @@
 -- The row of the set of an access, afterwards: the step that the code makes.
+use Rattle.std.proofs.Math.Bool.{or-false}
 use Rattle.std.proofs.Common.{◌≡◌, ℕ, ◌%◌, ◌*◌, ◌<◌, Bool, true, false, cond, not, ◌&&◌, ◌||◌, List}
 use Rattle.std.proofs.Common.{[], ◌∷◌, Some, None, refl, sym, ap, ◌∙◌}
 use Rattle.std.specs.List.{find}
@@ -53,10 +54,6 @@ dirty-kept : (wb w d : Bool) → (wb && w) ≡ false → (wb && (w || d)) ≡ (w
 dirty-kept false w d e = refl
 dirty-kept true true d e = cc
 dirty-kept true false d e = refl
-
-pub or-false : (t : Bool) → (t || false) ≡ t
-or-false true = refl
-or-false false = refl
 
 module _ (r : Rules) (pos : 0 < r.block_size) (h : History) (x : Access) where
   abbrev first : ℕ

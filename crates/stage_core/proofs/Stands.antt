@@ -1,5 +1,6 @@
 -- One event, one message or one what more.
-use Rattle.std.proofs.Common.{◌≡◌, Bool, true, false, ◌||◌, List, [], ◌∷◌, ◌++◌, map, refl, sym, ap}
+use Rattle.std.proofs.Math.Bool.{or-false}
+use Rattle.std.proofs.Common.{◌≡◌, false, ◌||◌, List, [], ◌∷◌, ◌++◌, map, sym, ap}
 use Rattle.std.proofs.Common.{subst, ◌∙◌, append-nil}
 use Rattle.std.specs.List.{flat_map, list_any}
 use Rattle.std.proofs.lemmas.Grind.{flat_map-append}
@@ -40,10 +41,6 @@ pub second_history-more : (ws : List What) (w : What)
     → second_history (ws ++ w ∷ []) ≡ read_as w ∷ second_history ws
 second_history-more ws w = ap newest_first (map-append read_as ws (w ∷ []))
     ∙ reverse-append (map read_as ws) (read_as w ∷ [])
-
-or-false : (b : Bool) → (b || false) ≡ b
-or-false true = refl
-or-false false = refl
 
 no_finish-more : (ms : List ToStage) (m : ToStage) → is_finish m ≡ false
     → list_any is_finish (ms ++ m ∷ []) ≡ list_any is_finish ms
