@@ -1,6 +1,11 @@
 /* Put in front of the C library by .ci/refusals, refuses one growth of a program's memory: the one whose
  * number REFUSE_AT gives, counted from 1. It notes that in the file REFUSE_NOTE, as "growth", or as
- * "thread" where the growth was the start of a thread. */
+ * "thread" where the growth was the start of a thread.
+ *
+ * A list that is refused the room for all that it expects asks at once for room for one more, and does with
+ * that. Such a second request is the same growth, and is refused too: one that comes from the same thread,
+ * at the same depth of its stack, with no other call for memory or to free any in between, and is for no
+ * more than was refused. */
 #define _GNU_SOURCE
 #include <dlfcn.h>
 #include <errno.h>
@@ -14,10 +19,14 @@ extern void *__libc_malloc(size_t size);
 extern void *__libc_calloc(size_t count, size_t size);
 extern void *__libc_realloc(void *block, size_t size);
 extern void *__libc_memalign(size_t align, size_t size);
+extern void __libc_free(void *block);
 
 static long refused_at;
 static long grown;
 static __thread int starts_thread;
+/* Where the stack of this thread stood when its last call was refused, if it was, and how much it asked for. */
+static __thread const void *refused_depth;
+static __thread size_t refused_size;
 
 __attribute__((constructor)) static void read_number(void) {
     const char *number = getenv("REFUSE_AT");
@@ -32,35 +41,52 @@ static void note(void) {
         _exit(70);
 }
 
-static int is_refused(void) {
-    if (refused_at == 0 || __atomic_add_fetch(&grown, 1, __ATOMIC_SEQ_CST) != refused_at)
-        return 0;
-    note();
+/* Whether a call for so much is refused, which was made with the stack at this depth. */
+static int is_refused(size_t size, const void *depth) {
+    int is_asked_again = depth == refused_depth && size <= refused_size;
+    refused_depth = NULL;
+    if (!is_asked_again) {
+        if (refused_at == 0 || __atomic_add_fetch(&grown, 1, __ATOMIC_SEQ_CST) != refused_at)
+            return 0;
+        note();
+    }
+    refused_depth = depth;
+    refused_size = size;
     errno = ENOMEM;
     return 1;
 }
 
-void *malloc(size_t size) { return is_refused() ? NULL : __libc_malloc(size); }
+#define IS_REFUSED(size) is_refused(size, __builtin_frame_address(0))
 
+void *malloc(size_t size) { return IS_REFUSED(size) ? NULL : __libc_malloc(size); }
+
+/* (A product that is too large for a size is one that the C library refuses.) */
 void *calloc(size_t count, size_t size) {
-    return is_refused() ? NULL : __libc_calloc(count, size);
+    return IS_REFUSED(count * size) ? NULL : __libc_calloc(count, size);
 }
 
 void *realloc(void *block, size_t size) {
-    return is_refused() ? NULL : __libc_realloc(block, size);
+    return IS_REFUSED(size) ? NULL : __libc_realloc(block, size);
 }
 
 void *memalign(size_t align, size_t size) {
-    return is_refused() ? NULL : __libc_memalign(align, size);
+    return IS_REFUSED(size) ? NULL : __libc_memalign(align, size);
 }
 
-void *aligned_alloc(size_t align, size_t size) { return memalign(align, size); }
+void *aligned_alloc(size_t align, size_t size) {
+    return IS_REFUSED(size) ? NULL : __libc_memalign(align, size);
+}
 
 int posix_memalign(void **block, size_t align, size_t size) {
-    void *found = memalign(align, size);
+    void *found = IS_REFUSED(size) ? NULL : __libc_memalign(align, size);
     if (found)
         *block = found;
     return found ? 0 : ENOMEM;
+}
+
+void free(void *block) {
+    refused_depth = NULL;
+    __libc_free(block);
 }
 
 int pthread_create(pthread_t *thread, const pthread_attr_t *attributes, void *(*body)(void *),
