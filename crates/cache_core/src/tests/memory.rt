@@ -1,11 +1,13 @@
-//! Want of memory. Each test holds with ample memory, and where any one growth is refused.
+//! Want of memory. Each test passes with ample memory. Where a growth is refused, it looks at what
+//! that left, and then fails by the name of the refusal and says nothing else.
 
 use super::{FIFO, LRU, missed, writes};
 use crate::{
     Access, Cache, Class, Counts, Geometry, MAX_EVENTS, MissKind, NoMemory, Outcome, Policy,
 };
-use std::alloc::Global;
+use std::alloc::{AllocError, Global};
 use std::process::Abort;
+use std::test::Fail;
 
 /// What a cache is to be after a refusal: as before the call, and failed for ever. So is the list
 /// that a flush was lent.
@@ -26,23 +28,34 @@ fn stays_failed(rt: &impl Abort, cache: &mut Cache, before: (Counts, u64), out: 
 }
 
 /// A cache that holds nothing, if memory is granted.
-fn made(rt: &impl Abort, alloc: Global, shape: (u64, u64, u64), policy: Policy) -> Option<Cache> {
+fn made(
+    rt: &impl Abort,
+    alloc: Global,
+    shape: (u64, u64, u64),
+    policy: Policy,
+) -> Result<Cache, NoMemory> {
     let geometry = Geometry::new(shape.0, shape.1, shape.2).expect(rt, "a lawful geometry");
-    let cache = Cache::new(alloc, geometry, policy).ok()?;
+    let cache = Cache::new(alloc, geometry, policy)?;
     assert!(rt; !cache.failed());
     assert_eq!(rt; (cache.counts(), cache.served()), (Counts::default(), 0));
-    Some(cache)
+    Ok(cache)
 }
 
 /// The list that a flush is lent, which holds one number, if memory is granted.
-fn lent(alloc: Global) -> Option<Vec<u64>> {
+fn lent(alloc: Global) -> Result<Vec<u64>, AllocError> {
     let mut out = Vec::new(alloc);
-    out.push(7).ok()?;
-    Some(out)
+    out.push(7)?;
+    Ok(out)
 }
 
 /// Writes to a block, with this outcome. If memory is refused, the cache stays failed.
-fn wrote(rt: &impl Abort, cache: &mut Cache, out: &mut Vec<u64>, addr: u64, want: Outcome) -> bool {
+fn wrote(
+    rt: &impl Abort,
+    cache: &mut Cache,
+    out: &mut Vec<u64>,
+    addr: u64,
+    want: Outcome,
+) -> Result<(), NoMemory> {
     let before = (cache.counts(), cache.served());
     assert!(rt; cache.served() < MAX_EVENTS);
     let served = cache.access(Access {
@@ -51,61 +64,51 @@ fn wrote(rt: &impl Abort, cache: &mut Cache, out: &mut Vec<u64>, addr: u64, want
     });
     if served.is_err() {
         stays_failed(rt, cache, before, out);
-        return false;
     }
-    assert_eq!(rt; served, Ok(want));
-    true
+    assert_eq!(rt; served?, want);
+    Ok(())
 }
 
 /// Flushes. If memory is refused, the cache stays failed and the list as it was.
-fn flushed(rt: &impl Abort, cache: &mut Cache, out: &mut Vec<u64>) -> bool {
+fn flushed(rt: &impl Abort, cache: &mut Cache, out: &mut Vec<u64>) -> Result<(), NoMemory> {
     let before = (cache.counts(), cache.served());
     assert!(rt; cache.served() < MAX_EVENTS);
-    if cache.flush(out).is_err() {
+    let ended = cache.flush(out);
+    if ended.is_err() {
         stays_failed(rt, cache, before, out);
-        return false;
     }
-    true
+    ended
 }
 
 /// Writes the first blocks and flushes, up to the first refusal.
-fn serves_or_fails(rt: &impl Abort, alloc: Global, shape: (u64, u64, u64), policy: Policy) {
-    let Some(mut out) = lent(alloc) else {
-        return;
-    };
-    let Some(mut cache) = made(rt, alloc, shape, policy) else {
-        return;
-    };
+fn serves_or_fails(
+    rt: &impl Abort,
+    alloc: Global,
+    shape: (u64, u64, u64),
+    policy: Policy,
+) -> Result<(), Fail> {
+    let mut out = lent(alloc)?;
+    let mut cache = made(rt, alloc, shape, policy)?;
     let first_use = missed(MissKind::Compulsory);
     for block in 0..200 {
-        if !wrote(rt, &mut cache, &mut out, 4 * block, first_use) {
-            return;
-        }
+        wrote(rt, &mut cache, &mut out, 4 * block, first_use)?;
     }
-    if !flushed(rt, &mut cache, &mut out) {
-        return;
-    }
+    flushed(rt, &mut cache, &mut out)?;
     assert_eq!(rt; out.len(), 201);
     assert_eq!(rt; cache.counts().misses, writes(200));
     assert_eq!(rt; cache.counts().written_back, 200);
     assert_eq!(rt; cache.served(), 201);
+    Ok(())
 }
 
 #[test]
-fn two_blocks_are_written_and_flushed_or_the_cache_fails(rt: HostRuntime) {
-    let Some(mut out) = lent(rt.alloc()) else {
-        return;
-    };
-    let Some(mut cache) = made(&rt, rt.alloc(), (16, 4, 2), LRU) else {
-        return;
-    };
+fn two_blocks_are_written_and_flushed_or_the_cache_fails(rt: HostRuntime) -> Result<(), Fail> {
+    let mut out = lent(rt.alloc())?;
+    let mut cache = made(&rt, rt.alloc(), (16, 4, 2), LRU)?;
     let first_use = missed(MissKind::Compulsory);
-    if !wrote(&rt, &mut cache, &mut out, 8, first_use)
-        || !wrote(&rt, &mut cache, &mut out, 0, first_use)
-        || !flushed(&rt, &mut cache, &mut out)
-    {
-        return;
-    }
+    wrote(&rt, &mut cache, &mut out, 8, first_use)?;
+    wrote(&rt, &mut cache, &mut out, 0, first_use)?;
+    flushed(&rt, &mut cache, &mut out)?;
     assert_eq!(rt; out.as_slice(), [7, 0, 8].as_slice());
     let counts = Counts {
         fetches: writes(2),
@@ -118,15 +121,16 @@ fn two_blocks_are_written_and_flushed_or_the_cache_fails(rt: HostRuntime) {
     };
     assert_eq!(rt; (cache.counts(), cache.served()), (counts, 3));
     assert!(rt; !cache.failed());
+    Ok(())
 }
 
 #[test]
-fn a_cache_of_few_ways_serves_all_or_fails(rt: HostRuntime) {
-    serves_or_fails(&rt, rt.alloc(), (1_024, 4, 4), LRU);
+fn a_cache_of_few_ways_serves_all_or_fails(rt: HostRuntime) -> Result<(), Fail> {
+    serves_or_fails(&rt, rt.alloc(), (1_024, 4, 4), LRU)
 }
 
 #[test]
-fn a_cache_of_many_ways_serves_all_or_fails(rt: HostRuntime) {
-    serves_or_fails(&rt, rt.alloc(), (1_024, 4, 256), FIFO);
-    serves_or_fails(&rt, rt.alloc(), (1_024, 4, 256), LRU);
+fn a_cache_of_many_ways_serves_all_or_fails(rt: HostRuntime) -> Result<(), Fail> {
+    serves_or_fails(&rt, rt.alloc(), (1_024, 4, 256), FIFO)?;
+    serves_or_fails(&rt, rt.alloc(), (1_024, 4, 256), LRU)
 }

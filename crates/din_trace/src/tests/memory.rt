@@ -1,21 +1,36 @@
-//! Want of memory. Each test holds with ample memory, and where any one growth is refused.
+//! Want of memory. Each test passes with ample memory. Where a growth is refused, it looks at what
+//! that left, and then fails by the name of the refusal and says nothing else.
 
 use super::fakes::{bad, fetch, in_pieces};
 use crate::{DinRecord, MAX_LIMIT, Source, TraceFault, Why, read_all};
 use std::alloc::Global;
 use std::process::Abort;
+use std::test::Fail;
 
 static TWELVE: &[u8] = b"2 0\n2 0\n2 0\n2 0\n2 0\n2 0\n2 0\n2 0\n2 0\n2 0\n2 0\n2 0\n";
 
+/// Hands want of memory on; any other answer stays as it is.
+fn unless_memory(fault: TraceFault) -> Result<(), TraceFault> {
+    match fault {
+        TraceFault::Memory => Err(fault),
+        _ => Ok(()),
+    }
+}
+
 /// All that is left of a text in pieces is these records, or this fault, and so it stays; or
 /// memory is wanted, and so that stays.
-fn leaves(rt: &impl Abort, alloc: Global, text: &[u8], want: Result<&[DinRecord], TraceFault>) {
+fn leaves(
+    rt: &impl Abort,
+    alloc: Global,
+    text: &[u8],
+    want: Result<&[DinRecord], TraceFault>,
+) -> Result<(), TraceFault> {
     let mut source = Source::new(in_pieces(text, 5, false), MAX_LIMIT);
     let fault = match source.rest(alloc) {
         Ok(records) => {
             assert!(rt; want == Ok(records.as_slice()));
             assert!(rt; source.next() == Ok(None));
-            return;
+            return Ok(());
         }
         Err(fault) => fault,
     };
@@ -23,6 +38,7 @@ fn leaves(rt: &impl Abort, alloc: Global, text: &[u8], want: Result<&[DinRecord]
     assert!(rt; source.next() == Err(fault));
     assert!(rt; source.rest(alloc).err() == Some(fault));
     assert!(rt; source.next() == Err(fault));
+    unless_memory(fault)
 }
 
 /// A text has these records, or this fault; or memory is wanted.
@@ -32,35 +48,44 @@ fn reads(
     text: &[u8],
     limit: u64,
     want: Result<&[DinRecord], TraceFault>,
-) {
+) -> Result<(), TraceFault> {
     assert!(rt; limit <= MAX_LIMIT);
     match read_all(alloc, text, limit) {
-        Ok(records) => assert!(rt; want == Ok(records.as_slice())),
-        Err(fault) => assert!(rt; want.err() == Some(fault) || fault == TraceFault::Memory),
+        Ok(records) => {
+            assert!(rt; want == Ok(records.as_slice()));
+            Ok(())
+        }
+        Err(fault) => {
+            assert!(rt; want.err() == Some(fault) || fault == TraceFault::Memory);
+            unless_memory(fault)
+        }
     }
 }
 
 #[test]
-fn all_records_are_left_or_memory_is_wanted(rt: HostRuntime) {
+fn all_records_are_left_or_memory_is_wanted(rt: HostRuntime) -> Result<(), Fail> {
     let all = [fetch(0); 12];
-    leaves(&rt, rt.alloc(), TWELVE, Ok(all.as_slice()));
+    Ok(leaves(&rt, rt.alloc(), TWELVE, Ok(all.as_slice()))?)
 }
 
 #[test]
-fn a_fault_behind_records_is_left_or_memory_is_wanted(rt: HostRuntime) {
+fn a_fault_behind_records_is_left_or_memory_is_wanted(rt: HostRuntime) -> Result<(), Fail> {
     let gap = Err(bad(6, Why::Gap));
-    leaves(&rt, rt.alloc(), b"2 0\n2 0\n2 0\n2 0\n2 0\n2\n2 0\n", gap);
+    let text = b"2 0\n2 0\n2 0\n2 0\n2 0\n2\n2 0\n";
+    Ok(leaves(&rt, rt.alloc(), text, gap)?)
 }
 
 #[test]
-fn a_text_has_its_records_or_memory_is_wanted(rt: HostRuntime) {
+fn a_text_has_its_records_or_memory_is_wanted(rt: HostRuntime) -> Result<(), Fail> {
     let all = [fetch(0); 12];
-    reads(&rt, rt.alloc(), TWELVE, MAX_LIMIT, Ok(all.as_slice()));
+    let want = Ok(all.as_slice());
+    Ok(reads(&rt, rt.alloc(), TWELVE, MAX_LIMIT, want)?)
 }
 
 #[test]
-fn a_text_is_too_long_or_memory_is_wanted(rt: HostRuntime) {
-    reads(&rt, rt.alloc(), TWELVE, 40, Err(TraceFault::TooLong));
+fn a_text_is_too_long_or_memory_is_wanted(rt: HostRuntime) -> Result<(), Fail> {
+    let want = Err(TraceFault::TooLong);
+    Ok(reads(&rt, rt.alloc(), TWELVE, 40, want)?)
 }
 
 #[test]

@@ -1,60 +1,67 @@
-//! Want of memory. Each test holds with ample memory, and where any one growth is refused. The
-//! words themselves may be refused too.
+//! Want of memory. Each test passes with ample memory. Where a growth is refused, also one of the
+//! words themselves, it fails by the name of the refusal and says nothing else.
 
 use super::words::{parsed, worked_caches};
-use crate::command::{NoMemory, help_text};
+use crate::command::help_text;
 use crate::opt::Opt;
 use crate::words::{WordsFault, parse_words};
 use std::alloc::Global;
 use std::process::Abort;
+use std::test::Fail;
 
-/// The worked words with these changes are refused for this, or memory is wanted.
-fn refuses(rt: &impl Abort, alloc: Global, changes: &str, want: WordsFault) {
-    let Ok(answer) = parsed(alloc, changes) else {
-        return;
-    };
+/// The words are refused for this, or memory is wanted, which is handed on.
+fn is_refused<T: Drop>(
+    rt: &impl Abort,
+    answer: Result<T, WordsFault>,
+    want: WordsFault,
+) -> Result<(), WordsFault> {
     let fault = answer.err();
     assert!(rt; fault == Some(want) || fault == Some(WordsFault::Memory));
-}
-
-#[test]
-fn the_worked_words_are_read_or_memory_is_wanted(rt: HostRuntime) {
-    match parsed(rt.alloc(), "") {
-        Ok(Ok((config, selection))) => assert!(rt; worked_caches(&config, selection)),
-        Ok(Err(fault)) => assert_eq!(rt; fault, WordsFault::Memory),
-        Err(_) => {}
+    match fault {
+        Some(WordsFault::Memory) => Err(WordsFault::Memory),
+        _ => Ok(()),
     }
 }
 
-#[test]
-fn a_bad_number_is_named_or_memory_is_wanted(rt: HostRuntime) {
-    refuses(&rt, rt.alloc(), "--ring two", WordsFault::Number(Opt::Ring));
+/// The worked words with these changes are refused for this, or memory is wanted.
+fn refuses(rt: &impl Abort, alloc: Global, changes: &str, want: WordsFault) -> Result<(), Fail> {
+    let answer = parsed(alloc, changes)?;
+    Ok(is_refused(rt, answer, want)?)
 }
 
 #[test]
-fn an_unknown_option_is_refused_or_memory_is_wanted(rt: HostRuntime) {
-    refuses(&rt, rt.alloc(), "--l3-usize 16", WordsFault::Words);
+fn the_worked_words_are_read_or_memory_is_wanted(rt: HostRuntime) -> Result<(), Fail> {
+    let (config, selection) = parsed(rt.alloc(), "")??;
+    assert!(rt; worked_caches(&config, selection));
+    Ok(())
 }
 
 #[test]
-fn a_missing_option_is_refused_or_memory_is_wanted(rt: HostRuntime) {
-    let fault = parse_words(rt.alloc(), &[]).err();
-    assert!(rt; fault == Some(WordsFault::Words) || fault == Some(WordsFault::Memory));
+fn a_bad_number_is_named_or_memory_is_wanted(rt: HostRuntime) -> Result<(), Fail> {
+    refuses(&rt, rt.alloc(), "--ring two", WordsFault::Number(Opt::Ring))
 }
 
 #[test]
-fn help_is_asked_for_or_memory_is_wanted(rt: HostRuntime) {
-    refuses(&rt, rt.alloc(), "--help", WordsFault::Help);
+fn an_unknown_option_is_refused_or_memory_is_wanted(rt: HostRuntime) -> Result<(), Fail> {
+    refuses(&rt, rt.alloc(), "--l3-usize 16", WordsFault::Words)
 }
 
 #[test]
-fn the_help_names_every_option_or_memory_is_wanted(rt: HostRuntime) {
-    match help_text(rt.alloc()) {
-        Ok(text) => {
-            for option in Opt::ALL {
-                assert!(rt; text.as_str().contains(option.name()));
-            }
-        }
-        Err(refusal) => assert_eq!(rt; refusal, NoMemory),
+fn a_missing_option_is_refused_or_memory_is_wanted(rt: HostRuntime) -> Result<(), Fail> {
+    let answer = parse_words(rt.alloc(), &[]);
+    Ok(is_refused(&rt, answer, WordsFault::Words)?)
+}
+
+#[test]
+fn help_is_asked_for_or_memory_is_wanted(rt: HostRuntime) -> Result<(), Fail> {
+    refuses(&rt, rt.alloc(), "--help", WordsFault::Help)
+}
+
+#[test]
+fn the_help_names_every_option_or_memory_is_wanted(rt: HostRuntime) -> Result<(), Fail> {
+    let text = help_text(rt.alloc())?;
+    for option in Opt::ALL {
+        assert!(rt; text.as_str().contains(option.name()));
     }
+    Ok(())
 }

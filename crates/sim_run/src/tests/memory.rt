@@ -1,4 +1,5 @@
-//! Want of memory. Each test holds with ample memory, and where any one growth is refused.
+//! Want of memory. Each test passes with ample memory. Where a growth is refused, it looks at what
+//! that left, and then fails by the name of the refusal and says nothing else.
 
 use super::devices::to_take;
 use super::{EVERYTHING, config};
@@ -62,17 +63,14 @@ fn a_run_writes_its_report_or_nothing(rt: HostRuntime) -> Result<(), Fail> {
         MAX_LIMIT,
         &mut FromWrite::new(&mut output),
     );
-    match ended {
-        Ok(()) => {
-            assert!(rt; output.rest.is_empty());
-            assert_eq!(rt; output.flushes, 1);
-        }
-        Err(fault) => {
-            assert_eq!(rt; fault, RunFault::Memory);
-            assert!(rt; output.rest == text);
-            assert_eq!(rt; output.flushes, 0);
-        }
+    if let Err(fault) = ended {
+        assert_eq!(rt; fault, RunFault::Memory);
+        assert!(rt; output.rest == text);
+        assert_eq!(rt; output.flushes, 0);
     }
+    ended?;
+    assert!(rt; output.rest.is_empty());
+    assert_eq!(rt; output.flushes, 1);
     Ok(())
 }
 
@@ -91,19 +89,16 @@ fn a_run_in_threads_writes_its_report_or_nothing(rt: HostRuntime) -> Result<(), 
         &OpenGate,
         &mut FromWrite::new(&mut output),
     );
-    match ended {
-        Ok(settled) => {
-            assert_eq!(rt; settled.totals.u.written_back, 2);
-            assert!(rt; output.rest.is_empty());
-            assert_eq!(rt; output.flushes, 1);
-        }
-        Err(fault) => {
-            // The start of a thread doesn't say what it was refused.
-            assert!(rt; fault == RunFault::Memory || fault == RunFault::Threads);
-            assert!(rt; output.rest == text);
-            assert_eq!(rt; output.flushes, 0);
-        }
+    if let Err(fault) = ended {
+        // The start of a thread doesn't say what it was refused.
+        assert!(rt; fault == RunFault::Memory || fault == RunFault::Threads);
+        assert!(rt; output.rest == text);
+        assert_eq!(rt; output.flushes, 0);
     }
+    let settled = ended?;
+    assert_eq!(rt; settled.totals.u.written_back, 2);
+    assert!(rt; output.rest.is_empty());
+    assert_eq!(rt; output.flushes, 1);
     Ok(())
 }
 
@@ -124,22 +119,20 @@ fn a_run_leaves_its_source_at_the_end_or_further_on(rt: HostRuntime) -> Result<(
         source,
         &OpenGate,
     );
-    match ended {
-        Ok(_) => assert!(rt; source.next() == Ok(None)),
-        Err(fault) => {
-            assert!(rt; fault == RunFault::Memory || fault == RunFault::Threads);
-            let left = source.rest(rt.alloc());
-            assert!(rt; left.is_ok());
-            if let Ok(left) = left {
-                let all = [
-                    event(Label::Write, 8),
-                    event(Label::Write, 0),
-                    event(Label::Flush, 0),
-                ];
-                assert!(rt; all.as_slice().ends_with(&left));
-            }
-        }
+    if let Err(fault) = ended {
+        assert!(rt; fault == RunFault::Memory || fault == RunFault::Threads);
+        let left = source.rest(rt.alloc());
+        assert!(rt; left.is_ok());
+        let left = left?;
+        let all = [
+            event(Label::Write, 8),
+            event(Label::Write, 0),
+            event(Label::Flush, 0),
+        ];
+        assert!(rt; all.as_slice().ends_with(&left));
     }
+    ended?;
+    assert!(rt; source.next() == Ok(None));
     Ok(())
 }
 
@@ -163,5 +156,8 @@ fn a_fault_behind_records_is_answered_or_memory_is_wanted(rt: HostRuntime) -> Re
     assert!(rt; ended == Err(label) || ended == Err(RunFault::Memory));
     assert!(rt; output.rest == text);
     assert_eq!(rt; output.flushes, 0);
+    if ended == Err(RunFault::Memory) {
+        ended?;
+    }
     Ok(())
 }

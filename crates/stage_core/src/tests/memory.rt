@@ -1,4 +1,5 @@
-//! Want of memory. Each test holds with ample memory, and where any one growth is refused.
+//! Want of memory. Each test passes with ample memory. Where a growth is refused, it looks at what
+//! that left, and then fails by the name of the refusal and says nothing else.
 
 use super::{config, data, flush, write};
 use crate::config::Config;
@@ -32,29 +33,34 @@ fn stays_failed(rt: &impl Abort, stage: &mut L1Stage, before: (Counts, u64)) {
 }
 
 // Takes a message in and sends just this. If memory is refused, the stage stays failed.
-fn answers(rt: &impl Abort, stage: &mut L1Stage, message: ToStage, want: &[FromStage]) -> bool {
+fn answers(
+    rt: &impl Abort,
+    stage: &mut L1Stage,
+    message: ToStage,
+    want: &[FromStage],
+) -> Result<(), NoMemory> {
     let before = (stage.counts(), stage.served());
     assert!(rt; stage.ready());
     assert!(rt; stage.served() < MAX_EVENTS);
-    if stage.on(message).is_err() {
+    if let Err(refusal) = stage.on(message) {
         stays_failed(rt, stage, before);
-        return false;
+        return Err(refusal);
     }
     assert!(rt; !stage.failed());
     for message in want {
         assert_eq!(rt; stage.outbox_next(), Some(*message));
     }
     assert_eq!(rt; stage.outbox_next(), None);
-    true
+    Ok(())
 }
 
-fn made(alloc: Global, side: Side) -> Result<Option<L1Stage>, Fail> {
+fn made(alloc: Global, side: Side) -> Result<L1Stage, Fail> {
     let config = config(data())?;
     let (geometry, policy) = match side {
         Side::I => config.i(),
         Side::D => config.d(),
     };
-    Ok(L1Stage::new(alloc, side, geometry, policy).ok())
+    Ok(L1Stage::new(alloc, side, geometry, policy)?)
 }
 
 fn reference(place: u64, class: Class, addr: u64) -> ToStage {
@@ -67,9 +73,7 @@ fn part(place: u64, part: u32, what: What) -> FromStage {
 
 #[test]
 fn the_data_stage_answers_or_fails(rt: HostRuntime) -> Result<(), Fail> {
-    let Some(mut stage) = made(rt.alloc(), Side::D)? else {
-        return Ok(());
-    };
+    let mut stage = made(rt.alloc(), Side::D)?;
     let first = [
         part(1, 1, What::Fetch(Class::Read, 8)),
         FromStage::Done { place: 1, parts: 1 },
@@ -84,45 +88,39 @@ fn the_data_stage_answers_or_fails(rt: HostRuntime) -> Result<(), Fail> {
         part(3, 3, What::FlushAll),
         FromStage::Done { place: 3, parts: 3 },
     ];
-    if answers(&rt, &mut stage, reference(1, Class::Write, 8), &first)
-        && answers(&rt, &mut stage, reference(2, Class::Write, 0), &second)
-        && answers(&rt, &mut stage, ToStage::Flush { place: 3 }, &flushed)
-        && answers(&rt, &mut stage, ToStage::Finish, &[FromStage::Finish])
-    {
-        assert!(rt; stage.finished());
-        assert_eq!(rt; (stage.counts(), stage.served()), (two_written_back(), 3));
-    }
+    answers(&rt, &mut stage, reference(1, Class::Write, 8), &first)?;
+    answers(&rt, &mut stage, reference(2, Class::Write, 0), &second)?;
+    answers(&rt, &mut stage, ToStage::Flush { place: 3 }, &flushed)?;
+    answers(&rt, &mut stage, ToStage::Finish, &[FromStage::Finish])?;
+    assert!(rt; stage.finished());
+    assert_eq!(rt; (stage.counts(), stage.served()), (two_written_back(), 3));
     Ok(())
 }
 
 #[test]
 fn the_instruction_stage_answers_or_fails(rt: HostRuntime) -> Result<(), Fail> {
-    let Some(mut stage) = made(rt.alloc(), Side::I)? else {
-        return Ok(());
-    };
+    let mut stage = made(rt.alloc(), Side::I)?;
     let fetched = [
         part(1, 1, What::Fetch(Class::Instr, 4)),
         FromStage::Done { place: 1, parts: 1 },
     ];
     let flushed = [FromStage::Done { place: 2, parts: 0 }];
-    if answers(&rt, &mut stage, reference(1, Class::Instr, 6), &fetched)
-        && answers(&rt, &mut stage, ToStage::Flush { place: 2 }, &flushed)
-        && answers(&rt, &mut stage, ToStage::Finish, &[FromStage::Finish])
-    {
-        assert!(rt; stage.finished());
-        assert_eq!(rt; stage.served(), 2);
-    }
+    answers(&rt, &mut stage, reference(1, Class::Instr, 6), &fetched)?;
+    answers(&rt, &mut stage, ToStage::Flush { place: 2 }, &flushed)?;
+    answers(&rt, &mut stage, ToStage::Finish, &[FromStage::Finish])?;
+    assert!(rt; stage.finished());
+    assert_eq!(rt; stage.served(), 2);
     Ok(())
 }
 
 // Serves what the first level sends. If memory is refused, the second level stays failed.
-fn serves(rt: &impl Abort, stage: &mut L2Stage, what: What) -> bool {
+fn serves(rt: &impl Abort, stage: &mut L2Stage, what: What) -> Result<(), NoMemory> {
     let before = (stage.counts(), stage.served());
     assert!(rt; stage.served() < MAX_EVENTS);
-    if stage.on(what).is_ok() {
+    let Err(refusal) = stage.on(what) else {
         assert!(rt; !stage.failed());
-        return true;
-    }
+        return Ok(());
+    };
     for what in [What::Back(0), What::FlushAll] {
         assert!(rt; stage.failed());
         assert_eq!(rt; (stage.counts(), stage.served()), before);
@@ -131,15 +129,13 @@ fn serves(rt: &impl Abort, stage: &mut L2Stage, what: What) -> bool {
     }
     assert!(rt; stage.failed());
     assert_eq!(rt; (stage.counts(), stage.served()), before);
-    false
+    Err(refusal)
 }
 
 #[test]
 fn the_second_level_serves_or_fails(rt: HostRuntime) -> Result<(), Fail> {
     let (geometry, policy) = config(data())?.u();
-    let Ok(mut stage) = L2Stage::new(rt.alloc(), geometry, policy) else {
-        return Ok(());
-    };
+    let mut stage = L2Stage::new(rt.alloc(), geometry, policy)?;
     let sent = [
         What::Fetch(Class::Read, 8),
         What::Fetch(Class::Read, 0),
@@ -148,9 +144,7 @@ fn the_second_level_serves_or_fails(rt: HostRuntime) -> Result<(), Fail> {
         What::FlushAll,
     ];
     for what in sent {
-        if !serves(&rt, &mut stage, what) {
-            return Ok(());
-        }
+        serves(&rt, &mut stage, what)?;
     }
     assert_eq!(rt;
         (stage.counts(), stage.served()),
@@ -203,9 +197,7 @@ static EVERYTHING: Selection = Selection {
 fn a_run_counts_all_or_wants_memory(rt: HostRuntime) -> Result<(), Fail> {
     let config: Config = config(data())?;
     let records = [write(8), write(0), flush()];
-    let Ok(totals) = run_plain(rt.alloc(), &config, &EVERYTHING, &records) else {
-        return Ok(());
-    };
+    let totals = run_plain(rt.alloc(), &config, &EVERYTHING, &records)?;
     let i = Counts {
         flushes: 1,
         ..Counts::default()

@@ -6,7 +6,6 @@ use super::worked::{
     flushed, flushed_totals, put_in_totals, sweep, sweep_totals, victim, victim_totals,
 };
 use super::{config_of, data, selection};
-use crate::memory::NoMemory;
 use crate::network::Core;
 use crate::schedule::drive;
 use crate::totals::Totals;
@@ -79,34 +78,31 @@ fn the_machines_that_can_are_counted(rt: HostRuntime) -> Result<(), Fail> {
     Ok(())
 }
 
-// Where a growth is refused, that is the answer.
+// Where a growth is refused, the run fails by the name of that.
 #[test]
 fn a_refused_run_answers_want_of_memory(rt: HostRuntime) -> Result<(), Fail> {
     let config = config_of(data(), 1)?;
-    let answer = drive(rt.alloc(), &config, &selection(0), &flushed(), &[]);
-    if answer != Err(NoMemory) {
-        assert_eq!(rt; answer, Ok((flushed_totals(), 42)));
-    }
+    let answer = drive(rt.alloc(), &config, &selection(0), &flushed(), &[])?;
+    assert_eq!(rt; answer, (flushed_totals(), 42));
     Ok(())
 }
 
-// Where a step is refused, nothing is enabled from then on.
+// Where a step is refused, nothing is enabled from then on, and the test fails by the name of that.
 #[test]
 fn a_refused_step_leaves_nothing_enabled(rt: HostRuntime) -> Result<(), Fail> {
     let config = config_of(data(), 1)?;
-    let Ok(mut core) = Core::new(rt.alloc(), &config, &selection(0), &flushed()) else {
-        return Ok(());
-    };
+    let mut core = Core::new(rt.alloc(), &config, &selection(0), &flushed())?;
     for _ in 0..42 {
         assert!(rt; core.enabled() > 0);
         assert!(rt; !core.failed());
         assert!(rt; !core.finished());
-        if core.step(0).is_err() {
+        let stepped = core.step(0);
+        if stepped.is_err() {
             assert!(rt; core.failed());
             assert!(rt; !core.finished());
             assert_eq!(rt; core.enabled(), 0);
-            return Ok(());
         }
+        stepped?;
     }
     assert_eq!(rt; core.enabled(), 0);
     assert!(rt; core.finished());
