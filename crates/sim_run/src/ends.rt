@@ -78,6 +78,7 @@ impl Rings {
         requires { ArePaired self.old }
         ensures same { SameRings self.old self.new }
         ensures all { IsTrue result → AllReceived self.new }
+        ensures only { AllReceived self.new → IsTrue result }
     {
         let order = settle(&mut self.splitter.order, &mut self.merge.order);
         let to_i = settle(&mut self.splitter.to_i, &mut self.i.from_splitter);
