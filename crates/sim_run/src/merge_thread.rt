@@ -1,11 +1,12 @@
 //! The thread of the merge, with the second level.
 
-ghost use Rattle.std.specs.Prelude.{◌≡◌, ◌⊎◌, [], ◌++◌, List, IfOk, OnOk};
-ghost use Rattle.cache_core.specs.Standing.{rules_of};
+ghost use Rattle.std.specs.Prelude.{◌≡◌, ◌≤◌, ◌⊎◌, [], ◌++◌, List, IfOk, OnOk, IfErr};
+ghost use Rattle.cache_core.specs.Standing.{rules_of, served_of};
 ghost use Rattle.stage_core.specs.Merging.{AtEnd, wanted, after_message, what_in};
 ghost use Rattle.stage_core.specs.Standing.{SecondStandsFor, second_cache};
 ghost use Rattle.stage_core.specs.declared.message.Want.TheVariants as want;
 ghost use Rattle.stage_core.specs.declared.message.What.{What};
+ghost use Rattle.sim_run.specs.declared.fault.Stop.{Stop};
 ghost use Rattle.sim_run.specs.Ends.{UnusedMerge};
 ghost use Rattle.sim_run.specs.Threads.{HasMerged};
 
@@ -42,6 +43,8 @@ fn serve(merge: &mut Merge, u: &mut L2Stage, message: FromStage) -> Result<(), S
     ensures stands { OnOk result ((before : List What) → SecondStandsFor u.old before
         → SecondStandsFor u.new (before ++ what_in message)) }
     ensures rules { rules_of (second_cache u.new) ≡ rules_of (second_cache u.old) }
+    ensures cut { IfErr result (λ why. why ≡ Stop.Cut
+        → MAX_EVENTS ≤ served_of (second_cache u.old)) }
 {
     let Some(what) = merge.take(message) else {
         return Ok(());

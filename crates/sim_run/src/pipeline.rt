@@ -1,7 +1,7 @@
 //! The run of threads: the stages are started, fed, joined and settled.
 
 ghost use Rattle.std.specs.Prelude.{◌≡◌, ◌⊎◌, List, ℕ, Option, None, IsNone, IfOk, IfErr, IsOk};
-ghost use Rattle.std.specs.Prelude.{OnOk};
+ghost use Rattle.std.specs.Prelude.{OnOk, Err};
 ghost use Rattle.din_trace.specs.Left.{Left, Script, Fate, Follows};
 ghost use Rattle.din_trace.specs.Source.{HasLeft, Takes};
 ghost use Rattle.din_trace.specs.declared.fault.TraceFault.{TraceFault};
@@ -147,6 +147,7 @@ fn finish<H: Threads>(
     ensures met { IfErr result IsMet }
     ensures answers { IfErr result (λ why. (left : Option TraceFault)
         → IfErr fed (MayAnswer left) → MayAnswer left why) }
+    ensures threads { result ≡ Err RunFault.Threads → fed ≡ Err RunFault.Threads }
 {
     merge_takes_what_is_seen();
     stages_answer_their_streams();

@@ -1,13 +1,15 @@
 //! The splitter, in the caller's thread: from a source to the rings.
 
 ghost use Rattle.std.specs.Prelude.{◌≡◌, ◌<◌, ◌≤◌, ◌+◌, ◌*◌, ◌++◌, ◌∷◌, [], List, ℕ, OnOk};
-ghost use Rattle.std.specs.Prelude.{IfErr, option_to_list};
+ghost use Rattle.std.specs.Prelude.{◌≢◌, IfErr, option_to_list};
 ghost use Rattle.pipe_rings.specs.Rings.{sent};
 ghost use Rattle.din_trace.specs.Left.{Left, Script, Fate, Follows};
 ghost use Rattle.din_trace.specs.Source.{HasLeft, Takes};
 ghost use Rattle.din_trace.specs.declared.record.DinRecord.{DinRecord};
 ghost use Rattle.stage_core.specs.Events.{IsBounded, picked_events};
 ghost use Rattle.sim_run.specs.Faults.{IsMet};
+ghost use Rattle.sim_run.specs.declared.fault.Stop.{Stop};
+ghost use Rattle.sim_run.specs.declared.fault.RunFault.{RunFault};
 ghost use Rattle.sim_run.specs.Ends.{SameSplitterEnds, UnusedSplitter};
 ghost use Rattle.sim_run.specs.Threads.{HasSent, Sends, SplitUp};
 
@@ -28,6 +30,7 @@ const INSERTED: DinRecord = DinRecord {
 fn send_routed<H: Wait>(rt: &H, ends: &mut SplitterEnds, routed: Routed) -> Result<(), Stop>
     ensures rings { SameSplitterEnds ends.old ends.new }
     ensures sent { OnOk result (Sends ends.old routed ends.new) }
+    ensures cut { IfErr result (λ why. why ≡ Stop.Cut) }
 {
     if ends.order.send(rt, routed.turn).is_err() {
         return Err(Stop::Cut);
@@ -57,6 +60,7 @@ fn send_some<H: Wait>(
     ensures place { splitter.new ≤ splitter.old + 1 }
     ensures sent { OnOk result ((es : List DinRecord) → HasSent es splitter.old ends.old
         → HasSent (es ++ option_to_list event) splitter.new ends.new) }
+    ensures cut { IfErr result (λ why. why ≡ Stop.Cut) }
 {
     let Some(event) = event else {
         return Ok(());
@@ -76,6 +80,7 @@ fn send_picked<H: Wait>(
     ensures place { splitter.new ≤ splitter.old + 2 }
     ensures sent { OnOk result ((es : List DinRecord) → HasSent es splitter.old ends.old
         → HasSent (es ++ picked_events picked) splitter.new ends.new) }
+    ensures cut { IfErr result (λ why. why ≡ Stop.Cut) }
 {
     send_some(rt, splitter, ends, picked.event)?;
     send_some(rt, splitter, ends, picked.flush.then_some(INSERTED))
@@ -94,6 +99,7 @@ pub fn split<H: Wait, R: ByteReader, G: Gate>(
     requires unused { UnusedSplitter ends.old }
     ensures rings { SameSplitterEnds ends.old ends.new }
     ensures met { IfErr result IsMet }
+    ensures threads { IfErr result (λ why. why ≢ RunFault.Threads) }
     // Whatever the reader did, the records that were left are split up, to the end or some way.
     ensures reads { (given : List ℕ) × (fate : Fate)
         × Takes R.remaining R.failures source.old source.new given fate

@@ -1,9 +1,10 @@
 //! The thread of a first-level stage.
 
-ghost use Rattle.std.specs.Prelude.{◌≡◌, [], ◌++◌, OnOk, IfOk};
+ghost use Rattle.std.specs.Prelude.{◌≡◌, [], ◌++◌, OnOk, IfOk, IfErr};
 ghost use Rattle.pipe_rings.specs.Rings.{sent, SameTx};
 ghost use Rattle.stage_core.specs.Standing.{StageStandsFor, IsReady, cache_of, side_of};
 ghost use Rattle.stage_core.specs.Standing.{outbox_of, took_finish};
+ghost use Rattle.sim_run.specs.declared.fault.Stop.{Stop};
 ghost use Rattle.sim_run.specs.Ends.{UnusedStage};
 ghost use Rattle.sim_run.specs.Threads.{StageEnded};
 
@@ -39,6 +40,7 @@ fn send_outbox<H: Wait>(rt: &H, stage: &mut L1Stage, tx: &mut Tx<FromStage>) -> 
     ensures ring { SameTx tx.old tx.new }
     ensures sent { OnOk result (sent tx.new ≡ sent tx.old ++ outbox_of stage.old) }
     ensures empty { OnOk result (outbox_of stage.new ≡ []) }
+    ensures cut { IfErr result (λ why. why ≡ Stop.Cut) }
     ensures cache { cache_of stage.new ≡ cache_of stage.old }
     ensures side { side_of stage.new ≡ side_of stage.old }
     ensures finish { took_finish stage.new ≡ took_finish stage.old }
