@@ -1,11 +1,12 @@
 #!/usr/bin/env bash
-# How fast whole runs are: dinero_pipe, whose stages run in four threads, with rings of three
+# How fast whole runs are: dinero_pipe, whose stages run in four threads, with rings of four
 # capacities, and plain_bench, which moves the same machines by hand on one thread.
 #
 #   bench/run.sh [REFERENCES]        10,000,000 references, if no number is given
 #
-# The trace is made with a fixed seed in a temporary folder. All four programs read the same file in the
-# same run, and their reports have to be the same. Times are the best of three.
+# The trace is made with a fixed seed in a temporary folder. All runs read the same file, seven times in
+# turn, and their reports have to be the same. Times are the best; the speed is against one thread, as
+# the median of the rounds.
 set -euo pipefail
 references=${1:-10000000}
 top=$(cd "$(dirname "$0")/.." && pwd)
@@ -35,17 +36,14 @@ awk -v references="$references" 'BEGIN {
     }
 }' > "$trace"
 
-# measure NAME COMMAND..: one line of the table.
-measure() {
-    local name=$1 seconds processor peak
+# same NAME COMMAND..: a line for the runs in turn, once the report is seen to be that of the first.
+same() {
+    local name=$1
     shift
     "$@" < "$trace" > "$folder/report"
-    cmp "$folder/first" "$folder/report"
-    read -r seconds processor peak < <("$top/bench/best.py" 3 "$trace" "$@")
-    awk -v name="$name" -v seconds="$seconds" -v processor="$processor" -v peak="$peak" \
-        -v references="$references" 'BEGIN {
-        printf "%-24s %8s %8s %8s %14.1f\n", name, seconds, processor, peak, references / seconds / 1e6
-    }'
+    [ -e "$folder/first" ] || mv "$folder/report" "$folder/first"
+    [ ! -e "$folder/report" ] || cmp "$folder/first" "$folder/report"
+    printf '%s\t%s\n' "$name" "$*"
 }
 
 # caches SIZE BLOCK WAYS SIZE BLOCK WAYS: both first-level caches alike, and the second level.
@@ -53,14 +51,15 @@ caches() {
     local words=(--l1-isize "$1" --l1-ibsize "$2" --l1-iassoc "$3" --l1-dsize "$1" --l1-dbsize "$2"
         --l1-dassoc "$3" --l2-usize "$4" --l2-ubsize "$5" --l2-uassoc "$6")
     echo "== $1/$2/$3 with $4/$5/$6"
-    "$plain" "${@:1:3}" "${@:1:3}" "${@:4:3}" < "$trace" > "$folder/first"
-    measure 'one thread' "$plain" "${@:1:3}" "${@:1:3}" "${@:4:3}"
-    for ring in 64 1024 65536; do
-        measure "threads, ring $ring" "$threads" "${words[@]}" --ring "$ring"
+    rm -f "$folder/first"
+    same 'one thread' "$plain" "${@:1:3}" "${@:1:3}" "${@:4:3}" > "$folder/runs"
+    for ring in 64 256 1024 65536; do
+        same "threads, ring $ring" "$threads" "${words[@]}" --ring "$ring" >> "$folder/runs"
     done
+    "$top/bench/in_turn.py" 7 "$trace" < "$folder/runs"
 }
 
-printf '%-24s %8s %8s %8s %14s\n' run seconds cpu MB 'million/s'
+printf '%-24s %8s %8s %8s %8s\n' run seconds cpu MB speed
 caches 32768 64 8 1048576 64 16
 caches 8192 32 1 262144 32 4
 caches 16384 64 256 262144 64 4096
