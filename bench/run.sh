@@ -4,7 +4,7 @@
 #
 #   bench/run.sh [REFERENCES]        10,000,000 references, if no number is given
 #
-# The trace is made with a fixed seed in a temporary folder. All runs read the same file, seven times in
+# The trace is made with a fixed seed in a temporary folder. All runs read the same file, five times in
 # turn, and their reports have to be the same. Times are the best; the speed is against one thread, as
 # the median of the rounds.
 set -euo pipefail
@@ -56,7 +56,7 @@ caches() {
     for ring in 64 256 1024 65536; do
         same "threads, ring $ring" "$threads" "${words[@]}" --ring "$ring" >> "$folder/runs"
     done
-    "$top/bench/in_turn.py" 7 "$trace" < "$folder/runs"
+    "$top/bench/in_turn.py" 5 "$trace" < "$folder/runs"
 }
 
 printf '%-24s %8s %8s %8s %8s\n' run seconds cpu MB speed
