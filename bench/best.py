@@ -6,9 +6,9 @@ import subprocess
 import sys
 import time
 
-runs, trace, command = int(sys.argv[1]), sys.argv[2], sys.argv[3:]
-best, processor, peak = None, None, 0
-for _ in range(runs):
+
+def run(command, trace):
+    """Runs it once: its time and its processor time in seconds, and its memory in megabytes."""
     with open(trace) as text:
         begin = time.perf_counter()
         child = subprocess.Popen(command, stdin=text, stdout=subprocess.DEVNULL)
@@ -16,7 +16,15 @@ for _ in range(runs):
         seconds = time.perf_counter() - begin
     if status != 0:
         sys.exit(f"{command[0]} ended with {status}")
-    if best is None or seconds < best:
-        best, processor = seconds, used.ru_utime + used.ru_stime
-    peak = max(peak, used.ru_maxrss / 1024)
-print(f"{best:.3f} {processor:.3f} {peak:.0f}")
+    return seconds, used.ru_utime + used.ru_stime, used.ru_maxrss / 1024
+
+
+def best(runs):
+    """The best time of these runs, its processor time, and the greatest memory of them all."""
+    seconds, processor, _ = min(runs)
+    return seconds, processor, max(memory for _, _, memory in runs)
+
+
+if __name__ == "__main__":
+    count, trace, command = int(sys.argv[1]), sys.argv[2], sys.argv[3:]
+    print("{:.3f} {:.3f} {:.0f}".format(*best([run(command, trace) for _ in range(count)])))

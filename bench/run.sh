@@ -41,9 +41,14 @@ same() {
     local name=$1
     shift
     "$@" < "$trace" > "$folder/report"
-    [ -e "$folder/first" ] || mv "$folder/report" "$folder/first"
-    [ ! -e "$folder/report" ] || cmp "$folder/first" "$folder/report"
-    printf '%s\t%s\n' "$name" "$*"
+    if [ -e "$folder/first" ]; then
+        cmp "$folder/first" "$folder/report"
+    else
+        mv "$folder/report" "$folder/first"
+    fi
+    printf '%s\t' "$name"
+    printf '%q ' "$@"
+    echo
 }
 
 # caches SIZE BLOCK WAYS SIZE BLOCK WAYS: both first-level caches alike, and the second level.
