@@ -1,11 +1,11 @@
 //! A whole run of the network, by choices.
 
-ghost use Rattle.std.specs.Prelude.{◌≡◌, ◌<◌, ◌≤◌, ◌*◌, ◌%◌, IfOk, length, slice_index};
+ghost use Rattle.std.specs.Prelude.{◌≡◌, ◌<◌, ◌≤◌, ◌*◌, ◌%◌, ◌^◌, IfOk, length, slice_index};
 ghost use Rattle.stage_core.specs.Events.{IsBounded, events};
 ghost use Rattle.stage_core.specs.Seen.{totals};
 ghost use Rattle.stage_core.specs.Config.{hierarchy_of};
 ghost use Rattle.stage_core.specs.Network.{messages};
-ghost use Rattle.stage_core.specs.Cores.{parts_for};
+ghost use Rattle.stage_core.specs.Cores.{parts_for, started};
 
 use crate::config::Config;
 use crate::laws::{second_level_sees_few, selections_make_few};
@@ -26,6 +26,24 @@ fn chosen(choices: &[u8], made: u64, enabled: u8) -> u8
         Some(choice) => *choice % enabled,
         None => 0,
     }
+}
+
+// The whole run of a network from its start, by these choices.
+fn run(core: &mut Core, choices: &[u8]) -> Result<(Totals, u64), NoMemory>
+    requires start { core.old ≡ started core.old.config core.old.events }
+    requires short { messages (parts_for core.old.config) core.old.events ≤ 2 ^ 62 }
+    ensures totals { IfOk result (λ answer. answer.0
+        ≡ totals (hierarchy_of core.old.config) core.old.events) }
+    ensures events { IfOk result (λ answer. answer.1
+        ≡ 2 * messages (parts_for core.old.config) core.old.events) }
+{
+    let mut made: u64 = 0;
+    'run: while core.enabled() > 0 {
+        let nth = chosen(choices, made, core.enabled());
+        core.step(nth)?;
+        made += 1;
+    }
+    Ok((core.totals(), made))
 }
 
 /// Makes one event after another, until all machines have finished: event `k`, from 0, is that of
@@ -49,11 +67,5 @@ pub fn drive(
     second_level_sees_few();
     selections_make_few();
     let mut core = Core::new(alloc, config, selection, records)?;
-    let mut made: u64 = 0;
-    'run: while core.enabled() > 0 {
-        let nth = chosen(choices, made, core.enabled());
-        core.step(nth)?;
-        made += 1;
-    }
-    Ok((core.totals(), made))
+    run(&mut core, choices)
 }

@@ -65,17 +65,37 @@ fn a_long_trace_goes_through_rings_of_one_message(rt: HostRuntime) -> Result<(),
     driven(&rt, rt.alloc(), 0, 1, &trace, sweep_totals(), 80_010)
 }
 
-#[test]
-fn the_machines_that_can_are_counted(rt: HostRuntime) -> Result<(), Fail> {
-    let mut core = Core::new(rt.alloc(), &config_of(data(), 1)?, &selection(0), &[])?;
-    assert_eq!(rt; core.enabled(), 1);
-    core.step(0)?;
-    assert_eq!(rt; core.enabled(), 2);
-    core.step(1)?;
-    assert_eq!(rt; core.enabled(), 1);
+// How many machines can make an event, whether all have finished, and whether a growth was refused.
+fn state(core: &Core) -> (u8, bool, bool) {
+    (core.enabled(), core.finished(), core.failed())
+}
+
+// One more event of a run that goes on. Where it is refused, nothing is enabled from then on.
+fn step(rt: &impl Abort, core: &mut Core, nth: u8) -> Result<(), Fail> {
+    assert!(rt; nth < core.enabled());
     assert!(rt; !core.finished());
     assert!(rt; !core.failed());
+    let stepped = core.step(nth);
+    if stepped.is_err() {
+        assert_eq!(rt; state(core), (0, false, true));
+    }
+    Ok(stepped?)
+}
+
+// Of an empty trace. Each time so many machines can make an event, and that of this number does.
+fn ends_are_sent(rt: &impl Abort, core: &mut Core) -> Result<(), Fail> {
+    for (machines, nth) in [(1, 0), (2, 1), (1, 0)] {
+        assert_eq!(rt; state(core), (machines, false, false));
+        step(rt, core, nth)?;
+    }
     Ok(())
+}
+
+#[test]
+fn the_machines_that_can_are_counted(rt: HostRuntime) -> Result<(), Fail> {
+    let config = config_of(data(), 1)?;
+    let mut core = Core::new(rt.alloc(), &config, &selection(0), &[])?;
+    ends_are_sent(&rt, &mut core)
 }
 
 // Where a growth is refused, the run fails by the name of that.
@@ -87,25 +107,20 @@ fn a_refused_run_answers_want_of_memory(rt: HostRuntime) -> Result<(), Fail> {
     Ok(())
 }
 
-// Where a step is refused, nothing is enabled from then on, and the test fails by the name of that.
+fn runs_to_its_end(rt: &impl Abort, core: &mut Core) -> Result<(), Fail> {
+    for _ in 0..42 {
+        step(rt, core, 0)?;
+    }
+    assert!(rt; core.finished());
+    assert_eq!(rt; state(core), (0, true, false));
+    assert_eq!(rt; core.totals(), flushed_totals());
+    Ok(())
+}
+
+// Where a step is refused, the test fails by the name of that.
 #[test]
 fn a_refused_step_leaves_nothing_enabled(rt: HostRuntime) -> Result<(), Fail> {
     let config = config_of(data(), 1)?;
     let mut core = Core::new(rt.alloc(), &config, &selection(0), &flushed())?;
-    for _ in 0..42 {
-        assert!(rt; core.enabled() > 0);
-        assert!(rt; !core.failed());
-        assert!(rt; !core.finished());
-        let stepped = core.step(0);
-        if stepped.is_err() {
-            assert!(rt; core.failed());
-            assert!(rt; !core.finished());
-            assert_eq!(rt; core.enabled(), 0);
-        }
-        stepped?;
-    }
-    assert_eq!(rt; core.enabled(), 0);
-    assert!(rt; core.finished());
-    assert_eq!(rt; core.totals(), flushed_totals());
-    Ok(())
+    runs_to_its_end(&rt, &mut core)
 }
