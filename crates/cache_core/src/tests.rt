@@ -1,7 +1,7 @@
 //! Traces that were worked out by hand, served by a cache one access at a time.
 
 use crate::{
-    Access, Cache, Class, Geometry, MAX_EVENTS, MissKind, Outcome, PerClass, Policy, Repl,
+    Access, Cache, Class, Counts, Geometry, MAX_EVENTS, MissKind, Outcome, PerClass, Policy, Repl,
 };
 use std::alloc::Global;
 use std::process::Abort;
@@ -17,6 +17,19 @@ const HIT: Outcome = Outcome {
     back: None,
     fetch: false,
     through: false,
+};
+
+/// A block's first miss, which brings it in.
+const NEW: Outcome = Outcome {
+    hit: false,
+    kind: Some(MissKind::Compulsory),
+    fetch: true,
+    ..HIT
+};
+
+const CONFLICT: Outcome = Outcome {
+    kind: Some(MissKind::Conflict),
+    ..NEW
 };
 
 const LRU: Policy = Policy {
@@ -86,15 +99,25 @@ fn serve(rt: &impl Abort, cache: &mut Cache, class: Class, addr: u64) -> Outcome
     cache.access(Access { class, addr }).expect(rt, "memory")
 }
 
-fn read(rt: &impl Abort, cache: &mut Cache, addr: u64) -> Outcome {
-    serve(rt, cache, Class::Read, addr)
+/// Serves accesses of one class, each of which must have its outcome.
+fn expect(rt: &impl Abort, cache: &mut Cache, class: Class, trace: &[(u64, Outcome)]) {
+    for (addr, want) in trace {
+        assert_eq!(rt; serve(rt, cache, class, *addr), *want, "at {addr}");
+    }
 }
 
-fn write(rt: &impl Abort, cache: &mut Cache, addr: u64) -> Outcome {
-    serve(rt, cache, Class::Write, addr)
+fn expect_counts(rt: &impl Abort, cache: &Cache, want: Counts) {
+    assert_eq!(rt; cache.counts(), want);
 }
 
 fn flush(rt: &impl Abort, cache: &mut Cache, out: &mut Vec<u64>) {
     assert!(rt; cache.served() < MAX_EVENTS);
     cache.flush(out).expect(rt, "memory");
+}
+
+/// Flushes the cache, which must write these blocks back.
+fn expect_flush(rt: &impl Abort, alloc: Global, cache: &mut Cache, blocks: &[u64]) {
+    let mut out = Vec::new(alloc);
+    flush(rt, cache, &mut out);
+    assert_eq!(rt; out.as_slice(), blocks);
 }

@@ -1,6 +1,6 @@
 //! Sets of many ways.
 
-use super::{FIFO, HIT, LRU, cache_of, flush, missed, missed_back, read, serve, write};
+use super::{FIFO, HIT, LRU, NEW, cache_of, expect, expect_flush, missed, missed_back, serve};
 use crate::{Cache, Class, MissKind, Policy};
 use std::alloc::Global;
 use std::process::Abort;
@@ -14,10 +14,7 @@ fn filled(rt: &impl Abort, alloc: Global, policy: Policy) -> Cache {
         } else {
             Class::Read
         };
-        assert_eq!(rt;
-            serve(rt, &mut cache, class, 4 * block),
-            missed(MissKind::Compulsory)
-        );
+        assert_eq!(rt; serve(rt, &mut cache, class, 4 * block), NEW);
     }
     cache
 }
@@ -25,48 +22,31 @@ fn filled(rt: &impl Abort, alloc: Global, policy: Policy) -> Cache {
 #[test]
 fn many_ways_keep_the_block_used_last(rt: HostRuntime) {
     let mut cache = filled(&rt, rt.alloc(), LRU);
-    assert_eq!(rt; read(&rt, &mut cache, 0), HIT);
-    assert_eq!(rt;
-        read(&rt, &mut cache, 512),
-        missed_back(MissKind::Compulsory, 4)
-    );
-    assert_eq!(rt; read(&rt, &mut cache, 0), HIT);
-    assert_eq!(rt; read(&rt, &mut cache, 4), missed(MissKind::Capacity));
-    assert_eq!(rt; write(&rt, &mut cache, 512), HIT);
-    assert_eq!(rt; write(&rt, &mut cache, 15), HIT);
-    let mut out = Vec::new(rt.alloc());
-    flush(&rt, &mut cache, &mut out);
-    assert_eq!(rt; out.as_slice(), [12, 512].as_slice());
-    assert_eq!(rt; read(&rt, &mut cache, 0), missed(MissKind::Capacity));
+    let known = missed(MissKind::Capacity);
+    let victim = missed_back(MissKind::Compulsory, 4);
+    let trace = [(0, HIT), (512, victim), (0, HIT), (4, known)];
+    expect(&rt, &mut cache, Class::Read, &trace);
+    expect(&rt, &mut cache, Class::Write, &[(512, HIT), (15, HIT)]);
+    expect_flush(&rt, rt.alloc(), &mut cache, &[12, 512]);
+    expect(&rt, &mut cache, Class::Read, &[(0, known)]);
 }
 
 #[test]
 fn many_ways_let_the_block_loaded_first_go(rt: HostRuntime) {
     let mut cache = filled(&rt, rt.alloc(), FIFO);
-    assert_eq!(rt; read(&rt, &mut cache, 0), HIT);
-    assert_eq!(rt; read(&rt, &mut cache, 512), missed(MissKind::Compulsory));
-    assert_eq!(rt;
-        read(&rt, &mut cache, 0),
-        missed_back(MissKind::Conflict, 4)
-    );
-    assert_eq!(rt; write(&rt, &mut cache, 12), HIT);
-    assert_eq!(rt; read(&rt, &mut cache, 4), missed(MissKind::Capacity));
-    let mut out = Vec::new(rt.alloc());
-    flush(&rt, &mut cache, &mut out);
-    assert_eq!(rt; out.as_slice(), [12].as_slice());
+    let victim = missed_back(MissKind::Conflict, 4);
+    let trace = [(0, HIT), (512, NEW), (0, victim)];
+    expect(&rt, &mut cache, Class::Read, &trace);
+    expect(&rt, &mut cache, Class::Write, &[(12, HIT)]);
+    let known = missed(MissKind::Capacity);
+    expect(&rt, &mut cache, Class::Read, &[(4, known)]);
+    expect_flush(&rt, rt.alloc(), &mut cache, &[12]);
 }
 
 #[test]
 fn many_ways_flush_by_rising_address_over_all_sets(rt: HostRuntime) {
     let mut cache = cache_of(&rt, rt.alloc(), (2_048, 4, 256), LRU);
-    for addr in [13, 9, 5, 1] {
-        assert_eq!(rt;
-            write(&rt, &mut cache, addr),
-            missed(MissKind::Compulsory),
-            "at {addr}"
-        );
-    }
-    let mut out = Vec::new(rt.alloc());
-    flush(&rt, &mut cache, &mut out);
-    assert_eq!(rt; out.as_slice(), [0, 4, 8, 12].as_slice());
+    let trace = [(13, NEW), (9, NEW), (5, NEW), (1, NEW)];
+    expect(&rt, &mut cache, Class::Write, &trace);
+    expect_flush(&rt, rt.alloc(), &mut cache, &[0, 4, 8, 12]);
 }
