@@ -9,11 +9,15 @@ use std::alloc::{AllocError, Global};
 use std::process::Abort;
 use std::test::Fail;
 
+fn has_failed(rt: &impl Abort, cache: &Cache, before: (Counts, u64)) {
+    assert!(rt; cache.failed());
+    assert_eq!(rt; (cache.counts(), cache.served()), before);
+}
+
 /// What a cache is to be after a refusal: as before the call, and failed for ever. So is the list
 /// that a flush was lent.
 fn stays_failed(rt: &impl Abort, cache: &mut Cache, before: (Counts, u64), out: &mut Vec<u64>) {
-    assert!(rt; cache.failed());
-    assert_eq!(rt; (cache.counts(), cache.served()), before);
+    has_failed(rt, cache, before);
     assert!(rt; cache.served() < MAX_EVENTS);
     let again = cache.access(Access {
         class: Class::Read,
@@ -22,8 +26,7 @@ fn stays_failed(rt: &impl Abort, cache: &mut Cache, before: (Counts, u64), out: 
     assert_eq!(rt; again, Err(NoMemory));
     assert!(rt; cache.served() < MAX_EVENTS);
     assert_eq!(rt; cache.flush(out), Err(NoMemory));
-    assert!(rt; cache.failed());
-    assert_eq!(rt; (cache.counts(), cache.served()), before);
+    has_failed(rt, cache, before);
     assert_eq!(rt; out.as_slice(), [7].as_slice());
 }
 
@@ -81,6 +84,19 @@ fn flushed(rt: &impl Abort, cache: &mut Cache, out: &mut Vec<u64>) -> Result<(),
 }
 
 /// Writes the first blocks and flushes, up to the first refusal.
+fn fills(rt: &impl Abort, cache: &mut Cache, out: &mut Vec<u64>) -> Result<(), Fail> {
+    let first_use = missed(MissKind::Compulsory);
+    for block in 0..200 {
+        wrote(rt, cache, out, 4 * block, first_use)?;
+    }
+    flushed(rt, cache, out)?;
+    assert_eq!(rt; out.len(), 201);
+    assert_eq!(rt; cache.counts().misses, writes(200));
+    assert_eq!(rt; cache.counts().written_back, 200);
+    assert_eq!(rt; cache.served(), 201);
+    Ok(())
+}
+
 fn serves_or_fails(
     rt: &impl Abort,
     alloc: Global,
@@ -89,26 +105,15 @@ fn serves_or_fails(
 ) -> Result<(), Fail> {
     let mut out = lent(alloc)?;
     let mut cache = made(rt, alloc, shape, policy)?;
-    let first_use = missed(MissKind::Compulsory);
-    for block in 0..200 {
-        wrote(rt, &mut cache, &mut out, 4 * block, first_use)?;
-    }
-    flushed(rt, &mut cache, &mut out)?;
-    assert_eq!(rt; out.len(), 201);
-    assert_eq!(rt; cache.counts().misses, writes(200));
-    assert_eq!(rt; cache.counts().written_back, 200);
-    assert_eq!(rt; cache.served(), 201);
-    Ok(())
+    fills(rt, &mut cache, &mut out)
 }
 
-#[test]
-fn two_blocks_are_written_and_flushed_or_the_cache_fails(rt: HostRuntime) -> Result<(), Fail> {
-    let mut out = lent(rt.alloc())?;
-    let mut cache = made(&rt, rt.alloc(), (16, 4, 2), LRU)?;
+/// Writes two blocks and flushes, up to the first refusal.
+fn writes_two(rt: &impl Abort, cache: &mut Cache, out: &mut Vec<u64>) -> Result<(), Fail> {
     let first_use = missed(MissKind::Compulsory);
-    wrote(&rt, &mut cache, &mut out, 8, first_use)?;
-    wrote(&rt, &mut cache, &mut out, 0, first_use)?;
-    flushed(&rt, &mut cache, &mut out)?;
+    wrote(rt, cache, out, 8, first_use)?;
+    wrote(rt, cache, out, 0, first_use)?;
+    flushed(rt, cache, out)?;
     assert_eq!(rt; out.as_slice(), [7, 0, 8].as_slice());
     let counts = Counts {
         fetches: writes(2),
@@ -122,6 +127,13 @@ fn two_blocks_are_written_and_flushed_or_the_cache_fails(rt: HostRuntime) -> Res
     assert_eq!(rt; (cache.counts(), cache.served()), (counts, 3));
     assert!(rt; !cache.failed());
     Ok(())
+}
+
+#[test]
+fn two_blocks_are_written_and_flushed_or_the_cache_fails(rt: HostRuntime) -> Result<(), Fail> {
+    let mut out = lent(rt.alloc())?;
+    let mut cache = made(&rt, rt.alloc(), (16, 4, 2), LRU)?;
+    writes_two(&rt, &mut cache, &mut out)
 }
 
 #[test]
