@@ -1,11 +1,13 @@
 //! The thread of the merge, with the second level.
 
-ghost use Rattle.std.specs.Prelude.{◌≡◌, ◌≤◌, ◌⊎◌, [], ◌++◌, List, IfOk, OnOk, IfErr};
+ghost use Rattle.std.specs.Prelude.{◌≡◌, ◌≤◌, ◌⊎◌, [], ◌∷◌, ◌++◌, List, IfOk, OnOk, IfErr};
+ghost use Rattle.pipe_rings.specs.Rings.{received, SameRx};
 ghost use Rattle.cache_core.specs.Standing.{rules_of, served_of};
 ghost use Rattle.stage_core.specs.Merging.{AtEnd, wanted, after_message, what_in};
 ghost use Rattle.stage_core.specs.Standing.{SecondStandsFor, second_cache};
 ghost use Rattle.stage_core.specs.declared.message.Want.TheVariants as want;
 ghost use Rattle.stage_core.specs.declared.message.What.{What};
+ghost use Rattle.stage_core.specs.declared.message.FromStage.{FromStage};
 ghost use Rattle.sim_run.specs.declared.fault.Stop.{Stop};
 ghost use Rattle.sim_run.specs.Ends.{UnusedMerge};
 ghost use Rattle.sim_run.specs.Threads.{HasMerged};
@@ -14,6 +16,7 @@ use crate::ends::MergeEnds;
 use crate::fault::{NoThread, Stop};
 use crate::gate::{Gate, Who, pass};
 use cache_core::MAX_EVENTS;
+use pipe_rings::Rx;
 use stage_core::{FromStage, L2Stage, Merge, Want};
 use std::snapshot::Snapshot;
 use std::sync::Wait;
@@ -55,21 +58,44 @@ fn serve(merge: &mut Merge, u: &mut L2Stage, message: FromStage) -> Result<(), S
     u.on(what).or(Err(Stop::Memory))
 }
 
-/// Takes in what the rings bring, always from the one that the merge wants, up to its end. Where it
-/// stops before that, its ends are dropped.
-pub fn run_merge<H: Wait, G: Gate>(
+// Takes in the next message of the side that the merge wants.
+fn take_in<H: Wait, G: Gate>(
     rt: &H,
     gate: &G,
-    machine: L2Stage,
-    unused: MergeEnds,
-) -> MergeEnd
-    requires new { SecondStandsFor machine [] }
-    requires unused { UnusedMerge unused }
-    ensures { IfOk result (λ r. HasMerged AtEnd machine unused r.0 r.1) }
+    rx: &mut Rx<FromStage>,
+    merge: &mut Merge,
+    u: &mut L2Stage,
+    count: u64,
+) -> Result<u64, Stop>
+    requires { (wanted merge.old ≡ want.I) ⊎ (wanted merge.old ≡ want.D) }
+    ensures ring { SameRx rx.old rx.new }
+    ensures rules { rules_of (second_cache u.new) ≡ rules_of (second_cache u.old) }
+    ensures taken { OnOk result ((message : FromStage)
+        × (received rx.new ≡ received rx.old ++ message ∷ [])
+        × (merge.new ≡ after_message merge.old message)
+        × ((before : List What) → SecondStandsFor u.old before
+        → SecondStandsFor u.new (before ++ what_in message))) }
+{
+    let Ok(message) = rx.recv(rt) else {
+        return Err(Stop::Cut);
+    };
+    let count = pass(rt, gate, Who::Merge, count)?;
+    serve(merge, u, message)?;
+    Ok(count)
+}
+
+// Takes in what the rings bring, always from the one that the merge wants, up to its end.
+fn merge_all<H: Wait, G: Gate>(
+    rt: &H,
+    gate: &G,
+    u: &mut L2Stage,
+    ends: &mut MergeEnds,
+) -> Result<(), Stop>
+    requires new { SecondStandsFor u.old [] }
+    requires unused { UnusedMerge ends.old }
+    ensures { OnOk result (HasMerged AtEnd u.old ends.old u.new ends.new) }
 {
     let mut merge = Merge::new();
-    let mut u = machine;
-    let mut ends = unused;
     let mut received = 0;
     for _ in rt.forever() {
         match merge.wants() {
@@ -81,27 +107,32 @@ pub fn run_merge<H: Wait, G: Gate>(
                 merge.turn(turn);
             }
             Want::I => {
-                let Ok(message) = ends.from_i.recv(rt) else {
-                    return Err(Stop::Cut);
-                };
-                received = pass(rt, gate, Who::Merge, received)?;
-                if let Err(stop) = serve(&mut merge, &mut u, message) {
-                    return Err(stop);
-                }
+                received = take_in(rt, gate, &mut ends.from_i, &mut merge, u, received)?;
             }
             Want::D => {
-                let Ok(message) = ends.from_d.recv(rt) else {
-                    return Err(Stop::Cut);
-                };
-                received = pass(rt, gate, Who::Merge, received)?;
-                if let Err(stop) = serve(&mut merge, &mut u, message) {
-                    return Err(stop);
-                }
+                received = take_in(rt, gate, &mut ends.from_d, &mut merge, u, received)?;
             }
-            Want::Nothing => return Ok((u, ends)),
+            Want::Nothing => return Ok(()),
         }
     }
     unreachable!()
+}
+
+/// Merges all that the rings bring. Where it stops before the end, its ends are dropped.
+pub fn run_merge<H: Wait, G: Gate>(
+    rt: &H,
+    gate: &G,
+    machine: L2Stage,
+    unused: MergeEnds,
+) -> MergeEnd
+    requires new { SecondStandsFor machine [] }
+    requires unused { UnusedMerge unused }
+    ensures { IfOk result (λ r. HasMerged AtEnd machine unused r.0 r.1) }
+{
+    let mut u = machine;
+    let mut ends = unused;
+    merge_all(rt, gate, &mut u, &mut ends)?;
+    Ok((u, ends))
 }
 
 /// Starts the thread of the merge. Where it isn't granted, the second level and the ends are
@@ -127,8 +158,5 @@ pub fn start_merge<'s, E, H: Threads + Wait + Sync, G: Gate>(
         requires unused { UnusedMerge ends }
         ensures { IfOk result (λ r. HasMerged AtEnd machine ends r.0 r.1) }
     { run_merge(rt, gate, machine, ends) };
-    match scope.spawn_with(promise, run) {
-        Ok(handle) => Ok(handle),
-        Err(_) => Err(NoThread),
-    }
+    scope.spawn_with(promise, run).or(Err(NoThread))
 }

@@ -53,8 +53,40 @@ fn send_outbox<H: Wait>(rt: &H, stage: &mut L1Stage, tx: &mut Tx<FromStage>) -> 
     Ok(())
 }
 
-/// Takes in what the splitter sends, and sends the answers, up to Finish. Where it stops before
-/// that, its ends are dropped.
+// Takes in what the splitter sends, and sends the answers, up to Finish.
+fn serve_all<H: Wait, G: Gate>(
+    rt: &H,
+    gate: &G,
+    who: Who,
+    stage: &mut L1Stage,
+    ends: &mut StageEnds,
+) -> Result<(), Stop>
+    requires ready { IsReady stage.old }
+    requires new { StageStandsFor stage.old [] }
+    requires unused { UnusedStage ends.old }
+    ensures { OnOk result (StageEnded stage.old ends.old stage.new ends.new) }
+{
+    let mut received = 0;
+    for _ in rt.forever() {
+        let Ok(message) = ends.from_splitter.recv(rt) else {
+            return Err(Stop::Cut);
+        };
+        received = pass(rt, gate, who, received)?;
+        if stage.served() >= MAX_EVENTS {
+            return Err(Stop::Cut);
+        }
+        let Ok(()) = stage.on(message) else {
+            return Err(Stop::Memory);
+        };
+        send_outbox(rt, stage, &mut ends.to_merge)?;
+        if stage.finished() {
+            return Ok(());
+        }
+    }
+    unreachable!()
+}
+
+/// Serves all that the splitter sends. Where it stops before Finish, its ends are dropped.
 pub fn run_stage<H: Wait, G: Gate>(
     rt: &H,
     gate: &G,
@@ -69,24 +101,8 @@ pub fn run_stage<H: Wait, G: Gate>(
 {
     let mut stage = machine;
     let mut ends = unused;
-    let mut received = 0;
-    for _ in rt.forever() {
-        let Ok(message) = ends.from_splitter.recv(rt) else {
-            return Err(Stop::Cut);
-        };
-        received = pass(rt, gate, who, received)?;
-        if stage.served() >= MAX_EVENTS {
-            return Err(Stop::Cut);
-        }
-        let Ok(()) = stage.on(message) else {
-            return Err(Stop::Memory);
-        };
-        send_outbox(rt, &mut stage, &mut ends.to_merge)?;
-        if stage.finished() {
-            return Ok((stage, ends));
-        }
-    }
-    unreachable!()
+    serve_all(rt, gate, who, &mut stage, &mut ends)?;
+    Ok((stage, ends))
 }
 
 /// Starts the thread of a stage. Where it isn't granted, the stage and its ends are dropped.
@@ -114,8 +130,5 @@ pub fn start_stage<'s, E, H: Threads + Wait + Sync, G: Gate>(
         requires unused { UnusedStage ends }
         ensures { IfOk result (λ r. StageEnded machine ends r.0 r.1) }
     { run_stage(rt, gate, who, machine, ends) };
-    match scope.spawn_with(promise, run) {
-        Ok(handle) => Ok(handle),
-        Err(_) => Err(NoThread),
-    }
+    scope.spawn_with(promise, run).or(Err(NoThread))
 }

@@ -1,10 +1,10 @@
 use Rattle.stage_core.specs.Standing.{IsReady}
 use Rattle.sim_run.specs.Threads.{HasServed}
-use Rattle.sim_run.proofs.stage_thread.run_stage.Given as goal
+use Rattle.sim_run.proofs.stage_thread.serve_all.Given as goal
 
 abbrev pub invariant-loop : goal.invariant-loop
 invariant-loop g l =
     (goal.iterator-loop g).can_next l.iterator'
     × (goal.iterator-loop g).is_finite l.iterator'
-    × HasServed l.fn.machine l.fn.unused l.stage l.ends
+    × HasServed l.fn.stage l.fn.ends l.stage l.ends
     × IsReady l.stage

@@ -5,9 +5,9 @@ use Rattle.stage_core.specs.Standing.{took_finish}
 use Rattle.stage_core.proofs.Stands.{same_stands}
 use Rattle.sim_run.specs.declared.ends.StageEnds.{StageEnds}
 use Rattle.sim_run.proofs.Serving.{Serves, serves-more, serves-finish}
-use Rattle.sim_run.proofs.stage_thread.run_stage.Goals as goal
-use Rattle.sim_run.proofs.stage_thread.run_stage.Goals.{After-finished}
-use Rattle.sim_run.proofs.stage_thread.run_stage.Given.{Over}
+use Rattle.sim_run.proofs.stage_thread.serve_all.Goals as goal
+use Rattle.sim_run.proofs.stage_thread.serve_all.Goals.{After-finished}
+use Rattle.sim_run.proofs.stage_thread.serve_all.Given.{Over}
 
 -- the ends after the message
 abbrev ends_of : (g : Over) → After-finished g → StageEnds
@@ -33,7 +33,7 @@ pub returns-then-finished : goal.returns-then-finished
 returns-then-finished g c =
     let c₁ = (goal.at.returns-then-finished g c).After-finished in
     let done : took_finish c.send_outbox.new.stage ≡ true = search rules in
-    serves-finish c.args.machine c.args.unused c.loop.stage c.loop.ends c.in-Ok.message
+    serves-finish c.args.stage.now c.args.ends.now c.loop.stage c.loop.ends c.in-Ok.message
     c.send_outbox.new.stage (ends_of g c₁) c.loop.invariant.2 c.loop.invariant.3.goes_on
     (served g c₁) (sym c.in-Ok-on.ensures.finish ∙ sym c.send_outbox.ensures.finish ∙ done)
 
@@ -42,7 +42,7 @@ loop-preserved g c =
     let c₁ = (goal.at.loop-preserved g c).After-finished in (
       tt,
       tt,
-      serves-more c.args.machine c.args.unused c.loop.stage c.loop.ends c.in-Ok.message
+      serves-more c.args.stage.now c.args.ends.now c.loop.stage c.loop.ends c.in-Ok.message
           c.send_outbox.new.stage (ends_of g c₁) c.loop.invariant.2 (served g c₁),
       search rules,
     )
