@@ -5,13 +5,15 @@ use Rattle.std.specs.List.{list_any}
 use Rattle.pipe_rings.specs.Rings.{sent, received}
 use Rattle.din_trace.specs.declared.record.DinRecord.{DinRecord}
 use Rattle.din_trace.specs.Left.{Left}
+use Rattle.cache_core.specs.Counts.{counts_of}
 use Rattle.cache_core.specs.Standing.{rules_of}
+use Rattle.cache_core.specs.declared.counts.Counts.{Counts}
 use Rattle.stage_core.specs.Events.{events}
 use Rattle.stage_core.specs.Places.{over}
-use Rattle.stage_core.specs.Seen.{parts_of}
+use Rattle.stage_core.specs.Seen.{parts_of, second_history}
 use Rattle.stage_core.specs.Streams as streams
-use Rattle.stage_core.specs.Streams.{turn_of, told, replies, is_finish}
-use Rattle.stage_core.specs.Merging.{Stand, merged, all_used}
+use Rattle.stage_core.specs.Streams.{turn_of, told, replies, is_finish, taken_in}
+use Rattle.stage_core.specs.Merging.{Stand, AtEnd, merged, all_used}
 use Rattle.stage_core.specs.Standing.{StageStandsFor, SecondStandsFor, cache_of, side_of}
 use Rattle.stage_core.specs.Standing.{second_cache}
 use Rattle.stage_core.specs.declared.message.Side.TheVariants as side
@@ -99,3 +101,19 @@ pub record HasMerged (at : Stand) (began : L2Stage) (was : MergeEnds) (u : L2Sta
   pub used : merged (received now.order) (received now.from_i) (received now.from_d)
       ≡ all_used whats at
   pub stands : SecondStandsFor u whats
+
+-- a stage that began so has ended well, and counts this
+pub record StageCounted (began : L1Stage) (was : StageEnds) (counts : Counts) (now : StageEnds)
+    : Type 0 where
+  pub stage : L1Stage
+  pub ended : StageEnded began was stage now
+  pub counted : (messages : List ToStage) → StageStandsFor stage messages
+      → counts ≡ counts_of (rules_of (cache_of stage)) (taken_in messages)
+
+-- a merge is at its end, and the second level that began so counts this
+pub record MergeCounted (began : L2Stage) (was : MergeEnds) (counts : Counts) (now : MergeEnds)
+    : Type 0 where
+  pub u : L2Stage
+  pub merged : HasMerged AtEnd began was u now
+  pub counted : (whats : List What) → SecondStandsFor u whats
+      → counts ≡ counts_of (rules_of (second_cache u)) (second_history whats)

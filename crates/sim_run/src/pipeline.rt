@@ -1,7 +1,7 @@
 //! The run of threads: the stages are started, fed, joined and settled.
 
 ghost use Rattle.std.specs.Prelude.{◌≡◌, ◌⊎◌, List, ℕ, Option, None, IsNone, IfOk, IfErr, IsOk};
-ghost use Rattle.std.specs.Prelude.{OnOk, Err};
+ghost use Rattle.std.specs.Prelude.{OnOk, Ok, Err};
 ghost use Rattle.din_trace.specs.Left.{Left, Script, Fate, Follows};
 ghost use Rattle.din_trace.specs.Source.{HasLeft, Takes};
 ghost use Rattle.din_trace.specs.declared.fault.TraceFault.{TraceFault};
@@ -9,17 +9,18 @@ ghost use Rattle.din_trace.specs.declared.record.DinRecord.{DinRecord};
 ghost use Rattle.stage_core.specs.Config.{hierarchy_of};
 ghost use Rattle.stage_core.specs.Events.{IsBounded};
 ghost use Rattle.sim_run.specs.Faults.{IsMet, MayAnswer};
-ghost use Rattle.sim_run.specs.Ends.{ArePaired, AreUnused};
-ghost use Rattle.sim_run.specs.Threads.{HasSentAll};
+ghost use Rattle.sim_run.specs.Ends.{ArePaired, AreUnused, SameRings, AllReceived};
+ghost use Rattle.sim_run.specs.Threads.{HasSentAll, StageCounted, MergeCounted};
 ghost use Rattle.sim_run.specs.Machines.{AreNew, rules_in, machines_at, rings_at};
 ghost use Rattle.sim_run.specs.Runs.{HasRun, RunsOver};
 
-use crate::ends::{Rings, SplitterEnds};
+use crate::ends::{MergeEnds, Rings, SplitterEnds, StageEnds};
 use crate::fault::{NoThread, RunFault, Stop, gravest};
 use crate::gate::{Gate, Who};
 use crate::merge_thread::{MergeEnd, MergeHandle, start_merge};
 use crate::split::split;
 use crate::stage_thread::{StageEnd, StageHandle, start_stage};
+use cache_core::Counts;
 use din_trace::{ByteReader, Source};
 use stage_core::{
     Config, L1Stage, L2Stage, NoMemory, Selection, Side, Totals, merge_takes_what_is_seen,
@@ -133,6 +134,56 @@ fn start<'s, E, H: Threads + Wait + Sync, G: Gate>(
     })
 }
 
+// Joins a stage's thread: what the stage has counted, and its ends.
+fn join_stage<H: Threads>(rt: &H, handle: StageHandle) -> Result<(Counts, StageEnds), Stop>
+    ensures { IfOk result (λ r. StageCounted handle.promise.machine.value
+        handle.promise.ends.value r.0 r.1) }
+{
+    let (stage, ends) = handle.join(rt)?;
+    Ok((stage.counts(), ends))
+}
+
+// Joins the merge's thread: what the second level has counted, and the merge's ends.
+fn join_merge<H: Threads>(rt: &H, handle: MergeHandle) -> Result<(Counts, MergeEnds), Stop>
+    ensures { IfOk result (λ r. MergeCounted handle.promise.machine.value
+        handle.promise.ends.value r.0 r.1) }
+{
+    let (u, ends) = handle.join(rt)?;
+    Ok((u.counts(), ends))
+}
+
+// What all three threads came to. Where one stopped before its end, the gravest of why they did.
+fn all_ended<A: Drop, B: Drop, C: Drop>(
+    i: Result<A, Stop>,
+    d: Result<B, Stop>,
+    merge: Result<C, Stop>,
+) -> Result<(A, B, C), RunFault>
+    ensures i { IfOk result (λ ends. i ≡ Ok ends.0) }
+    ensures d { IfOk result (λ ends. d ≡ Ok ends.1) }
+    ensures merge { IfOk result (λ ends. merge ≡ Ok ends.2) }
+    ensures stopped { IfErr result (λ why. (why ≡ RunFault.Memory) ⊎ (why ≡ RunFault.Cut)) }
+{
+    match (i, d, merge) {
+        (Ok(i), Ok(d), Ok(merge)) => Ok((i, d, merge)),
+        (i, d, merge) => Err(gravest(RunFault::Cut, i.err(), d.err(), merge.err())),
+    }
+}
+
+// Hands the counts and the rings of a run out, where all that was sent was received.
+fn settle(totals: Totals, rings: Rings) -> Result<Settled, RunFault>
+    requires { ArePaired rings }
+    ensures settled { IfOk result (λ settled. (settled.totals ≡ totals)
+        × SameRings rings settled.rings × AllReceived settled.rings) }
+    ensures cut { IfErr result (λ why. why ≡ RunFault.Cut) }
+{
+    let mut rings = rings;
+    if rings.are_settled() {
+        Ok(Settled { totals, rings })
+    } else {
+        Err(RunFault::Cut)
+    }
+}
+
 // Joins the threads of a run, whose splitter came to this, and settles its rings.
 fn finish<H: Threads>(
     rt: &H,
@@ -162,30 +213,22 @@ fn finish<H: Threads>(
         let (i, d, merge) = (i.join(rt).err(), d.join(rt).err(), merge.join(rt).err());
         return Err(gravest(fault, i, d, merge));
     }
-    let i = i.join(rt);
-    let d = d.join(rt);
-    let merge = merge.join(rt);
-    match (i, d, merge) {
-        (Ok((i, i_ends)), Ok((d, d_ends)), Ok((u, merge))) => {
-            let totals = Totals {
-                i: i.counts(),
-                d: d.counts(),
-                u: u.counts(),
-            };
-            let mut rings = Rings {
-                splitter,
-                i: i_ends,
-                d: d_ends,
-                merge,
-            };
-            if rings.are_settled() {
-                Ok(Settled { totals, rings })
-            } else {
-                Err(RunFault::Cut)
-            }
-        }
-        (i, d, merge) => Err(gravest(RunFault::Cut, i.err(), d.err(), merge.err())),
-    }
+    let i = join_stage(rt, i);
+    let d = join_stage(rt, d);
+    let merge = join_merge(rt, merge);
+    let (i, d, merge) = all_ended(i, d, merge)?;
+    let totals = Totals {
+        i: i.0,
+        d: d.0,
+        u: merge.0,
+    };
+    let rings = Rings {
+        splitter,
+        i: i.1,
+        d: d.1,
+        merge: merge.1,
+    };
+    settle(totals, rings)
 }
 
 // Runs what the source gives through the machines.

@@ -1,7 +1,8 @@
-use Rattle.std.proofs.Common.{rules}
-use Rattle.sim_run.specs.declared.ends.Rings.{Rings}
+use Rattle.std.proofs.Common.{rules, ap, ◌∙◌, sym, subst}
+use Rattle.std.proofs.lemmas.Result.{IfOk-weaker, IfErr-weaker}
+use Rattle.stage_core.specs.declared.totals.Totals.{Totals}
+use Rattle.sim_run.specs.declared.pipeline.Settled.{Settled}
 use Rattle.sim_run.specs.Faults.{IsMet, MayAnswer}
-use Rattle.sim_run.specs.Ends.{AllReceived}
 use Rattle.sim_run.specs.Machines.{machines_at, rings_at}
 use Rattle.sim_run.proofs.Endings.{of-gravest}
 use Rattle.sim_run.proofs.Wholes.{whole-run}
@@ -17,21 +18,29 @@ returns-in-Err-clause-answers g c left may =
     of-gravest (MayAnswer left) tt tt c.gravest.result c.in-Err.fault c.err-i.result c.err-d.result
     c.err-merge.result (rw c.in-Err.is at may) c.gravest.ensures.one
 
-pub returns-then-are_settled-clause-whole : goal.returns-then-are_settled-clause-whole
-returns-then-are_settled-clause-whole g c es new fed =
-    let arm = c.in-Ok-Ok-Ok in
-    let kept_i = rw arm.is-0 at c.join-i.ensures in
-    let kept_d = rw arm.is-1 at c.join-d.ensures in
-    let kept_u = rw arm.is-2 at c.join-merge.ensures in
-    let was : Rings = record {
-      splitter = c.args.started.splitter;
-      i = arm.i_ends;
-      d = arm.d_ends;
-      merge = arm.merge;
-    } in
-    let all : AllReceived c.are_settled.new.self = search rules in
+pub returns-clause-fed : goal.returns-clause-fed
+returns-clause-fed g c =
+    IfOk-weaker c.settle.result _ _ (λ settled is. search rules) c.settle.ensures.settled
+
+pub returns-clause-met : goal.returns-clause-met
+returns-clause-met g c =
+    IfErr-weaker c.settle.result _ _ (λ why is. subst IsMet (sym is) tt) c.settle.ensures.cut
+
+pub returns-clause-answers : goal.returns-clause-answers
+returns-clause-answers g c =
+    IfErr-weaker c.settle.result _ _ (λ why is left may. subst (MayAnswer left) (sym is) tt)
+    c.settle.ensures.cut
+
+pub returns-clause-whole : goal.returns-clause-whole
+returns-clause-whole g c =
+    let ended = c.in_ok-i.ensures in
+    let i = rw ended.i at c.join_stage-i.ensures in
+    let d = rw ended.d at c.join_stage-d.ensures in
+    let u = rw ended.merge at c.join_merge-merge.ensures in
+    IfOk-weaker c.settle.result _ _ (λ (s : Settled) is es new fed.
     whole-run c.stages_answer_their_streams.ensures c.merge_takes_what_is_seen.ensures es
-    (machines_at c.args.started) new (rings_at c.args.started) was c.are_settled.new.self arm.i
-    arm.d arm.u fed kept_i.served kept_d.served kept_u c.are_settled.ensures.same all _
-    c.counts.ensures.counted c.counts-in-Ok-Ok-Ok.ensures.counted
-    c.counts-in-Ok-Ok-Ok-2.ensures.counted
+    (machines_at c.args.started) new (rings_at c.args.started) _ s.rings i.stage
+    d.stage u.u fed i.ended.served d.ended.served u.merged is.1 is.2 s.totals
+    (λ ms stands. ap (λ (t : Totals). t.i) is.0 ∙ i.counted ms stands)
+    (λ ms stands. ap (λ (t : Totals). t.d) is.0 ∙ d.counted ms stands)
+    (λ ws stands. ap (λ (t : Totals). t.u) is.0 ∙ u.counted ws stands)) c.settle.ensures.settled
