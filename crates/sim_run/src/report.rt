@@ -1,6 +1,8 @@
 //! The report, written piece by piece: no line is put together first, so no memory is asked for.
 
-ghost use Rattle.std.specs.Prelude.{◌≡◌, ◌<◌, ◌≤◌, ◌^◌, ◌∷◌, IsOkUnless, replicate, decimal, codes};
+ghost use Rattle.std.specs.Prelude.{◌≡◌, ◌<◌, ◌≤◌, ◌^◌, ◌∷◌, [], IsOkUnless, replicate, decimal};
+ghost use Rattle.std.specs.Prelude.{codes};
+ghost use Rattle.std.specs.List.{concat};
 ghost use Rattle.din_trace.specs.Device.{Writes};
 ghost use Rattle.sim_run.specs.Report.{IsCacheName, block, class_line, column, count_line};
 ghost use Rattle.sim_run.specs.Report.{five_rates, four_digits, heads, line, name_field, rate};
@@ -143,10 +145,21 @@ fn put_count<W: ByteWriter>(writer: &mut W, name: &str, count: u64) -> Result<()
     writer.put(b"\n")
 }
 
-/// The eleven lines of a cache's block.
-fn put_block<W: ByteWriter>(writer: &mut W, name: &str, counts: &Counts) -> Result<(), DeviceFailed>
-    ensures { Writes W.contents W.failures writer.old writer.new result
-        (block name.now counts.now) }
+/// The lines of a block that have a column for each class.
+fn put_by_class<W: ByteWriter>(
+    writer: &mut W,
+    name: &str,
+    counts: &Counts,
+) -> Result<(), DeviceFailed>
+    ensures { Writes W.contents W.failures writer.old writer.new result (concat (
+        line name.now heads
+        ∷ class_line (codes "Demand Fetches") counts.now.fetches
+        ∷ class_line (codes "Demand Misses") counts.now.misses
+        ∷ line (codes "Miss Rate") (five_rates counts.now.misses counts.now.fetches)
+        ∷ class_line (codes "Compulsory") counts.now.compulsory
+        ∷ class_line (codes "Capacity") counts.now.capacity
+        ∷ class_line (codes "Conflict") counts.now.conflict
+        ∷ [])) }
 {
     put_heads(writer, name)?;
     put_classes(writer, "Demand Fetches", &counts.fetches)?;
@@ -154,11 +167,31 @@ fn put_block<W: ByteWriter>(writer: &mut W, name: &str, counts: &Counts) -> Resu
     put_rates(writer, &counts.misses, &counts.fetches)?;
     put_classes(writer, "Compulsory", &counts.compulsory)?;
     put_classes(writer, "Capacity", &counts.capacity)?;
-    put_classes(writer, "Conflict", &counts.conflict)?;
+    put_classes(writer, "Conflict", &counts.conflict)
+}
+
+/// The lines of a block that have one count.
+fn put_single<W: ByteWriter>(writer: &mut W, counts: &Counts) -> Result<(), DeviceFailed>
+    ensures { Writes W.contents W.failures writer.old writer.new result (concat (
+        count_line (codes "Blocks Fetched") counts.now.loaded
+        ∷ count_line (codes "Written Back") counts.now.written_back
+        ∷ count_line (codes "Writes Sent On") counts.now.sent_on
+        ∷ count_line (codes "Flushes") counts.now.flushes
+        ∷ [])) }
+{
     put_count(writer, "Blocks Fetched", counts.loaded)?;
     put_count(writer, "Written Back", counts.written_back)?;
     put_count(writer, "Writes Sent On", counts.sent_on)?;
     put_count(writer, "Flushes", counts.flushes)
+}
+
+/// The eleven lines of a cache's block.
+fn put_block<W: ByteWriter>(writer: &mut W, name: &str, counts: &Counts) -> Result<(), DeviceFailed>
+    ensures { Writes W.contents W.failures writer.old writer.new result
+        (block name.now counts.now) }
+{
+    put_by_class(writer, name, counts)?;
+    put_single(writer, counts)
 }
 
 /// A block behind another: an empty line stands between the two.

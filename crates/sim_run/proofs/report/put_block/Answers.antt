@@ -1,4 +1,4 @@
-use Rattle.std.proofs.Common.{append-nil}
+use Rattle.std.proofs.Common.{append_assoc}
 use Rattle.sim_run.specs.Report.{block}
 use Rattle.din_trace.proofs.WritesLemmas.{writes_then, writes_as}
 use Rattle.sim_run.proofs.report.put_block.Goals as goal
@@ -6,14 +6,5 @@ use Rattle.sim_run.proofs.report.put_block.Goals as goal
 pub returns : goal.returns
 unfolding block
 returns g c =
-    writes_as _ _ _ (simp append-nil)
-    (writes_then _ _ _ c.in_ok-put_heads.ensures
-    (writes_then _ _ _ c.in_ok-put_classes.ensures
-    (writes_then _ _ _ c.in_ok-put_classes-2.ensures
-    (writes_then _ _ _ c.in_ok-put_rates.ensures
-    (writes_then _ _ _ c.in_ok-put_classes-3.ensures
-    (writes_then _ _ _ c.in_ok-put_classes-4.ensures
-    (writes_then _ _ _ c.in_ok-put_classes-5.ensures
-    (writes_then _ _ _ c.in_ok-put_count.ensures
-    (writes_then _ _ _ c.in_ok-put_count-2.ensures
-    (writes_then _ _ _ c.in_ok-put_count-3.ensures c.put_count-4.ensures))))))))))
+    writes_as _ _ _ (simp append_assoc)
+    (writes_then _ _ _ c.in_ok-put_by_class.ensures c.put_single.ensures)
