@@ -62,6 +62,20 @@ impl Machines {
     }
 }
 
+// The rings and the machines of a run, before it begins.
+fn prepare(alloc: Global, config: &Config) -> Result<(Machines, Rings), NoMemory>
+    ensures new { IfOk result (λ r. AreNew r.0) }
+    ensures rules { IfOk result (λ r. rules_in r.0 ≡ hierarchy_of config.now) }
+    ensures paired { IfOk result (λ r. ArePaired r.1) }
+    ensures unused { IfOk result (λ r. AreUnused r.1) }
+{
+    let Ok(rings) = Rings::new(alloc, config.ring()) else {
+        return Err(NoMemory);
+    };
+    let machines = Machines::new(alloc, config)?;
+    Ok((machines, rings))
+}
+
 /// A run whose threads were started, and the ends that feed them.
 #[derive(Drop)]
 pub struct Started {
@@ -92,6 +106,19 @@ pub fn wind_up<H: Threads>(rt: &H, i: Option<StageHandle>, d: Option<StageHandle
     gravest(RunFault::Threads, i, d, None)
 }
 
+// Lets go of what the rest of a run was to own, and only then joins what was started of it.
+fn give_up<H: Threads, L: Drop>(
+    rt: &H,
+    left: L,
+    i: Option<StageHandle>,
+    d: Option<StageHandle>,
+) -> RunFault
+    ensures { (result ≡ RunFault.Memory) ⊎ (result ≡ RunFault.Threads) }
+{
+    drop(left);
+    wind_up(rt, i, d)
+}
+
 // Starts the three threads. Where one isn't granted, all ends are dropped, so that those which were
 // started end too.
 fn start<'s, E, H: Threads + Wait + Sync, G: Gate>(
@@ -115,16 +142,13 @@ fn start<'s, E, H: Threads + Wait + Sync, G: Gate>(
         merge,
     } = rings;
     let Ok(i) = start_stage(scope, rt, gate, Who::I, i, i_ends) else {
-        return Err(wind_up(rt, None, None));
+        return Err(give_up(rt, (splitter, d, d_ends, u, merge), None, None));
     };
     let Ok(d) = start_stage(scope, rt, gate, Who::D, d, d_ends) else {
-        drop(splitter);
-        drop(merge);
-        return Err(wind_up(rt, Some(i), None));
+        return Err(give_up(rt, (splitter, u, merge), Some(i), None));
     };
     let Ok(merge) = start_merge(scope, rt, gate, u, merge) else {
-        drop(splitter);
-        return Err(wind_up(rt, Some(i), Some(d)));
+        return Err(give_up(rt, splitter, Some(i), Some(d)));
     };
     Ok(Started {
         splitter,
@@ -285,10 +309,7 @@ pub fn run_pipeline<H: Threads + Wait + Sync, R: ByteReader + Drop, G: Gate>(
         → Follows fate given before later → HasLeft source before l
         → RunsOver (hierarchy_of config.now) selection.now l (HasLeft result.0 later) result.1) }
 {
-    let Ok(machines) = Machines::new(alloc, config) else {
-        return (source, Err(RunFault::Memory));
-    };
-    let Ok(rings) = Rings::new(alloc, config.ring()) else {
+    let Ok((machines, rings)) = prepare(alloc, config) else {
         return (source, Err(RunFault::Memory));
     };
     let selection = *selection;

@@ -19,16 +19,6 @@ returns-in_default-clause-reads g c = (
       (subst (λ s. HasLeft c.args.source s l) is left),
 )
 
-pub returns-in_default-new-clause-reads : goal.returns-in_default-new-clause-reads
-returns-in_default-new-clause-reads g c = (
-  [],
-  Open,
-  no_calls g.R.ByteReader.remaining g.R.ByteReader.failures c.args.source,
-  λ first last l is left. runs-refused (hierarchy_of c.args.config.now) c.args.selection.now l
-      (HasLeft c.args.source last) Memory (inl refl)
-      (subst (λ s. HasLeft c.args.source s l) is left),
-)
-
 pub scoped-requires : goal.scoped-requires
 scoped-requires g c = record {
   at = λ scope. (
@@ -36,8 +26,8 @@ scoped-requires g c = record {
     (
       c.in-Ok.ensures.new,
       (
-        c.in-Ok-new.ensures.paired,
-        (c.in-Ok-new.ensures.unused, (search rules, search rules)),
+        c.in-Ok.ensures.paired,
+        (c.in-Ok.ensures.unused, (search rules, search rules)),
       ),
     ),
   );
