@@ -134,24 +134,19 @@ fn start<'s, E, H: Threads + Wait + Sync, G: Gate>(
     ensures rings { IfOk result (λ s. rings_at s ≡ rings) }
     ensures refused { IfErr result (λ why. (why ≡ RunFault.Memory) ⊎ (why ≡ RunFault.Threads)) }
 {
-    let Machines { i, d, u } = machines;
-    let Rings {
-        splitter,
-        i: i_ends,
-        d: d_ends,
-        merge,
-    } = rings;
-    let Ok(i) = start_stage(scope, rt, gate, Who::I, i, i_ends) else {
-        return Err(give_up(rt, (splitter, d, d_ends, u, merge), None, None));
+    let Ok(i) = start_stage(scope, rt, gate, Who::I, machines.i, rings.i) else {
+        let left = (rings.splitter, machines.d, rings.d, machines.u, rings.merge);
+        return Err(give_up(rt, left, None, None));
     };
-    let Ok(d) = start_stage(scope, rt, gate, Who::D, d, d_ends) else {
-        return Err(give_up(rt, (splitter, u, merge), Some(i), None));
+    let Ok(d) = start_stage(scope, rt, gate, Who::D, machines.d, rings.d) else {
+        let left = (rings.splitter, machines.u, rings.merge);
+        return Err(give_up(rt, left, Some(i), None));
     };
-    let Ok(merge) = start_merge(scope, rt, gate, u, merge) else {
-        return Err(give_up(rt, splitter, Some(i), Some(d)));
+    let Ok(merge) = start_merge(scope, rt, gate, machines.u, rings.merge) else {
+        return Err(give_up(rt, rings.splitter, Some(i), Some(d)));
     };
     Ok(Started {
-        splitter,
+        splitter: rings.splitter,
         i,
         d,
         merge,
