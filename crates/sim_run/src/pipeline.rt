@@ -29,7 +29,7 @@ use stage_core::{
 use std::alloc::Global;
 use std::sync::Wait;
 use std::thread;
-use std::thread::{Scope, Threads};
+use std::thread::{Promise, PromisedHandle, Scope, Threads};
 
 /// What a run that came to its end has left: the counts, and the rings that carried its messages.
 #[derive(Drop)]
@@ -153,6 +153,14 @@ fn start<'s, E, H: Threads + Wait + Sync, G: Gate>(
     })
 }
 
+// Joins a thread that may have stopped before its end, and says why it did.
+fn why_stopped<H: Threads, T: Drop, P: Promise<Result<T, Stop>>>(
+    rt: &H,
+    handle: PromisedHandle<Result<T, Stop>, P>,
+) -> Option<Stop> {
+    handle.join(rt).err()
+}
+
 // Joins a stage's thread: what the stage has counted, and its ends.
 fn join_stage<H: Threads>(rt: &H, handle: StageHandle) -> Result<(Counts, StageEnds), Stop>
     ensures { IfOk result (λ r. StageCounted handle.promise.machine.value
@@ -229,7 +237,9 @@ fn finish<H: Threads>(
     } = started;
     if let Err(fault) = fed {
         drop(splitter);
-        let (i, d, merge) = (i.join(rt).err(), d.join(rt).err(), merge.join(rt).err());
+        let i = why_stopped(rt, i);
+        let d = why_stopped(rt, d);
+        let merge = why_stopped(rt, merge);
         return Err(gravest(fault, i, d, merge));
     }
     let i = join_stage(rt, i);

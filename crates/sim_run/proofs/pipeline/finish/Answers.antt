@@ -10,13 +10,14 @@ use Rattle.sim_run.proofs.pipeline.finish.Goals as goal
 
 pub returns-in-Err-clause-met : goal.returns-in-Err-clause-met
 returns-in-Err-clause-met g c =
-    of-gravest IsMet tt tt c.gravest.result c.in-Err.fault c.err-i.result c.err-d.result
-    c.err-merge.result (rw c.in-Err.is at c.requires.met) c.gravest.ensures.one
+    of-gravest IsMet tt tt c.gravest.result c.in-Err.fault c.why_stopped-i.result
+    c.why_stopped-d.result c.why_stopped-merge.result (rw c.in-Err.is at c.requires.met)
+    c.gravest.ensures.one
 
 pub returns-in-Err-clause-answers : goal.returns-in-Err-clause-answers
 returns-in-Err-clause-answers g c left may =
-    of-gravest (MayAnswer left) tt tt c.gravest.result c.in-Err.fault c.err-i.result c.err-d.result
-    c.err-merge.result (rw c.in-Err.is at may) c.gravest.ensures.one
+    of-gravest (MayAnswer left) tt tt c.gravest.result c.in-Err.fault c.why_stopped-i.result
+    c.why_stopped-d.result c.why_stopped-merge.result (rw c.in-Err.is at may) c.gravest.ensures.one
 
 pub returns-clause-fed : goal.returns-clause-fed
 returns-clause-fed g c =
