@@ -2,7 +2,7 @@
 
 ghost use Rattle.std.specs.Prelude.{IfOk, []};
 ghost use Rattle.stage_core.specs.Standing.{IsReady, StageStandsFor, SecondStandsFor};
-ghost use Rattle.sim_run.specs.Ends.{AreUnused};
+ghost use Rattle.sim_run.specs.Ends.{AreUnused, UnusedStage, UnusedMerge};
 
 use super::config;
 use crate::ends::{MergeEnds, Rings, StageEnds};
@@ -10,16 +10,16 @@ use crate::fault::{RunFault, Stop};
 use crate::gate::{OpenGate, Who};
 use crate::merge_thread::run_merge;
 use crate::pipeline::wind_up;
-use crate::stage_thread::{run_stage, start_stage};
+use crate::stage_thread::{StageHandle, run_stage, start_stage};
 use cache_core::Class;
-use pipe_rings::{SenderGone, ring};
+use pipe_rings::{Rx, SenderGone, Tx, ring};
 use stage_core::{FromStage, L1Stage, L2Stage, Side, ToStage, Turn, What};
 use std::alloc::Global;
 use std::process::Abort;
 use std::sync::Wait;
 use std::test::Fail;
 use std::thread;
-use std::thread::Threads;
+use std::thread::{Scope, Threads};
 
 fn stage(alloc: Global, side: Side) -> Result<L1Stage, Fail>
     ensures ready { IfOk result IsReady }
@@ -48,25 +48,48 @@ static SIDES: [Row; 2] = [
     (Side::D, Who::D, Class::Read),
 ];
 
-/// A stage whose sender is gone answers the reference that was sent, and stops.
-fn without_sender<H: Wait + Abort>(rt: &H, alloc: Global, row: Row) -> Result<(), Fail> {
-    let (side, who, class) = row;
-    let stage = stage(alloc, side)?;
-    let (mut to_stage, from_splitter) = ring::<ToStage>(alloc, 4)?;
-    let (to_merge, mut from_stage) = ring::<FromStage>(alloc, 4)?;
+/// Sends a message for which there is room.
+fn is_sent<T: Copy, H: Wait + Abort>(rt: &H, tx: &mut Tx<T>, message: T) {
+    assert!(rt; tx.send(rt, message).is_ok());
+}
+
+/// The ends of a stage, between the two that are far from it.
+fn stage_rings(alloc: Global) -> Result<(Tx<ToStage>, StageEnds, Rx<FromStage>), Fail>
+    ensures { IfOk result (λ r. UnusedStage r.1) }
+{
+    let (to_stage, from_splitter) = ring::<ToStage>(alloc, 4)?;
+    let (to_merge, from_stage) = ring::<FromStage>(alloc, 4)?;
     let ends = StageEnds {
         from_splitter,
         to_merge,
     };
-    let reference = ToStage::Ref {
+    Ok((to_stage, ends, from_stage))
+}
+
+/// Why the stage of a side stops that has these ends.
+fn stop_of_stage<H: Wait>(
+    rt: &H,
+    alloc: Global,
+    row: Row,
+    ends: StageEnds,
+) -> Result<Option<Stop>, Fail>
+    requires { UnusedStage ends }
+{
+    let (side, who, _) = row;
+    let stage = stage(alloc, side)?;
+    Ok(run_stage(rt, &OpenGate, who, stage, ends).err())
+}
+
+fn reference(class: Class) -> ToStage {
+    ToStage::Ref {
         place: 1,
         class,
         addr: 0,
-    };
-    assert_eq!(rt; to_stage.send(rt, reference), Ok(()));
-    drop(to_stage);
-    let ended = run_stage(rt, &OpenGate, who, stage, ends);
-    assert_eq!(rt; ended.err(), Some(Stop::Cut));
+    }
+}
+
+/// The answer to the reference has come, and nothing else will.
+fn is_answered<H: Wait + Abort>(rt: &H, from_stage: &mut Rx<FromStage>, class: Class) {
     let part = FromStage::Part {
         place: 1,
         part: 1,
@@ -76,28 +99,26 @@ fn without_sender<H: Wait + Abort>(rt: &H, alloc: Global, row: Row) -> Result<()
     assert_eq!(rt; from_stage.recv(rt), Ok(part));
     assert_eq!(rt; from_stage.recv(rt), Ok(done));
     assert_eq!(rt; from_stage.recv(rt), Err(SenderGone));
+}
+
+/// A stage whose sender is gone answers the reference that was sent, and stops.
+fn without_sender<H: Wait + Abort>(rt: &H, alloc: Global, row: Row) -> Result<(), Fail> {
+    let (mut to_stage, ends, mut from_stage) = stage_rings(alloc)?;
+    is_sent(rt, &mut to_stage, reference(row.2));
+    drop(to_stage);
+    let stop = stop_of_stage(rt, alloc, row, ends)?;
+    assert_eq!(rt; stop, Some(Stop::Cut));
+    is_answered(rt, &mut from_stage, row.2);
     Ok(())
 }
 
 /// A stage whose receiver is gone stops at its first part, though its sender is there.
 fn without_receiver<H: Wait + Abort>(rt: &H, alloc: Global, row: Row) -> Result<(), Fail> {
-    let (side, who, class) = row;
-    let stage = stage(alloc, side)?;
-    let (mut to_stage, from_splitter) = ring::<ToStage>(alloc, 4)?;
-    let (to_merge, from_stage) = ring::<FromStage>(alloc, 4)?;
-    let ends = StageEnds {
-        from_splitter,
-        to_merge,
-    };
-    let reference = ToStage::Ref {
-        place: 1,
-        class,
-        addr: 0,
-    };
-    assert_eq!(rt; to_stage.send(rt, reference), Ok(()));
+    let (mut to_stage, ends, from_stage) = stage_rings(alloc)?;
+    is_sent(rt, &mut to_stage, reference(row.2));
     drop(from_stage);
-    let ended = run_stage(rt, &OpenGate, who, stage, ends);
-    assert_eq!(rt; ended.err(), Some(Stop::Cut));
+    let stop = stop_of_stage(rt, alloc, row, ends)?;
+    assert_eq!(rt; stop, Some(Stop::Cut));
     assert!(rt; to_stage.send(rt, ToStage::Finish).is_err());
     Ok(())
 }
@@ -118,50 +139,106 @@ fn a_stage_without_its_receiver_stops_at_its_first_part(rt: HostRuntime) -> Resu
     Ok(())
 }
 
+/// Why a merge stops that has these ends.
+fn stop_of_merge<H: Wait>(rt: &H, alloc: Global, ends: MergeEnds) -> Result<Option<Stop>, Fail>
+    requires { UnusedMerge ends }
+{
+    let u = second_level(alloc)?;
+    Ok(run_merge(rt, &OpenGate, u, ends).err())
+}
+
 #[test]
 fn a_merge_without_turns_stops(rt: HostRuntime) -> Result<(), Fail> {
-    let u = second_level(rt.alloc())?;
-    let (turns, order) = ring::<Turn>(rt.alloc(), 4)?;
-    let (_i, from_i) = ring::<FromStage>(rt.alloc(), 4)?;
-    let (_d, from_d) = ring::<FromStage>(rt.alloc(), 4)?;
-    let ends = MergeEnds {
-        order,
-        from_i,
-        from_d,
-    };
-    drop(turns);
-    assert_eq!(rt; run_merge(&rt, &OpenGate, u, ends).err(), Some(Stop::Cut));
+    let Rings {
+        splitter,
+        i,
+        d,
+        merge,
+    } = Rings::new(rt.alloc(), 4)?;
+    drop(splitter);
+    let stop = stop_of_merge(&rt, rt.alloc(), merge);
+    // The stages' ends are there until then.
+    drop((i, d));
+    assert_eq!(rt; stop?, Some(Stop::Cut));
     Ok(())
 }
 
 /// The merge, whose turn is a side's that is gone, stops; the other side's messages wait in vain.
+fn without_side<H: Wait + Abort>(rt: &H, alloc: Global, turn: Turn) -> Result<(), Fail> {
+    let Rings {
+        mut splitter,
+        i,
+        d,
+        merge,
+    } = Rings::new(alloc, 4)?;
+    let (gone, mut other) = if turn == Turn::I { (i, d) } else { (d, i) };
+    drop(gone);
+    is_sent(rt, &mut splitter.order, turn);
+    let done = FromStage::Done { place: 1, parts: 0 };
+    is_sent(rt, &mut other.to_merge, done);
+    let stop = stop_of_merge(rt, alloc, merge);
+    // The other ends are there until then.
+    drop((splitter, other));
+    assert_eq!(rt; stop?, Some(Stop::Cut));
+    Ok(())
+}
+
 #[test]
 fn a_merge_without_the_side_that_it_wants_stops(rt: HostRuntime) -> Result<(), Fail> {
     for turn in [Turn::I, Turn::D] {
-        let u = second_level(rt.alloc())?;
-        let (mut turns, order) = ring::<Turn>(rt.alloc(), 4)?;
-        let (mut i, from_i) = ring::<FromStage>(rt.alloc(), 4)?;
-        let (mut d, from_d) = ring::<FromStage>(rt.alloc(), 4)?;
-        let ends = MergeEnds {
-            order,
-            from_i,
-            from_d,
-        };
-        let done = FromStage::Done { place: 1, parts: 0 };
-        assert_eq!(rt; turns.send(&rt, turn), Ok(()));
-        if turn == Turn::I {
-            assert_eq!(rt; d.send(&rt, done), Ok(()));
-            drop(i);
-        } else {
-            assert_eq!(rt; i.send(&rt, done), Ok(()));
-            drop(d);
-        }
-        assert_eq!(rt; run_merge(&rt, &OpenGate, u, ends).err(), Some(Stop::Cut));
+        without_side(&rt, rt.alloc(), turn)?;
     }
     Ok(())
 }
 
+/// The thread of a stage, if it is to be started. If not, what it was to own is dropped.
+fn thread_of<'s, E, H: Threads + Wait + Sync>(
+    scope: &Scope<'s, E>,
+    rt: &'s H,
+    who: Who,
+    machine: L1Stage,
+    ends: StageEnds,
+    starts: bool,
+) -> Option<StageHandle>
+    requires ready { IsReady machine }
+    requires new { StageStandsFor machine [] }
+    requires unused { UnusedStage ends }
+{
+    if starts {
+        start_stage(scope, rt, &OpenGate, who, machine, ends).ok()
+    } else {
+        None
+    }
+}
+
 /// Starts so many stages, and then winds up as where the next thread is not granted.
+fn wind_up_in<'s, E, H: Threads + Wait + Sync>(
+    scope: &Scope<'s, E>,
+    rt: &'s H,
+    i: L1Stage,
+    d: L1Stage,
+    rings: Rings,
+    started: u8,
+) -> RunFault
+    requires i_ready { IsReady i }
+    requires i_new { StageStandsFor i [] }
+    requires d_ready { IsReady d }
+    requires d_new { StageStandsFor d [] }
+    requires unused { AreUnused rings }
+{
+    let Rings {
+        splitter,
+        i: i_ends,
+        d: d_ends,
+        merge,
+    } = rings;
+    drop(merge);
+    let i = thread_of(scope, rt, Who::I, i, i_ends, started > 0);
+    let d = thread_of(scope, rt, Who::D, d, d_ends, started > 1);
+    drop(splitter);
+    wind_up(rt, i, d)
+}
+
 fn wind_up_after<H: Threads + Wait + Sync>(
     rt: &H,
     i: L1Stage,
@@ -184,38 +261,26 @@ fn wind_up_after<H: Threads + Wait + Sync>(
             requires d_ready { IsReady d }
             requires d_new { StageStandsFor d [] }
             requires unused { AreUnused rings }
-        {
-            let all = rings;
-            let Rings {
-                splitter,
-                i: i_ends,
-                d: d_ends,
-                merge,
-            } = all;
-            drop(merge);
-            if started == 0 {
-                drop(splitter);
-                return wind_up(rt, None, None);
-            }
-            let i = start_stage(scope, rt, &OpenGate, Who::I, i, i_ends);
-            if started == 1 {
-                drop(splitter);
-                return wind_up(rt, i.ok(), None);
-            }
-            let d = start_stage(scope, rt, &OpenGate, Who::D, d, d_ends);
-            drop(splitter);
-            wind_up(rt, i.ok(), d.ok())
-        },
+        { wind_up_in(scope, rt, i, d, rings, started) },
     )
+}
+
+/// Winds up two new stages and five new rings.
+fn wind_up_new<H: Threads + Wait + Sync>(
+    rt: &H,
+    alloc: Global,
+    started: u8,
+) -> Result<RunFault, Fail> {
+    let i = stage(alloc, Side::I)?;
+    let d = stage(alloc, Side::D)?;
+    let rings = Rings::new(alloc, 2)?;
+    Ok(wind_up_after(rt, i, d, rings, started))
 }
 
 #[test]
 fn winding_up_joins_what_was_started(rt: HostRuntime) -> Result<(), Fail> {
     for started in 0..3u8 {
-        let i = stage(rt.alloc(), Side::I)?;
-        let d = stage(rt.alloc(), Side::D)?;
-        let rings = Rings::new(rt.alloc(), 2)?;
-        let fault = wind_up_after(&rt, i, d, rings, started);
+        let fault = wind_up_new(&rt, rt.alloc(), started)?;
         assert_eq!(rt; fault, RunFault::Threads);
     }
     Ok(())
