@@ -16,14 +16,16 @@ mod runs;
 mod writers;
 
 use crate::fault::RunFault;
-use crate::gate::OpenGate;
+use crate::gate::{Gate, OpenGate};
+use crate::pipeline::{Settled, run_pipeline};
 use crate::plain::simulate_plain;
 use crate::report::write_report;
 use crate::simulation::simulate;
 use cache_core::{Counts, PerClass, Policy, Repl};
-use din_trace::{FromRead, FromWrite, MAX_LIMIT, Source};
+use din_trace::{FromRead, FromWrite, MAX_LIMIT, Source, TraceFault, Why};
 use stage_core::{CacheSpec, Config, Selection, Totals, drive};
 use std::alloc::Global;
+use std::io::{Read, Write};
 use std::process::Abort;
 use std::sync::Wait;
 use std::test::Fail;
@@ -108,6 +110,75 @@ fn first_misses(fetches: PerClass, misses: PerClass, loaded: u64) -> Counts {
     }
 }
 
+/// The counts of a run in threads. The rings that it hands out are dropped.
+fn totals_of(ended: Result<Settled, RunFault>) -> Result<Totals, RunFault> {
+    let Settled { totals, rings } = ended?;
+    drop(rings);
+    Ok(totals)
+}
+
+/// How a run in threads of the usual caches ends, where all that this reader gives is selected.
+fn run_in_threads<H: Threads + Wait + Sync, R: Read + Drop, G: Gate, W: Write + Drop>(
+    rt: &H,
+    alloc: Global,
+    reader: R,
+    gate: &G,
+    writer: W,
+) -> Result<Result<Totals, RunFault>, Fail> {
+    Ok(totals_of(simulate(
+        rt,
+        alloc,
+        &config()?,
+        &EVERYTHING,
+        FromRead::new(reader),
+        MAX_LIMIT,
+        gate,
+        &mut FromWrite::new(writer),
+    )))
+}
+
+/// How the same run ends on one thread.
+fn run_plainly<R: Read + Drop, W: Write + Drop>(
+    alloc: Global,
+    reader: R,
+    writer: W,
+) -> Result<Result<(), RunFault>, Fail> {
+    Ok(simulate_plain(
+        alloc,
+        &config()?,
+        &EVERYTHING,
+        FromRead::new(reader),
+        MAX_LIMIT,
+        &mut FromWrite::new(writer),
+    ))
+}
+
+/// How a run in threads over a trace ended; what it wrote stands in the list.
+fn threaded<H: Threads + Wait + Sync>(
+    rt: &H,
+    alloc: Global,
+    config: &Config,
+    selection: &Selection,
+    trace: &[u8],
+    limit: u64,
+    written: &mut Vec<u8>,
+) -> Option<RunFault>
+    requires limit { limit ≤ MAX_LIMIT }
+    requires bounded { IsBounded selection.now }
+{
+    simulate(
+        rt,
+        alloc,
+        config,
+        selection,
+        FromRead::new(trace),
+        limit,
+        &OpenGate,
+        &mut FromWrite::new(written),
+    )
+    .err()
+}
+
 /// How a run over a trace ended; what it wrote stands in the list. It is made on one thread and in
 /// threads, and both end alike and write the same.
 fn run<H: Threads + Wait + Abort + Sync>(
@@ -130,20 +201,62 @@ fn run<H: Threads + Wait + Abort + Sync>(
         limit,
         &mut FromWrite::new(&mut *written),
     );
-    let mut threaded = Vec::new(alloc);
-    let ended = simulate(
-        rt,
-        alloc,
-        config,
-        selection,
-        FromRead::new(trace),
-        limit,
-        &OpenGate,
-        &mut FromWrite::new(&mut threaded),
-    );
-    assert_eq!(rt; ended.err(), plain.err());
-    assert_eq!(rt; threaded.as_slice(), written.as_slice());
+    let mut other = Vec::new(alloc);
+    let ended = threaded(rt, alloc, config, selection, trace, limit, &mut other);
+    assert_eq!(rt; ended, plain.err());
+    assert_eq!(rt; other.as_slice(), written.as_slice());
     plain
+}
+
+/// A run over a trace ends so, and writes something only if it ends well.
+fn ends_with<H: Threads + Wait + Abort + Sync>(
+    rt: &H,
+    alloc: Global,
+    config: &Config,
+    selection: &Selection,
+    trace: &[u8],
+    limit: u64,
+    expected: Result<(), RunFault>,
+)
+    requires limit { limit ≤ MAX_LIMIT }
+    requires bounded { IsBounded selection.now }
+{
+    let mut written = Vec::new(alloc);
+    let ended = run(rt, alloc, config, selection, trace, limit, &mut written);
+    assert_eq!(rt; ended, expected);
+    assert_eq!(rt; written.is_empty(), expected.is_err());
+}
+
+/// The same with the usual caches.
+fn ends<H: Threads + Wait + Abort + Sync>(
+    rt: &H,
+    alloc: Global,
+    selection: &Selection,
+    trace: &[u8],
+    limit: u64,
+    expected: Result<(), RunFault>,
+) -> Result<(), Fail>
+    requires limit { limit ≤ MAX_LIMIT }
+    requires bounded { IsBounded selection.now }
+{
+    ends_with(rt, alloc, &config()?, selection, trace, limit, expected);
+    Ok(())
+}
+
+/// The source of a trace behind a run of the pipeline, and how that ended.
+fn run_source<'a, H: Threads + Wait + Sync>(
+    rt: &H,
+    alloc: Global,
+    trace: &'a [u8],
+) -> Result<(Source<FromRead<&'a [u8]>>, Result<Totals, RunFault>), Fail> {
+    let config = config()?;
+    let source = Source::new(FromRead::new(trace), MAX_LIMIT);
+    let (source, ended) = run_pipeline(rt, alloc, &config, &EVERYTHING, source, &OpenGate);
+    Ok((source, totals_of(ended)))
+}
+
+fn bad(line: u64, why: Why) -> RunFault {
+    RunFault::Trace(TraceFault::Bad { line, why })
 }
 
 /// Do the machines of the network come to these totals, event by event, whichever is chosen next?
@@ -161,9 +274,8 @@ fn is_driven_to(
     Ok(driven == *totals)
 }
 
-/// Does a run over a trace end well, with the report of just these totals, to which the network
-/// comes too?
-fn reports<H: Threads + Wait + Abort + Sync>(
+/// Does a run over a trace end well, with the report of just these totals?
+fn is_reported<H: Threads + Wait + Abort + Sync>(
     rt: &H,
     alloc: Global,
     config: &Config,
@@ -177,8 +289,23 @@ fn reports<H: Threads + Wait + Abort + Sync>(
     run(rt, alloc, config, selection, trace, MAX_LIMIT, &mut written)?;
     let mut expected = Vec::new(alloc);
     write_report(totals, &mut FromWrite::new(&mut expected))?;
+    Ok(written.as_slice() == expected.as_slice())
+}
+
+/// Does a run over a trace end well, with the report of just these totals, to which the network
+/// comes too?
+fn reports<H: Threads + Wait + Abort + Sync>(
+    rt: &H,
+    alloc: Global,
+    config: &Config,
+    selection: &Selection,
+    trace: &[u8],
+    totals: &Totals,
+) -> Result<bool, Fail>
+    requires { IsBounded selection.now }
+{
     Ok(
-        written.as_slice() == expected.as_slice()
+        is_reported(rt, alloc, config, selection, trace, totals)?
             && is_driven_to(alloc, config, selection, trace, totals)?,
     )
 }

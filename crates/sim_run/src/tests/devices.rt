@@ -1,12 +1,9 @@
 //! Readers and writers that take few bytes at a time.
 
 use super::layout::ONE_WRITE_BACK;
-use super::{EVERYTHING, config};
+use super::{run_in_threads, run_plainly};
 use crate::fault::RunFault;
 use crate::gate::OpenGate;
-use crate::plain::simulate_plain;
-use crate::simulation::simulate;
-use din_trace::{FromRead, FromWrite, MAX_LIMIT};
 use std::alloc::Global;
 use std::io;
 use std::io::{Read, Write};
@@ -72,41 +69,35 @@ fn run<H: Threads + Wait + Abort + Sync>(
     size: usize,
     writer: &mut Awaiting,
 ) -> Result<Result<(), RunFault>, Fail> {
-    let config = config()?;
     let rest = b"1 0\n0 8\n0 10\n";
     let mut other = to_take(writer.rest, writer.most);
-    let ended = simulate(
-        rt,
-        alloc,
-        &config,
-        &EVERYTHING,
-        FromRead::new(Pieces { rest, size }),
-        MAX_LIMIT,
-        &OpenGate,
-        &mut FromWrite::new(&mut other),
-    );
-    let plain = simulate_plain(
-        alloc,
-        &config,
-        &EVERYTHING,
-        FromRead::new(Pieces { rest, size }),
-        MAX_LIMIT,
-        &mut FromWrite::new(&mut *writer),
-    );
+    let ended = run_in_threads(rt, alloc, Pieces { rest, size }, &OpenGate, &mut other)?;
+    let plain = run_plainly(alloc, Pieces { rest, size }, &mut *writer)?;
     assert_eq!(rt; ended.err(), plain.err());
     assert!(rt; other.rest == writer.rest);
     assert_eq!(rt; other.flushes, writer.flushes);
     Ok(plain)
 }
 
+/// Both runs write the whole report and flush it once.
+fn is_written<H: Threads + Wait + Abort + Sync>(
+    rt: &H,
+    alloc: Global,
+    size: usize,
+    most: usize,
+) -> Result<(), Fail> {
+    let mut writer = to_take(ONE_WRITE_BACK.as_bytes(), most);
+    assert_eq!(rt; run(rt, alloc, size, &mut writer)?, Ok(()));
+    assert!(rt; writer.rest.is_empty());
+    assert_eq!(rt; writer.flushes, 1);
+    Ok(())
+}
+
 #[test]
 fn a_report_is_the_same_however_bytes_are_cut(rt: HostRuntime) -> Result<(), Fail> {
     for size in [1, 2, 3, 5, 65_536] {
         for most in [1, 7, 65_536] {
-            let mut writer = to_take(ONE_WRITE_BACK.as_bytes(), most);
-            assert_eq!(rt; run(&rt, rt.alloc(), size, &mut writer)?, Ok(()));
-            assert!(rt; writer.rest.is_empty());
-            assert_eq!(rt; writer.flushes, 1);
+            is_written(&rt, rt.alloc(), size, most)?;
         }
     }
     Ok(())

@@ -1,11 +1,9 @@
 //! Runs that end without a report: faulty lines, limits, readers that fail.
 
-use super::{EVERYTHING, config, run};
+use super::{EVERYTHING, bad, ends, run_in_threads, run_plainly};
 use crate::fault::RunFault;
 use crate::gate::OpenGate;
-use crate::plain::simulate_plain;
-use crate::simulation::simulate;
-use din_trace::{FromRead, FromWrite, MAX_LIMIT, TraceFault, Why};
+use din_trace::{MAX_LIMIT, TraceFault, Why};
 use std::alloc::Global;
 use std::io;
 use std::io::Read;
@@ -14,32 +12,20 @@ use std::sync::Wait;
 use std::test::Fail;
 use std::thread::Threads;
 
-fn bad(line: u64, why: Why) -> RunFault {
-    RunFault::Trace(TraceFault::Bad { line, why })
-}
+/// Traces, each with the line of its fault and what it is.
+static FAULTY: [(&[u8], u64, Why); 5] = [
+    (b"0 0\n\n5 0\n", 3, Why::Label),
+    (b"0 10000000000000000\n", 1, Why::Range),
+    (b"0 10000000000000000g\n", 1, Why::Range),
+    (b"2 0\n0 12g\n", 2, Why::Tail),
+    (b"4\n9 0\n", 1, Why::Gap),
+];
 
 #[test]
 fn nothing_is_written_for_a_faulty_trace(rt: HostRuntime) -> Result<(), Fail> {
-    let rows: [(&[u8], RunFault); 5] = [
-        (b"0 0\n\n5 0\n", bad(3, Why::Label)),
-        (b"0 10000000000000000\n", bad(1, Why::Range)),
-        (b"0 10000000000000000g\n", bad(1, Why::Range)),
-        (b"2 0\n0 12g\n", bad(2, Why::Tail)),
-        (b"4\n9 0\n", bad(1, Why::Gap)),
-    ];
-    for (trace, fault) in rows {
-        let mut written = Vec::new(rt.alloc());
-        let ended = run(
-            &rt,
-            rt.alloc(),
-            &config()?,
-            &EVERYTHING,
-            trace,
-            MAX_LIMIT,
-            &mut written,
-        );
-        assert_eq!(rt; ended, Err(fault));
-        assert!(rt; written.is_empty());
+    for (trace, line, why) in FAULTY {
+        let fault = Err(bad(line, why));
+        ends(&rt, rt.alloc(), &EVERYTHING, trace, MAX_LIMIT, fault)?;
     }
     Ok(())
 }
@@ -55,18 +41,7 @@ fn a_trace_past_its_limit_is_judged_up_to_there(rt: HostRuntime) -> Result<(), F
         (b"2 0\n9 0\n", 7, Err(too_long)),
     ];
     for (trace, limit, expected) in rows {
-        let mut written = Vec::new(rt.alloc());
-        let ended = run(
-            &rt,
-            rt.alloc(),
-            &config()?,
-            &EVERYTHING,
-            trace,
-            limit,
-            &mut written,
-        );
-        assert_eq!(rt; ended, expected);
-        assert_eq!(rt; written.is_empty(), expected.is_err());
+        ends(&rt, rt.alloc(), &EVERYTHING, trace, limit, expected)?;
     }
     Ok(())
 }
@@ -92,26 +67,9 @@ fn run_broken<H: Threads + Wait + Abort + Sync>(
     alloc: Global,
     bytes: &[u8],
 ) -> Result<Result<(), RunFault>, Fail> {
-    let config = config()?;
     let mut written = Vec::new(alloc);
-    let plain = simulate_plain(
-        alloc,
-        &config,
-        &EVERYTHING,
-        FromRead::new(Broken { bytes }),
-        MAX_LIMIT,
-        &mut FromWrite::new(&mut written),
-    );
-    let ended = simulate(
-        rt,
-        alloc,
-        &config,
-        &EVERYTHING,
-        FromRead::new(Broken { bytes }),
-        MAX_LIMIT,
-        &OpenGate,
-        &mut FromWrite::new(&mut written),
-    );
+    let plain = run_plainly(alloc, Broken { bytes }, &mut written)?;
+    let ended = run_in_threads(rt, alloc, Broken { bytes }, &OpenGate, &mut written)?;
     assert_eq!(rt; ended.err(), plain.err());
     assert!(rt; written.is_empty());
     Ok(plain)

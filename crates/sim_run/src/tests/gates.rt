@@ -2,8 +2,9 @@
 //! gate gives up after many turns and notes it, so that each test ends by itself.
 
 ghost use Rattle.std.specs.Prelude.{◌≤◌, ◌^◌};
+ghost use Rattle.stage_core.specs.Events.{IsBounded};
 
-use super::{EVERYTHING, config, first_misses, instrs, reads};
+use super::{EVERYTHING, config, first_misses, instrs, reads, run_in_threads};
 use crate::gate::{Gate, Who};
 use crate::simulation::simulate;
 use cache_core::PerClass;
@@ -74,6 +75,19 @@ impl Gate for Hold {
     }
 }
 
+/// What a fetch and a read of one block come to.
+fn a_fetch_and_a_read() -> Totals {
+    let fetches = PerClass {
+        instr: 1,
+        ..reads(1)
+    };
+    Totals {
+        i: first_misses(instrs(1), instrs(1), 1),
+        d: first_misses(reads(1), reads(1), 1),
+        u: first_misses(fetches, instrs(1), 1),
+    }
+}
+
 /// A fetch and a read of one block, with one arrival held until another.
 fn run_held<H: Threads + Wait + Abort + Sync>(
     rt: &H,
@@ -86,28 +100,9 @@ fn run_held<H: Threads + Wait + Abort + Sync>(
         awaited,
         sign: Sign::new(),
     };
-    let config = config()?;
-    let mut written = Vec::new(alloc);
-    let settled = simulate(
-        rt,
-        alloc,
-        &config,
-        &EVERYTHING,
-        FromRead::new(b"2 0\n0 0\n".as_slice()),
-        MAX_LIMIT,
-        &gate,
-        &mut FromWrite::new(&mut written),
-    )?;
-    let fetches = PerClass {
-        instr: 1,
-        ..reads(1)
-    };
-    let totals = Totals {
-        i: first_misses(instrs(1), instrs(1), 1),
-        d: first_misses(reads(1), reads(1), 1),
-        u: first_misses(fetches, instrs(1), 1),
-    };
-    assert_eq!(rt; settled.totals, totals);
+    let trace = b"2 0\n0 0\n".as_slice();
+    let totals = run_in_threads(rt, alloc, trace, &gate, Vec::new(alloc))??;
+    assert_eq!(rt; totals, a_fetch_and_a_read());
     assert!(rt; !gate.sign.was_missed());
     Ok(())
 }
@@ -170,19 +165,8 @@ fn the_stages_run_while_the_trace_is_read(rt: HostRuntime) -> Result<(), Fail> {
         sign: &gate.sign,
         calls: 0,
     };
-    let config = config()?;
-    let mut written = Vec::new(rt.alloc());
-    let settled = simulate(
-        &rt,
-        rt.alloc(),
-        &config,
-        &EVERYTHING,
-        FromRead::new(reader),
-        MAX_LIMIT,
-        &gate,
-        &mut FromWrite::new(&mut written),
-    )?;
-    assert_eq!(rt; settled.totals.i, first_misses(instrs(2), instrs(2), 2));
+    let totals = run_in_threads(&rt, rt.alloc(), reader, &gate, Vec::new(rt.alloc()))??;
+    assert_eq!(rt; totals.i, first_misses(instrs(2), instrs(2), 2));
     assert!(rt; !gate.sign.was_missed());
     Ok(())
 }
@@ -233,6 +217,31 @@ impl Gate for Counting {
     }
 }
 
+/// Runs in threads over what is selected of a trace.
+fn run_selected<H: Threads + Wait + Sync, G: Gate>(
+    rt: &H,
+    alloc: Global,
+    selection: &Selection,
+    trace: &[u8],
+    gate: &G,
+) -> Result<(), Fail>
+    requires { IsBounded selection.now }
+{
+    let mut written = Vec::new(alloc);
+    let ended = simulate(
+        rt,
+        alloc,
+        &config()?,
+        selection,
+        FromRead::new(trace),
+        MAX_LIMIT,
+        gate,
+        &mut FromWrite::new(&mut written),
+    );
+    drop(ended?);
+    Ok(())
+}
+
 /// How many records and messages pass the gates, where as many references are left out.
 fn arrivals_of<H: Threads + Wait + Abort + Sync>(
     rt: &H,
@@ -242,18 +251,8 @@ fn arrivals_of<H: Threads + Wait + Abort + Sync>(
     requires { skip ≤ 2 ^ 40 }
 {
     let gate = Counting::new();
-    let config = config()?;
-    let mut written = Vec::new(alloc);
-    simulate(
-        rt,
-        alloc,
-        &config,
-        &Selection { skip, ..EVERYTHING },
-        FromRead::new(b"1 8\n1 0\n4 0\n".as_slice()),
-        MAX_LIMIT,
-        &gate,
-        &mut FromWrite::new(&mut written),
-    )?;
+    let selection = Selection { skip, ..EVERYTHING };
+    run_selected(rt, alloc, &selection, b"1 8\n1 0\n4 0\n", &gate)?;
     assert_eq!(rt; gate.misnumbered.load(Ordering::SeqCst), 0);
     Ok(gate.arrivals())
 }

@@ -1,12 +1,14 @@
 //! Many short runs through narrow rings. Each of them ends by itself, and always alike.
 
 use super::layout::ONE_WRITE_BACK;
-use super::{EVERYTHING, USUAL, config_of};
-use crate::fault::RunFault;
-use crate::gate::OpenGate;
-use crate::simulation::simulate;
-use din_trace::{FromRead, FromWrite, MAX_LIMIT, TraceFault, Why};
+use super::{EVERYTHING, USUAL, bad, config_of, threaded};
+use din_trace::{MAX_LIMIT, Why};
+use stage_core::Config;
+use std::alloc::Global;
+use std::process::Abort;
+use std::sync::Wait;
 use std::test::Fail;
+use std::thread::Threads;
 
 /// A trace without a fault, and three that have one at the start, in the middle or at the end.
 static TRACES: [(&[u8], Option<(u64, Why)>); 4] = [
@@ -22,34 +24,39 @@ static TRACES: [(&[u8], Option<(u64, Why)>); 4] = [
     ),
 ];
 
+/// Runs in threads over a trace and finds its fault, or writes its report.
+fn ends_alike<H: Threads + Wait + Abort + Sync>(
+    rt: &H,
+    alloc: Global,
+    config: &Config,
+    trace: &[u8],
+    fault: Option<(u64, Why)>,
+) {
+    let mut written = Vec::new(alloc);
+    let ended = threaded(
+        rt,
+        alloc,
+        config,
+        &EVERYTHING,
+        trace,
+        MAX_LIMIT,
+        &mut written,
+    );
+    let (expected, text) = match fault {
+        Some((line, why)) => (Some(bad(line, why)), ""),
+        None => (None, ONE_WRITE_BACK),
+    };
+    assert_eq!(rt; ended, expected);
+    assert!(rt; written.as_slice() == text.as_bytes());
+}
+
 #[test]
 fn a_thousand_runs_end_alike(rt: HostRuntime) -> Result<(), Fail> {
     for ring in [1, 2, 3, 4] {
         let config = config_of(USUAL, ring)?;
         for _ in 0..63 {
             for (trace, fault) in TRACES {
-                let mut written = Vec::new(rt.alloc());
-                let ended = simulate(
-                    &rt,
-                    rt.alloc(),
-                    &config,
-                    &EVERYTHING,
-                    FromRead::new(trace),
-                    MAX_LIMIT,
-                    &OpenGate,
-                    &mut FromWrite::new(&mut written),
-                );
-                match fault {
-                    Some((line, why)) => {
-                        let bad = RunFault::Trace(TraceFault::Bad { line, why });
-                        assert_eq!(rt; ended.err(), Some(bad));
-                        assert!(rt; written.is_empty());
-                    }
-                    None => {
-                        assert_eq!(rt; ended.err(), None);
-                        assert!(rt; written.as_slice() == ONE_WRITE_BACK.as_bytes());
-                    }
-                }
+                ends_alike(&rt, rt.alloc(), &config, trace, fault);
             }
         }
     }

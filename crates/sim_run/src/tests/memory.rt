@@ -1,14 +1,13 @@
 //! Want of memory. Each test passes with ample memory. Where a growth is refused, it looks at what
 //! that left, and then fails by the name of the refusal and says nothing else.
 
-use super::devices::to_take;
-use super::{EVERYTHING, config};
+use super::devices::{Awaiting, to_take};
+use super::{bad, run_in_threads, run_plainly, run_source};
 use crate::fault::RunFault;
 use crate::gate::OpenGate;
-use crate::pipeline::run_pipeline;
-use crate::plain::simulate_plain;
-use crate::simulation::simulate;
-use din_trace::{DinRecord, FromRead, FromWrite, Label, MAX_LIMIT, Source, TraceFault, Why};
+use din_trace::{ByteReader, DinRecord, Label, Source, Why};
+use std::alloc::Global;
+use std::process::Abort;
 use std::test::Fail;
 
 /// The report of two writes and a flush, which writes both blocks back.
@@ -50,55 +49,41 @@ Writes Sent On               0
 Flushes                      1
 ";
 
-#[test]
-fn a_run_writes_its_report_or_nothing(rt: HostRuntime) -> Result<(), Fail> {
-    let text = TWO_FLUSHED.as_bytes();
-    let mut output = to_take(text, 65_536);
-    let trace: &[u8] = b"1 8\n1 0\n4 0\n";
-    let ended = simulate_plain(
-        rt.alloc(),
-        &config()?,
-        &EVERYTHING,
-        FromRead::new(trace),
-        MAX_LIMIT,
-        &mut FromWrite::new(&mut output),
-    );
-    if let Err(fault) = ended {
-        assert_eq!(rt; fault, RunFault::Memory);
-        assert!(rt; output.rest == text);
+/// Nothing was written where this is a fault, one of these. The whole report was, where it is none.
+fn is_whole_or_refused(
+    rt: &impl Abort,
+    output: &Awaiting,
+    fault: Option<RunFault>,
+    refusals: &[RunFault],
+) {
+    if let Some(fault) = fault {
+        assert!(rt; refusals.contains(&fault));
+        assert!(rt; output.rest == TWO_FLUSHED.as_bytes());
         assert_eq!(rt; output.flushes, 0);
+    } else {
+        assert!(rt; output.rest.is_empty());
+        assert_eq!(rt; output.flushes, 1);
     }
-    ended?;
-    assert!(rt; output.rest.is_empty());
-    assert_eq!(rt; output.flushes, 1);
-    Ok(())
 }
 
 #[test]
+fn a_run_writes_its_report_or_nothing(rt: HostRuntime) -> Result<(), Fail> {
+    let mut output = to_take(TWO_FLUSHED.as_bytes(), 65_536);
+    let ended = run_plainly(rt.alloc(), b"1 8\n1 0\n4 0\n".as_slice(), &mut output)?;
+    is_whole_or_refused(&rt, &output, ended.err(), &[RunFault::Memory]);
+    Ok(ended?)
+}
+
+/// The start of a thread doesn't say what it was refused.
+static REFUSALS: [RunFault; 2] = [RunFault::Memory, RunFault::Threads];
+
+#[test]
 fn a_run_in_threads_writes_its_report_or_nothing(rt: HostRuntime) -> Result<(), Fail> {
-    let text = TWO_FLUSHED.as_bytes();
-    let mut output = to_take(text, 65_536);
+    let mut output = to_take(TWO_FLUSHED.as_bytes(), 65_536);
     let trace: &[u8] = b"1 8\n1 0\n4 0\n";
-    let ended = simulate(
-        &rt,
-        rt.alloc(),
-        &config()?,
-        &EVERYTHING,
-        FromRead::new(trace),
-        MAX_LIMIT,
-        &OpenGate,
-        &mut FromWrite::new(&mut output),
-    );
-    if let Err(fault) = ended {
-        // The start of a thread doesn't say what it was refused.
-        assert!(rt; fault == RunFault::Memory || fault == RunFault::Threads);
-        assert!(rt; output.rest == text);
-        assert_eq!(rt; output.flushes, 0);
-    }
-    let settled = ended?;
-    assert_eq!(rt; settled.totals.u.written_back, 2);
-    assert!(rt; output.rest.is_empty());
-    assert_eq!(rt; output.flushes, 1);
+    let ended = run_in_threads(&rt, rt.alloc(), trace, &OpenGate, &mut output)?;
+    is_whole_or_refused(&rt, &output, ended.err(), &REFUSALS);
+    assert_eq!(rt; ended?.u.written_back, 2);
     Ok(())
 }
 
@@ -106,30 +91,30 @@ fn event(label: Label, addr: u64) -> DinRecord {
     DinRecord { label, addr }
 }
 
+/// All that is left of a source are the last records of the trace.
+fn leaves_the_last<R: ByteReader>(
+    rt: &impl Abort,
+    alloc: Global,
+    source: &mut Source<R>,
+) -> Result<(), Fail> {
+    let left = source.rest(alloc);
+    assert!(rt; left.is_ok());
+    let left = left?;
+    let all = [
+        event(Label::Write, 8),
+        event(Label::Write, 0),
+        event(Label::Flush, 0),
+    ];
+    assert!(rt; all.as_slice().ends_with(&left));
+    Ok(())
+}
+
 #[test]
 fn a_run_leaves_its_source_at_the_end_or_further_on(rt: HostRuntime) -> Result<(), Fail> {
-    let trace: &[u8] = b"1 8\n1 0\n4 0\n";
-    let source = Source::new(FromRead::new(trace), MAX_LIMIT);
-    let config = config()?;
-    let (mut source, ended) = run_pipeline(
-        &rt,
-        rt.alloc(),
-        &config,
-        &EVERYTHING,
-        source,
-        &OpenGate,
-    );
+    let (mut source, ended) = run_source(&rt, rt.alloc(), b"1 8\n1 0\n4 0\n")?;
     if let Err(fault) = ended {
-        assert!(rt; fault == RunFault::Memory || fault == RunFault::Threads);
-        let left = source.rest(rt.alloc());
-        assert!(rt; left.is_ok());
-        let left = left?;
-        let all = [
-            event(Label::Write, 8),
-            event(Label::Write, 0),
-            event(Label::Flush, 0),
-        ];
-        assert!(rt; all.as_slice().ends_with(&left));
+        assert!(rt; REFUSALS.contains(&fault));
+        leaves_the_last(&rt, rt.alloc(), &mut source)?;
     }
     ended?;
     assert!(rt; source.next() == Ok(None));
@@ -138,24 +123,11 @@ fn a_run_leaves_its_source_at_the_end_or_further_on(rt: HostRuntime) -> Result<(
 
 #[test]
 fn a_fault_behind_records_is_answered_or_memory_is_wanted(rt: HostRuntime) -> Result<(), Fail> {
-    let text = TWO_FLUSHED.as_bytes();
-    let mut output = to_take(text, 65_536);
-    let trace: &[u8] = b"1 8\n1 0\n4 0\n9 0\n";
-    let ended = simulate_plain(
-        rt.alloc(),
-        &config()?,
-        &EVERYTHING,
-        FromRead::new(trace),
-        MAX_LIMIT,
-        &mut FromWrite::new(&mut output),
-    );
-    let label = RunFault::Trace(TraceFault::Bad {
-        line: 4,
-        why: Why::Label,
-    });
-    assert!(rt; ended == Err(label) || ended == Err(RunFault::Memory));
-    assert!(rt; output.rest == text);
-    assert_eq!(rt; output.flushes, 0);
+    let mut output = to_take(TWO_FLUSHED.as_bytes(), 65_536);
+    let ended = run_plainly(rt.alloc(), b"1 8\n1 0\n4 0\n9 0\n".as_slice(), &mut output)?;
+    let faults = [bad(4, Why::Label), RunFault::Memory];
+    assert!(rt; ended.is_err());
+    is_whole_or_refused(&rt, &output, ended.err(), &faults);
     if ended == Err(RunFault::Memory) {
         ended?;
     }

@@ -1,40 +1,34 @@
 //! The pipeline by itself, long traces through narrow rings, and which fault is answered.
 
 use super::{
-    EVERYTHING, USUAL, config, config_of, first_misses, reads, reads_and_writes, reports, run,
+    EVERYTHING, USUAL, bad, config_of, ends_with, first_misses, reads, reads_and_writes, reports,
+    run_source,
 };
 use crate::fault::{RunFault, Stop, gravest};
-use crate::gate::OpenGate;
-use crate::pipeline::run_pipeline;
 use cache_core::Counts;
-use din_trace::{FromRead, MAX_LIMIT, Source, TraceFault, Why};
+use din_trace::{MAX_LIMIT, TraceFault, Why};
 use stage_core::Totals;
 use std::alloc::Global;
+use std::process::Abort;
 use std::test::Fail;
 
-#[test]
-fn a_source_is_handed_back_at_its_end(rt: HostRuntime) -> Result<(), Fail> {
-    let source = Source::new(FromRead::new(b"1 0\n0 8\n0 10\n".as_slice()), MAX_LIMIT);
-    let config = config()?;
-    let (mut source, ended) = run_pipeline(
-        &rt,
-        rt.alloc(),
-        &config,
-        &EVERYTHING,
-        source,
-        &OpenGate,
-    );
-    let settled = ended?;
+/// What a write and two reads come to, of which the second drives the written block out.
+fn one_written_back() -> Totals {
     let d = Counts {
         written_back: 1,
         ..first_misses(reads_and_writes(2, 1), reads_and_writes(2, 1), 3)
     };
-    let totals = Totals {
+    Totals {
         d,
         u: first_misses(reads_and_writes(3, 1), reads(3), 3),
         ..Totals::default()
-    };
-    assert_eq!(rt; settled.totals, totals);
+    }
+}
+
+#[test]
+fn a_source_is_handed_back_at_its_end(rt: HostRuntime) -> Result<(), Fail> {
+    let (mut source, ended) = run_source(&rt, rt.alloc(), b"1 0\n0 8\n0 10\n")?;
+    assert_eq!(rt; ended?, one_written_back());
     assert_eq!(rt; source.next(), Ok(None));
     Ok(())
 }
@@ -45,16 +39,7 @@ fn a_source_is_handed_back_with_its_fault(rt: HostRuntime) -> Result<(), Fail> {
         line: 2,
         why: Why::Label,
     };
-    let source = Source::new(FromRead::new(b"2 0\n9 0\n2 4\n".as_slice()), MAX_LIMIT);
-    let config = config()?;
-    let (mut source, ended) = run_pipeline(
-        &rt,
-        rt.alloc(),
-        &config,
-        &EVERYTHING,
-        source,
-        &OpenGate,
-    );
+    let (mut source, ended) = run_source(&rt, rt.alloc(), b"2 0\n9 0\n2 4\n")?;
     assert_eq!(rt; ended.err(), Some(RunFault::Trace(fault)));
     assert_eq!(rt; source.next(), Err(fault));
     Ok(())
@@ -103,33 +88,30 @@ fn many_records_go_through_rings_of_one_place(rt: HostRuntime) -> Result<(), Fai
     Ok(())
 }
 
+/// A thousand fetches, a line with a fault, and ten fetches more.
+fn late_fault(alloc: Global) -> Result<Vec<u8>, Fail> {
+    let mut trace = Vec::new(alloc);
+    for number in 1..=1011u32 {
+        let line: &[u8] = if number == 1001 { b"9 0\n" } else { b"2 0\n" };
+        trace.extend_from_slice(line)?;
+    }
+    Ok(trace)
+}
+
 #[test]
 fn a_late_fault_is_answered_and_what_follows_is_not_read(rt: HostRuntime) -> Result<(), Fail> {
-    let mut trace = Vec::new(rt.alloc());
-    for _ in 0..1000 {
-        trace.extend_from_slice(b"2 0\n")?;
-    }
-    trace.extend_from_slice(b"9 0\n")?;
-    for _ in 0..10 {
-        trace.extend_from_slice(b"2 0\n")?;
-    }
     let narrow = config_of(USUAL, 1)?;
-    let mut written = Vec::new(rt.alloc());
-    let ended = run(
+    let trace = late_fault(rt.alloc())?;
+    let fault = Err(bad(1001, Why::Label));
+    ends_with(
         &rt,
         rt.alloc(),
         &narrow,
         &EVERYTHING,
         trace.as_slice(),
         MAX_LIMIT,
-        &mut written,
+        fault,
     );
-    let fault = TraceFault::Bad {
-        line: 1001,
-        why: Why::Label,
-    };
-    assert_eq!(rt; ended, Err(RunFault::Trace(fault)));
-    assert!(rt; written.is_empty());
     Ok(())
 }
 
@@ -148,15 +130,20 @@ fn a_fault_of_the_trace_goes_before_all_others(rt: HostRuntime) {
     }
 }
 
+/// Whatever two of the threads come to, want of memory in the third is answered.
+fn wants_memory(rt: &impl Abort, splitter: RunFault, one: Option<Stop>, other: Option<Stop>) {
+    let memory = Some(Stop::Memory);
+    assert_eq!(rt; gravest(splitter, memory, one, other), RunFault::Memory);
+    assert_eq!(rt; gravest(splitter, one, memory, other), RunFault::Memory);
+    assert_eq!(rt; gravest(splitter, one, other, memory), RunFault::Memory);
+}
+
 #[test]
 fn want_of_memory_goes_before_threads_and_cuts(rt: HostRuntime) {
-    let memory = Some(Stop::Memory);
     for splitter in [RunFault::Memory, RunFault::Threads, RunFault::Cut] {
         for one in ENDS {
             for other in ENDS {
-                assert_eq!(rt; gravest(splitter, memory, one, other), RunFault::Memory);
-                assert_eq!(rt; gravest(splitter, one, memory, other), RunFault::Memory);
-                assert_eq!(rt; gravest(splitter, one, other, memory), RunFault::Memory);
+                wants_memory(&rt, splitter, one, other);
             }
         }
     }

@@ -1,9 +1,11 @@
 //! Selections, the forms of a line, wide addresses and cut texts, over whole runs.
 
-use super::{EVERYTHING, config, first_misses, instrs, reads, reads_and_writes, reports, run};
+use super::{
+    EVERYTHING, bad, config, ends, first_misses, instrs, reads, reads_and_writes, reports,
+};
 use crate::fault::RunFault;
 use cache_core::{Counts, PerClass};
-use din_trace::{MAX_LIMIT, TraceFault, Why};
+use din_trace::{MAX_LIMIT, Why};
 use stage_core::{Selection, Totals};
 use std::test::Fail;
 
@@ -74,23 +76,15 @@ fn lines_that_are_not_selected_are_judged(rt: HostRuntime) -> Result<(), Fail> {
         max: 1,
         ..EVERYTHING
     };
-    let mut written = Vec::new(rt.alloc());
-    let ended = run(
+    let third = Err(bad(3, Why::Label));
+    ends(
         &rt,
         rt.alloc(),
-        &config()?,
         &second,
         b"0 0\n0 8\n9 0\n",
         MAX_LIMIT,
-        &mut written,
-    );
-    let third = TraceFault::Bad {
-        line: 3,
-        why: Why::Label,
-    };
-    assert_eq!(rt; ended, Err(RunFault::Trace(third)));
-    assert!(rt; written.is_empty());
-    Ok(())
+        third,
+    )
 }
 
 #[test]
@@ -151,41 +145,32 @@ fn addresses_keep_their_high_bits(rt: HostRuntime) -> Result<(), Fail> {
     Ok(())
 }
 
+/// How a run over the text that is cut behind so many bytes is to end.
+fn ended_at(length: usize) -> Result<(), RunFault> {
+    match length {
+        1 => Err(bad(1, Why::Gap)),
+        2 => Err(bad(1, Why::Address)),
+        5 => Err(bad(2, Why::Gap)),
+        6 => Err(bad(2, Why::Address)),
+        9 => Err(bad(3, Why::Gap)),
+        10 => Err(bad(3, Why::Address)),
+        _ => Ok(()),
+    }
+}
+
 #[test]
 fn a_cut_text_has_a_report_unless_its_last_line_is_cut(rt: HostRuntime) -> Result<(), Fail> {
     let text = b"1 0\n0 8\n0 10\n";
     for length in 0..=text.len() {
-        let mut written = Vec::new(rt.alloc());
         let cut = &text[..length];
-        let ended = run(
+        ends(
             &rt,
             rt.alloc(),
-            &config()?,
             &EVERYTHING,
             cut,
             MAX_LIMIT,
-            &mut written,
-        );
-        let expected = match length {
-            1 => Some((1, Why::Gap)),
-            2 => Some((1, Why::Address)),
-            5 => Some((2, Why::Gap)),
-            6 => Some((2, Why::Address)),
-            9 => Some((3, Why::Gap)),
-            10 => Some((3, Why::Address)),
-            _ => None,
-        };
-        match expected {
-            Some((line, why)) => {
-                let fault = TraceFault::Bad { line, why };
-                assert_eq!(rt; ended, Err(RunFault::Trace(fault)));
-                assert!(rt; written.is_empty());
-            }
-            None => {
-                assert_eq!(rt; ended, Ok(()));
-                assert!(rt; !written.is_empty());
-            }
-        }
+            ended_at(length),
+        )?;
     }
     Ok(())
 }

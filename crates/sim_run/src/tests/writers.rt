@@ -1,14 +1,12 @@
 //! Writers that fail, and when a writer is flushed.
 
 use super::layout::ONE_WRITE_BACK;
-use super::{EVERYTHING, config};
+use super::{run_in_threads, run_plainly};
 use crate::fault::RunFault;
 use crate::gate::OpenGate;
-use crate::plain::simulate_plain;
 use crate::report::{write_block, write_report};
-use crate::simulation::simulate;
 use cache_core::Counts;
-use din_trace::{FromRead, FromWrite, MAX_LIMIT};
+use din_trace::FromWrite;
 use stage_core::Totals;
 use std::alloc::Global;
 use std::io;
@@ -36,6 +34,13 @@ fn with_room(room: usize, can_flush: bool) -> Narrow {
         taken: 0,
         flushes: 0,
         taken_at_flush: 0,
+    }
+}
+
+impl Narrow {
+    /// How many bytes it took, how often it was flushed, and what it had taken then.
+    fn told(&self) -> (usize, u8, usize) {
+        (self.taken, self.flushes, self.taken_at_flush)
     }
 }
 
@@ -68,65 +73,53 @@ fn run<H: Threads + Wait + Abort + Sync>(
     trace: &[u8],
     writer: &mut Narrow,
 ) -> Result<Result<(), RunFault>, Fail> {
-    let config = config()?;
     let mut other = with_room(writer.room, writer.can_flush);
-    let ended = simulate(
-        rt,
-        alloc,
-        &config,
-        &EVERYTHING,
-        FromRead::new(trace),
-        MAX_LIMIT,
-        &OpenGate,
-        &mut FromWrite::new(&mut other),
-    );
-    let plain = simulate_plain(
-        alloc,
-        &config,
-        &EVERYTHING,
-        FromRead::new(trace),
-        MAX_LIMIT,
-        &mut FromWrite::new(&mut *writer),
-    );
+    let ended = run_in_threads(rt, alloc, trace, &OpenGate, &mut other)?;
+    let plain = run_plainly(alloc, trace, &mut *writer)?;
     assert_eq!(rt; ended.err(), plain.err());
-    assert_eq!(rt; other.taken, writer.taken);
-    assert_eq!(rt; other.flushes, writer.flushes);
-    assert_eq!(rt; other.taken_at_flush, writer.taken_at_flush);
+    assert_eq!(rt; other.told(), writer.told());
     Ok(plain)
+}
+
+/// Both runs fail to write over a trace. What the plain one's writer was given is handed out.
+fn fails<H: Threads + Wait + Abort + Sync>(
+    rt: &H,
+    alloc: Global,
+    trace: &[u8],
+    room: usize,
+    can_flush: bool,
+) -> Result<(usize, u8, usize), Fail> {
+    let mut writer = with_room(room, can_flush);
+    let ended = run(rt, alloc, trace, &mut writer)?;
+    assert_eq!(rt; ended, Err(RunFault::Write));
+    Ok(writer.told())
 }
 
 #[test]
 fn a_writer_may_fail_behind_each_byte(rt: HostRuntime) -> Result<(), Fail> {
-    let trace = b"1 0\n0 8\n0 10\n";
     for room in 0..ONE_WRITE_BACK.len() {
-        let mut writer = with_room(room, true);
-        assert_eq!(rt;
-            run(&rt, rt.alloc(), trace, &mut writer)?,
-            Err(RunFault::Write)
-        );
-        assert_eq!(rt; writer.taken, room);
-        assert_eq!(rt; writer.flushes, 0);
+        let told = fails(&rt, rt.alloc(), b"1 0\n0 8\n0 10\n", room, true)?;
+        assert_eq!(rt; (told.0, told.1), (room, 0));
     }
     Ok(())
 }
 
 #[test]
 fn a_writer_may_fail_at_once(rt: HostRuntime) -> Result<(), Fail> {
-    for trace in [b"".as_slice(), b"2 0\n".as_slice()] {
-        let mut writer = with_room(0, true);
-        assert_eq!(rt;
-            run(&rt, rt.alloc(), trace, &mut writer)?,
-            Err(RunFault::Write)
-        );
-    }
+    fails(&rt, rt.alloc(), b"", 0, true)?;
+    fails(&rt, rt.alloc(), b"2 0\n", 0, true)?;
     Ok(())
 }
 
 #[test]
 fn a_writer_may_fail_at_its_flush(rt: HostRuntime) -> Result<(), Fail> {
-    let mut writer = with_room(ONE_WRITE_BACK.len(), false);
-    let ended = run(&rt, rt.alloc(), b"1 0\n0 8\n0 10\n", &mut writer)?;
-    assert_eq!(rt; ended, Err(RunFault::Write));
+    fails(
+        &rt,
+        rt.alloc(),
+        b"1 0\n0 8\n0 10\n",
+        ONE_WRITE_BACK.len(),
+        false,
+    )?;
     Ok(())
 }
 
