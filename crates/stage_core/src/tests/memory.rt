@@ -15,21 +15,23 @@ use std::alloc::Global;
 use std::process::Abort;
 use std::test::Fail;
 
+// A first-level stage has failed, with nothing to send, and has counted this.
+fn has_failed(rt: &impl Abort, stage: &mut L1Stage, counted: (Counts, u64)) {
+    assert!(rt; stage.failed());
+    assert!(rt; !stage.finished());
+    assert_eq!(rt; (stage.counts(), stage.served()), counted);
+    assert_eq!(rt; stage.outbox_next(), None);
+}
+
 // What a first-level stage is to be after a refusal: as before, with nothing to send, and failed.
 fn stays_failed(rt: &impl Abort, stage: &mut L1Stage, before: (Counts, u64)) {
     for message in [ToStage::Flush { place: 9 }, ToStage::Finish] {
-        assert!(rt; stage.failed());
-        assert!(rt; !stage.finished());
-        assert_eq!(rt; (stage.counts(), stage.served()), before);
-        assert_eq!(rt; stage.outbox_next(), None);
+        has_failed(rt, stage, before);
         assert!(rt; stage.ready());
         assert!(rt; stage.served() < MAX_EVENTS);
         assert_eq!(rt; stage.on(message), Err(NoMemory));
     }
-    assert!(rt; stage.failed());
-    assert!(rt; !stage.finished());
-    assert_eq!(rt; (stage.counts(), stage.served()), before);
-    assert_eq!(rt; stage.outbox_next(), None);
+    has_failed(rt, stage, before);
 }
 
 // Takes a message in and sends just this. If memory is refused, the stage stays failed.
@@ -71,46 +73,73 @@ fn part(place: u64, part: u32, what: What) -> FromStage {
     FromStage::Part { place, part, what }
 }
 
-#[test]
-fn the_data_stage_answers_or_fails(rt: HostRuntime) -> Result<(), Fail> {
-    let mut stage = made(rt.alloc(), Side::D)?;
-    let first = [
-        part(1, 1, What::Fetch(Class::Read, 8)),
-        FromStage::Done { place: 1, parts: 1 },
-    ];
-    let second = [
-        part(2, 1, What::Fetch(Class::Read, 0)),
-        FromStage::Done { place: 2, parts: 1 },
-    ];
+// Two writes and their answers.
+fn answers_writes(rt: &impl Abort, stage: &mut L1Stage) -> Result<(), NoMemory> {
+    for (place, addr) in [(1, 8), (2, 0)] {
+        let wanted = [
+            part(place, 1, What::Fetch(Class::Read, addr)),
+            FromStage::Done { place, parts: 1 },
+        ];
+        answers(rt, stage, reference(place, Class::Write, addr), &wanted)?;
+    }
+    Ok(())
+}
+
+// The flush that follows, which writes both blocks back, and its answer.
+fn answers_flush(rt: &impl Abort, stage: &mut L1Stage) -> Result<(), NoMemory> {
     let flushed = [
         part(3, 1, What::Back(0)),
         part(3, 2, What::Back(8)),
         part(3, 3, What::FlushAll),
         FromStage::Done { place: 3, parts: 3 },
     ];
-    answers(&rt, &mut stage, reference(1, Class::Write, 8), &first)?;
-    answers(&rt, &mut stage, reference(2, Class::Write, 0), &second)?;
-    answers(&rt, &mut stage, ToStage::Flush { place: 3 }, &flushed)?;
-    answers(&rt, &mut stage, ToStage::Finish, &[FromStage::Finish])?;
+    answers(rt, stage, ToStage::Flush { place: 3 }, &flushed)
+}
+
+// The end and its answer.
+fn answers_finish(rt: &impl Abort, stage: &mut L1Stage) -> Result<(), NoMemory> {
+    answers(rt, stage, ToStage::Finish, &[FromStage::Finish])?;
     assert!(rt; stage.finished());
+    Ok(())
+}
+
+fn answers_data(rt: &impl Abort, stage: &mut L1Stage) -> Result<(), NoMemory> {
+    answers_writes(rt, stage)?;
+    answers_flush(rt, stage)?;
+    answers_finish(rt, stage)
+}
+
+#[test]
+fn the_data_stage_answers_or_fails(rt: HostRuntime) -> Result<(), Fail> {
+    let mut stage = made(rt.alloc(), Side::D)?;
+    answers_data(&rt, &mut stage)?;
     assert_eq!(rt; (stage.counts(), stage.served()), (two_written_back(), 3));
     Ok(())
 }
 
-#[test]
-fn the_instruction_stage_answers_or_fails(rt: HostRuntime) -> Result<(), Fail> {
-    let mut stage = made(rt.alloc(), Side::I)?;
+fn answers_instructions(rt: &impl Abort, stage: &mut L1Stage) -> Result<(), NoMemory> {
     let fetched = [
         part(1, 1, What::Fetch(Class::Instr, 4)),
         FromStage::Done { place: 1, parts: 1 },
     ];
     let flushed = [FromStage::Done { place: 2, parts: 0 }];
-    answers(&rt, &mut stage, reference(1, Class::Instr, 6), &fetched)?;
-    answers(&rt, &mut stage, ToStage::Flush { place: 2 }, &flushed)?;
-    answers(&rt, &mut stage, ToStage::Finish, &[FromStage::Finish])?;
-    assert!(rt; stage.finished());
+    answers(rt, stage, reference(1, Class::Instr, 6), &fetched)?;
+    answers(rt, stage, ToStage::Flush { place: 2 }, &flushed)?;
+    answers_finish(rt, stage)
+}
+
+#[test]
+fn the_instruction_stage_answers_or_fails(rt: HostRuntime) -> Result<(), Fail> {
+    let mut stage = made(rt.alloc(), Side::I)?;
+    answers_instructions(&rt, &mut stage)?;
     assert_eq!(rt; stage.served(), 2);
     Ok(())
+}
+
+// What the second level is to be after a refusal: as before, and failed.
+fn second_level_has_failed(rt: &impl Abort, stage: &L2Stage, before: (Counts, u64)) {
+    assert!(rt; stage.failed());
+    assert_eq!(rt; (stage.counts(), stage.served()), before);
 }
 
 // Serves what the first level sends. If memory is refused, the second level stays failed.
@@ -122,20 +151,15 @@ fn serves(rt: &impl Abort, stage: &mut L2Stage, what: What) -> Result<(), NoMemo
         return Ok(());
     };
     for what in [What::Back(0), What::FlushAll] {
-        assert!(rt; stage.failed());
-        assert_eq!(rt; (stage.counts(), stage.served()), before);
+        second_level_has_failed(rt, stage, before);
         assert!(rt; stage.served() < MAX_EVENTS);
         assert_eq!(rt; stage.on(what), Err(NoMemory));
     }
-    assert!(rt; stage.failed());
-    assert_eq!(rt; (stage.counts(), stage.served()), before);
+    second_level_has_failed(rt, stage, before);
     Err(refusal)
 }
 
-#[test]
-fn the_second_level_serves_or_fails(rt: HostRuntime) -> Result<(), Fail> {
-    let (geometry, policy) = config(data())?.u();
-    let mut stage = L2Stage::new(rt.alloc(), geometry, policy)?;
+fn serves_all(rt: &impl Abort, stage: &mut L2Stage) -> Result<(), NoMemory> {
     let sent = [
         What::Fetch(Class::Read, 8),
         What::Fetch(Class::Read, 0),
@@ -144,8 +168,16 @@ fn the_second_level_serves_or_fails(rt: HostRuntime) -> Result<(), Fail> {
         What::FlushAll,
     ];
     for what in sent {
-        serves(&rt, &mut stage, what)?;
+        serves(rt, stage, what)?;
     }
+    Ok(())
+}
+
+#[test]
+fn the_second_level_serves_or_fails(rt: HostRuntime) -> Result<(), Fail> {
+    let (geometry, policy) = config(data())?.u();
+    let mut stage = L2Stage::new(rt.alloc(), geometry, policy)?;
+    serves_all(&rt, &mut stage)?;
     assert_eq!(rt;
         (stage.counts(), stage.served()),
         (two_read_and_written(), 5)

@@ -33,29 +33,39 @@ pub(super) fn events_of(
     Ok(events)
 }
 
+// Left out, taken at most, and a flush behind every so many.
+type Numbers = (u64, u64, u64);
+
+// These records, so selected, bring just these events.
+fn selects(
+    rt: &impl Abort,
+    alloc: Global,
+    (skip, max, every): Numbers,
+    records: &[DinRecord],
+    wanted: &[DinRecord],
+) -> Result<(), Fail> {
+    let events = events_of(rt, alloc, Selection { skip, max, every }, records)?;
+    assert_eq!(rt; events.as_slice(), wanted);
+    Ok(())
+}
+
 #[test]
 fn a_selection_counts_references_alone(rt: HostRuntime) -> Result<(), Fail> {
+    let alloc = rt.alloc();
     let three = [instr(0), instr(4), instr(8)];
     let flushed = [instr(0), flush(), instr(4), flush()];
     let between = [flush(), instr(0), flush()];
-    let alloc = rt.alloc();
-    let events = |skip: u64, max: u64, every: u64, records: &[DinRecord]| {
-        events_of(&rt, alloc, Selection { skip, max, every }, records)
-    };
-    assert_eq!(rt; events(1, 1, 0, &three)?.as_slice(), [instr(4)].as_slice());
-    assert_eq!(rt;
-        events(0, 0, 2, &three)?.as_slice(),
-        [instr(0), instr(4), flush(), instr(8)].as_slice()
-    );
-    assert_eq!(rt;
-        events(1, 1, 0, &flushed)?.as_slice(),
-        [flush(), instr(4)].as_slice()
-    );
-    assert_eq!(rt; events(1, 0, 0, &between)?.as_slice(), [flush()].as_slice());
-    assert_eq!(rt;
-        events(0, 0, 1, &[instr(0), flush()])?.as_slice(),
-        [instr(0), flush(), flush()].as_slice()
-    );
-    assert!(rt; events(5, 0, 0, &[instr(0)])?.is_empty());
-    Ok(())
+    let put_in = [instr(0), instr(4), flush(), instr(8)];
+    selects(&rt, alloc, (1, 1, 0), &three, &three[1..2])?;
+    selects(&rt, alloc, (0, 0, 2), &three, &put_in)?;
+    selects(&rt, alloc, (1, 1, 0), &flushed, &flushed[1..3])?;
+    selects(&rt, alloc, (1, 0, 0), &between, &between[2..])?;
+    selects(
+        &rt,
+        alloc,
+        (0, 0, 1),
+        &flushed[..2],
+        &[instr(0), flush(), flush()],
+    )?;
+    selects(&rt, alloc, (5, 0, 0), &three[..1], &[])
 }

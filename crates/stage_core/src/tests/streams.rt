@@ -2,7 +2,7 @@
 
 use super::selections::events_of;
 use super::{config, data, flush, instr, read, write};
-use crate::config::CacheSpec;
+use crate::config::{CacheSpec, Config};
 use crate::l1_stage::L1Stage;
 use crate::l2_stage::L2Stage;
 use crate::merge::Merge;
@@ -25,6 +25,15 @@ struct Streams {
     from_d: Vec<FromStage>,
 }
 
+// A refusal has left a stage failed, and does so for good.
+fn stays_failed(rt: &impl Abort, stage: &mut L1Stage, message: ToStage) {
+    assert!(rt; stage.failed());
+    assert!(rt; stage.ready());
+    assert!(rt; stage.served() < MAX_EVENTS);
+    assert_eq!(rt; stage.outbox_next(), None);
+    assert!(rt; stage.on(message).is_err());
+}
+
 // A stage takes a message in and sends all that this brings. A refusal leaves it failed for good.
 fn answer(
     rt: &impl Abort,
@@ -35,10 +44,7 @@ fn answer(
     assert!(rt; stage.ready());
     assert!(rt; stage.served() < MAX_EVENTS);
     if let Err(refusal) = stage.on(message) {
-        assert!(rt; stage.failed());
-        assert!(rt; stage.ready());
-        assert_eq!(rt; stage.outbox_next(), None);
-        assert!(rt; stage.on(message).is_err());
+        stays_failed(rt, stage, message);
         return Err(refusal)?;
     }
     for _ in 0..10 {
@@ -68,6 +74,39 @@ impl Streams {
         }
         Ok(())
     }
+
+    fn send_all(
+        &mut self,
+        rt: &impl Abort,
+        events: &[DinRecord],
+        i: &mut L1Stage,
+        d: &mut L1Stage,
+    ) -> Result<(), Fail> {
+        let mut splitter = Splitter::new();
+        for event in events {
+            assert!(rt; splitter.place() < 2 * MAX_LIMIT);
+            self.send(rt, splitter.route(*event), i, d)?;
+        }
+        self.send(rt, splitter.finish(), i, d)?;
+        assert!(rt; i.finished());
+        assert!(rt; d.finished());
+        Ok(())
+    }
+
+    // Sends all through two new stages.
+    fn fill(
+        &mut self,
+        rt: &impl Abort,
+        alloc: Global,
+        config: &Config,
+        events: &[DinRecord],
+    ) -> Result<(), Fail> {
+        let (geometry, policy) = config.i();
+        let mut i = L1Stage::new(alloc, Side::I, geometry, policy)?;
+        let (geometry, policy) = config.d();
+        let mut d = L1Stage::new(alloc, Side::D, geometry, policy)?;
+        self.send_all(rt, events, &mut i, &mut d)
+    }
 }
 
 fn streams_of(
@@ -77,10 +116,6 @@ fn streams_of(
     events: &[DinRecord],
 ) -> Result<Streams, Fail> {
     let config = config(d)?;
-    let (geometry, policy) = config.i();
-    let mut i = L1Stage::new(alloc, Side::I, geometry, policy)?;
-    let (geometry, policy) = config.d();
-    let mut d = L1Stage::new(alloc, Side::D, geometry, policy)?;
     let mut streams = Streams {
         order: Vec::new(alloc),
         to_i: Vec::new(alloc),
@@ -88,15 +123,16 @@ fn streams_of(
         from_i: Vec::new(alloc),
         from_d: Vec::new(alloc),
     };
-    let mut splitter = Splitter::new();
-    for event in events {
-        assert!(rt; splitter.place() < 2 * MAX_LIMIT);
-        streams.send(rt, splitter.route(*event), &mut i, &mut d)?;
-    }
-    streams.send(rt, splitter.finish(), &mut i, &mut d)?;
-    assert!(rt; i.finished());
-    assert!(rt; d.finished());
+    streams.fill(rt, alloc, &config, events)?;
     Ok(streams)
+}
+
+// The next of a list, which is there.
+fn next_of<T: Copy>(rt: &impl Abort, list: &[T], taken: &mut usize) -> T {
+    let at = *taken;
+    assert!(rt; at < list.len());
+    *taken = at + 1;
+    list[at]
 }
 
 // What the merge takes from the streams, each message from the side that it wants.
@@ -108,36 +144,36 @@ fn merged(rt: &impl Abort, alloc: Global, streams: &Streams) -> Result<Vec<What>
         let message = match merge.wants() {
             Want::Nothing => break,
             Want::Order => {
-                assert!(rt; turns < streams.order.len());
-                merge.turn(streams.order[turns]);
-                turns += 1;
+                merge.turn(next_of(rt, &streams.order, &mut turns));
                 continue;
             }
-            Want::I => {
-                assert!(rt; i < streams.from_i.len());
-                i += 1;
-                streams.from_i[i - 1]
-            }
-            Want::D => {
-                assert!(rt; d < streams.from_d.len());
-                d += 1;
-                streams.from_d[d - 1]
-            }
+            Want::I => next_of(rt, &streams.from_i, &mut i),
+            Want::D => next_of(rt, &streams.from_d, &mut d),
         };
         if let Some(what) = merge.take(message) {
             taken.push(what)?;
         }
     }
     assert_eq!(rt; merge.wants(), Want::Nothing);
-    assert_eq!(rt;
-        (turns, i, d),
-        (
-            streams.order.len(),
-            streams.from_i.len(),
-            streams.from_d.len()
-        )
+    let lengths = (
+        streams.order.len(),
+        streams.from_i.len(),
+        streams.from_d.len(),
     );
+    assert_eq!(rt; (turns, i, d), lengths);
     Ok(taken)
+}
+
+// The merge takes just this from the streams.
+fn is_merged(
+    rt: &impl Abort,
+    alloc: Global,
+    streams: &Streams,
+    wanted: &[What],
+) -> Result<(), Fail> {
+    let taken = merged(rt, alloc, streams)?;
+    assert_eq!(rt; taken.as_slice(), wanted);
+    Ok(())
 }
 
 fn part(place: u64, part: u32, what: What) -> FromStage {
@@ -152,110 +188,97 @@ fn fetch(addr: u64) -> What {
     What::Fetch(Class::Read, addr)
 }
 
+fn reference(place: u64, class: Class, addr: u64) -> ToStage {
+    ToStage::Ref { place, class, addr }
+}
+
+// The splitter has sent just this.
+fn is_routed(
+    rt: &impl Abort,
+    streams: &Streams,
+    order: &[Turn],
+    to_i: &[ToStage],
+    to_d: &[ToStage],
+) {
+    assert_eq!(rt; streams.order.as_slice(), order);
+    assert_eq!(rt; streams.to_i.as_slice(), to_i);
+    assert_eq!(rt; streams.to_d.as_slice(), to_d);
+}
+
+// The stages have answered just this.
+fn is_answered(rt: &impl Abort, streams: &Streams, from_i: &[FromStage], from_d: &[FromStage]) {
+    assert_eq!(rt; streams.from_i.as_slice(), from_i);
+    assert_eq!(rt; streams.from_d.as_slice(), from_d);
+}
+
+fn a_victim_is_routed(rt: &impl Abort, streams: &Streams) {
+    let to_d = [
+        reference(1, Class::Write, 0),
+        reference(2, Class::Read, 8),
+        reference(3, Class::Read, 16),
+        ToStage::Finish,
+    ];
+    let order = [Turn::D, Turn::D, Turn::D, Turn::Finish];
+    is_routed(rt, streams, &order, &[ToStage::Finish], &to_d);
+}
+
+fn a_victim_is_answered(rt: &impl Abort, streams: &Streams) {
+    let from_d = [
+        part(1, 1, fetch(0)),
+        done(1, 1),
+        part(2, 1, fetch(8)),
+        done(2, 1),
+        part(3, 1, What::Back(0)),
+        part(3, 2, fetch(16)),
+        done(3, 2),
+        FromStage::Finish,
+    ];
+    is_answered(rt, streams, &[FromStage::Finish], &from_d);
+}
+
 #[test]
 fn streams_of_a_victim(rt: HostRuntime) -> Result<(), Fail> {
     let alloc = rt.alloc();
     let streams = streams_of(&rt, alloc, data(), &[write(0), read(8), read(16)])?;
-    assert_eq!(rt;
-        streams.order.as_slice(),
-        [Turn::D, Turn::D, Turn::D, Turn::Finish].as_slice()
-    );
-    assert_eq!(rt; streams.to_i.as_slice(), [ToStage::Finish].as_slice());
-    assert_eq!(rt;
-        streams.to_d.as_slice(),
-        [
-            ToStage::Ref {
-                place: 1,
-                class: Class::Write,
-                addr: 0
-            },
-            ToStage::Ref {
-                place: 2,
-                class: Class::Read,
-                addr: 8
-            },
-            ToStage::Ref {
-                place: 3,
-                class: Class::Read,
-                addr: 16
-            },
-            ToStage::Finish,
-        ]
-        .as_slice()
-    );
-    assert_eq!(rt; streams.from_i.as_slice(), [FromStage::Finish].as_slice());
-    assert_eq!(rt;
-        streams.from_d.as_slice(),
-        [
-            part(1, 1, fetch(0)),
-            done(1, 1),
-            part(2, 1, fetch(8)),
-            done(2, 1),
-            part(3, 1, What::Back(0)),
-            part(3, 2, fetch(16)),
-            done(3, 2),
-            FromStage::Finish,
-        ]
-        .as_slice()
-    );
-    let taken = merged(&rt, alloc, &streams)?;
-    assert_eq!(rt;
-        taken.as_slice(),
-        [fetch(0), fetch(8), What::Back(0), fetch(16)].as_slice()
-    );
-    Ok(())
+    a_victim_is_routed(&rt, &streams);
+    a_victim_is_answered(&rt, &streams);
+    let wanted = [fetch(0), fetch(8), What::Back(0), fetch(16)];
+    is_merged(&rt, alloc, &streams, &wanted)
+}
+
+fn a_flush_is_routed(rt: &impl Abort, streams: &Streams) {
+    let to_i = [ToStage::Flush { place: 3 }, ToStage::Finish];
+    let to_d = [
+        reference(1, Class::Write, 8),
+        reference(2, Class::Write, 0),
+        ToStage::Flush { place: 3 },
+        ToStage::Finish,
+    ];
+    let order = [Turn::D, Turn::D, Turn::Both, Turn::Finish];
+    is_routed(rt, streams, &order, &to_i, &to_d);
+}
+
+fn a_flush_is_answered(rt: &impl Abort, streams: &Streams) {
+    let from_d = [
+        part(1, 1, fetch(8)),
+        done(1, 1),
+        part(2, 1, fetch(0)),
+        done(2, 1),
+        part(3, 1, What::Back(0)),
+        part(3, 2, What::Back(8)),
+        part(3, 3, What::FlushAll),
+        done(3, 3),
+        FromStage::Finish,
+    ];
+    is_answered(rt, streams, &[done(3, 0), FromStage::Finish], &from_d);
 }
 
 #[test]
 fn streams_of_a_flush(rt: HostRuntime) -> Result<(), Fail> {
     let alloc = rt.alloc();
     let streams = streams_of(&rt, alloc, data(), &[write(8), write(0), flush()])?;
-    assert_eq!(rt;
-        streams.order.as_slice(),
-        [Turn::D, Turn::D, Turn::Both, Turn::Finish].as_slice()
-    );
-    assert_eq!(rt;
-        streams.to_i.as_slice(),
-        [ToStage::Flush { place: 3 }, ToStage::Finish].as_slice()
-    );
-    assert_eq!(rt;
-        streams.to_d.as_slice(),
-        [
-            ToStage::Ref {
-                place: 1,
-                class: Class::Write,
-                addr: 8
-            },
-            ToStage::Ref {
-                place: 2,
-                class: Class::Write,
-                addr: 0
-            },
-            ToStage::Flush { place: 3 },
-            ToStage::Finish,
-        ]
-        .as_slice()
-    );
-    assert_eq!(rt;
-        streams.from_i.as_slice(),
-        [done(3, 0), FromStage::Finish].as_slice()
-    );
-    assert_eq!(rt;
-        streams.from_d.as_slice(),
-        [
-            part(1, 1, fetch(8)),
-            done(1, 1),
-            part(2, 1, fetch(0)),
-            done(2, 1),
-            part(3, 1, What::Back(0)),
-            part(3, 2, What::Back(8)),
-            part(3, 3, What::FlushAll),
-            done(3, 3),
-            FromStage::Finish,
-        ]
-        .as_slice()
-    );
-    let taken = merged(&rt, alloc, &streams)?;
+    a_flush_is_routed(&rt, &streams);
+    a_flush_is_answered(&rt, &streams);
     let wanted = [
         fetch(8),
         fetch(0),
@@ -263,19 +286,19 @@ fn streams_of_a_flush(rt: HostRuntime) -> Result<(), Fail> {
         What::Back(8),
         What::FlushAll,
     ];
-    assert_eq!(rt; taken.as_slice(), wanted.as_slice());
-    Ok(())
+    is_merged(&rt, alloc, &streams, &wanted)
 }
 
-// What the second level sees of these events.
-fn seen(
+// The second level sees just this of these events.
+fn is_seen(
     rt: &impl Abort,
     alloc: Global,
     policy: Policy,
     events: &[DinRecord],
-) -> Result<Vec<What>, Fail> {
+    wanted: &[What],
+) -> Result<(), Fail> {
     let streams = streams_of(rt, alloc, CacheSpec { policy, ..data() }, events)?;
-    merged(rt, alloc, &streams)
+    is_merged(rt, alloc, &streams, wanted)
 }
 
 #[test]
@@ -286,47 +309,39 @@ fn the_second_level_sees_parts_in_order(rt: HostRuntime) -> Result<(), Fail> {
         wback: false,
         ..usual
     };
-    let taken = seen(&rt, alloc, through, &[write(2), write(2)])?;
-    assert_eq!(rt;
-        taken.as_slice(),
-        [fetch(0), What::Through(2), What::Through(2)].as_slice()
-    );
+    let wanted = [fetch(0), What::Through(2), What::Through(2)];
+    is_seen(&rt, alloc, through, &[write(2), write(2)], &wanted)?;
     let around = Policy {
         walloc: false,
         ..usual
     };
-    let taken = seen(&rt, alloc, around, &[write(0), read(0)])?;
-    assert_eq!(rt; taken.as_slice(), [What::Through(0), fetch(0)].as_slice());
+    let wanted = [What::Through(0), fetch(0)];
+    is_seen(&rt, alloc, around, &[write(0), read(0)], &wanted)?;
     let selection = Selection {
         skip: 0,
         max: 0,
         every: 2,
     };
     let events = events_of(&rt, alloc, selection, &[write(0), read(8), read(16)])?;
-    let taken = seen(&rt, alloc, usual, &events)?;
     let wanted = [fetch(0), fetch(8), What::Back(0), What::FlushAll, fetch(16)];
-    assert_eq!(rt; taken.as_slice(), wanted.as_slice());
+    is_seen(&rt, alloc, usual, &events, &wanted)
+}
+
+// Answers a reference, and then the end.
+fn finishes(rt: &impl Abort, stage: &mut L1Stage, sent: &mut Vec<FromStage>) -> Result<(), Fail> {
+    answer(rt, stage, reference(1, Class::Write, 0), sent)?;
+    assert!(rt; !stage.finished());
+    answer(rt, stage, ToStage::Finish, sent)?;
+    assert!(rt; stage.finished());
     Ok(())
 }
 
 #[test]
 fn a_stage_sends_finish_last(rt: HostRuntime) -> Result<(), Fail> {
     let (geometry, policy) = config(data())?.d();
-    let mut stage = L1Stage::new(rt.alloc(), Side::D, geometry, policy)?;
     let mut sent = Vec::new(rt.alloc());
-    answer(
-        &rt,
-        &mut stage,
-        ToStage::Ref {
-            place: 1,
-            class: Class::Write,
-            addr: 0,
-        },
-        &mut sent,
-    )?;
-    assert!(rt; !stage.finished());
-    answer(&rt, &mut stage, ToStage::Finish, &mut sent)?;
-    assert!(rt; stage.finished());
+    let mut stage = L1Stage::new(rt.alloc(), Side::D, geometry, policy)?;
+    finishes(&rt, &mut stage, &mut sent)?;
     assert_eq!(rt;
         sent.as_slice(),
         [part(1, 1, fetch(0)), done(1, 1), FromStage::Finish].as_slice()
@@ -334,10 +349,8 @@ fn a_stage_sends_finish_last(rt: HostRuntime) -> Result<(), Fail> {
     Ok(())
 }
 
-#[test]
-fn the_second_level_serves_each_part(rt: HostRuntime) -> Result<(), Fail> {
-    let (geometry, policy) = config(data())?.u();
-    let mut stage = L2Stage::new(rt.alloc(), geometry, policy)?;
+// Serves three parts. A refusal leaves the second level failed.
+fn serves(rt: &impl Abort, stage: &mut L2Stage) -> Result<(), Fail> {
     for what in [fetch(0), What::Back(4), What::FlushAll] {
         assert!(rt; stage.served() < MAX_EVENTS);
         if let Err(refusal) = stage.on(what) {
@@ -347,22 +360,22 @@ fn the_second_level_serves_each_part(rt: HostRuntime) -> Result<(), Fail> {
         }
     }
     assert_eq!(rt; stage.served(), 3);
+    Ok(())
+}
+
+#[test]
+fn the_second_level_serves_each_part(rt: HostRuntime) -> Result<(), Fail> {
+    let (geometry, policy) = config(data())?.u();
+    let mut stage = L2Stage::new(rt.alloc(), geometry, policy)?;
+    serves(&rt, &mut stage)?;
     let counts = stage.counts();
-    assert_eq!(rt;
-        counts.fetches,
-        PerClass {
-            read: 1,
-            write: 1,
-            ..PerClass::default()
-        }
-    );
-    assert_eq!(rt;
-        counts.misses,
-        PerClass {
-            read: 1,
-            ..PerClass::default()
-        }
-    );
+    drop(stage);
+    let reads = PerClass {
+        read: 1,
+        ..PerClass::default()
+    };
+    assert_eq!(rt; counts.fetches, PerClass { write: 1, ..reads });
+    assert_eq!(rt; counts.misses, reads);
     assert_eq!(rt; counts.compulsory, counts.misses);
     assert_eq!(rt;
         (
