@@ -137,6 +137,16 @@ fn run_in_threads<H: Threads + Wait + Sync, R: Read + Drop, G: Gate, W: Write + 
     )))
 }
 
+/// The fault of such a run, if it has one.
+fn fault_in_threads<H: Threads + Wait + Sync, R: Read + Drop, W: Write + Drop>(
+    rt: &H,
+    alloc: Global,
+    reader: R,
+    writer: W,
+) -> Result<Option<RunFault>, Fail> {
+    Ok(run_in_threads(rt, alloc, reader, &OpenGate, writer)?.err())
+}
+
 /// How the same run ends on one thread.
 fn run_plainly<R: Read + Drop, W: Write + Drop>(
     alloc: Global,
@@ -151,6 +161,28 @@ fn run_plainly<R: Read + Drop, W: Write + Drop>(
         MAX_LIMIT,
         &mut FromWrite::new(writer),
     ))
+}
+
+/// How a run on one thread over a trace ended; what it wrote stands in the list.
+fn plainly(
+    alloc: Global,
+    config: &Config,
+    selection: &Selection,
+    trace: &[u8],
+    limit: u64,
+    written: &mut Vec<u8>,
+) -> Result<(), RunFault>
+    requires limit { limit ≤ MAX_LIMIT }
+    requires bounded { IsBounded selection.now }
+{
+    simulate_plain(
+        alloc,
+        config,
+        selection,
+        FromRead::new(trace),
+        limit,
+        &mut FromWrite::new(written),
+    )
 }
 
 /// How a run in threads over a trace ended; what it wrote stands in the list.
@@ -193,14 +225,7 @@ fn run<H: Threads + Wait + Abort + Sync>(
     requires limit { limit ≤ MAX_LIMIT }
     requires bounded { IsBounded selection.now }
 {
-    let plain = simulate_plain(
-        alloc,
-        config,
-        selection,
-        FromRead::new(trace),
-        limit,
-        &mut FromWrite::new(&mut *written),
-    );
+    let plain = plainly(alloc, config, selection, trace, limit, written);
     let mut other = Vec::new(alloc);
     let ended = threaded(rt, alloc, config, selection, trace, limit, &mut other);
     assert_eq!(rt; ended, plain.err());
@@ -292,8 +317,8 @@ fn is_reported<H: Threads + Wait + Abort + Sync>(
     Ok(written.as_slice() == expected.as_slice())
 }
 
-/// Does a run over a trace end well, with the report of just these totals, to which the network
-/// comes too?
+/// A run over a trace ends well, with the report of just these totals, to which the network comes
+/// too.
 fn reports<H: Threads + Wait + Abort + Sync>(
     rt: &H,
     alloc: Global,
@@ -301,11 +326,20 @@ fn reports<H: Threads + Wait + Abort + Sync>(
     selection: &Selection,
     trace: &[u8],
     totals: &Totals,
-) -> Result<bool, Fail>
+) -> Result<(), Fail>
     requires { IsBounded selection.now }
 {
-    Ok(
-        is_reported(rt, alloc, config, selection, trace, totals)?
-            && is_driven_to(alloc, config, selection, trace, totals)?,
-    )
+    assert!(rt; is_reported(rt, alloc, config, selection, trace, totals)?);
+    assert!(rt; is_driven_to(alloc, config, selection, trace, totals)?);
+    Ok(())
+}
+
+/// The same with the usual caches and the whole trace.
+fn is_counted<H: Threads + Wait + Abort + Sync>(
+    rt: &H,
+    alloc: Global,
+    trace: &[u8],
+    totals: &Totals,
+) -> Result<(), Fail> {
+    reports(rt, alloc, &config()?, &EVERYTHING, trace, totals)
 }

@@ -1,9 +1,8 @@
 //! Readers and writers that take few bytes at a time.
 
 use super::layout::ONE_WRITE_BACK;
-use super::{run_in_threads, run_plainly};
+use super::{fault_in_threads, run_plainly};
 use crate::fault::RunFault;
-use crate::gate::OpenGate;
 use std::alloc::Global;
 use std::io;
 use std::io::{Read, Write};
@@ -71,9 +70,9 @@ fn run<H: Threads + Wait + Abort + Sync>(
 ) -> Result<Result<(), RunFault>, Fail> {
     let rest = b"1 0\n0 8\n0 10\n";
     let mut other = to_take(writer.rest, writer.most);
-    let ended = run_in_threads(rt, alloc, Pieces { rest, size }, &OpenGate, &mut other)?;
+    let ended = fault_in_threads(rt, alloc, Pieces { rest, size }, &mut other)?;
     let plain = run_plainly(alloc, Pieces { rest, size }, &mut *writer)?;
-    assert_eq!(rt; ended.err(), plain.err());
+    assert_eq!(rt; ended, plain.err());
     assert!(rt; other.rest == writer.rest);
     assert_eq!(rt; other.flushes, writer.flushes);
     Ok(plain)

@@ -1,8 +1,7 @@
 //! Runs that end without a report: faulty lines, limits, readers that fail.
 
-use super::{EVERYTHING, bad, ends, run_in_threads, run_plainly};
+use super::{EVERYTHING, bad, ends, fault_in_threads, run_plainly};
 use crate::fault::RunFault;
-use crate::gate::OpenGate;
 use din_trace::{MAX_LIMIT, TraceFault, Why};
 use std::alloc::Global;
 use std::io;
@@ -69,8 +68,8 @@ fn run_broken<H: Threads + Wait + Abort + Sync>(
 ) -> Result<Result<(), RunFault>, Fail> {
     let mut written = Vec::new(alloc);
     let plain = run_plainly(alloc, Broken { bytes }, &mut written)?;
-    let ended = run_in_threads(rt, alloc, Broken { bytes }, &OpenGate, &mut written)?;
-    assert_eq!(rt; ended.err(), plain.err());
+    let ended = fault_in_threads(rt, alloc, Broken { bytes }, &mut written)?;
+    assert_eq!(rt; ended, plain.err());
     assert!(rt; written.is_empty());
     Ok(plain)
 }

@@ -1,8 +1,8 @@
 //! What each level counts over short traces.
 
 use super::{
-    EVERYTHING, USUAL, config, config_with, first_misses, instrs, reads, reads_and_writes, reports,
-    writes,
+    EVERYTHING, USUAL, config_with, first_misses, instrs, is_counted, reads, reads_and_writes,
+    reports, writes,
 };
 use cache_core::{Counts, PerClass, Policy, Repl};
 use stage_core::Totals;
@@ -10,17 +10,7 @@ use std::test::Fail;
 
 #[test]
 fn an_empty_trace_counts_nothing(rt: HostRuntime) -> Result<(), Fail> {
-    assert!(rt;
-        reports(
-            &rt,
-            rt.alloc(),
-            &config()?,
-            &EVERYTHING,
-            b"",
-            &Totals::default()
-        )?
-    );
-    Ok(())
+    is_counted(&rt, rt.alloc(), b"", &Totals::default())
 }
 
 #[test]
@@ -31,8 +21,7 @@ fn a_first_fetch_misses_at_both_levels(rt: HostRuntime) -> Result<(), Fail> {
         u: one,
         ..Totals::default()
     };
-    assert!(rt; reports(&rt, rt.alloc(), &config()?, &EVERYTHING, b"2 0\n", &totals)?);
-    Ok(())
+    is_counted(&rt, rt.alloc(), b"2 0\n", &totals)
 }
 
 #[test]
@@ -44,7 +33,7 @@ fn fetches_share_a_block_of_the_second_level(rt: HostRuntime) -> Result<(), Fail
     };
     let traces: [&[u8]; 2] = [b"2 0\n2 0\n2 4\n", b"2 0\n2 4\n2 0\n"];
     for trace in traces {
-        assert!(rt; reports(&rt, rt.alloc(), &config()?, &EVERYTHING, trace, &totals)?);
+        is_counted(&rt, rt.alloc(), trace, &totals)?;
     }
     Ok(())
 }
@@ -62,8 +51,7 @@ fn a_loop_that_does_not_fit_misses_in_one_set(rt: HostRuntime) -> Result<(), Fai
         ..Totals::default()
     };
     let trace = b"2 0\n2 4\n2 8\n2 c\n2 10\n2 0\n2 4\n2 8\n2 c\n2 10\n";
-    assert!(rt; reports(&rt, rt.alloc(), &config()?, &EVERYTHING, trace, &totals)?);
-    Ok(())
+    is_counted(&rt, rt.alloc(), trace, &totals)
 }
 
 #[test]
@@ -83,17 +71,7 @@ fn a_flush_empties_the_instruction_cache(rt: HostRuntime) -> Result<(), Fail> {
         d,
         u: again,
     };
-    assert!(rt;
-        reports(
-            &rt,
-            rt.alloc(),
-            &config()?,
-            &EVERYTHING,
-            b"2 0\n4 0\n2 0\n",
-            &totals
-        )?
-    );
-    Ok(())
+    is_counted(&rt, rt.alloc(), b"2 0\n4 0\n2 0\n", &totals)
 }
 
 #[test]
@@ -109,17 +87,7 @@ fn blocks_of_one_set_conflict(rt: HostRuntime) -> Result<(), Fail> {
         u,
         ..Totals::default()
     };
-    assert!(rt;
-        reports(
-            &rt,
-            rt.alloc(),
-            &config()?,
-            &EVERYTHING,
-            b"2 0\n2 10\n2 0\n",
-            &totals
-        )?
-    );
-    Ok(())
+    is_counted(&rt, rt.alloc(), b"2 0\n2 10\n2 0\n", &totals)
 }
 
 #[test]
@@ -130,8 +98,7 @@ fn a_block_in_use_stays(rt: HostRuntime) -> Result<(), Fail> {
         ..Totals::default()
     };
     let trace = b"0 0\n0 8\n0 0\n0 10\n0 0\n";
-    assert!(rt; reports(&rt, rt.alloc(), &config()?, &EVERYTHING, trace, &totals)?);
-    Ok(())
+    is_counted(&rt, rt.alloc(), trace, &totals)
 }
 
 #[test]
@@ -152,8 +119,7 @@ fn first_in_first_out_forgets_uses(rt: HostRuntime) -> Result<(), Fail> {
         ..Totals::default()
     };
     let trace = b"0 0\n0 8\n0 0\n0 10\n0 0\n";
-    assert!(rt; reports(&rt, rt.alloc(), &fifo, &EVERYTHING, trace, &totals)?);
-    Ok(())
+    reports(&rt, rt.alloc(), &fifo, &EVERYTHING, trace, &totals)
 }
 
 #[test]
@@ -172,17 +138,14 @@ fn each_write_is_sent_on_under_write_through(rt: HostRuntime) -> Result<(), Fail
         u,
         ..Totals::default()
     };
-    assert!(rt;
-        reports(
-            &rt,
-            rt.alloc(),
-            &through,
-            &EVERYTHING,
-            b"1 2\n1 2\n",
-            &totals
-        )?
-    );
-    Ok(())
+    reports(
+        &rt,
+        rt.alloc(),
+        &through,
+        &EVERYTHING,
+        b"1 2\n1 2\n",
+        &totals,
+    )
 }
 
 #[test]
@@ -203,17 +166,14 @@ fn a_write_miss_without_allocation_loads_nothing(rt: HostRuntime) -> Result<(), 
         u,
         ..Totals::default()
     };
-    assert!(rt;
-        reports(
-            &rt,
-            rt.alloc(),
-            &around,
-            &EVERYTHING,
-            b"1 0\n0 0\n",
-            &totals
-        )?
-    );
-    Ok(())
+    reports(
+        &rt,
+        rt.alloc(),
+        &around,
+        &EVERYTHING,
+        b"1 0\n0 0\n",
+        &totals,
+    )
 }
 
 #[test]
@@ -233,17 +193,7 @@ fn a_flush_writes_dirty_blocks_back_through_both_levels(rt: HostRuntime) -> Resu
         ..first_misses(reads_and_writes(2, 2), reads(2), 2)
     };
     let trace = b"1 8\n1 0\n4 0\n";
-    assert!(rt;
-        reports(
-            &rt,
-            rt.alloc(),
-            &config()?,
-            &EVERYTHING,
-            trace,
-            &Totals { i, d, u }
-        )?
-    );
-    Ok(())
+    is_counted(&rt, rt.alloc(), trace, &Totals { i, d, u })
 }
 
 #[test]
@@ -263,17 +213,7 @@ fn a_flush_empties_but_does_not_forget(rt: HostRuntime) -> Result<(), Fail> {
         d: again,
         u: again,
     };
-    assert!(rt;
-        reports(
-            &rt,
-            rt.alloc(),
-            &config()?,
-            &EVERYTHING,
-            b"0 0\n4 0\n0 0\n",
-            &totals
-        )?
-    );
-    Ok(())
+    is_counted(&rt, rt.alloc(), b"0 0\n4 0\n0 0\n", &totals)
 }
 
 #[test]
@@ -289,32 +229,13 @@ fn the_first_level_to_miss_loads_the_second(rt: HostRuntime) -> Result<(), Fail>
         d,
         u: first_misses(fetches, reads(1), 1),
     };
-    assert!(rt;
-        reports(
-            &rt,
-            rt.alloc(),
-            &config()?,
-            &EVERYTHING,
-            b"0 0\n2 0\n",
-            &read_first
-        )?
-    );
+    is_counted(&rt, rt.alloc(), b"0 0\n2 0\n", &read_first)?;
     let fetch_first = Totals {
         i,
         d,
         u: first_misses(fetches, instrs(1), 1),
     };
-    assert!(rt;
-        reports(
-            &rt,
-            rt.alloc(),
-            &config()?,
-            &EVERYTHING,
-            b"2 0\n0 0\n",
-            &fetch_first
-        )?
-    );
-    Ok(())
+    is_counted(&rt, rt.alloc(), b"2 0\n0 0\n", &fetch_first)
 }
 
 #[test]
@@ -335,15 +256,5 @@ fn a_miscellaneous_reference_is_fetched_as_a_read(rt: HostRuntime) -> Result<(),
         u: first_misses(reads(1), reads(1), 1),
         ..Totals::default()
     };
-    assert!(rt;
-        reports(
-            &rt,
-            rt.alloc(),
-            &config()?,
-            &EVERYTHING,
-            b"3 0\n0 0\n",
-            &totals
-        )?
-    );
-    Ok(())
+    is_counted(&rt, rt.alloc(), b"3 0\n0 0\n", &totals)
 }

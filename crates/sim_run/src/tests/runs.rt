@@ -1,7 +1,8 @@
 //! Selections, the forms of a line, wide addresses and cut texts, over whole runs.
 
 use super::{
-    EVERYTHING, bad, config, ends, first_misses, instrs, reads, reads_and_writes, reports,
+    EVERYTHING, bad, config, ends, first_misses, instrs, is_counted, reads, reads_and_writes,
+    reports,
 };
 use crate::fault::RunFault;
 use cache_core::{Counts, PerClass};
@@ -30,17 +31,14 @@ fn a_selection_puts_flushes_in(rt: HostRuntime) -> Result<(), Fail> {
         ..first_misses(reads_and_writes(3, 1), reads(3), 3)
     };
     let trace = b"1 0\n0 8\n0 10\n";
-    assert!(rt;
-        reports(
-            &rt,
-            rt.alloc(),
-            &config()?,
-            &every_second,
-            trace,
-            &Totals { i, d, u }
-        )?
-    );
-    Ok(())
+    reports(
+        &rt,
+        rt.alloc(),
+        &config()?,
+        &every_second,
+        trace,
+        &Totals { i, d, u },
+    )
 }
 
 #[test]
@@ -56,17 +54,14 @@ fn only_what_is_selected_is_simulated(rt: HostRuntime) -> Result<(), Fail> {
         u: one,
         ..Totals::default()
     };
-    assert!(rt;
-        reports(
-            &rt,
-            rt.alloc(),
-            &config()?,
-            &second,
-            b"0 0\n2 4\n1 8\n",
-            &totals
-        )?
-    );
-    Ok(())
+    reports(
+        &rt,
+        rt.alloc(),
+        &config()?,
+        &second,
+        b"0 0\n2 4\n1 8\n",
+        &totals,
+    )
 }
 
 #[test]
@@ -95,8 +90,7 @@ fn a_line_may_have_blanks_a_prefix_and_a_comment(rt: HostRuntime) -> Result<(), 
         ..Totals::default()
     };
     let trace = b"0 0x1F comment\r\n 1 ffffffff";
-    assert!(rt; reports(&rt, rt.alloc(), &config()?, &EVERYTHING, trace, &totals)?);
-    Ok(())
+    is_counted(&rt, rt.alloc(), trace, &totals)
 }
 
 #[test]
@@ -119,7 +113,7 @@ fn the_highest_address_lies_in_the_last_block(rt: HostRuntime) -> Result<(), Fai
         b"0 0000ffffffffffffffff\n2 fffffffffffffff8\n",
     ];
     for trace in traces {
-        assert!(rt; reports(&rt, rt.alloc(), &config()?, &EVERYTHING, trace, &totals)?);
+        is_counted(&rt, rt.alloc(), trace, &totals)?;
     }
     Ok(())
 }
@@ -132,17 +126,7 @@ fn addresses_keep_their_high_bits(rt: HostRuntime) -> Result<(), Fail> {
         u: two,
         ..Totals::default()
     };
-    assert!(rt;
-        reports(
-            &rt,
-            rt.alloc(),
-            &config()?,
-            &EVERYTHING,
-            b"0 100000000\n0 0\n",
-            &totals
-        )?
-    );
-    Ok(())
+    is_counted(&rt, rt.alloc(), b"0 100000000\n0 0\n", &totals)
 }
 
 /// How a run over the text that is cut behind so many bytes is to end.
@@ -185,15 +169,5 @@ fn a_shorter_address_at_the_cut_is_simulated(rt: HostRuntime) -> Result<(), Fail
         u,
         ..Totals::default()
     };
-    assert!(rt;
-        reports(
-            &rt,
-            rt.alloc(),
-            &config()?,
-            &EVERYTHING,
-            b"1 0\n0 8\n0 1",
-            &totals
-        )?
-    );
-    Ok(())
+    is_counted(&rt, rt.alloc(), b"1 0\n0 8\n0 1", &totals)
 }

@@ -1,9 +1,8 @@
 //! Writers that fail, and when a writer is flushed.
 
 use super::layout::ONE_WRITE_BACK;
-use super::{run_in_threads, run_plainly};
+use super::{fault_in_threads, run_plainly};
 use crate::fault::RunFault;
-use crate::gate::OpenGate;
 use crate::report::{write_block, write_report};
 use cache_core::Counts;
 use din_trace::FromWrite;
@@ -74,9 +73,9 @@ fn run<H: Threads + Wait + Abort + Sync>(
     writer: &mut Narrow,
 ) -> Result<Result<(), RunFault>, Fail> {
     let mut other = with_room(writer.room, writer.can_flush);
-    let ended = run_in_threads(rt, alloc, trace, &OpenGate, &mut other)?;
+    let ended = fault_in_threads(rt, alloc, trace, &mut other)?;
     let plain = run_plainly(alloc, trace, &mut *writer)?;
-    assert_eq!(rt; ended.err(), plain.err());
+    assert_eq!(rt; ended, plain.err());
     assert_eq!(rt; other.told(), writer.told());
     Ok(plain)
 }
