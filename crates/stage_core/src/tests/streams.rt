@@ -9,7 +9,7 @@ use crate::merge::Merge;
 use crate::message::{FromStage, Routed, Side, ToStage, Turn, Want, What};
 use crate::selection::Selection;
 use crate::splitter::Splitter;
-use cache_core::{Class, MAX_EVENTS, PerClass, Policy};
+use cache_core::{Class, Counts, MAX_EVENTS, PerClass, Policy};
 use din_trace::{DinRecord, MAX_LIMIT};
 use std::alloc::Global;
 use std::process::Abort;
@@ -336,16 +336,18 @@ fn finishes(rt: &impl Abort, stage: &mut L1Stage, sent: &mut Vec<FromStage>) -> 
     Ok(())
 }
 
+fn finishes_new(rt: &impl Abort, alloc: Global, sent: &mut Vec<FromStage>) -> Result<(), Fail> {
+    let (geometry, policy) = config(data())?.d();
+    let mut stage = L1Stage::new(alloc, Side::D, geometry, policy)?;
+    finishes(rt, &mut stage, sent)
+}
+
 #[test]
 fn a_stage_sends_finish_last(rt: HostRuntime) -> Result<(), Fail> {
-    let (geometry, policy) = config(data())?.d();
     let mut sent = Vec::new(rt.alloc());
-    let mut stage = L1Stage::new(rt.alloc(), Side::D, geometry, policy)?;
-    finishes(&rt, &mut stage, &mut sent)?;
-    assert_eq!(rt;
-        sent.as_slice(),
-        [part(1, 1, fetch(0)), done(1, 1), FromStage::Finish].as_slice()
-    );
+    finishes_new(&rt, rt.alloc(), &mut sent)?;
+    let wanted = [part(1, 1, fetch(0)), done(1, 1), FromStage::Finish];
+    assert_eq!(rt; sent.as_slice(), wanted.as_slice());
     Ok(())
 }
 
@@ -363,13 +365,17 @@ fn serves(rt: &impl Abort, stage: &mut L2Stage) -> Result<(), Fail> {
     Ok(())
 }
 
+// What a new second level counts then.
+fn served(rt: &impl Abort, alloc: Global) -> Result<Counts, Fail> {
+    let (geometry, policy) = config(data())?.u();
+    let mut stage = L2Stage::new(alloc, geometry, policy)?;
+    serves(rt, &mut stage)?;
+    Ok(stage.counts())
+}
+
 #[test]
 fn the_second_level_serves_each_part(rt: HostRuntime) -> Result<(), Fail> {
-    let (geometry, policy) = config(data())?.u();
-    let mut stage = L2Stage::new(rt.alloc(), geometry, policy)?;
-    serves(&rt, &mut stage)?;
-    let counts = stage.counts();
-    drop(stage);
+    let counts = served(&rt, rt.alloc())?;
     let reads = PerClass {
         read: 1,
         ..PerClass::default()

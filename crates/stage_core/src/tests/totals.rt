@@ -13,6 +13,7 @@ use crate::totals::Totals;
 use cache_core::{Counts, GeometryFault, PerClass, Policy, Repl};
 use din_trace::DinRecord;
 use std::alloc::Global;
+use std::process::Abort;
 use std::test::Fail;
 
 fn totals_of(alloc: Global, d: CacheSpec, every: u64, records: &[DinRecord]) -> Result<Totals, Fail>
@@ -22,14 +23,29 @@ fn totals_of(alloc: Global, d: CacheSpec, every: u64, records: &[DinRecord]) -> 
     Ok(run_plain(alloc, &config(d)?, &selection(every), records)?)
 }
 
+// These records bring these counts of the data cache and the second level, and none of I.
+fn comes_to(
+    rt: &impl Abort,
+    alloc: Global,
+    spec: CacheSpec,
+    records: &[DinRecord],
+    d: Counts,
+    u: Counts,
+) -> Result<(), Fail>
+    requires short { length records.now ≤ 2 ^ 40 }
+{
+    let totals = totals_of(alloc, spec, 0, records)?;
+    let i = Counts::default();
+    assert_eq!(rt; totals, Totals { i, d, u });
+    Ok(())
+}
+
 #[test]
 fn a_block_in_use_stays(rt: HostRuntime) -> Result<(), Fail> {
     let trace = [read(0), read(8), read(0), read(16), read(0)];
-    let totals = totals_of(rt.alloc(), data(), 0, &trace)?;
-    assert_eq!(rt; totals.i, Counts::default());
-    assert_eq!(rt; totals.d, first_misses(reads(5), reads(3), 3));
-    assert_eq!(rt; totals.u, first_misses(reads(3), reads(3), 3));
-    Ok(())
+    let d = first_misses(reads(5), reads(3), 3);
+    let u = first_misses(reads(3), reads(3), 3);
+    comes_to(&rt, rt.alloc(), data(), &trace, d, u)
 }
 
 #[test]
@@ -40,23 +56,17 @@ fn first_in_first_out_forgets_uses(rt: HostRuntime) -> Result<(), Fail> {
         walloc: true,
     };
     let trace = [read(0), read(8), read(0), read(16), read(0)];
-    let totals = totals_of(
-        rt.alloc(),
-        CacheSpec {
-            policy: fifo,
-            ..data()
-        },
-        0,
-        &trace,
-    )?;
+    let spec = CacheSpec {
+        policy: fifo,
+        ..data()
+    };
     let d = Counts {
         conflict: reads(1),
         compulsory: reads(3),
         ..first_misses(reads(5), reads(4), 4)
     };
-    assert_eq!(rt; totals.d, d);
-    assert_eq!(rt; totals.u, first_misses(reads(4), reads(3), 3));
-    Ok(())
+    let u = first_misses(reads(4), reads(3), 3);
+    comes_to(&rt, rt.alloc(), spec, &trace, d, u)
 }
 
 #[test]
@@ -66,18 +76,16 @@ fn write_through_sends_each_write_on(rt: HostRuntime) -> Result<(), Fail> {
         wback: false,
         walloc: true,
     };
-    let d = CacheSpec {
+    let spec = CacheSpec {
         policy: through,
         ..data()
     };
-    let totals = totals_of(rt.alloc(), d, 0, &[write(2), write(2)])?;
     let d = Counts {
         sent_on: 2,
         ..first_misses(writes(2), writes(1), 1)
     };
-    assert_eq!(rt; totals.d, d);
-    assert_eq!(rt; totals.u, first_misses(both(1, 2), reads(1), 1));
-    Ok(())
+    let u = first_misses(both(1, 2), reads(1), 1);
+    comes_to(&rt, rt.alloc(), spec, &[write(2), write(2)], d, u)
 }
 
 #[test]
@@ -87,20 +95,18 @@ fn a_write_without_allocation_brings_nothing_in(rt: HostRuntime) -> Result<(), F
         wback: true,
         walloc: false,
     };
-    let d = CacheSpec {
+    let spec = CacheSpec {
         policy: around,
         ..data()
     };
-    let totals = totals_of(rt.alloc(), d, 0, &[write(0), read(0)])?;
     let d = Counts {
         compulsory: writes(1),
         capacity: reads(1),
         sent_on: 1,
         ..first_misses(both(1, 1), both(1, 1), 1)
     };
-    assert_eq!(rt; totals.d, d);
-    assert_eq!(rt; totals.u, first_misses(both(1, 1), writes(1), 1));
-    Ok(())
+    let u = first_misses(both(1, 1), writes(1), 1);
+    comes_to(&rt, rt.alloc(), spec, &[write(0), read(0)], d, u)
 }
 
 #[test]
@@ -142,21 +148,24 @@ fn a_sweep_over_more_than_fits_always_misses(rt: HostRuntime) -> Result<(), Fail
 #[test]
 fn a_flushed_block_stays_known(rt: HostRuntime) -> Result<(), Fail> {
     let totals = totals_of(rt.alloc(), data(), 0, &[read(0), flush(), read(0)])?;
-    assert_eq!(rt;
-        totals.i,
-        Counts {
-            flushes: 1,
-            ..Counts::default()
-        }
-    );
+    let i = Counts {
+        flushes: 1,
+        ..Counts::default()
+    };
     let twice = Counts {
         compulsory: reads(1),
         capacity: reads(1),
         flushes: 1,
         ..first_misses(reads(2), reads(2), 2)
     };
-    assert_eq!(rt; totals.d, twice);
-    assert_eq!(rt; totals.u, twice);
+    assert_eq!(rt;
+        totals,
+        Totals {
+            i,
+            d: twice,
+            u: twice
+        }
+    );
     Ok(())
 }
 
@@ -177,32 +186,24 @@ fn the_second_level_is_shared(rt: HostRuntime) -> Result<(), Fail> {
 
 #[test]
 fn a_miscellaneous_reference_is_read_above(rt: HostRuntime) -> Result<(), Fail> {
-    let totals = totals_of(rt.alloc(), data(), 0, &[misc(0), read(0)])?;
     let once = PerClass {
         misc: 1,
         ..PerClass::default()
     };
-    assert_eq!(rt;
-        totals.d,
-        first_misses(
-            PerClass {
-                misc: 1,
-                ..reads(1)
-            },
-            once,
-            1
-        )
-    );
-    assert_eq!(rt; totals.u, first_misses(reads(1), reads(1), 1));
-    Ok(())
+    let both = PerClass {
+        misc: 1,
+        ..reads(1)
+    };
+    let d = first_misses(both, once, 1);
+    let u = first_misses(reads(1), reads(1), 1);
+    comes_to(&rt, rt.alloc(), data(), &[misc(0), read(0)], d, u)
 }
 
 #[test]
 fn addresses_are_wide(rt: HostRuntime) -> Result<(), Fail> {
-    let totals = totals_of(rt.alloc(), data(), 0, &[read(0x1_0000_0000), read(0)])?;
-    assert_eq!(rt; totals.d, first_misses(reads(2), reads(2), 2));
-    assert_eq!(rt; totals.u, first_misses(reads(2), reads(2), 2));
-    Ok(())
+    let twice = first_misses(reads(2), reads(2), 2);
+    let trace = [read(0x1_0000_0000), read(0)];
+    comes_to(&rt, rt.alloc(), data(), &trace, twice, twice)
 }
 
 #[test]
