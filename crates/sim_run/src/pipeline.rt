@@ -188,6 +188,7 @@ fn all_ended<A: Drop, B: Drop, C: Drop>(
     ensures i { IfOk result (λ ends. i ≡ Ok ends.0) }
     ensures d { IfOk result (λ ends. d ≡ Ok ends.1) }
     ensures merge { IfOk result (λ ends. merge ≡ Ok ends.2) }
+    ensures all { IsOk i → IsOk d → IsOk merge → IsOk result }
     ensures stopped { IfErr result (λ why. (why ≡ RunFault.Memory) ⊎ (why ≡ RunFault.Cut)) }
 {
     match (i, d, merge) {
@@ -201,6 +202,7 @@ fn settle(totals: Totals, rings: Rings) -> Result<Settled, RunFault>
     requires { ArePaired rings }
     ensures settled { IfOk result (λ settled. (settled.totals ≡ totals)
         × SameRings rings settled.rings × AllReceived settled.rings) }
+    ensures all { AllReceived rings → IsOk result }
     ensures cut { IfErr result (λ why. why ≡ RunFault.Cut) }
 {
     let mut rings = rings;
