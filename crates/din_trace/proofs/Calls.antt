@@ -1,8 +1,10 @@
 -- Calls of a source, one after another.
-use Rattle.std.proofs.Common.{◌≡◌, ℕ, List, Option, refl}
+use Rattle.std.proofs.Common.{◌≡◌, ℕ, List, Option, Result, refl, subst}
+use Rattle.din_trace.specs.declared.record.DinRecord.{DinRecord}
+use Rattle.din_trace.specs.declared.fault.TraceFault.{TraceFault}
 use Rattle.din_trace.specs.declared.source.Source.{Source}
-use Rattle.din_trace.specs.Left.{Script, Fate, Open, Follows}
-use Rattle.din_trace.specs.Source.{reader_of, taken_by, IsSettled, Settles, Takes}
+use Rattle.din_trace.specs.Left.{Left, Script, Fate, Open, Follows, first_answer, behind_first}
+use Rattle.din_trace.specs.Source.{reader_of, taken_by, HasLeft, IsSettled, Settles, Takes}
 use Rattle.din_trace.proofs.Scripts.{Composed, compose, consumes-nothing}
 use Rattle.std.proofs.Common.{[], arith}
 
@@ -44,14 +46,53 @@ module _ {R : Type 0} (remaining : R → Option (List ℕ)) (failures : R
             all.between;
       }
 
--- no call yet
-pub no_calls : {R : Type 0} (remaining : R → Option (List ℕ)) (failures : R → ℕ) (a : Source R)
-    → Takes remaining failures a a [] Open
-unfolding Settles
-no_calls remaining failures a =
-    record {
-      reader = (consumes-nothing (remaining (reader_of a)), refl);
-      settles = tt;
-      taken =
-          omega arith;
-    }
+module _ {R : Type 0} (remaining : R → Option (List ℕ)) (failures : R → ℕ) where
+  -- calls that asked nothing of the reader
+  pub asks_nothing : (a b : Source R) → reader_of b ≡ reader_of a → taken_by b ≡ taken_by a
+      → Takes remaining failures a b [] Open
+  unfolding Settles
+  asks_nothing a b same taken =
+      record {
+        reader = rw same (consumes-nothing (remaining (reader_of a)), refl);
+        settles = tt;
+        taken = omega (arith, taken);
+      }
+
+  -- no call yet
+  pub no_calls : (a : Source R) → Takes remaining failures a a [] Open
+  no_calls a = asks_nothing a a refl refl
+
+  -- what `next` says of its reader and its answer
+  abbrev pub Answers : Source R → Source R → Result (Option DinRecord) TraceFault → Type 0
+  Answers old new answer = (given : List ℕ) × (fate : Fate)
+      × Takes remaining failures old new given fate
+      × ((before later : Script) (l : Left) → Follows fate given before later
+      → HasLeft old before l → (answer ≡ first_answer l) × HasLeft new later (behind_first l))
+
+  -- an answer at hand is an answer of `next`
+  pub answers-at_hand : (a b : Source R) (answer : Result (Option DinRecord) TraceFault)
+      → Takes remaining failures a b [] Open
+      → ((script : Script) (l : Left) → HasLeft a script l
+      → (answer ≡ first_answer l) × HasLeft b script (behind_first l)) → Answers a b answer
+  answers-at_hand a b answer went left = (
+    [],
+    Open,
+    went,
+    λ before later l is has. left later l (subst (λ script. HasLeft a script l) is has),
+  )
+
+  -- and so is that of a `next` behind it, where none was at hand
+  pub answers-asked : (a b c : Source R) (answer : Result (Option DinRecord) TraceFault)
+      → Takes remaining failures a b [] Open
+      → ((script : Script) (l : Left) → HasLeft a script l → HasLeft b script l)
+      → Answers b c answer → (IsSettled b → c ≡ b) → Answers a c answer
+  answers-asked a b c answer went left next settled =
+      let all = calls remaining failures a b c [] next.0 Open next.1 went next.2 settled in (
+        all.given,
+        all.fate,
+        all.went,
+        λ before later l is has.
+            let mid = all.between before later is in
+            next.3 mid.0 later l mid.2
+            (left mid.0 l (subst (λ script. HasLeft a script l) mid.1 has)),
+      )

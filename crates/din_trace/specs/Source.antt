@@ -1,6 +1,7 @@
 -- What contracts see of a source: its reader, how many bytes it took, and what it has left.
 use Rattle.std.specs.Prelude.{◌≡◌, ℕ, ◌+◌, false, List, length, Option}
 use Rattle.din_trace.specs.declared.source.Source.{Source}
+use Rattle.din_trace.specs.declared.backlog.State.TheVariants as state
 use Rattle.din_trace.specs.Left.{Left, Script, Fate, FateIs}
 use Rattle.din_trace.specs.State.{is_reading, Closes}
 use Rattle.din_trace.specs.Backlog as backlog
@@ -28,6 +29,10 @@ HasLeft source script l = backlog.HasLeft source.backlog script l
 -- it has ended or failed, and asks its reader no more
 unfoldable pub IsSettled : {R : Type 0} → Source R → Type 0
 IsSettled source = is_reading source.backlog.state ≡ false
+
+-- it goes on, and holds no byte that it has not read: it has to ask its reader
+unfoldable pub MustAsk : {R : Type 0} → Source R → Type 0
+MustAsk source = (source.backlog.state ≡ state.Reading) × (source.backlog.at ≡ source.backlog.filled)
 
 -- a reader that ended or failed settles it
 unfoldable pub Settles : {R : Type 0} → Fate → Source R → Type 0

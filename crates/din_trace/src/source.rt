@@ -1,12 +1,13 @@
 //! A trace from any reader, record by record.
 
 ghost use Rattle.std.specs.Prelude.{◌≡◌, ◌≢◌, ◌⊎◌, ℕ, true, false, None, Some, ◌+◌, ◌<◌, ◌≤◌, List};
-ghost use Rattle.std.specs.Prelude.{[], MatchResult, IfOk, IsSome, vec_len};
+ghost use Rattle.std.specs.Prelude.{[], MatchResult, MatchOption, IfOk, IfSome, IfNone, IsSome};
+ghost use Rattle.std.specs.Prelude.{vec_len};
 ghost use Rattle.din_trace.specs.Line.{ADDRESS_MAX};
-ghost use Rattle.din_trace.specs.Left.{Left, Script, Fate, Follows, text_left, first_answer};
+ghost use Rattle.din_trace.specs.Left.{Left, Script, Fate, Open, Follows, text_left, first_answer};
 ghost use Rattle.din_trace.specs.Left.{behind_first};
 ghost use Rattle.din_trace.specs.Source.{reader_of, limit_of, taken_by, room_of, HasLeft};
-ghost use Rattle.din_trace.specs.Source.{IsSettled, Takes};
+ghost use Rattle.din_trace.specs.Source.{IsSettled, MustAsk, Takes};
 
 use crate::backlog::Backlog;
 use crate::device::{ByteReader, DeviceFailed};
@@ -23,7 +24,7 @@ pub struct Source<R> {
     backlog: Backlog,
 }
 
-#[tactic(auto, unfolding(crate::specs::Source::reader_of, crate::specs::Source::limit_of, crate::specs::Source::taken_by, crate::specs::Source::room_of, crate::specs::Source::HasLeft, crate::specs::Source::IsSettled, crate::specs::Source::Settles))]
+#[tactic(auto, unfolding(crate::specs::Source::reader_of, crate::specs::Source::limit_of, crate::specs::Source::taken_by, crate::specs::Source::room_of, crate::specs::Source::HasLeft, crate::specs::Source::IsSettled, crate::specs::Source::MustAsk, crate::specs::Source::Settles))]
 impl<R: ByteReader> Source<R> {
     /// The trace that this reader gives, of at most `limit` bytes.
     pub fn new(reader: R, limit: u64) -> Source<R>
@@ -39,6 +40,33 @@ impl<R: ByteReader> Source<R> {
             reader,
             backlog: Backlog::new(limit),
         }
+    }
+
+    /// What `next` would answer, where the bytes that are held decide it. `None` where `next` would
+    /// ask the reader, which this call never does.
+    pub fn at_hand(&mut self) -> Option<Result<Option<DinRecord>, TraceFault>>
+        // An answer is the first of what was left, and the others stay left. With no answer all stays.
+        ensures reads { Takes R.remaining R.failures self.old self.new [] Open
+            × ((script : Script) (l : Left) → HasLeft self.old script l
+            → MatchOption result (HasLeft self.new script l)
+            (λ answer. (answer ≡ first_answer l) × HasLeft self.new script (behind_first l))) }
+        ensures reader { reader_of self.new ≡ reader_of self.old }
+        // With no answer no line that the reader gave whole has one left: if the reader failed now,
+        // nothing would be left but that.
+        ensures asks { IfNone result (MustAsk self.new) }
+        ensures lazy { IfNone result ((l : Left)
+            → HasLeft self.old (record { given = []; fails = true }) l
+            → l ≡ record { records = []; fault = Some TraceFault.Read }) }
+        ensures settled { IsSettled self.old → IsSome result × (self.new ≡ self.old) }
+        ensures taken { taken_by self.new ≡ taken_by self.old }
+        ensures limit { limit_of self.new ≡ limit_of self.old }
+        ensures bound { taken_by self.new ≤ limit_of self.new + 1 }
+        ensures records { IfSome result (λ answer. IfOk answer (λ found. IsSome found
+            → room_of self.new < room_of self.old)) }
+        ensures room { room_of self.old ≤ MAX_LIMIT }
+        ensures no_more { room_of self.new ≤ room_of self.old }
+    {
+        self.backlog.answer()
     }
 
     /// The next record, `None` at the end, or the fault. `TraceFault::Memory` is answered only
@@ -64,7 +92,7 @@ impl<R: ByteReader> Source<R> {
         ensures room { room_of self.old ≤ MAX_LIMIT }
     {
         'asks: loop {
-            if let Some(answer) = self.backlog.answer() {
+            if let Some(answer) = self.at_hand() {
                 return answer;
             }
             match self.backlog.refill(&mut self.reader) {

@@ -39,6 +39,53 @@ fn asks_its_reader_only_where_no_line_waits(rt: HostRuntime) {
     assert!(rt; source.next() == Err(TraceFault::Read));
 }
 
+#[test]
+fn has_at_hand_what_was_given_whole(rt: HostRuntime) {
+    let mut source = Source::new(in_pieces(b"2 0\n\n2 4\n2 8\n", 65536, true), MAX_LIMIT);
+    assert!(rt; source.at_hand() == None);
+    assert!(rt; source.next() == Ok(Some(fetch(0))));
+    assert!(rt; source.at_hand() == Some(Ok(Some(fetch(4)))));
+    assert!(rt; source.next() == Ok(Some(fetch(8))));
+    assert!(rt; source.at_hand() == None);
+    assert!(rt; source.next() == Err(TraceFault::Read));
+    assert!(rt; source.at_hand() == Some(Err(TraceFault::Read)));
+}
+
+#[test]
+fn has_nothing_at_hand_in_blank_lines(rt: HostRuntime) {
+    let mut source = Source::new(in_pieces(b"2 0\n\n \t\n\r\n", 65536, false), MAX_LIMIT);
+    assert!(rt; source.next() == Ok(Some(fetch(0))));
+    assert!(rt; source.at_hand() == None);
+    assert!(rt; source.at_hand() == None);
+    assert!(rt; source.next() == Ok(None));
+    assert!(rt; source.at_hand() == Some(Ok(None)));
+    assert!(rt; source.at_hand() == Some(Ok(None)));
+}
+
+#[test]
+fn has_nothing_at_hand_in_half_a_line(rt: HostRuntime) {
+    let mut source = Source::new(in_pieces(b"2 0\n2 4c\n2 5", 6, false), MAX_LIMIT);
+    assert!(rt; source.next() == Ok(Some(fetch(0))));
+    assert!(rt; source.at_hand() == None);
+    assert!(rt; source.at_hand() == None);
+    assert!(rt; source.next() == Ok(Some(fetch(0x4c))));
+    assert!(rt; source.at_hand() == None);
+    assert!(rt; source.next() == Ok(Some(fetch(5))));
+    assert!(rt; source.at_hand() == Some(Ok(None)));
+}
+
+#[test]
+fn has_faults_at_hand(rt: HostRuntime) {
+    let mut source = Source::new(in_pieces(b"2 0\n2\n2 4\n", 65536, false), MAX_LIMIT);
+    assert!(rt; source.next() == Ok(Some(fetch(0))));
+    assert!(rt; source.at_hand() == Some(Err(bad(2, Why::Gap))));
+    assert!(rt; source.at_hand() == Some(Err(bad(2, Why::Gap))));
+    let mut source = Source::new(in_pieces(b"2 0\n2 4\n", 65536, false), 4);
+    assert!(rt; source.next() == Ok(Some(fetch(0))));
+    assert!(rt; source.at_hand() == Some(Err(TraceFault::TooLong)));
+    assert!(rt; source.next() == Err(TraceFault::TooLong));
+}
+
 /// Lines of every form that holds a record, a blank one, and a faulty one.
 static MIXED: &[u8] = b"0 7fff5a8\n\
     1 0x7ffe0010\r\n\

@@ -10,26 +10,26 @@ use Rattle.din_trace.proofs.Scripts.{left-closed}
 use Rattle.din_trace.proofs.source.Source.next.Goals as goal
 
 pub asks-preserved : goal.asks-preserved
-unfolding words.reader_of words.limit_of words.taken_by words.room_of words.HasLeft words.IsSettled words.Settles
+unfolding words.reader_of words.limit_of words.taken_by words.room_of words.HasLeft words.IsSettled words.MustAsk words.Settles
 asks-preserved g c =
     let now = c.asks.invariant in
     let more = c.in-Ok.ensures.given in
     record {
-      started = elim now.started [ inl e ↦ inr (rw e at c.in_default.ensures.dry) | inr h ↦ inr h ];
-      room_less = omega (arith, c.answer.ensures.room, c.refill.ensures.room, now.room_less);
+      started = elim now.started [ inl e ↦ inr (rw e at c.in_default.ensures.lazy) | inr h ↦ inr h ];
+      room_less = omega (arith, c.at_hand.ensures.no_more, c.refill.ensures.room, now.room_less);
       settled = λ is. let e : is_reading c.asks.self.backlog.state ≡ false =
           rw (now.settled is) is in absurd (false≢true (c.in_default.ensures.settled e).0);
       limit_same = omega (arith, c.in_default.ensures.limit, c.refill.ensures.limit);
-      failures_same = c.in-Ok.ensures.ok ∙ now.failures_same;
+      failures_same = c.in-Ok.ensures.ok ∙ ap g.R.ByteReader.failures c.at_hand.ensures.reader ∙ now.failures_same;
       given = now.given ++ more.0;
       consumed =
           consumes-append (g.R.ByteReader.remaining c.args.self.now.reader)
-          (g.R.ByteReader.remaining c.asks.self.reader)
-          (g.R.ByteReader.remaining c.refill.new.reader) now.given more.0 now.consumed more.2;
+          (g.R.ByteReader.remaining c.at_hand.new.self.reader)
+          (g.R.ByteReader.remaining c.refill.new.reader) now.given more.0 (rw c.at_hand.ensures.reader now.consumed) more.2;
       count = simp length-append (omega (arith, c.in-Ok.ensures.taken, more.1));
       left_same =
           λ script left h. more.3 script left
-          (c.in_default.ensures.goes_on
+          (c.in_default.ensures.reads.1
           (record { given = more.0 ++ script.given; fails = script.fails }) left
           (now.left_same (record { given = more.0 ++ script.given; fails = script.fails }) left
           (left-regrouped c.args.self.now.backlog script.fails left now.given more.0 script.given
@@ -37,7 +37,7 @@ asks-preserved g c =
     }
 
 pub returns-in-Err-clause-reads : goal.returns-in-Err-clause-reads
-unfolding words.reader_of words.limit_of words.taken_by words.room_of words.HasLeft words.IsSettled words.Settles
+unfolding words.reader_of words.limit_of words.taken_by words.room_of words.HasLeft words.IsSettled words.MustAsk words.Settles
 returns-in-Err-clause-reads g c =
     let now = c.asks.invariant in (
       now.given,
@@ -45,10 +45,11 @@ returns-in-Err-clause-reads g c =
       record {
         reader = (
           consumes-kept (g.R.ByteReader.remaining c.args.self.now.reader)
-              (g.R.ByteReader.remaining c.asks.self.reader)
-              (g.R.ByteReader.remaining c.refill.new.reader) now.given now.consumed
+              (g.R.ByteReader.remaining c.at_hand.new.self.reader)
+              (g.R.ByteReader.remaining c.refill.new.reader) now.given
+              (rw c.at_hand.ensures.reader now.consumed)
               c.in-Err.ensures.err.1,
-          c.in-Err.ensures.err.0 ∙ ap once_more now.failures_same,
+          c.in-Err.ensures.err.0 ∙ ap once_more (ap g.R.ByteReader.failures c.at_hand.ensures.reader ∙ now.failures_same),
         );
         settles = c.fail.ensures.closed;
         taken = omega (arith, c.in-Err.ensures.taken_none, now.count);
@@ -57,14 +58,14 @@ returns-in-Err-clause-reads g c =
           let then =
           c.fail.ensures.answer l
           (c.in-Err.ensures.same (record { given = []; fails = true }) l
-          (c.in_default.ensures.goes_on (record { given = []; fails = true }) l
+          (c.in_default.ensures.reads.1 (record { given = []; fails = true }) l
           (now.left_same (record { given = []; fails = true }) l
           (left-closed c.args.self.now.backlog true l now.given before is left)))) in
           (then.0, then.1 later),
     )
 
 pub returns-then-count-eq0-clause-reads : goal.returns-then-count-eq0-clause-reads
-unfolding words.reader_of words.limit_of words.taken_by words.room_of words.HasLeft words.IsSettled words.Settles
+unfolding words.reader_of words.limit_of words.taken_by words.room_of words.HasLeft words.IsSettled words.MustAsk words.Settles
 returns-then-count-eq0-clause-reads g c =
     let now = c.asks.invariant in
     let more = c.in-Ok.ensures.given in
@@ -74,17 +75,18 @@ returns-then-count-eq0-clause-reads g c =
       record {
         reader = (
           consumes-none (g.R.ByteReader.remaining c.args.self.now.reader)
-              (g.R.ByteReader.remaining c.asks.self.reader)
-              (g.R.ByteReader.remaining c.refill.new.reader) now.given now.consumed
+              (g.R.ByteReader.remaining c.at_hand.new.self.reader)
+              (g.R.ByteReader.remaining c.refill.new.reader) now.given
+              (rw c.at_hand.ensures.reader now.consumed)
               (rw none at more.2),
           c.in-Ok.ensures.end c.if-count-eq0.true,
-          c.in-Ok.ensures.ok ∙ now.failures_same,
+          c.in-Ok.ensures.ok ∙ ap g.R.ByteReader.failures c.at_hand.ensures.reader ∙ now.failures_same,
         );
         settles = c.end.ensures.closed;
         taken = omega (arith, c.in-Ok.ensures.taken, now.count);
       },
       λ before later l is left.
-          let held = c.in_default.ensures.goes_on (record { given = []; fails = false }) l
+          let held = c.in_default.ensures.reads.1 (record { given = []; fails = false }) l
           (now.left_same (record { given = []; fails = false }) l
           (left-closed c.args.self.now.backlog false l now.given before is left)) in
           let then =
