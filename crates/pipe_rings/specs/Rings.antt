@@ -1,17 +1,26 @@
 -- What a contract sees of the two ends of a ring: which ring, what was sent, what was received.
-use Rattle.std.specs.Prelude.{◌≡◌, ℕ, List, ◌++◌, length}
+use Rattle.std.specs.Prelude.{◌≡◌, ℕ, ◌-◌, ◌<◌, List, ◌++◌, length, take, drop}
 use Rattle.rtrb.specs.Ring as ring
 use Rattle.pipe_rings.specs.declared.tx.Tx.{Tx}
 use Rattle.pipe_rings.specs.declared.rx.Rx.{Rx}
 
 module _ {T : Type 0} where
-  -- every item sent so far, oldest first
-  abbrev pub sent : Tx T → List T
-  sent tx = ring.sent tx.end
+  -- the items in a sender's outbox: they were posted, and are not yet in the ring
+  unfoldable pub posted : Tx T → List T
+  posted tx = drop tx.first tx.outbox.items
 
-  -- every item received so far, oldest first
-  abbrev pub received : Rx T → List T
-  received rx = ring.received rx.end
+  -- every item sent so far, oldest first: those that went into the ring, then those in the outbox
+  unfoldable pub sent : Tx T → List T
+  sent tx = ring.sent tx.end ++ drop tx.first tx.outbox.items
+
+  -- the outbox has room for another item
+  unfoldable pub HasRoom : Tx T → Type 0
+  HasRoom tx = length tx.outbox.items < 512
+
+  -- every item received so far, oldest first: those that came out of the ring, without the ones that
+  -- are left of the batch
+  unfoldable pub received : Rx T → List T
+  received rx = take (length (ring.received rx.end) - rx.left) (ring.received rx.end)
 
   -- the two ends of one ring
   abbrev pub AreEnds : Tx T → Rx T → Type 0

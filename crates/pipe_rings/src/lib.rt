@@ -21,9 +21,12 @@ ghost use Rattle.std.specs.Prelude.{◌≡◌, ◌≤◌, [], IfOk};
 ghost use Rattle.pipe_rings.specs.Rings.{sent, received, AreEnds, SameTx, SameRx, IsBehindBy};
 
 use rtrb::RingBuffer;
+use rx::BATCH;
 pub use rx::{Rx, SenderGone};
 use std::alloc::Global;
-pub use tx::{Gone, Tx};
+pub use tx::{Gone, OUTBOX, Tx};
+pub use wait::Bell;
+use wait::Patience;
 
 /// The memory for a ring was refused.
 #[derive(Debug, Clone, Copy, PartialEq, Eq)]
@@ -35,18 +38,60 @@ pub fn ring<T: Copy>(alloc: Global, capacity: usize) -> Result<(Tx<T>, Rx<T>), N
     ensures one { IfOk result (λ r. AreEnds r.0 r.1) }
     ensures new { IfOk result (λ r. (sent r.0 ≡ []) × (received r.1 ≡ [])) }
 {
-    match RingBuffer::new(alloc, capacity) {
-        Ok((producer, consumer)) => Ok((Tx { end: producer }, Rx { end: consumer })),
-        Err(_) => Err(NoMemory),
-    }
+    let sender = Bell::new(alloc)?;
+    let receiver = Bell::new(alloc)?;
+    ring_between(alloc, capacity, &sender, &receiver)
+}
+
+/// The same, between a thread that sends and one that receives: each sleeps by its own bell, and the
+/// other one wakes it.
+#[tactic(auto, unfolding(crate::specs::Rings::sent, crate::specs::Rings::received))]
+pub fn ring_between<T: Copy>(
+    alloc: Global,
+    capacity: usize,
+    sender: &Bell,
+    receiver: &Bell,
+) -> Result<(Tx<T>, Rx<T>), NoMemory>
+    requires { (1 ≤ capacity) × (capacity ≤ 65536) }
+    ensures one { IfOk result (λ r. AreEnds r.0 r.1) }
+    ensures new { IfOk result (λ r. (sent r.0 ≡ []) × (received r.1 ≡ [])) }
+{
+    let Ok((producer, consumer)) = RingBuffer::new(alloc, capacity) else {
+        return Err(NoMemory);
+    };
+    let Ok(outbox) = Vec::with_capacity(alloc, OUTBOX) else {
+        return Err(NoMemory);
+    };
+    let Ok(batch) = Vec::with_capacity(alloc, BATCH) else {
+        return Err(NoMemory);
+    };
+    let tx = Tx {
+        end: producer,
+        outbox,
+        first: 0,
+        patience: Patience::new(),
+        own: sender.share()?,
+        peer: receiver.share()?,
+    };
+    let rx = Rx {
+        end: consumer,
+        batch,
+        count: 0,
+        left: 0,
+        patience: Patience::new(),
+        own: receiver.share()?,
+        peer: sender.share()?,
+    };
+    Ok((tx, rx))
 }
 
 /// How many items were sent and not yet received.
+#[tactic(auto, unfolding(crate::specs::Rings::sent, crate::specs::Rings::received, crate::specs::Rings::posted))]
 pub fn settle<T: Copy>(tx: &mut Tx<T>, rx: &mut Rx<T>) -> usize
     requires { AreEnds tx.old rx.old }
     ensures sender { SameTx tx.old tx.new × (sent tx.new ≡ sent tx.old) }
     ensures receiver { SameRx rx.old rx.new × (received rx.new ≡ received rx.old) }
     ensures left { IsBehindBy result (sent tx.new) (received rx.new) }
 {
-    rx.end.slots_beside(&mut tx.end)
+    rx.end.slots_beside(&mut tx.end) + rx.left + tx.posted()
 }

@@ -1,37 +1,106 @@
-//! How an end waits for the other one.
+//! How a thread waits at its end of a ring, and how the other end wakes it.
 
+use crate::NoMemory;
+use std::alloc::Global;
+use std::sync::Arc;
 use std::sync::Wait;
 use std::sync::atomic::{AtomicU64, Ordering};
 use std::time::Duration;
 
-/// How many steps an end takes between two looks, for each place of its ring. A look takes from the
-/// other end's core the line that it is about to write, so an end that looked all the time would
-/// hold the other one up; and one that looked too seldom would let the ring run full or empty.
-const STEPS: u32 = 4;
+/// A thread that is awake need not be woken.
+const AWAKE: u64 = 0;
 
-/// A ring with more places than this counts as one with so many.
-const PLACES: usize = 1_024;
+/// A thread sleeps, or is about to look a last time before it does.
+const ASLEEP: u64 = 1;
 
-/// An end that took so many steps in vain, which takes about as long as the shortest sleep, sleeps.
-const STEPS_AWAKE: u32 = 8_192;
+/// How many steps a thread takes between two looks while it stays awake.
+const STEPS: u32 = 64;
 
-/// How often a sleep of a microsecond is doubled at most.
-const DOUBLINGS: u32 = 10;
+/// How often a thread looks at most before it sleeps.
+const MOST_LOOKS: u32 = 64;
 
-/// Waits between two looks at a ring with room for so many items: awake at first, and asleep, ever
-/// longer, where enough `turn`s were in vain.
-pub(crate) fn pause<R: Wait>(rt: &R, turn: u32, capacity: usize) {
-    // Nobody else has this word, so that a step disturbs no other core, and only the time ends a
-    // sleep.
-    let own = AtomicU64::new(0);
-    let steps = STEPS * capacity.clamp(1, PLACES) as u32;
-    let looks = STEPS_AWAKE / steps;
-    if turn < looks {
-        for _ in 0..steps {
-            own.fetch_add(1, Ordering::Relaxed);
+/// How long a thread sleeps at most, in milliseconds. It is woken before, once there is a reason.
+const SLEEP: u64 = 100;
+
+/// What a thread sleeps by and its neighbours wake it with. The ends that one thread owns share one.
+#[derive(Drop)]
+pub struct Bell {
+    word: Arc<AtomicU64, Global>,
+}
+
+impl Bell {
+    /// The bell of a thread that is awake.
+    pub fn new(alloc: Global) -> Result<Bell, NoMemory> {
+        match Arc::new(alloc, AtomicU64::new(AWAKE)) {
+            Ok(word) => Ok(Bell { word }),
+            Err(_) => Err(NoMemory),
         }
-    } else {
-        let doublings = (turn - looks).min(DOUBLINGS);
-        own.park_timeout(rt, 0, Duration::from_micros(1 << doublings));
+    }
+
+    /// The same bell.
+    pub fn share(&self) -> Result<Bell, NoMemory> {
+        match Arc::try_clone(&self.word) {
+            Ok(word) => Ok(Bell { word }),
+            Err(_) => Err(NoMemory),
+        }
+    }
+
+    /// Wakes the thread, if it sleeps.
+    #[inline]
+    pub(crate) fn ring(&self) {
+        if self.word.load(Ordering::SeqCst) == ASLEEP {
+            self.wake();
+        }
+    }
+
+    #[cold]
+    fn wake(&self) {
+        self.word.store(AWAKE, Ordering::SeqCst);
+        self.word.wake_one();
+    }
+}
+
+/// How often a thread has looked in vain at an end, and how often it pays to look before it sleeps.
+#[derive(Drop)]
+pub(crate) struct Patience {
+    turn: u32,
+    looks: u32,
+}
+
+impl Patience {
+    /// Nothing was looked for yet.
+    pub(crate) fn new() -> Patience {
+        Patience { turn: 0, looks: 1 }
+    }
+
+    /// Something was found. Where that was before the thread had to sleep, it looks longer the next
+    /// time, and else less long.
+    pub(crate) fn renew(&mut self) {
+        if self.turn > 0 {
+            self.looks = if self.turn <= self.looks {
+                (self.looks.saturating_mul(2)).min(MOST_LOOKS)
+            } else {
+                (self.looks / 2).max(1)
+            };
+            self.turn = 0;
+        }
+    }
+
+    /// Waits between two looks: awake at first, and then asleep, up to the bell.
+    pub(crate) fn wait<R: Wait>(&mut self, rt: &R, bell: &Bell) {
+        if self.turn < self.looks {
+            // Nobody else has this word, so that a step disturbs no other core.
+            let own = AtomicU64::new(0);
+            for _ in 0..STEPS {
+                own.fetch_add(1, Ordering::Relaxed);
+            }
+        } else if bell.word.load(Ordering::SeqCst) == AWAKE {
+            // The next look sees what the other end did before it could see this.
+            bell.word.store(ASLEEP, Ordering::SeqCst);
+        } else {
+            bell.word
+                .park_timeout(rt, ASLEEP as u32, Duration::from_millis(SLEEP));
+        }
+        self.turn = self.turn.saturating_add(1);
     }
 }

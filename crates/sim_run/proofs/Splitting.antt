@@ -25,7 +25,7 @@ use Rattle.stage_core.proofs.Place.{over-more}
 use Rattle.sim_run.specs.declared.ends.SplitterEnds.{SplitterEnds}
 use Rattle.din_trace.specs.declared.fault.TraceFault.TheVariants.{Bad, TooLong, Read, Memory}
 use Rattle.sim_run.specs.Faults.{MayAnswer, source_fault}
-use Rattle.sim_run.specs.Ends.{SameSplitterEnds}
+use Rattle.sim_run.specs.Ends.{SameSplitterEnds, SentSame}
 use Rattle.sim_run.specs.Threads.{Sends, HasSent, HasSentAll, LeavesRest, at_end}
 
 pub same-ends : (ends : SplitterEnds) → SameSplitterEnds ends ends
@@ -41,6 +41,16 @@ ends-stay a b c s t = record {
   order = tx_stays a.order b.order c.order s.order t.order;
   to_i = tx_stays a.to_i b.to_i c.to_i s.to_i t.to_i;
   to_d = tx_stays a.to_d b.to_d c.to_d s.to_d t.to_d;
+}
+
+-- ends that have sent the same have sent the messages of the same events
+pub sent-same : (es : List DinRecord) (place : ℕ) (was now : SplitterEnds) → SentSame was now
+    → HasSent es place was → HasSent es place now
+sent-same es place was now same going = record {
+  last = going.last;
+  order = same.order ∙ going.order;
+  to_i = same.to_i ∙ going.to_i;
+  to_d = same.to_d ∙ going.to_d;
 }
 
 -- the messages of one event more
@@ -184,6 +194,29 @@ module _ {R : Type 0} (remaining : R → Option (List ℕ)) (failures : R → �
         fault = sym none.0;
         left = none.2;
       }
+
+-- where the last call answered nothing, what was left before it is left still
+pub rest-cut : {R : Type 0} (remaining : R → Option (List ℕ)) (failures : R → ℕ)
+    (selection : Selection) (start : Source R) (began : SplitterEnds) (offers : Offers) (place : ℕ)
+    (now : Source R) (ends : SplitterEnds)
+    (going : Splits remaining failures selection start began offers place now ends)
+    (next : Source R) (given : List ℕ) (fate : Fate)
+    (all : Calls remaining failures start next going.given given going.fate fate)
+    → ((before later : Script) (l : Left) → Follows fate given before later
+    → HasLeft now before l → HasLeft next later l)
+    → (first last : Script) (l : Left) → Follows all.fate all.given first last
+    → HasLeft start first l → LeavesRest l (HasLeft next last)
+rest-cut remaining failures selection start began offers place now ends going next given fate all
+    keeps first last l is has =
+    let mid = all.between first last is in
+    let rest = going.left first mid.0 l mid.1 has in
+    record {
+      gone = going.past;
+      rest = rest.0;
+      records = rest.1;
+      fault = rest.2;
+      left = keeps mid.0 last rest.0 mid.2 rest.3;
+    }
 
 -- what a run answers for the fault of its source
 pub answers-fault : (left : Option TraceFault) (f : TraceFault) → left ≡ Some f

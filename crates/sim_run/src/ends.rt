@@ -1,11 +1,13 @@
 //! The rings of a run, and the ends that each thread owns.
 
 ghost use Rattle.std.specs.Prelude.{◌≡◌, ◌≤◌, ◌<◌, IfOk, IsTrue};
+ghost use Rattle.pipe_rings.specs.Rings.{sent, received, AreEnds, SameTx, SameRx};
 ghost use Rattle.sim_run.specs.Ends.{ArePaired, AreUnused, SameRings, AllReceived};
 
-use pipe_rings::{NoMemory, Rx, Tx, ring, settle};
-use stage_core::{FromStage, ToStage, Turn};
+use pipe_rings::{Bell, NoMemory, Rx, Tx, ring_between, settle};
+use stage_core::{FromStage, Routed, ToStage, Turn};
 use std::alloc::Global;
+use std::sync::Wait;
 
 /// What the splitter sends on.
 #[derive(Drop)]
@@ -15,11 +17,97 @@ pub struct SplitterEnds {
     pub to_d: Tx<ToStage>,
 }
 
+impl SplitterEnds {
+    ghost use Rattle.std.specs.Prelude.{◌↔◌};
+    ghost use Rattle.sim_run.specs.Ends.{HaveRoom, SameSplitterEnds, SentSame};
+    ghost use Rattle.sim_run.specs.Threads.{Sends};
+
+    /// Whether the messages of one event more may be posted.
+    #[inline]
+    pub(crate) fn have_room(&self) -> bool
+        ensures { IsTrue result → HaveRoom self.now }
+    {
+        self.order.has_room() && self.to_i.has_room() && self.to_d.has_room()
+    }
+
+    /// Posts the messages of one event, or those of the end.
+    #[inline]
+    pub(crate) fn post(&mut self, routed: Routed)
+        requires { HaveRoom self.old }
+        ensures rings { SameSplitterEnds self.old self.new }
+        ensures sent { Sends self.old routed self.new }
+    {
+        self.order.post(routed.turn);
+        if let Some(message) = routed.i {
+            self.to_i.post(message);
+        }
+        if let Some(message) = routed.d {
+            self.to_d.post(message);
+        }
+    }
+
+    /// Publishes what was posted, as far as there are free places. Answers how many messages the
+    /// other threads see more.
+    pub(crate) fn publish(&mut self) -> bool
+        ensures rings { SameSplitterEnds self.old self.new }
+        ensures sent { SentSame self.old self.new }
+    {
+        let order = self.order.publish();
+        let to_i = self.to_i.publish();
+        let to_d = self.to_d.publish();
+        order > 0 || to_i > 0 || to_d > 0
+    }
+
+    /// Whether all that was posted is published.
+    pub(crate) fn are_published(&self) -> bool {
+        self.order.posted() == 0 && self.to_i.posted() == 0 && self.to_d.posted() == 0
+    }
+
+    /// Waits a while at an end that holds something.
+    pub(crate) fn pause<H: Wait>(&mut self, rt: &H)
+        ensures rings { SameSplitterEnds self.old self.new }
+        ensures sent { SentSame self.old self.new }
+    {
+        if self.order.posted() > 0 {
+            self.order.pause(rt);
+        } else if self.to_i.posted() > 0 {
+            self.to_i.pause(rt);
+        } else {
+            self.to_d.pause(rt);
+        }
+    }
+
+    /// Whether one of the receivers is gone.
+    pub(crate) fn are_cut(&mut self) -> bool
+        ensures rings { SameSplitterEnds self.old self.new }
+        ensures sent { SentSame self.old self.new }
+    {
+        self.order.is_cut() || self.to_i.is_cut() || self.to_d.is_cut()
+    }
+}
+
 /// The two ends of a first-level stage.
 #[derive(Drop)]
 pub struct StageEnds {
     pub from_splitter: Rx<ToStage>,
     pub to_merge: Tx<FromStage>,
+}
+
+impl StageEnds {
+    ghost use Rattle.sim_run.specs.Ends.{SameStageEnds};
+
+    /// Waits a while: for a free place where something is held, and else for a message.
+    pub(crate) fn pause<H: Wait>(&mut self, rt: &H)
+        ensures rings { SameStageEnds self.old self.new }
+        ensures received { received self.new.from_splitter ≡ received self.old.from_splitter }
+        ensures sent { sent self.new.to_merge ≡ sent self.old.to_merge }
+    {
+        if self.to_merge.posted() > 0 {
+            self.to_merge.pause(rt);
+        } else {
+            self.from_splitter.pause(rt);
+        }
+    }
 }
 
 /// What the merge receives from.
@@ -39,6 +127,17 @@ pub struct Rings {
     pub(crate) merge: MergeEnds,
 }
 
+// Whether all that was sent on one ring was received.
+fn is_settled<T: Copy>(tx: &mut Tx<T>, rx: &mut Rx<T>) -> bool
+    requires { AreEnds tx.old rx.old }
+    ensures sender { SameTx tx.old tx.new × (sent tx.new ≡ sent tx.old) }
+    ensures receiver { SameRx rx.old rx.new × (received rx.new ≡ received rx.old) }
+    ensures all { IsTrue result → received rx.new ≡ sent tx.new }
+    ensures only { received rx.new ≡ sent tx.new → IsTrue result }
+{
+    settle(tx, rx) == 0
+}
+
 impl Rings {
     /// Five new rings, each with room for `capacity` messages.
     pub(crate) fn new(alloc: Global, capacity: usize) -> Result<Rings, NoMemory>
@@ -46,11 +145,13 @@ impl Rings {
         ensures paired { IfOk result (λ rings. ArePaired rings) }
         ensures unused { IfOk result (λ rings. AreUnused rings) }
     {
-        let (order_tx, order_rx) = ring::<Turn>(alloc, capacity)?;
-        let (to_i_tx, to_i_rx) = ring::<ToStage>(alloc, capacity)?;
-        let (to_d_tx, to_d_rx) = ring::<ToStage>(alloc, capacity)?;
-        let (from_i_tx, from_i_rx) = ring::<FromStage>(alloc, capacity)?;
-        let (from_d_tx, from_d_rx) = ring::<FromStage>(alloc, capacity)?;
+        let (splitter, i) = (Bell::new(alloc)?, Bell::new(alloc)?);
+        let (d, merge) = (Bell::new(alloc)?, Bell::new(alloc)?);
+        let (order_tx, order_rx) = ring_between::<Turn>(alloc, capacity, &splitter, &merge)?;
+        let (to_i_tx, to_i_rx) = ring_between::<ToStage>(alloc, capacity, &splitter, &i)?;
+        let (to_d_tx, to_d_rx) = ring_between::<ToStage>(alloc, capacity, &splitter, &d)?;
+        let (from_i_tx, from_i_rx) = ring_between::<FromStage>(alloc, capacity, &i, &merge)?;
+        let (from_d_tx, from_d_rx) = ring_between::<FromStage>(alloc, capacity, &d, &merge)?;
         Ok(Rings {
             splitter: SplitterEnds {
                 order: order_tx,
@@ -80,11 +181,11 @@ impl Rings {
         ensures all { IsTrue result → AllReceived self.new }
         ensures only { AllReceived self.new → IsTrue result }
     {
-        let order = settle(&mut self.splitter.order, &mut self.merge.order);
-        let to_i = settle(&mut self.splitter.to_i, &mut self.i.from_splitter);
-        let to_d = settle(&mut self.splitter.to_d, &mut self.d.from_splitter);
-        let from_i = settle(&mut self.i.to_merge, &mut self.merge.from_i);
-        let from_d = settle(&mut self.d.to_merge, &mut self.merge.from_d);
-        order == 0 && to_i == 0 && to_d == 0 && from_i == 0 && from_d == 0
+        let order = is_settled(&mut self.splitter.order, &mut self.merge.order);
+        let to_i = is_settled(&mut self.splitter.to_i, &mut self.i.from_splitter);
+        let to_d = is_settled(&mut self.splitter.to_d, &mut self.d.from_splitter);
+        let from_i = is_settled(&mut self.i.to_merge, &mut self.merge.from_i);
+        let from_d = is_settled(&mut self.d.to_merge, &mut self.merge.from_d);
+        order && to_i && to_d && from_i && from_d
     }
 }

@@ -22,6 +22,12 @@ pub enum Who {
 pub trait Gate: Sync {
     /// Returns once this one may go on.
     fn arrive<H: Wait>(&self, rt: &H, who: Who, nth: u64);
+
+    /// Whether it never holds anyone. At any other gate a thread first lets its neighbours see all
+    /// that it has sent.
+    fn is_open(&self) -> bool {
+        false
+    }
 }
 
 /// A gate at which nobody waits.
@@ -30,10 +36,15 @@ pub struct OpenGate;
 
 impl Gate for OpenGate {
     fn arrive<H: Wait>(&self, _rt: &H, _who: Who, _nth: u64) {}
+
+    fn is_open(&self) -> bool {
+        true
+    }
 }
 
 /// Counts one message more and passes the gate with it. A thread can't know that what it receives
 /// is lawful, so it stops where the count would leave what a cache can serve.
+#[inline]
 pub fn pass<H: Wait, G: Gate>(rt: &H, gate: &G, who: Who, received: u64) -> Result<u64, Stop>
     ensures counted { IfOk result (λ nth. nth ≡ received + 1) }
     ensures cut { IfErr result (λ why. (why ≡ Stop.Cut) × (MAX_EVENTS ≤ received)) }

@@ -1,22 +1,22 @@
 //! The splitter, in the caller's thread: from a source to the rings.
 
 ghost use Rattle.std.specs.Prelude.{◌≡◌, ◌<◌, ◌≤◌, ◌+◌, ◌*◌, ◌++◌, ◌∷◌, [], List, ℕ, OnOk};
-ghost use Rattle.std.specs.Prelude.{◌≢◌, IfErr, option_to_list};
+ghost use Rattle.std.specs.Prelude.{◌≢◌, IfOk, IfErr, IsSome, MatchResult, option_to_list};
 ghost use Rattle.pipe_rings.specs.Rings.{sent};
-ghost use Rattle.din_trace.specs.Left.{Left, Script, Fate, Follows};
-ghost use Rattle.din_trace.specs.Source.{HasLeft, Takes};
+ghost use Rattle.din_trace.specs.Left.{Left, Script, Fate, Follows, first_answer, behind_first};
+ghost use Rattle.din_trace.specs.Source.{HasLeft, IsSettled, Takes, room_of};
 ghost use Rattle.din_trace.specs.declared.record.DinRecord.{DinRecord};
 ghost use Rattle.stage_core.specs.Events.{IsBounded, picked_events};
 ghost use Rattle.sim_run.specs.Faults.{IsMet};
 ghost use Rattle.sim_run.specs.declared.fault.Stop.{Stop};
 ghost use Rattle.sim_run.specs.declared.fault.RunFault.{RunFault};
-ghost use Rattle.sim_run.specs.Ends.{SameSplitterEnds, UnusedSplitter};
+ghost use Rattle.sim_run.specs.Ends.{SameSplitterEnds, SentSame, HaveRoom, UnusedSplitter};
 ghost use Rattle.sim_run.specs.Threads.{HasSent, Sends, SplitUp};
 
 use crate::ends::SplitterEnds;
 use crate::fault::{RunFault, Stop, fault_of_source};
 use crate::gate::{Gate, Who};
-use din_trace::{ByteReader, DinRecord, Label, MAX_LIMIT, Source};
+use din_trace::{ByteReader, DinRecord, Label, MAX_LIMIT, Source, TraceFault};
 use stage_core::{Picked, Routed, Selection, Selector, Splitter};
 use std::sync::Wait;
 
@@ -26,26 +26,104 @@ const INSERTED: DinRecord = DinRecord {
     addr: 0,
 };
 
-// Sends the messages of one event, or those of the end, in the order of the rings.
+/// How many events' messages are posted before they are published.
+const EACH: usize = 32;
+
+/// What is waited for.
+#[derive(Clone, Copy)]
+enum Until {
+    /// The messages of another event may be posted.
+    Room,
+    /// All that was posted is published.
+    Published,
+}
+
+// The one place where the splitter waits for the others. Each look publishes what fits into each of
+// the three rings, so that none of them waits for another to be emptied.
+fn wait_until<H: Wait>(rt: &H, ends: &mut SplitterEnds, until: Until) -> Result<(), Stop>
+    ensures rings { SameSplitterEnds ends.old ends.new }
+    ensures sent { SentSame ends.old ends.new }
+    ensures room { OnOk result (HaveRoom ends.new) }
+    ensures cut { IfErr result (λ why. why ≡ Stop.Cut) }
+{
+    for _ in rt.forever() {
+        if ends.are_cut() {
+            return Err(Stop::Cut);
+        }
+        let moved = ends.publish();
+        let reached = match until {
+            Until::Room => true,
+            Until::Published => ends.are_published(),
+        };
+        if reached && ends.have_room() {
+            return Ok(());
+        }
+        if !moved {
+            ends.pause(rt);
+        }
+    }
+    unreachable!()
+}
+
+// The next record of the source, or its end or fault. The reader and a gate may hold this thread for
+// long, so what was posted is published before.
+fn next_record<H: Wait, R: ByteReader, G: Gate>(
+    rt: &H,
+    gate: &G,
+    source: &mut Source<R>,
+    ends: &mut SplitterEnds,
+) -> Result<Result<Option<DinRecord>, TraceFault>, Stop>
+    ensures rings { SameSplitterEnds ends.old ends.new }
+    ensures sent { SentSame ends.old ends.new }
+    ensures reads { (given : List ℕ) × (fate : Fate)
+        × Takes R.remaining R.failures source.old source.new given fate
+        × ((before later : Script) (l : Left)
+        → Follows fate given before later → HasLeft source.old before l
+        → MatchResult result
+        (λ answer. (answer ≡ first_answer l) × HasLeft source.new later (behind_first l))
+        (λ _. HasLeft source.new later l)) }
+    ensures settled { IsSettled source.old → source.new ≡ source.old }
+    ensures records { IfOk result (λ answer. IfOk answer (λ found. IsSome found
+        → room_of source.new < room_of source.old)) }
+    ensures room { OnOk result (room_of source.old ≤ MAX_LIMIT) }
+    ensures cut { IfErr result (λ why. why ≡ Stop.Cut) }
+{
+    if !gate.is_open() && wait_until(rt, ends, Until::Published).is_err() {
+        return Err(Stop::Cut);
+    }
+    if let Some(answer) = source.at_hand() {
+        return Ok(answer);
+    }
+    if wait_until(rt, ends, Until::Published).is_err() {
+        return Err(Stop::Cut);
+    }
+    Ok(source.next())
+}
+
+// Sends the messages of one event, or those of the end.
 fn send_routed<H: Wait>(rt: &H, ends: &mut SplitterEnds, routed: Routed) -> Result<(), Stop>
     ensures rings { SameSplitterEnds ends.old ends.new }
     ensures sent { OnOk result (Sends ends.old routed ends.new) }
     ensures cut { IfErr result (λ why. why ≡ Stop.Cut) }
 {
-    if ends.order.send(rt, routed.turn).is_err() {
-        return Err(Stop::Cut);
+    if !ends.have_room() {
+        wait_until(rt, ends, Until::Room)?;
     }
-    if let Some(message) = routed.i {
-        if ends.to_i.send(rt, message).is_err() {
-            return Err(Stop::Cut);
-        }
-    }
-    if let Some(message) = routed.d {
-        if ends.to_d.send(rt, message).is_err() {
-            return Err(Stop::Cut);
-        }
+    ends.post(routed);
+    if ends.order.posted() % EACH == 0 {
+        ends.publish();
     }
     Ok(())
+}
+
+// Sends the messages of the end, and publishes all.
+fn send_end<H: Wait>(rt: &H, ends: &mut SplitterEnds, routed: Routed) -> Result<(), Stop>
+    ensures rings { SameSplitterEnds ends.old ends.new }
+    ensures sent { OnOk result (Sends ends.old routed ends.new) }
+    ensures cut { IfErr result (λ why. why ≡ Stop.Cut) }
+{
+    send_routed(rt, ends, routed)?;
+    wait_until(rt, ends, Until::Published)
 }
 
 // Routes an event, if there is one, and sends its messages.
@@ -110,7 +188,10 @@ pub fn split<H: Wait, R: ByteReader, G: Gate>(
     let mut selector = Selector::new(selection);
     let mut splitter = Splitter::new();
     for _ in rt.forever() {
-        match source.next() {
+        let Ok(answer) = next_record(rt, gate, source, ends) else {
+            return Err(RunFault::Cut);
+        };
+        match answer {
             Ok(Some(next)) => {
                 gate.arrive(rt, Who::Splitter, selector.offered() + 1);
                 let picked = selector.offer(next);
@@ -119,7 +200,7 @@ pub fn split<H: Wait, R: ByteReader, G: Gate>(
                 }
             }
             Ok(None) => {
-                if send_routed(rt, ends, splitter.finish()).is_err() {
+                if send_end(rt, ends, splitter.finish()).is_err() {
                     return Err(RunFault::Cut);
                 }
                 return Ok(());

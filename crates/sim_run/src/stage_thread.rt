@@ -1,7 +1,7 @@
 //! The thread of a first-level stage.
 
-ghost use Rattle.std.specs.Prelude.{◌≡◌, [], ◌++◌, OnOk, IfOk, IfErr};
-ghost use Rattle.pipe_rings.specs.Rings.{sent, SameTx};
+ghost use Rattle.std.specs.Prelude.{◌≡◌, [], ◌∷◌, ◌++◌, OnOk, IfOk, IfErr};
+ghost use Rattle.pipe_rings.specs.Rings.{sent, received, HasRoom, SameTx, SameRx};
 ghost use Rattle.stage_core.specs.Standing.{StageStandsFor, IsReady, cache_of, side_of};
 ghost use Rattle.stage_core.specs.Standing.{outbox_of, took_finish};
 ghost use Rattle.sim_run.specs.declared.fault.Stop.{Stop};
@@ -13,7 +13,7 @@ use crate::fault::{NoThread, Stop};
 use crate::gate::{Gate, Who, pass};
 use cache_core::MAX_EVENTS;
 use pipe_rings::Tx;
-use stage_core::{FromStage, L1Stage};
+use stage_core::{FromStage, L1Stage, ToStage};
 use std::snapshot::Snapshot;
 use std::sync::Wait;
 use std::thread::{Promise, PromisedHandle, Scope, Threads};
@@ -35,8 +35,84 @@ impl Promise<StageEnd> for StagePromise {
 /// A stage's thread that is still to be joined.
 pub type StageHandle = PromisedHandle<StageEnd, StagePromise>;
 
-/// Sends all that is in the outbox.
-fn send_outbox<H: Wait>(rt: &H, stage: &mut L1Stage, tx: &mut Tx<FromStage>) -> Result<(), Stop>
+/// How many messages are posted before they are published.
+const EACH: usize = 32;
+
+// The one place where a stage waits for room: until all that was posted is published, or as much as
+// makes room for another message.
+fn publish<H: Wait>(rt: &H, tx: &mut Tx<FromStage>, all: bool) -> Result<(), Stop>
+    ensures ring { SameTx tx.old tx.new }
+    ensures sent { sent tx.new ≡ sent tx.old }
+    ensures room { OnOk result (HasRoom tx.new) }
+    ensures cut { IfErr result (λ why. why ≡ Stop.Cut) }
+{
+    for _ in rt.forever() {
+        if tx.is_cut() {
+            return Err(Stop::Cut);
+        }
+        let moved = tx.publish();
+        if (!all || tx.posted() == 0) && tx.has_room() {
+            return Ok(());
+        }
+        if moved == 0 {
+            tx.pause(rt);
+        }
+    }
+    unreachable!()
+}
+
+// Receives the next message.
+#[inline]
+fn receive<H: Wait>(rt: &H, ends: &mut StageEnds) -> Result<ToStage, Stop>
+    ensures from_splitter { SameRx ends.old.from_splitter ends.new.from_splitter }
+    ensures to_merge { SameTx ends.old.to_merge ends.new.to_merge }
+    ensures received { IfOk result (λ message. received ends.new.from_splitter
+        ≡ received ends.old.from_splitter ++ message ∷ []) }
+    ensures sent { sent ends.new.to_merge ≡ sent ends.old.to_merge }
+{
+    match ends.from_splitter.try_recv() {
+        Some(message) => Ok(message),
+        None => await_message(rt, ends),
+    }
+}
+
+// The one place where a stage waits for a message. All that was posted is published while it waits,
+// also where the splitter is gone.
+#[cold]
+fn await_message<H: Wait>(rt: &H, ends: &mut StageEnds) -> Result<ToStage, Stop>
+    ensures from_splitter { SameRx ends.old.from_splitter ends.new.from_splitter }
+    ensures to_merge { SameTx ends.old.to_merge ends.new.to_merge }
+    ensures received { IfOk result (λ message. received ends.new.from_splitter
+        ≡ received ends.old.from_splitter ++ message ∷ []) }
+    ensures sent { sent ends.new.to_merge ≡ sent ends.old.to_merge }
+{
+    for _ in rt.forever() {
+        if let Some(message) = ends.from_splitter.try_recv() {
+            return Ok(message);
+        }
+        if ends.to_merge.is_cut() {
+            return Err(Stop::Cut);
+        }
+        let moved = ends.to_merge.publish();
+        if ends.to_merge.posted() == 0 && ends.from_splitter.is_cut() {
+            // What was published between these two looks is still there.
+            return ends.from_splitter.try_recv().ok_or(Stop::Cut);
+        }
+        if moved == 0 {
+            ends.pause(rt);
+        }
+    }
+    unreachable!()
+}
+
+// Sends all that is in the outbox. Where nothing may be held back, all is published; else some time
+// later.
+fn send_outbox<H: Wait>(
+    rt: &H,
+    stage: &mut L1Stage,
+    tx: &mut Tx<FromStage>,
+    urgent: bool,
+) -> Result<(), Stop>
     ensures ring { SameTx tx.old tx.new }
     ensures sent { OnOk result (sent tx.new ≡ sent tx.old ++ outbox_of stage.old) }
     ensures empty { OnOk result (outbox_of stage.new ≡ []) }
@@ -46,9 +122,16 @@ fn send_outbox<H: Wait>(rt: &H, stage: &mut L1Stage, tx: &mut Tx<FromStage>) -> 
     ensures finish { took_finish stage.new ≡ took_finish stage.old }
 {
     while let Some(message) = stage.outbox_next() {
-        if tx.send(rt, message).is_err() {
-            return Err(Stop::Cut);
+        if !tx.has_room() {
+            publish(rt, tx, false)?;
         }
+        tx.post(message);
+        if tx.posted() % EACH == 0 {
+            tx.publish();
+        }
+    }
+    if urgent {
+        return publish(rt, tx, true);
     }
     Ok(())
 }
@@ -66,19 +149,20 @@ fn serve_all<H: Wait, G: Gate>(
     requires unused { UnusedStage ends.old }
     ensures { OnOk result (StageEnded stage.old ends.old stage.new ends.new) }
 {
-    let mut received = 0;
+    let mut count = 0;
     for _ in rt.forever() {
-        let Ok(message) = ends.from_splitter.recv(rt) else {
+        let Ok(message) = receive(rt, ends) else {
             return Err(Stop::Cut);
         };
-        received = pass(rt, gate, who, received)?;
+        count = pass(rt, gate, who, count)?;
+        let urgent = !gate.is_open() || message == ToStage::Finish;
         if stage.served() >= MAX_EVENTS {
             return Err(Stop::Cut);
         }
         let Ok(()) = stage.on(message) else {
             return Err(Stop::Memory);
         };
-        send_outbox(rt, stage, &mut ends.to_merge)?;
+        send_outbox(rt, stage, &mut ends.to_merge, urgent)?;
         if stage.finished() {
             return Ok(());
         }

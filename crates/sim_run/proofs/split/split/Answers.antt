@@ -1,7 +1,7 @@
-use Rattle.std.proofs.Common.{rules, ◌≡◌, ◌∙◌, ap, sym, subst, refl, List, [], ◌∷◌, ◌++◌, Option}
+use Rattle.std.proofs.Common.{rules, ◌≡◌, ◌∙◌, ap, sym, subst, refl, ℕ, List, [], ◌∷◌, ◌++◌, Option}
 use Rattle.std.proofs.Common.{Some, None, Ok, count_by, arith, inl, inr, ◌<◌}
-use Rattle.din_trace.specs.Left.{Open}
-use Rattle.din_trace.specs.Source.{HasLeft, room_of}
+use Rattle.din_trace.specs.Left.{Fate, Open}
+use Rattle.din_trace.specs.Source.{HasLeft, Takes, room_of}
 use Rattle.din_trace.specs.declared.record.DinRecord.{DinRecord}
 use Rattle.din_trace.proofs.Calls.{Calls, calls, no_calls}
 use Rattle.stage_core.specs.Events.{events, events_at, picked, picked_events, is_reference}
@@ -9,23 +9,24 @@ use Rattle.stage_core.specs.declared.selection.Selection.{Selection}
 use Rattle.stage_core.proofs.Place.{over-more}
 use Rattle.sim_run.specs.Faults.{MayAnswer}
 use Rattle.sim_run.specs.Threads.{HasSent, HasSentAll}
-use Rattle.sim_run.proofs.Splitting.{same-ends, ends-stay, sends-end, left-record, left-end}
-use Rattle.sim_run.proofs.Splitting.{left-fault, rest-record, rest-end, answers-fault}
+use Rattle.sim_run.proofs.Splitting.{same-ends, ends-stay, sent-same, sends-end, left-record}
+use Rattle.sim_run.proofs.Splitting.{left-end}
+use Rattle.sim_run.proofs.Splitting.{left-fault, rest-record, rest-end, rest-cut, answers-fault}
 use Rattle.sim_run.proofs.split.split.Goals as goal
-use Rattle.sim_run.proofs.split.split.Goals.{After-next-in-loop}
+use Rattle.sim_run.proofs.split.split.Goals.{After-next_record}
 use Rattle.sim_run.proofs.split.split.Given.{Over}
 
 -- the calls of the source so far and this one
-composed : (g : Over) (c : After-next-in-loop g)
+composed : (g : Over) (c : After-next_record g) (given : List ℕ) (fate : Fate)
+    → Takes g.R.ByteReader.remaining g.R.ByteReader.failures c.loop.source c.next_record.new.source
+    given fate
     → Calls g.R.ByteReader.remaining g.R.ByteReader.failures c.args.source.now
-    c.next-in-loop.new.self c.loop.invariant.2.given c.next-in-loop.ensures.reads.0
-    c.loop.invariant.2.fate c.next-in-loop.ensures.reads.1
-composed g c =
+    c.next_record.new.source c.loop.invariant.2.given given c.loop.invariant.2.fate fate
+composed g c given fate went =
     let going = c.loop.invariant.2 in
-    let next = c.next-in-loop.ensures.reads in
     calls g.R.ByteReader.remaining g.R.ByteReader.failures c.args.source.now c.loop.source
-    c.next-in-loop.new.self going.given next.0 going.fate next.1 going.went next.2
-    c.next-in-loop.ensures.settled
+    c.next_record.new.source going.given given going.fate fate going.went went
+    c.next_record.ensures.settled
 
 pub loop-init : goal.loop-init
 loop-init g c = (
@@ -54,14 +55,16 @@ loop-init g c = (
 
 pub loop-preserved : goal.loop-preserved
 loop-preserved g c =
-    let c₁ = (goal.at.loop-preserved g c).After-next-in-loop in
+    let c₁ = (goal.at.loop-preserved g c).After-next_record in
     let going = c.loop.invariant.2 in
-    let all = composed g c₁ in
+    let read = c.in-Ok.ensures.reads in
+    let all = composed g c₁ read.0 read.1 read.2 in
     let next = c.in-Ok-Some.next in
-    let answered : c.next-in-loop.result ≡ Ok (Some next) =
-    c.in-Ok-Some.is ∙ ap (λ (found : Option DinRecord). Ok found) c.in-Ok-Some.field-0-is in
-    let less : room_of c.next-in-loop.new.self < room_of c.loop.source =
-    (rw answered at c.next-in-loop.ensures.records) refl in
+    let answered : c.in-Ok.answer ≡ Ok (Some next) =
+    c.in-Ok-Some.is ∙ ap (λ (found : Option DinRecord). Ok found)
+    (rw c.in-Ok-Some.is at c.in-Ok-Some.field-0-is) in
+    let less : room_of c.next_record.new.source < room_of c.loop.source =
+    (rw answered at c.in-Ok.ensures.records) refl in
     let offers = c.offer-picked.ensures in
     let picks = offers.picked going.past going.offered
     ∙ ap (λ (s : Selection). picked s (count_by is_reference (going.past ++ next ∷ [])) next)
@@ -69,7 +72,7 @@ loop-preserved g c =
     let es : List DinRecord = events c.args.selection going.past in
     let longer = ap (λ p. es ++ picked_events p) picks
     ∙ sym (over-more (events_at c.args.selection) going.past next) in
-    let sent : (xs : List DinRecord) → HasSent xs c.loop.splitter c.loop.ends
+    let sent : (xs : List DinRecord) → HasSent xs c.loop.splitter c.next_record.new.ends
     → HasSent (xs ++ picked_events c.offer-picked.result) c.send_picked.new.splitter
     c.send_picked.new.ends = search rules in (
       tt,
@@ -81,31 +84,52 @@ loop-preserved g c =
         went = all.went;
         left = left-record g.R.ByteReader.remaining g.R.ByteReader.failures c.args.selection
             c.args.source.now c.args.ends.now c.loop.selector c.loop.splitter c.loop.source
-            c.loop.ends going c.next-in-loop.new.self c.next-in-loop.result _ _ all
-            c.next-in-loop.ensures.reads.3 next answered;
+            c.loop.ends going c.next_record.new.source c.in-Ok.answer _ _ all
+            c.in-Ok.ensures.reads.3 next answered;
         chosen = offers.selection ∙ going.chosen;
         offered = offers.stands going.past going.offered;
         room = inr (elim going.room [
-          | inl e ↦ omega (arith, offers.offered, c.next-in-loop.ensures.room)
+          | inl e ↦ omega (arith, offers.offered, c.in-Ok.ensures.room)
           | inr h ↦ omega (arith, offers.offered)
         ]);
         few = omega (arith, offers.offered, c.send_picked.ensures.place, going.few);
-        rings = ends-stay c.args.ends.now c.loop.ends c.send_picked.new.ends going.rings
-            c.send_picked.ensures.rings;
+        rings = ends-stay c.args.ends.now c.next_record.new.ends c.send_picked.new.ends
+            (ends-stay c.args.ends.now c.loop.ends c.next_record.new.ends going.rings
+            c.next_record.ensures.rings) c.send_picked.ensures.rings;
         sends = subst (λ (l : List DinRecord).
             HasSent l c.send_picked.new.splitter c.send_picked.new.ends) longer
-            (sent es going.sends);
+            (sent es (sent-same es c.loop.splitter c.loop.ends c.next_record.new.ends
+            c.next_record.ensures.sent going.sends));
       },
+    )
+
+pub returns-in_default-clause-reads : goal.returns-in_default-clause-reads
+returns-in_default-clause-reads g c =
+    let c₁ = (goal.at.returns-in_default-clause-reads g c).After-next_record in
+    let read = c.in_default.ensures.reads in
+    let all = composed g c₁ read.0 read.1 read.2 in (
+      all.given,
+      all.fate,
+      all.went,
+      λ first last l is left. (
+        tt,
+        rest-cut g.R.ByteReader.remaining g.R.ByteReader.failures c.args.selection
+            c.args.source.now c.args.ends.now c.loop.selector c.loop.splitter c.loop.source
+            c.loop.ends c.loop.invariant.2 c.next_record.new.source _ _ all
+            c.in_default.ensures.reads.3 first last l is left,
+      ),
     )
 
 pub returns-then-is_err-clause-reads : goal.returns-then-is_err-clause-reads
 returns-then-is_err-clause-reads g c =
-    let c₁ = (goal.at.returns-then-is_err-clause-reads g c).After-next-in-loop in
+    let c₁ = (goal.at.returns-then-is_err-clause-reads g c).After-next_record in
     let going = c.loop.invariant.2 in
-    let all = composed g c₁ in
+    let read = c.in-Ok.ensures.reads in
+    let all = composed g c₁ read.0 read.1 read.2 in
     let next = c.in-Ok-Some.next in
-    let answered : c.next-in-loop.result ≡ Ok (Some next) =
-    c.in-Ok-Some.is ∙ ap (λ (found : Option DinRecord). Ok found) c.in-Ok-Some.field-0-is in (
+    let answered : c.in-Ok.answer ≡ Ok (Some next) =
+    c.in-Ok-Some.is ∙ ap (λ (found : Option DinRecord). Ok found)
+    (rw c.in-Ok-Some.is at c.in-Ok-Some.field-0-is) in (
       all.given,
       all.fate,
       all.went,
@@ -113,23 +137,24 @@ returns-then-is_err-clause-reads g c =
         tt,
         rest-record g.R.ByteReader.remaining g.R.ByteReader.failures c.args.selection
             c.args.source.now c.args.ends.now c.loop.selector c.loop.splitter c.loop.source
-            c.loop.ends going c.next-in-loop.new.self c.next-in-loop.result _ _ all
-            c.next-in-loop.ensures.reads.3 next answered first last l is left,
+            c.loop.ends going c.next_record.new.source c.in-Ok.answer _ _ all
+            c.in-Ok.ensures.reads.3 next answered first last l is left,
       ),
     )
 
 pub returns-in-Err-clause-reads : goal.returns-in-Err-clause-reads
 returns-in-Err-clause-reads g c =
-    let c₁ = (goal.at.returns-in-Err-clause-reads g c).After-next-in-loop in
-    let all = composed g c₁ in (
+    let c₁ = (goal.at.returns-in-Err-clause-reads g c).After-next_record in
+    let read = c.in-Ok.ensures.reads in
+    let all = composed g c₁ read.0 read.1 read.2 in (
       all.given,
       all.fate,
       all.went,
       λ first last l is left.
           let rest = left-fault g.R.ByteReader.remaining g.R.ByteReader.failures c.args.selection
           c.args.source.now c.args.ends.now c.loop.selector c.loop.splitter c.loop.source
-          c.loop.ends c.loop.invariant.2 c.next-in-loop.new.self c.next-in-loop.result _ _ all
-          c.next-in-loop.ensures.reads.3 c.in-Err.fault c.in-Err.is first last l is left in (
+          c.loop.ends c.loop.invariant.2 c.next_record.new.source c.in-Ok.answer _ _ all
+          c.in-Ok.ensures.reads.3 c.in-Err.fault c.in-Err.is first last l is left in (
             subst (MayAnswer l.fault) (sym c.fault_of_source.ensures)
                 (answers-fault l.fault c.in-Err.fault rest.0),
             rest.1,
@@ -138,10 +163,12 @@ returns-in-Err-clause-reads g c =
 
 pub returns-then-is_err-2-clause-reads : goal.returns-then-is_err-2-clause-reads
 returns-then-is_err-2-clause-reads g c =
-    let c₁ = (goal.at.returns-then-is_err-2-clause-reads g c).After-next-in-loop in
-    let all = composed g c₁ in
-    let answered : c.next-in-loop.result ≡ Ok None =
-    c.in-Ok-None.is ∙ ap (λ (found : Option DinRecord). Ok found) c.in-Ok-None.field-0-is in (
+    let c₁ = (goal.at.returns-then-is_err-2-clause-reads g c).After-next_record in
+    let read = c.in-Ok.ensures.reads in
+    let all = composed g c₁ read.0 read.1 read.2 in
+    let answered : c.in-Ok.answer ≡ Ok None =
+    c.in-Ok-None.is ∙ ap (λ (found : Option DinRecord). Ok found)
+    (rw c.in-Ok-None.is at c.in-Ok-None.field-0-is) in (
       all.given,
       all.fate,
       all.went,
@@ -149,18 +176,20 @@ returns-then-is_err-2-clause-reads g c =
         tt,
         rest-end g.R.ByteReader.remaining g.R.ByteReader.failures c.args.selection
             c.args.source.now c.args.ends.now c.loop.selector c.loop.splitter c.loop.source
-            c.loop.ends c.loop.invariant.2 c.next-in-loop.new.self c.next-in-loop.result _ _ all
-            c.next-in-loop.ensures.reads.3 answered first last l is left,
+            c.loop.ends c.loop.invariant.2 c.next_record.new.source c.in-Ok.answer _ _ all
+            c.in-Ok.ensures.reads.3 answered first last l is left,
       ),
     )
 
 pub returns-in-Ok-None-clause-reads : goal.returns-in-Ok-None-clause-reads
 returns-in-Ok-None-clause-reads g c =
-    let c₁ = (goal.at.returns-in-Ok-None-clause-reads g c).After-next-in-loop in
+    let c₁ = (goal.at.returns-in-Ok-None-clause-reads g c).After-next_record in
     let going = c.loop.invariant.2 in
-    let all = composed g c₁ in
-    let answered : c.next-in-loop.result ≡ Ok None =
-    c.in-Ok-None.is ∙ ap (λ (found : Option DinRecord). Ok found) c.in-Ok-None.field-0-is in
+    let read = c.in-Ok.ensures.reads in
+    let all = composed g c₁ read.0 read.1 read.2 in
+    let answered : c.in-Ok.answer ≡ Ok None =
+    c.in-Ok-None.is ∙ ap (λ (found : Option DinRecord). Ok found)
+    (rw c.in-Ok-None.is at c.in-Ok-None.field-0-is) in
     let end = c.finish.ensures in (
       all.given,
       all.fate,
@@ -168,14 +197,16 @@ returns-in-Ok-None-clause-reads g c =
       λ first last l is left.
           let none = left-end g.R.ByteReader.remaining g.R.ByteReader.failures c.args.selection
           c.args.source.now c.args.ends.now c.loop.selector c.loop.splitter c.loop.source
-          c.loop.ends going c.next-in-loop.new.self c.next-in-loop.result _ _ all
-          c.next-in-loop.ensures.reads.3 answered first last l is left in (
+          c.loop.ends going c.next_record.new.source c.in-Ok.answer _ _ all
+          c.in-Ok.ensures.reads.3 answered first last l is left in (
             none.0,
             subst (λ (rs : List DinRecord).
-                HasSentAll (events c.args.selection rs) c.send_routed.new.ends)
+                HasSentAll (events c.args.selection rs) c.send_end.new.ends)
                 (sym none.1)
                 (sends-end (events c.args.selection going.past) c.loop.splitter c.finish.result
-                c.loop.ends c.send_routed.new.ends going.sends end.turn end.i end.d (search rules)),
+                c.next_record.new.ends c.send_end.new.ends (sent-same _ c.loop.splitter c.loop.ends
+                c.next_record.new.ends c.next_record.ensures.sent going.sends) end.turn end.i end.d
+                (search rules)),
             none.2,
           ),
     )
