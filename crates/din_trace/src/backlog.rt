@@ -1,25 +1,21 @@
 //! The bytes that came from a reader and were not judged yet.
 
 ghost use Rattle.std.specs.Prelude.{◌≡◌, ℕ, ◌+◌, ◌-◌, ◌<◌, ◌≤◌, ◌^◌, List, [], ◌∷◌, ◌++◌, true};
-ghost use Rattle.std.specs.Prelude.{false, length, take, IfSome, IfNone, IfOk, OnOk, OnErr, IsErr};
+ghost use Rattle.std.specs.Prelude.{false, length, IfSome, IfNone, IfOk, OnOk, OnErr, IsErr};
 ghost use Rattle.std.specs.Prelude.{IsSome, Ok, Err, None, Some};
 ghost use Rattle.std.specs.Io.KnownBytes.{Consumes, Keeps, IsAtEnd};
 ghost use Rattle.din_trace.specs.Device.{once_more};
-ghost use Rattle.din_trace.specs.declared.backlog.TheConstants.{ROOM};
+ghost use Rattle.din_trace.specs.declared.buffer.TheConstants.{ROOM};
 ghost use Rattle.din_trace.specs.Line.{ADDRESS_MAX};
 ghost use Rattle.din_trace.specs.State.{is_sound, is_reading};
 ghost use Rattle.din_trace.specs.Left.{Left, Script, text_left, first_answer, behind_first};
 
+use crate::buffer::{Buffer, ROOM};
 use crate::device::{ByteReader, DeviceFailed};
 use crate::fault::TraceFault;
 use crate::line_reader::LineReader;
 use crate::plain::plain_line;
 use crate::record::DinRecord;
-use std::fmt;
-use std::fmt::{Debug, Formatter, Write};
-
-/// How many bytes a source holds at most.
-const ROOM: usize = 16 * 1024;
 
 /// Whether a source goes on.
 #[derive(Clone, Copy, Debug)]
@@ -30,37 +26,6 @@ pub enum State {
     Ended,
     /// It has met this fault.
     Failed(TraceFault),
-}
-
-/// Room for the bytes of one call of a reader.
-#[derive(Drop)]
-pub struct Buffer {
-    bytes: [u8; ROOM],
-}
-
-impl Buffer {
-    /// Asks the reader for at most `room` bytes, which come to stand at the front.
-    fn fill<R: ByteReader>(&mut self, reader: &mut R, room: usize) -> Result<usize, DeviceFailed>
-        requires some { 0 < room }
-        requires fits { room ≤ ROOM }
-        ensures bound { IfOk result (λ count. count ≤ room) }
-        ensures size { length self.new.bytes ≡ ROOM }
-        ensures bytes { IfOk result (λ count. Consumes
-            (R.remaining reader.old) (R.remaining reader.new) (take count self.new.bytes)) }
-        ensures end { IfOk result (λ count. count ≡ 0 → IsAtEnd (R.remaining reader.new)) }
-        ensures ok { OnOk result (R.failures reader.new ≡ R.failures reader.old) }
-        ensures err { OnErr result ((R.failures reader.new ≡ once_more (R.failures reader.old))
-            × Keeps (R.remaining reader.old) (R.remaining reader.new)) }
-    {
-        reader.fill(&mut self.bytes[..room])
-    }
-}
-
-/// Its bytes are not for people.
-impl Debug for Buffer {
-    fn fmt<W: Write>(&self, f: &mut Formatter<W>) -> fmt::Result {
-        f.debug_struct("Buffer").finish_non_exhaustive()
-    }
 }
 
 /// What a source holds besides its reader.

@@ -1,0 +1,48 @@
+//! The room in which a source holds bytes of its reader.
+
+ghost use Rattle.std.specs.Prelude.{◌≡◌, ◌<◌, ◌≤◌, take, length, IfOk, OnOk, OnErr};
+ghost use Rattle.std.specs.Io.KnownBytes.{Consumes, Keeps, IsAtEnd};
+ghost use Rattle.din_trace.specs.Device.{once_more};
+ghost use Rattle.din_trace.specs.declared.buffer.TheConstants.{ROOM};
+
+use crate::device::{ByteReader, DeviceFailed};
+use std::fmt;
+use std::fmt::{Debug, Formatter, Write};
+
+/// How many bytes a source holds at most.
+pub const ROOM: usize = 16 * 1024;
+
+/// Room for the bytes of one call of a reader.
+#[derive(Drop)]
+pub struct Buffer {
+    pub bytes: [u8; ROOM],
+}
+
+impl Buffer {
+    /// Asks the reader for at most `room` bytes, which come to stand at the front.
+    pub fn fill<R: ByteReader>(
+        &mut self,
+        reader: &mut R,
+        room: usize,
+    ) -> Result<usize, DeviceFailed>
+        requires some { 0 < room }
+        requires fits { room ≤ ROOM }
+        ensures bound { IfOk result (λ count. count ≤ room) }
+        ensures size { length self.new.bytes ≡ ROOM }
+        ensures bytes { IfOk result (λ count. Consumes
+            (R.remaining reader.old) (R.remaining reader.new) (take count self.new.bytes)) }
+        ensures end { IfOk result (λ count. count ≡ 0 → IsAtEnd (R.remaining reader.new)) }
+        ensures ok { OnOk result (R.failures reader.new ≡ R.failures reader.old) }
+        ensures err { OnErr result ((R.failures reader.new ≡ once_more (R.failures reader.old))
+            × Keeps (R.remaining reader.old) (R.remaining reader.new)) }
+    {
+        reader.fill(&mut self.bytes[..room])
+    }
+}
+
+/// Its bytes are not for people.
+impl Debug for Buffer {
+    fn fmt<W: Write>(&self, f: &mut Formatter<W>) -> fmt::Result {
+        f.debug_struct("Buffer").finish_non_exhaustive()
+    }
+}
