@@ -1,6 +1,6 @@
 //! Devices over std's readers and writers.
 
-use super::fakes::{Tape, in_pieces};
+use super::fakes::{Tape, in_pieces, with_a_pause};
 use crate::{ByteReader, ByteWriter, DeviceFailed, FromRead, FromWrite};
 
 #[test]
@@ -23,6 +23,17 @@ fn fails_where_the_reader_does(rt: HostRuntime) {
     assert!(rt; reader.fill(&mut buffer) == Ok(1));
     assert!(rt; reader.fill(&mut buffer) == Err(DeviceFailed));
     assert!(rt; reader.fill(&mut buffer) == Err(DeviceFailed));
+}
+
+#[test]
+fn tries_no_failed_read_again(rt: HostRuntime) {
+    let mut buffer = [0; 4];
+    let mut reader = with_a_pause(b"2 0\n", b"2 4\n", 65536, true);
+    assert!(rt; reader.fill(&mut buffer) == Ok(4));
+    assert!(rt; reader.fill(&mut buffer) == Err(DeviceFailed));
+    assert!(rt; buffer == *b"2 0\n");
+    assert!(rt; reader.fill(&mut buffer) == Ok(4));
+    assert!(rt; buffer == *b"2 4\n");
 }
 
 #[test]

@@ -37,7 +37,7 @@ pub fn in_pieces(text: &[u8], size: usize, fails: bool) -> FromRead<Pieces<'_>> 
     })
 }
 
-/// Says that it has ended behind its first text, and would give more if it were asked again.
+/// Ends or fails behind its first text, and would give more if it were asked again.
 #[derive(Drop)]
 pub struct Pausing<'a> {
     first: Pieces<'a>,
@@ -50,19 +50,23 @@ impl Read for Pausing<'_> {
         if self.paused {
             return self.more.read(buffer);
         }
-        let count = self.first.read(buffer)?;
-        self.paused = count == 0;
-        Ok(count)
+        self.paused = self.first.rest.is_empty();
+        self.first.read(buffer)
     }
 }
 
-/// A reader that pauses between the two texts.
-pub fn with_a_pause<'a>(first: &'a [u8], more: &'a [u8], size: usize) -> FromRead<Pausing<'a>> {
+/// A reader that ends or fails once between the two texts.
+pub fn with_a_pause<'a>(
+    first: &'a [u8],
+    more: &'a [u8],
+    size: usize,
+    fails: bool,
+) -> FromRead<Pausing<'a>> {
     FromRead::new(Pausing {
         first: Pieces {
             rest: first,
             size,
-            fails: false,
+            fails,
         },
         more: Pieces {
             rest: more,

@@ -1,6 +1,7 @@
 //! Sources, record by record.
 
-use super::fakes::{SIZES, bad, fetch, in_pieces, read, write};
+use super::fakes::{SIZES, bad, fetch, in_pieces, read, with_a_pause, write};
+use super::texts::expect_left;
 use crate::{DinRecord, MAX_LIMIT, Source, TraceFault, Why};
 
 #[test]
@@ -26,6 +27,29 @@ fn answers_the_records_before_a_fault_and_repeats_it(rt: HostRuntime) {
         assert!(rt; source.next() == Ok(Some(fetch(4))));
         for _ in 0..3 {
             assert!(rt; source.next() == Err(bad(3, Why::Gap)));
+        }
+    }
+}
+
+#[test]
+fn takes_a_read_of_nothing_for_the_end(rt: HostRuntime) {
+    let alloc = rt.alloc();
+    for size in SIZES {
+        let mut source = Source::new(with_a_pause(b"2 0\n2", b" 4\n", size, false), MAX_LIMIT);
+        expect_left(&rt, alloc, &mut source, Err(bad(2, Why::Gap)));
+        let mut source = Source::new(with_a_pause(b"2 0\n2 1", b"4\n", size, false), MAX_LIMIT);
+        expect_left(&rt, alloc, &mut source, Ok([fetch(0), fetch(1)].as_slice()));
+    }
+}
+
+#[test]
+fn repeats_a_failed_read_though_more_would_come(rt: HostRuntime) {
+    for size in SIZES {
+        let mut source = Source::new(with_a_pause(b"2 0\n2 4", b"\n2 8\n", size, true), MAX_LIMIT);
+        assert!(rt; source.next() == Ok(Some(fetch(0))));
+        for _ in 0..3 {
+            assert!(rt; source.next() == Err(TraceFault::Read));
+            assert!(rt; source.at_hand() == Some(Err(TraceFault::Read)));
         }
     }
 }

@@ -2,13 +2,13 @@
 
 ghost use Rattle.std.specs.Prelude.{◌≤◌};
 
-use super::fakes::{SIZES, bad, fetch, flush, in_pieces, miscellaneous, read, with_a_pause, write};
+use super::fakes::{SIZES, bad, fetch, flush, in_pieces, miscellaneous, read, write};
 use crate::{ByteReader, DinRecord, MAX_LIMIT, Source, TraceFault, Why, read_all};
 use std::alloc::Global;
 use std::process::Abort;
 
 /// The source answers these records and then the end, or this fault, and repeats that.
-fn expect_left<R: ByteReader>(
+pub fn expect_left<R: ByteReader>(
     rt: &impl Abort,
     alloc: Global,
     source: &mut Source<R>,
@@ -287,16 +287,5 @@ fn reads_a_text_that_is_cut_off_anywhere(rt: HostRuntime) {
         (13, Ok(all.as_slice())),
     ] {
         expect(&rt, alloc, &text[..count], MAX_LIMIT, want);
-    }
-}
-
-#[test]
-fn takes_a_read_of_nothing_for_the_end(rt: HostRuntime) {
-    let alloc = rt.alloc();
-    for size in SIZES {
-        let mut source = Source::new(with_a_pause(b"2 0\n2", b" 4\n", size), MAX_LIMIT);
-        expect_left(&rt, alloc, &mut source, Err(bad(2, Why::Gap)));
-        let mut source = Source::new(with_a_pause(b"2 0\n2 1", b"4\n", size), MAX_LIMIT);
-        expect_left(&rt, alloc, &mut source, Ok([fetch(0), fetch(1)].as_slice()));
     }
 }
