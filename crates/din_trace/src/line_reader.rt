@@ -50,7 +50,9 @@ impl LineReader {
 
     /// How many bytes were read, up to the LF that met the first fault.
     pub fn bytes(&self) -> u64
-        ensures { result ≡ bytes_of self.now }
+        ensures bytes { result ≡ bytes_of self.now }
+        // So `byte` counts the next one.
+        ensures no_fault { (text : List ℕ) → StandsFor self.now text → HasNoFault self.now }
     {
         self.bytes
     }
