@@ -1,5 +1,5 @@
 -- What a reader gave in two calls.
-use Rattle.std.proofs.Common.{◌≡◌, ℕ, ◌+◌, Bool, true, false, List, [], ◌∷◌, ◌++◌, length, drop}
+use Rattle.std.proofs.Common.{◌≡◌, ◌≢◌, ℕ, ◌+◌, Bool, true, false, List, [], ◌∷◌, ◌++◌, length, drop}
 use Rattle.std.proofs.Common.{Option, Some, None, Result, Ok, Err, refl, sym, ap, ◌∙◌, subst}
 use Rattle.std.proofs.Common.{append_assoc, length-append, arith}
 use Rattle.std.specs.Io.KnownBytes.{Consumes, Keeps}
@@ -186,6 +186,10 @@ pub consumes-nothing : (known : Option (List ℕ)) → Consumes known known []
 consumes-nothing None = tt
 consumes-nothing (Some all) = refl
 
+behind-not_nil : (items rs : List DinRecord) (r : DinRecord) → items ++ r ∷ rs ≢ []
+behind-not_nil [] rs r e = absurd cc
+behind-not_nil (q ∷ items) rs r e = absurd cc
+
 -- records, and what is left behind them
 module _ (items : List DinRecord) (before more : Left)
     (result : Result (Option DinRecord) TraceFault)
@@ -197,6 +201,12 @@ module _ (items : List DinRecord) (before more : Left)
       let first : more.records ≡ r ∷ drop 1 more.records = first_record more r (sym was ∙ answer) in
       is ∙ ap (λ (rs : List DinRecord). record { records = rs; fault = more.fault })
       (ap (λ rs. items ++ rs) first ∙ sym (append_assoc items (r ∷ []) (drop 1 more.records)))
+
+  pub rest-some : (r : DinRecord) → result ≡ Ok (Some r) → before.records ≢ []
+  rest-some r was none =
+      let first : more.records ≡ r ∷ drop 1 more.records = first_record more r (sym was ∙ answer) in
+      behind-not_nil items (drop 1 more.records) r
+      (ap (λ rs. items ++ rs) (sym first) ∙ sym (ap (λ (l : Left). l.records) is) ∙ none)
 
   pub rest-end : result ≡ Ok None
       → (items ≡ before.records) × (before.fault ≡ None)

@@ -1,7 +1,7 @@
 //! The bytes that came from a reader and were not judged yet.
 
 ghost use Rattle.std.specs.Prelude.{◌≡◌, ℕ, ◌+◌, ◌-◌, ◌<◌, ◌≤◌, ◌^◌, List, [], ◌∷◌, ◌++◌, true};
-ghost use Rattle.std.specs.Prelude.{false, length, IfSome, IfNone, IfOk, OnOk, OnErr, IsErr};
+ghost use Rattle.std.specs.Prelude.{false, length, IfSome, IfNone, IfOk, OnOk, OnErr};
 ghost use Rattle.std.specs.Prelude.{IsSome, Ok, Err, None, Some};
 ghost use Rattle.std.specs.Io.KnownBytes.{Consumes, Keeps, IsAtEnd};
 ghost use Rattle.din_trace.specs.Device.{once_more};
@@ -198,6 +198,7 @@ impl Backlog {
         ensures taken { taken self.new ≡ taken self.old }
         ensures limit { self.new.limit ≡ self.old.limit }
         ensures records { IfOk result (λ found. IsSome found → room self.new < room self.old) }
+        ensures room { room self.new ≡ 0 }
         ensures closed { is_reading self.new.state ≡ false }
     {
         match self.lines.end() {
@@ -221,7 +222,8 @@ impl Backlog {
             × ((script : Script) → HasLeft self.new script (behind_first l)) }
         ensures taken { taken self.new ≡ taken self.old }
         ensures limit { self.new.limit ≡ self.old.limit }
-        ensures fails { IsErr result }
+        ensures read { result ≡ Err TraceFault.Read }
+        ensures room { room self.new ≡ 0 }
         ensures closed { is_reading self.new.state ≡ false }
     {
         self.state = State::Failed(TraceFault::Read);

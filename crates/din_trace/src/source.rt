@@ -83,6 +83,10 @@ impl<R: ByteReader> Source<R> {
         ensures lazy { (reader_of self.new ≡ reader_of self.old)
             ⊎ ((l : Left) → HasLeft self.old (record { given = []; fails = true }) l
             → l ≡ record { records = []; fault = Some TraceFault.Read }) }
+        // The same of each further time that it is asked: any of them may fail, and a failure is
+        // met only where nothing but that is left to answer.
+        ensures failed { (R.failures (reader_of self.new) ≡ R.failures (reader_of self.old))
+            ⊎ (result ≡ Err TraceFault.Read) }
         ensures settled { IsSettled self.old → self.new ≡ self.old }
         ensures limit { limit_of self.new ≡ limit_of self.old }
         ensures bound { taken_by self.new ≤ limit_of self.new + 1 }
@@ -90,6 +94,7 @@ impl<R: ByteReader> Source<R> {
         ensures records { IfOk result (λ found. IsSome found
             → room_of self.new < room_of self.old) }
         ensures room { room_of self.old ≤ MAX_LIMIT }
+        ensures no_more { room_of self.new ≤ room_of self.old }
     {
         'asks: loop {
             if let Some(answer) = self.at_hand() {
@@ -109,6 +114,7 @@ impl<R: ByteReader> Source<R> {
     /// All records that are left, or the fault. A fault that is met before a growth is refused is
     /// the answer; after a refused growth the source repeats `TraceFault::Memory`.
     pub fn rest(&mut self, alloc: Global) -> Result<Vec<DinRecord>, TraceFault>
+        // Memory is wanted only where a record is left to be stored, or where it was wanted before.
         ensures reads { (given : List ℕ) × (fate : Fate)
             × Takes R.remaining R.failures self.old self.new given fate
             × ((before later : Script) (l : Left)
@@ -117,7 +123,8 @@ impl<R: ByteReader> Source<R> {
             (λ records. (records.items ≡ l.records) × (l.fault ≡ None)
             × HasLeft self.new later (record { records = []; fault = None }))
             (λ fault. (fault ≢ TraceFault.Memory → l.fault ≡ Some fault)
-            × HasLeft self.new later (record { records = []; fault = Some fault }))) }
+            × HasLeft self.new later (record { records = []; fault = Some fault })
+            × (fault ≡ TraceFault.Memory → (l.fault ≡ Some fault) ⊎ (l.records ≢ [])))) }
         ensures bound { taken_by self.new ≤ limit_of self.new + 1 }
         ensures limit { limit_of self.new ≡ limit_of self.old }
         ensures few { IfOk result (λ records. vec_len records ≤ room_of self.old) }

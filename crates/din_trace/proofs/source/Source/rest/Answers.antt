@@ -1,11 +1,12 @@
 use Rattle.std.proofs.Common.{◌≡◌, ◌+◌, ◌<◌, [], ◌∷◌, ◌++◌, Option, Ok, refl, ap, ◌∙◌, subst, arith}
+use Rattle.std.proofs.Common.{inl, inr}
 use Rattle.std.proofs.Common.{vec_len}
 use Rattle.din_trace.specs.declared.record.DinRecord.{DinRecord}
 use Rattle.din_trace.specs.Left.{Open, behind_first}
 use Rattle.din_trace.specs.Source as words
 use Rattle.din_trace.specs.Source.{HasLeft, Takes, room_of}
 use Rattle.din_trace.proofs.Calls.{Calls, calls, no_calls}
-use Rattle.din_trace.proofs.Scripts.{closes-settled, rest-record, rest-end, rest-fault}
+use Rattle.din_trace.proofs.Scripts.{closes-settled, rest-record, rest-some, rest-end, rest-fault}
 use Rattle.din_trace.proofs.source.Source.rest.Goals as goal
 use Rattle.din_trace.proofs.source.Source.rest.Goals.{After-next}
 use Rattle.din_trace.proofs.source.Source.rest.Given.{Over}
@@ -77,7 +78,17 @@ returns-then-is_err-clause-reads g c =
         taken =
             c.exhaust.ensures.taken ∙ all.went.taken;
       },
-      λ before later l is left. ((λ h. absurd (h refl)), c.exhaust.ensures.left later),
+      λ before later l is left.
+          let now = c.records.invariant in
+          let mid = all.between before later is in
+          let more = now.left before mid.0 l mid.1 left in
+          let after = c.next.ensures.reads.3 mid.0 later more.0 mid.2 more.2 in (
+            (λ h. absurd (h refl)),
+            c.exhaust.ensures.left later,
+            λ _. inr (rest-some c.records.records.items l more.0 c.next.result more.1 after.0
+                c.in-Some.next (c.in-Ok.is ∙ ap (λ (found : Option DinRecord). Ok found)
+                c.in-Some.is)),
+          ),
     )
 
 pub returns-in-None-clause-reads : goal.returns-in-None-clause-reads
@@ -111,5 +122,5 @@ returns-in-Err-clause-reads g c =
           let end =
           rest-fault c.records.records.items before more.0 c.next.result more.1 after.0
           c.in-Err.fault c.in-Err.is in
-          (λ _. end.0, subst (HasLeft c.next.new.self last) end.1 after.1),
+          (λ _. end.0, subst (HasLeft c.next.new.self last) end.1 after.1, λ _. inl end.0),
     )
