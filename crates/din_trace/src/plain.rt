@@ -15,6 +15,7 @@ const WINDOW: usize = 19;
 /// The record of the line at the front, and how many bytes the line takes with its LF, where it is
 /// a label, blanks, `0x` or not, up to 16 digits, and nothing or a comment. `None` for other lines,
 /// and where too few bytes are held.
+#[inline(always)]
 pub fn plain_line(bytes: &[u8]) -> Option<(DinRecord, usize)>
     ensures line { IfSome result (λ found. BeginsWithLine bytes.now found.0 found.1) }
     ensures count { IfSome result (λ found. (0 < found.1) × (found.1 ≤ length bytes.now)) }
@@ -81,6 +82,7 @@ fn digits_start(bytes: &[u8], at: usize) -> usize
 }
 
 /// The address that the digits from a place on write, and where these end, or the first 16 of them.
+#[inline(always)]
 fn address(bytes: &[u8], start: usize) -> (u64, usize)
     requires { start + 17 ≤ length bytes.now }
     ensures digits { (digits : Digits bytes.now start result.1)
@@ -89,7 +91,7 @@ fn address(bytes: &[u8], start: usize) -> (u64, usize)
 {
     let mut addr = 0u64;
     let mut at = start;
-    'digits: while at < start + 16 {
+    'digits: while at - start < 16 {
         let next = digit(bytes[at]);
         if next >= 16 {
             break;
