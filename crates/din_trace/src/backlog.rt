@@ -108,6 +108,7 @@ impl Backlog {
     }
 
     /// The next answer that needs no further byte, if there is one. Else no byte is held.
+    #[inline(always)]
     pub fn answer(&mut self) -> Option<Result<Option<DinRecord>, TraceFault>>
         ensures answer { IfSome result (λ answer. (script : Script) (l : Left)
             → HasLeft self.old script l
@@ -128,13 +129,17 @@ impl Backlog {
         ensures room { room self.new ≤ room self.old }
     {
         match self.state {
-            State::Reading => self.answer_held(),
+            State::Reading => match self.plain() {
+                Some(record) => Some(Ok(Some(record))),
+                None => self.answer_held(),
+            },
             State::Ended => Some(Ok(None)),
             State::Failed(fault) => Some(Err(fault)),
         }
     }
 
     /// The record of the next line, where that line is plain and is held whole.
+    #[inline(always)]
     fn plain(&mut self) -> Option<DinRecord>
         requires reading { self.old.state ≡ State.Reading }
         ensures answer { IfSome result (λ found. (script : Script) (l : Left)
@@ -161,7 +166,7 @@ impl Backlog {
         }
     }
 
-    /// The next answer that the held bytes give, if they give one.
+    /// The next answer that the held bytes give, if they give one, read byte by byte.
     fn answer_held(&mut self) -> Option<Result<Option<DinRecord>, TraceFault>>
         requires reading { self.old.state ≡ State.Reading }
         ensures answer { IfSome result (λ answer. (script : Script) (l : Left)
@@ -177,9 +182,6 @@ impl Backlog {
             → room self.new < room self.old)) }
         ensures room { room self.new ≤ room self.old }
     {
-        if let Some(record) = self.plain() {
-            return Some(Ok(Some(record)));
-        }
         'bytes: while self.at < self.filled {
             if let Some(answer) = self.step() {
                 return Some(answer);

@@ -44,6 +44,7 @@ impl<R: ByteReader> Source<R> {
 
     /// What `next` would answer, where the bytes that are held decide it. `None` where `next` would
     /// ask the reader, which this call never does.
+    #[inline(always)]
     pub fn at_hand(&mut self) -> Option<Result<Option<DinRecord>, TraceFault>>
         // An answer is the first of what was left, and the others stay left. With no answer all stays.
         ensures reads { Takes R.remaining R.failures self.old self.new [] Open
@@ -96,10 +97,34 @@ impl<R: ByteReader> Source<R> {
         ensures room { room_of self.old ≤ MAX_LIMIT }
         ensures no_more { room_of self.new ≤ room_of self.old }
     {
-        'asks: loop {
-            if let Some(answer) = self.at_hand() {
-                return answer;
+        match self.at_hand() {
+            Some(answer) => answer,
+            // A value of its own: else a record at hand would go through memory too.
+            None => {
+                let answer = self.ask();
+                answer
             }
+        }
+    }
+
+    /// The answer of `next` where the reader has to be asked for it.
+    #[inline(never)]
+    fn ask(&mut self) -> Result<Option<DinRecord>, TraceFault>
+        requires asks { MustAsk self.old }
+        ensures reads { (given : List ℕ) × (fate : Fate)
+            × Takes R.remaining R.failures self.old self.new given fate
+            × ((before later : Script) (l : Left)
+            → Follows fate given before later → HasLeft self.old before l
+            → (result ≡ first_answer l) × HasLeft self.new later (behind_first l)) }
+        ensures failed { (R.failures (reader_of self.new) ≡ R.failures (reader_of self.old))
+            ⊎ (result ≡ Err TraceFault.Read) }
+        ensures limit { limit_of self.new ≡ limit_of self.old }
+        ensures bound { taken_by self.new ≤ limit_of self.new + 1 }
+        ensures records { IfOk result (λ found. IsSome found
+            → room_of self.new < room_of self.old) }
+        ensures no_more { room_of self.new ≤ room_of self.old }
+    {
+        'asks: loop {
             match self.backlog.refill(&mut self.reader) {
                 Ok(count) => {
                     if count == 0 {
@@ -107,6 +132,9 @@ impl<R: ByteReader> Source<R> {
                     }
                 }
                 Err(_) => return self.backlog.fail(),
+            }
+            if let Some(answer) = self.at_hand() {
+                return answer;
             }
         }
     }

@@ -1,96 +1,22 @@
-use Rattle.std.proofs.Common.{◌≡◌, [], ◌++◌, length-append, ap, ◌∙◌, arith, inl, inr, true, false}
+use Rattle.std.proofs.Common.{◌≡◌, false, sym}
 use Rattle.std.proofs.lemmas.Bool.{false≢true}
+use Rattle.din_trace.specs.declared.backlog.State.{State}
+use Rattle.din_trace.specs.declared.backlog.State.TheVariants as states
 use Rattle.din_trace.specs.State.{is_reading}
-use Rattle.din_trace.specs.Device.{once_more}
-use Rattle.std.proofs.lemmas.List.{nil_from_length}
-use Rattle.din_trace.specs.Left.{Ended, Failed}
 use Rattle.din_trace.specs.Source as words
-use Rattle.din_trace.proofs.Scripts.{consumes-append, consumes-none, consumes-kept, left-regrouped}
-use Rattle.din_trace.proofs.Scripts.{left-closed}
+use Rattle.din_trace.proofs.Calls.{answers-at_hand, answers-asked}
 use Rattle.din_trace.proofs.source.Source.next.Goals as goal
 
-pub asks-preserved : goal.asks-preserved
-unfolding words.reader_of words.limit_of words.taken_by words.room_of words.HasLeft words.IsSettled words.MustAsk words.Settles
-asks-preserved g c =
-    let now = c.asks.invariant in
-    let more = c.in-Ok.ensures.given in
-    record {
-      started = elim now.started [ inl e ↦ inr (rw e at c.in_default.ensures.lazy) | inr h ↦ inr h ];
-      room_less = omega (arith, c.at_hand.ensures.no_more, c.refill.ensures.room, now.room_less);
-      settled = λ is. let e : is_reading c.asks.self.backlog.state ≡ false =
-          rw (now.settled is) is in absurd (false≢true (c.in_default.ensures.settled e).0);
-      limit_same = omega (arith, c.in_default.ensures.limit, c.refill.ensures.limit);
-      failures_same = c.in-Ok.ensures.ok ∙ ap g.R.ByteReader.failures c.at_hand.ensures.reader ∙ now.failures_same;
-      given = now.given ++ more.0;
-      consumed =
-          consumes-append (g.R.ByteReader.remaining c.args.self.now.reader)
-          (g.R.ByteReader.remaining c.at_hand.new.self.reader)
-          (g.R.ByteReader.remaining c.refill.new.reader) now.given more.0 (rw c.at_hand.ensures.reader now.consumed) more.2;
-      count = simp length-append (omega (arith, c.in-Ok.ensures.taken, more.1));
-      left_same =
-          λ script left h. more.3 script left
-          (c.in_default.ensures.reads.1
-          (record { given = more.0 ++ script.given; fails = script.fails }) left
-          (now.left_same (record { given = more.0 ++ script.given; fails = script.fails }) left
-          (left-regrouped c.args.self.now.backlog script.fails left now.given more.0 script.given
-          h)));
-    }
+goes-on : (state : State) → state ≡ states.Reading → is_reading state ≡ false → ⊥
+goes-on state reading settled = false≢true (sym (rw reading at settled))
 
-pub returns-in-Err-clause-reads : goal.returns-in-Err-clause-reads
-unfolding words.reader_of words.limit_of words.taken_by words.room_of words.HasLeft words.IsSettled words.MustAsk words.Settles
-returns-in-Err-clause-reads g c =
-    let now = c.asks.invariant in (
-      now.given,
-      Failed,
-      record {
-        reader = (
-          consumes-kept (g.R.ByteReader.remaining c.args.self.now.reader)
-              (g.R.ByteReader.remaining c.at_hand.new.self.reader)
-              (g.R.ByteReader.remaining c.refill.new.reader) now.given
-              (rw c.at_hand.ensures.reader now.consumed)
-              c.in-Err.ensures.err.1,
-          c.in-Err.ensures.err.0 ∙ ap once_more (ap g.R.ByteReader.failures c.at_hand.ensures.reader ∙ now.failures_same),
-        );
-        settles = c.fail.ensures.closed;
-        taken = omega (arith, c.in-Err.ensures.taken_none, now.count);
-      },
-      λ before later l is left.
-          let then =
-          c.fail.ensures.answer l
-          (c.in-Err.ensures.same (record { given = []; fails = true }) l
-          (c.in_default.ensures.reads.1 (record { given = []; fails = true }) l
-          (now.left_same (record { given = []; fails = true }) l
-          (left-closed c.args.self.now.backlog true l now.given before is left)))) in
-          (then.0, then.1 later),
-    )
+pub returns-in-Some-clause-reads : goal.returns-in-Some-clause-reads
+returns-in-Some-clause-reads g c = answers-at_hand g.R.ByteReader.remaining g.R.ByteReader.failures
+    c.args.self.now c.at_hand.new.self _ c.in-Some.ensures.reads.0 c.in-Some.ensures.reads.1
 
-pub returns-then-count-eq0-clause-reads : goal.returns-then-count-eq0-clause-reads
-unfolding words.reader_of words.limit_of words.taken_by words.room_of words.HasLeft words.IsSettled words.MustAsk words.Settles
-returns-then-count-eq0-clause-reads g c =
-    let now = c.asks.invariant in
-    let more = c.in-Ok.ensures.given in
-    let none : more.0 ≡ [] = nil_from_length more.0 (more.1 ∙ c.if-count-eq0.true) in (
-      now.given,
-      Ended,
-      record {
-        reader = (
-          consumes-none (g.R.ByteReader.remaining c.args.self.now.reader)
-              (g.R.ByteReader.remaining c.at_hand.new.self.reader)
-              (g.R.ByteReader.remaining c.refill.new.reader) now.given
-              (rw c.at_hand.ensures.reader now.consumed)
-              (rw none at more.2),
-          c.in-Ok.ensures.end c.if-count-eq0.true,
-          c.in-Ok.ensures.ok ∙ ap g.R.ByteReader.failures c.at_hand.ensures.reader ∙ now.failures_same,
-        );
-        settles = c.end.ensures.closed;
-        taken = omega (arith, c.in-Ok.ensures.taken, now.count);
-      },
-      λ before later l is left.
-          let held = c.in_default.ensures.reads.1 (record { given = []; fails = false }) l
-          (now.left_same (record { given = []; fails = false }) l
-          (left-closed c.args.self.now.backlog false l now.given before is left)) in
-          let then =
-          c.end.ensures.answer l
-          (more.3 (record { given = []; fails = false }) l (rw none held)) in
-          (then.0, then.1 later),
-    )
+pub returns-in-None-clause-reads : goal.returns-in-None-clause-reads
+unfolding words.IsSettled words.MustAsk
+returns-in-None-clause-reads g c = answers-asked g.R.ByteReader.remaining g.R.ByteReader.failures
+    c.args.self.now c.at_hand.new.self c.ask-answer.new.self c.ask-answer.result c.in-None.ensures.reads.0
+    c.in-None.ensures.reads.1 c.ask-answer.ensures.reads
+    (λ settled. absurd (goes-on c.at_hand.new.self.backlog.state c.in-None.ensures.asks.0 settled))

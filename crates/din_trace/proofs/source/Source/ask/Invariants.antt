@@ -1,18 +1,14 @@
-use Rattle.std.proofs.Common.{◌-◌, ◌≡◌, ◌+◌, ◌++◌, ◌≤◌, ◌⊎◌, true, false, [], Some, List, ℕ, length}
+use Rattle.std.proofs.Common.{◌-◌, ◌≡◌, ◌+◌, ◌++◌, ◌≤◌, List, ℕ, length}
 use Rattle.std.specs.Io.KnownBytes.{Consumes}
-use Rattle.din_trace.specs.declared.fault.TraceFault.TheVariants.{Read}
+use Rattle.din_trace.specs.declared.backlog.State.TheVariants as states
 use Rattle.din_trace.specs.Left.{Left, Script}
-use Rattle.din_trace.specs.State.{is_reading}
 use Rattle.din_trace.specs.Backlog.{HasLeft, taken, room}
-use Rattle.din_trace.proofs.source.Source.next.Given as goal
+use Rattle.din_trace.proofs.source.Source.ask.Given as goal
 
 abbrev pub invariant-asks : goal.invariant-asks
 invariant-asks g l = record {
-  started : (l.self ≡ l.initial.self) ⊎ ((left : Left)
-      → HasLeft l.initial.self.backlog (record { given = []; fails = true }) left → left
-      ≡ record { records = []; fault = Some Read });
+  asks : (l.self.backlog.state ≡ states.Reading) × (l.self.backlog.at ≡ l.self.backlog.filled);
   room_less : room l.self.backlog ≤ room l.initial.self.backlog;
-  settled : is_reading l.initial.self.backlog.state ≡ false → l.self ≡ l.initial.self;
   limit_same : l.self.backlog.limit ≡ l.initial.self.backlog.limit;
   failures_same : g.R.ByteReader.failures l.self.reader
       ≡ g.R.ByteReader.failures l.initial.self.reader;
