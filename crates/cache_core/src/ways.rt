@@ -1,8 +1,8 @@
 //! Sets of few ways: each a row of ways in order, the block that was used last (FIFO: loaded last)
 //! first, and empty ways behind the blocks. The rows lie one after another.
 
-ghost use Rattle.std.specs.Prelude.{◌≡◌, ◌≢◌, ◌≤◌, ◌+◌, ◌*◌, ℕ, length, is_some, false, IfOk, map};
-ghost use Rattle.std.specs.Prelude.{filter, replicate, vec_len};
+ghost use Rattle.std.specs.Prelude.{◌≡◌, ◌≢◌, ◌≤◌, ◌+◌, ◌*◌, ℕ, length, is_some, true, false, None, IfOk};
+ghost use Rattle.std.specs.Prelude.{map, filter, replicate, vec_len};
 ghost use Rattle.std.specs.List.{find};
 ghost use Rattle.std.specs.Option.{option_map_or};
 ghost use Rattle.cache_core.specs.Parts.{one_if};
@@ -65,16 +65,18 @@ fn was_dirty(found: Option<Way>) -> bool
 }
 
 /// Puts `front` first and moves each way one place back, up to the one that holds the block, or up
-/// to the last. The way that leaves is the answer.
+/// to the last. The way that leaves is the answer. Out of line, each move is of a whole way.
+#[inline(never)]
 fn bring_front(row: &mut [Way], first: u64, front: Way) -> Way
     ensures row { row.new ≡ shifted (holds_block first) front row.old }
     ensures leaves { result ≡ leaving (holds_block first) front row.old }
 {
     let mut carried = front;
     for way in row.iter_mut() {
+        let found = way.held && way.first == first;
         let here = *way;
         *way = carried;
-        if here.held && here.first == first {
+        if found {
             return here;
         }
         carried = here;
@@ -94,10 +96,36 @@ fn mark_dirty(row: &mut [Way], first: u64)
     }
 }
 
+/// One access to the row of its set, if the block stands first in it. A hit there moves nothing.
+fn serve_front(row: &mut [Way], policy: Policy, first: u64, write: bool) -> bool
+    ensures serves { result ≡ true → ServesRow policy first write row.old row.new
+        (record { hit = true; back = None }) }
+    ensures keeps { result ≡ false → row.new ≡ row.old }
+{
+    if row.is_empty() {
+        return false;
+    }
+    let front = row[0];
+    if !front.held || front.first != first {
+        return false;
+    }
+    row[0].dirty = match policy.repl {
+        Repl::Fifo => policy.wback && write || front.dirty,
+        Repl::Lru => policy.wback && (write || front.dirty),
+    };
+    true
+}
+
 /// One access to the row of its set.
 fn serve_row(row: &mut [Way], policy: Policy, first: u64, write: bool) -> Served
     ensures { ServesRow policy first write row.old row.new result }
 {
+    if serve_front(row, policy, first, write) {
+        return Served {
+            hit: true,
+            back: None,
+        };
+    }
     let found = find_way(row, first);
     let dirty = policy.wback && (write || was_dirty(found));
     let used = Way {

@@ -4,8 +4,8 @@ use Rattle.cache_core.specs.Row.{holds_block, empty_way}
 use Rattle.cache_core.proofs.PassSteps.{shifted-stop}
 use Rattle.cache_core.proofs.ways.bring_front.Goals as goal
 
-pub returns-then-here-first-clause-row : goal.returns-then-here-first-clause-row
-returns-then-here-first-clause-row c =
+pub returns-then-found-clause-row : goal.returns-then-found-clause-row
+returns-then-found-clause-row c =
     let inside : c.loop-way.way-index < length c.loop-way.row = omega arith in
     let passes : holds_block c.args.first (get_or c.loop-way.row c.loop-way.way-index empty_way)
     ≡ true = grind (arith, common_steps) in
