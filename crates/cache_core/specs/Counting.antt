@@ -1,7 +1,8 @@
 -- The code's side: the counts of a cache after one event more.
-use Rattle.std.specs.Prelude.{ℕ, ◌+◌, ◌≤◌, Bool, true, ◌&&◌, not, is_some}
+use Rattle.std.specs.Prelude.{ℕ, ◌+◌, ◌≤◌, Bool, true, ◌&&◌, not, Option, is_some}
 use Rattle.cache_core.specs.declared.access.Access.{Access}
 use Rattle.cache_core.specs.declared.access.Outcome.{Outcome}
+use Rattle.cache_core.specs.declared.access.MissKind.{MissKind}
 use Rattle.cache_core.specs.declared.access.MissKind.TheVariants.{Compulsory, Capacity, Conflict}
 use Rattle.cache_core.specs.declared.counts.PerClass.{PerClass}
 use Rattle.cache_core.specs.declared.counts.Counts.{Counts}
@@ -15,6 +16,14 @@ with_one x counted p = record {
   read = one_if (is_read x && counted) + p.read;
   write = one_if (is_write x && counted) + p.write;
   misc = one_if (is_misc x && counted) + p.misc;
+}
+
+-- the kinds of miss alone
+abbrev pub with_kind : Access → Option MissKind → Counts → Counts
+with_kind x k c = record c {
+  compulsory = with_one x (is_kind Compulsory k) c.compulsory;
+  capacity = with_one x (is_kind Capacity k) c.capacity;
+  conflict = with_one x (is_kind Conflict k) c.conflict;
 }
 
 abbrev pub with_access : Access → Outcome → Counts → Counts

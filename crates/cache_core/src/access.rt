@@ -2,7 +2,6 @@
 
 ghost use Rattle.std.specs.Prelude.{◌≡◌};
 ghost use Rattle.cache_core.specs.History.{is_write};
-ghost use Rattle.cache_core.specs.Kinds.{is_kind};
 
 /// What an access is for.
 #[derive(Clone, Copy, Debug, PartialEq, Eq)]
@@ -56,18 +55,6 @@ pub(crate) fn writes(access: Access) -> bool
 {
     match access.class {
         Class::Write => true,
-        _ => false,
-    }
-}
-
-/// Whether a miss has this kind.
-pub(crate) fn has_kind(kind: MissKind, of: Option<MissKind>) -> bool
-    ensures { result ≡ is_kind kind of }
-{
-    match (kind, of) {
-        (MissKind::Compulsory, Some(MissKind::Compulsory)) => true,
-        (MissKind::Capacity, Some(MissKind::Capacity)) => true,
-        (MissKind::Conflict, Some(MissKind::Conflict)) => true,
         _ => false,
     }
 }

@@ -1,6 +1,8 @@
 //! One cache.
 
-ghost use Rattle.std.specs.Prelude.{◌≡◌, ◌≤◌, ◌+◌, true};
+ghost use Rattle.std.specs.Prelude.{◌≡◌, ◌≤◌, ◌+◌, true, if◌then◌else◌};
+ghost use Rattle.cache_core.specs.declared.access.MissKind.TheVariants.{Compulsory, Capacity};
+ghost use Rattle.cache_core.specs.declared.access.MissKind.TheVariants.{Conflict};
 ghost use Rattle.cache_core.specs.Counts.{AddUp};
 ghost use Rattle.cache_core.specs.Geometry.{sets_of, assoc_of, blocks_of};
 ghost use Rattle.cache_core.specs.Counting.{AreWithin};
@@ -42,27 +44,37 @@ pub struct Cache {
     ghost paid: { counts.written_back + dirty_count (ways_in sets) ≤ served + one_if failed },
 }
 
+/// Why an access missed.
+fn miss_kind(seen: Seen) -> MissKind
+    ensures { result ≡ (if seen.known
+        then (if seen.in_shadow then Conflict else Capacity) else Compulsory) }
+{
+    if !seen.known {
+        MissKind::Compulsory
+    } else if seen.in_shadow {
+        MissKind::Conflict
+    } else {
+        MissKind::Capacity
+    }
+}
+
 /// What an access answers, from what its set and the history of blocks told.
 fn outcome_from(policy: Policy, write: bool, served: Served, seen: Seen) -> Outcome
     ensures { result ≡ outcome_made policy.wback policy.walloc write
         served.hit served.back seen.known seen.in_shadow }
 {
-    let kind = if seen.known {
-        if seen.in_shadow {
-            MissKind::Conflict
-        } else {
-            MissKind::Capacity
-        }
+    let kind = if served.hit {
+        None
     } else {
-        MissKind::Compulsory
+        Some(miss_kind(seen))
     };
-    let uses = !write || policy.walloc || served.hit;
+    let uses = served.hit || may_load(write, policy);
     Outcome {
         hit: served.hit,
-        kind: if served.hit { None } else { Some(kind) },
+        kind,
         back: served.back,
         fetch: uses && !served.hit,
-        through: write && (!policy.wback || !uses),
+        through: write && !(policy.wback && uses),
     }
 }
 

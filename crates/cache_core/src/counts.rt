@@ -2,9 +2,10 @@
 
 ghost use Rattle.std.specs.Prelude.{◌≡◌, ◌≤◌, ◌<◌, ◌^◌, ◌+◌};
 ghost use Rattle.cache_core.specs.Counts.{total_of, no_counts};
-ghost use Rattle.cache_core.specs.Counting.{with_one, with_access, with_flush, IsWithin, AreWithin};
+ghost use Rattle.cache_core.specs.Counting.{with_one, with_kind, with_access, with_flush};
+ghost use Rattle.cache_core.specs.Counting.{IsWithin, AreWithin};
 
-use crate::access::{Access, Class, MissKind, Outcome, has_kind};
+use crate::access::{Access, Class, MissKind, Outcome};
 
 /// A count for each class of access.
 #[derive(Clone, Copy, Debug, Default, PartialEq, Eq)]
@@ -62,19 +63,29 @@ fn count(per_class: &mut PerClass, access: Access, counted: bool)
     }
 }
 
+/// Counts an access that missed by its kind.
+fn count_kind(counts: &mut Counts, access: Access, kind: Option<MissKind>)
+    requires compulsory { IsWithin counts.old.compulsory (2 ^ 44) }
+    requires capacity { IsWithin counts.old.capacity (2 ^ 44) }
+    requires conflict { IsWithin counts.old.conflict (2 ^ 44) }
+    ensures { counts.new ≡ with_kind access kind counts.old }
+{
+    match kind {
+        None => {}
+        Some(MissKind::Compulsory) => count(&mut counts.compulsory, access, true),
+        Some(MissKind::Capacity) => count(&mut counts.capacity, access, true),
+        Some(MissKind::Conflict) => count(&mut counts.conflict, access, true),
+    }
+}
+
 /// Counts an access.
 pub(crate) fn count_access(counts: &mut Counts, access: Access, outcome: Outcome)
     requires { AreWithin counts.old (2 ^ 44) }
     ensures { counts.new ≡ with_access access outcome counts.old }
 {
-    let compulsory = has_kind(MissKind::Compulsory, outcome.kind);
-    let capacity = has_kind(MissKind::Capacity, outcome.kind);
-    let conflict = has_kind(MissKind::Conflict, outcome.kind);
     count(&mut counts.fetches, access, true);
     count(&mut counts.misses, access, !outcome.hit);
-    count(&mut counts.compulsory, access, compulsory);
-    count(&mut counts.capacity, access, capacity);
-    count(&mut counts.conflict, access, conflict);
+    count_kind(counts, access, outcome.kind);
     counts.loaded += outcome.fetch as u64;
     counts.written_back += outcome.back.is_some() as u64;
     counts.sent_on += outcome.through as u64;
