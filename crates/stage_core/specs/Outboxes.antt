@@ -1,5 +1,5 @@
 -- A stage's outbox, whose messages are made as they are sent.
-use Rattle.std.specs.Prelude.{ℕ, ◌+◌, Bool, true, false, List, [], ◌∷◌, ◌++◌, length, map, Option}
+use Rattle.std.specs.Prelude.{ℕ, ◌+◌, List, [], ◌∷◌, ◌++◌, length, map, Option}
 use Rattle.std.specs.Prelude.{option_to_list, drop}
 use Rattle.stage_core.specs.Seen.{back}
 use Rattle.stage_core.specs.Streams.{numbered}
@@ -18,6 +18,7 @@ parts_left backs next first second third =
 -- the message that ends them, behind n parts
 abbrev pub last_message : ℕ → ℕ → Owes → List FromStage
 last_message place n owes.Nothing = []
+last_message place n owes.Parts = from_stage.Done place n ∷ []
 last_message place n owes.Done = from_stage.Done place n ∷ []
 last_message place n owes.Finish = from_stage.Finish ∷ []
 
@@ -25,8 +26,9 @@ last_message place n owes.Finish = from_stage.Finish ∷ []
 abbrev pub to_send : ℕ → ℕ → List What → Owes → List FromStage
 to_send place sent ws o = numbered place (sent + 1) ws ++ last_message place (sent + length ws) o
 
--- is Done still to be sent?
-abbrev pub owes_done : Owes → Bool
-owes_done owes.Nothing = false
-owes_done owes.Done = true
-owes_done owes.Finish = false
+-- the parts among what is owed
+abbrev pub parts_owed : Owes → List What → List What
+parts_owed owes.Nothing ws = []
+parts_owed owes.Parts ws = ws
+parts_owed owes.Done ws = []
+parts_owed owes.Finish ws = []

@@ -78,6 +78,25 @@ fn access_box(
     Outbox::answer(place, Vec::new(alloc), outcome.back, fetch, through)
 }
 
+// Puts them into the outbox. Most accesses have none: then nothing is made for them.
+fn put_access(
+    outbox: &mut Outbox,
+    alloc: Global,
+    side: Side,
+    place: u64,
+    first: u64,
+    access: Access,
+    outcome: Outcome,
+)
+    ensures { outbox.new ≡ answer place (access_parts side first access outcome) }
+{
+    if outcome.back.is_none() && !outcome.fetch && !outcome.through {
+        outbox.answer_nothing(place);
+    } else {
+        *outbox = access_box(alloc, side, place, first, access, outcome);
+    }
+}
+
 #[tactic(auto, unfolding(crate::specs::Standing::cache_of, crate::specs::Standing::side_of, crate::specs::Standing::outbox_of, crate::specs::Standing::took_finish))]
 impl L1Stage {
     ghost use Rattle.std.specs.Prelude.{◌≡◌, ◌<◌, ◌+◌, ◌↔◌, ◌++◌, ◌∷◌, [], IsTrue, IsNone, IsErr};
@@ -192,7 +211,8 @@ impl L1Stage {
     {
         let outcome = self.cache.access(access)?;
         let first = self.geometry.first_byte(self.geometry.block(access.addr));
-        self.outbox = access_box(self.alloc, self.side, place, first, access, outcome);
+        let outbox = &mut self.outbox;
+        put_access(outbox, self.alloc, self.side, place, first, access, outcome);
         Ok(())
     }
 

@@ -69,10 +69,11 @@ impl Pending {
     }
 }
 
-// The message that ends a place.
+// What is still to be sent: `Parts` are parts, perhaps none, and Done behind them.
 #[derive(Clone, Copy)]
 enum Owes {
     Nothing,
+    Parts,
     Done,
     Finish,
 }
@@ -87,16 +88,15 @@ pub(crate) struct Outbox {
 }
 
 impl Model for Outbox {
-    ghost use Rattle.std.specs.Prelude.{List, ◌<◌, ◌+◌, ◌^◌, length, ◌≡◌, ◌⊎◌, true, []};
+    ghost use Rattle.std.specs.Prelude.{List, ◌<◌, ◌+◌, ◌^◌, length};
     ghost use Rattle.stage_core.specs.declared.message.FromStage.{FromStage};
-    ghost use Rattle.stage_core.specs.Outboxes.{to_send, owes_done};
+    ghost use Rattle.stage_core.specs.Outboxes.{to_send, parts_owed};
 
     ghost Value = { List FromStage };
 
-    ghost view = { λ o. to_send o.place o.sent o.pending o.owes };
+    ghost view = { λ o. to_send o.place o.sent (parts_owed o.owes o.pending) o.owes };
 
-    ghost invariant = { λ o. (o.sent + length o.pending < 2 ^ 32) ×
-        ((owes_done o.owes ≡ true) ⊎ (o.pending ≡ [])) };
+    ghost invariant = { λ o. o.sent + length (parts_owed o.owes o.pending) < 2 ^ 32 };
 }
 
 impl Outbox {
@@ -146,8 +146,17 @@ impl Outbox {
                 second,
                 third,
             },
-            owes: Owes::Done,
+            owes: Owes::Parts,
         }
+    }
+
+    /// Done alone, in place of what was still to be sent.
+    pub(crate) fn answer_nothing(&mut self, place: u64)
+        ensures { self.new ≡ answer place [] }
+    {
+        self.place = place;
+        self.sent = 0;
+        self.owes = Owes::Done;
     }
 
     /// Whether all was sent.
@@ -156,7 +165,7 @@ impl Outbox {
     {
         match self.owes {
             Owes::Nothing => true,
-            Owes::Done | Owes::Finish => false,
+            Owes::Parts | Owes::Done | Owes::Finish => false,
         }
     }
 
@@ -165,19 +174,21 @@ impl Outbox {
         ensures front { self.old ≡ option_to_list result ++ self.new }
         ensures none { IsNone result ↔ (self.old ≡ []) }
     {
-        if let Some(what) = self.pending.next() {
-            self.sent += 1;
-            return Some(FromStage::Part {
-                place: self.place,
-                part: self.sent,
-                what,
-            });
+        if let Owes::Parts = self.owes {
+            if let Some(what) = self.pending.next() {
+                self.sent += 1;
+                return Some(FromStage::Part {
+                    place: self.place,
+                    part: self.sent,
+                    what,
+                });
+            }
         }
         let owes = self.owes;
         self.owes = Owes::Nothing;
         match owes {
             Owes::Nothing => None,
-            Owes::Done => Some(FromStage::Done {
+            Owes::Parts | Owes::Done => Some(FromStage::Done {
                 place: self.place,
                 parts: self.sent,
             }),

@@ -22,7 +22,7 @@ pub returns-clause-sent : goal.returns-clause-sent
 unfolding outbox_of cache_of side_of
 returns-clause-sent c = λ h st.
     let old = c.args.self.now in
-    c.access_box.ensures ∙ by_outcome (rules_of old.cache)
+    c.put_access.ensures ∙ by_outcome (rules_of old.cache)
     old.side h c.args.access c.args.place c.first_byte-first.result c.in_ok-outcome.outcome
     (c.first_byte-first.ensures ∙ ap (λ n. n * bsize_of old.geometry) c.block.ensures
     ∙ ap (λ n. c.args.access.addr / n * n) (sym old.shape))
