@@ -191,6 +191,7 @@ impl L1Stage {
     }
 
     // Serves an access.
+    #[inline(always)]
     fn access(&mut self, place: u64, access: Access) -> Result<(), NoMemory>
         requires { served_of (cache_of self.old) < MAX_EVENTS }
         ensures sent { OnOk result ((h : History) → StandsFor (cache_of self.old) h →
@@ -261,6 +262,7 @@ impl L1Stage {
 
     /// Takes a message in, and makes what is to be sent for it. After a refusal the stage has
     /// failed: nothing is left to send, and each further call is refused.
+    #[inline(always)]
     pub fn on(&mut self, message: ToStage) -> Result<(), NoMemory>
         requires ready { IsReady self.old }
         requires room { served_of (cache_of self.old) < MAX_EVENTS }

@@ -32,6 +32,7 @@ use din_trace::{DinRecord, MAX_LIMIT};
 use std::alloc::Global;
 
 // Hands a stage's whole outbox to the merge, and what it brings to the second level.
+#[inline(always)]
 fn drain(stage: &mut L1Stage, merge: &mut Merge, u: &mut L2Stage) -> Result<(), NoMemory>
     requires wanted { AreWanted merge.old (outbox_of stage.old) }
     requires room { served_of (second_cache u.old) + length (flat_map what_in (outbox_of stage.old))
@@ -54,6 +55,7 @@ fn drain(stage: &mut L1Stage, merge: &mut Merge, u: &mut L2Stage) -> Result<(), 
 }
 
 // Hands a stage its message, if it has one, and all that this brings to the second level.
+#[inline(always)]
 fn serve(
     stage: &mut L1Stage,
     message: Option<ToStage>,
@@ -97,6 +99,7 @@ struct Machines {
 
 impl Machines {
     // Works the next event off.
+    #[inline(always)]
     fn take(&mut self, event: DinRecord) -> Result<(), NoMemory>
         requires room { (es : List DinRecord) × Ran self.old es × (length es < 2 * MAX_LIMIT) }
         ensures ran { OnOk result ((es : List DinRecord) → Ran self.old es
@@ -112,6 +115,7 @@ impl Machines {
     }
 
     // Works an event off, if there is one.
+    #[inline(always)]
     fn take_some(&mut self, event: Option<DinRecord>) -> Result<(), NoMemory>
         requires room { (es : List DinRecord) × Ran self.old es × (length es < 2 * MAX_LIMIT) }
         ensures ran { OnOk result ((es : List DinRecord) → Ran self.old es
