@@ -38,19 +38,16 @@ pub fn ring<T: Copy>(alloc: Global, capacity: usize) -> Result<(Tx<T>, Rx<T>), N
     ensures one { IfOk result (λ r. AreEnds r.0 r.1) }
     ensures new { IfOk result (λ r. (sent r.0 ≡ []) × (received r.1 ≡ [])) }
 {
-    let sender = Bell::new(alloc)?;
-    let receiver = Bell::new(alloc)?;
-    ring_between(alloc, capacity, &sender, &receiver)
+    ring_from(alloc, capacity, &Bell::new(alloc)?)
 }
 
-/// The same, between a thread that sends and one that receives: each sleeps by its own bell, and the
-/// other one wakes it.
+/// The same, for a sender that waits at several rings at a time: whoever receives from one of them
+/// wakes it by this bell.
 #[tactic(auto, unfolding(crate::specs::Rings::sent, crate::specs::Rings::received))]
-pub fn ring_between<T: Copy>(
+pub fn ring_from<T: Copy>(
     alloc: Global,
     capacity: usize,
     sender: &Bell,
-    receiver: &Bell,
 ) -> Result<(Tx<T>, Rx<T>), NoMemory>
     requires { (1 ≤ capacity) × (capacity ≤ 65536) }
     ensures one { IfOk result (λ r. AreEnds r.0 r.1) }
@@ -65,6 +62,7 @@ pub fn ring_between<T: Copy>(
     let Ok(batch) = Vec::with_capacity(alloc, BATCH) else {
         return Err(NoMemory);
     };
+    let receiver = Bell::new(alloc)?;
     let tx = Tx {
         end: producer,
         outbox,
@@ -79,7 +77,7 @@ pub fn ring_between<T: Copy>(
         count: 0,
         left: 0,
         patience: Patience::new(),
-        own: receiver.share()?,
+        own: receiver,
         peer: sender.share()?,
     };
     Ok((tx, rx))

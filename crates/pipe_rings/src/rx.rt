@@ -19,7 +19,7 @@ pub struct Rx<T: Copy> {
     pub(crate) count: usize,
     pub(crate) left: usize,
     pub(crate) patience: Patience,
-    // What this thread sleeps by, and what wakes the other one.
+    // What this end sleeps by, and what wakes the other one.
     pub(crate) own: Bell,
     pub(crate) peer: Bell,
     ghost bounds: { (left ≤ count) × (count ≤ length batch.items)

@@ -16,7 +16,7 @@ pub struct Tx<T: Copy> {
     pub(crate) outbox: Vec<T>,
     pub(crate) first: usize,
     pub(crate) patience: Patience,
-    // What this thread sleeps by, and what wakes the other one.
+    // What this end sleeps by, and what wakes the other one.
     pub(crate) own: Bell,
     pub(crate) peer: Bell,
     ghost bounds: { (first ≤ length outbox.items) × (length outbox.items ≤ 512) },

@@ -7,10 +7,10 @@ use std::sync::Wait;
 use std::sync::atomic::{AtomicU64, Ordering};
 use std::time::Duration;
 
-/// A thread that is awake need not be woken.
+/// The thread is awake, and need not be woken.
 const AWAKE: u64 = 0;
 
-/// A thread sleeps, or is about to look a last time before it does.
+/// The thread sleeps, or looks a last time before it does.
 const ASLEEP: u64 = 1;
 
 /// How many steps a thread takes between two looks while it stays awake.
@@ -19,10 +19,11 @@ const STEPS: u32 = 64;
 /// How often a thread looks at most before it sleeps.
 const MOST_LOOKS: u32 = 64;
 
-/// How long a thread sleeps at most, in milliseconds. It is woken before, once there is a reason.
-const SLEEP: u64 = 100;
+/// How many milliseconds a thread sleeps at most. The other end wakes it before, if it has a reason.
+const LONGEST_SLEEP: u64 = 100;
 
-/// What a thread sleeps by and its neighbours wake it with. The ends that one thread owns share one.
+/// What a thread sleeps by, and what the threads at the other ends wake it with. Ends at which one
+/// thread waits at the same time share a bell.
 #[derive(Drop)]
 pub struct Bell {
     word: Arc<AtomicU64, Global>,
@@ -37,7 +38,7 @@ impl Bell {
         }
     }
 
-    /// The same bell.
+    /// Another hold on the same bell. It takes no memory.
     pub fn share(&self) -> Result<Bell, NoMemory> {
         match Arc::try_clone(&self.word) {
             Ok(word) => Ok(Bell { word }),
@@ -58,9 +59,20 @@ impl Bell {
         self.word.store(AWAKE, Ordering::SeqCst);
         self.word.wake_one();
     }
+
+    // Sleeps up to the bell. The first call only says that the thread is about to: the next look
+    // sees all that the other end did before it could see that, so no bell is missed.
+    fn sleep<R: Wait>(&self, rt: &R) {
+        if self.word.load(Ordering::SeqCst) == AWAKE {
+            self.word.store(ASLEEP, Ordering::SeqCst);
+        } else {
+            let longest = Duration::from_millis(LONGEST_SLEEP);
+            self.word.park_timeout(rt, ASLEEP as u32, longest);
+        }
+    }
 }
 
-/// How often a thread has looked in vain at an end, and how often it pays to look before it sleeps.
+/// How often a thread has looked in vain at an end, and how often it looks before it sleeps.
 #[derive(Drop)]
 pub(crate) struct Patience {
     turn: u32,
@@ -73,12 +85,12 @@ impl Patience {
         Patience { turn: 0, looks: 1 }
     }
 
-    /// Something was found. Where that was before the thread had to sleep, it looks longer the next
-    /// time, and else less long.
+    /// Something was found. Where that was before the thread had to sleep, it stays awake longer the
+    /// next time, and else less long.
     pub(crate) fn renew(&mut self) {
         if self.turn > 0 {
             self.looks = if self.turn <= self.looks {
-                (self.looks.saturating_mul(2)).min(MOST_LOOKS)
+                self.looks.saturating_mul(2).min(MOST_LOOKS)
             } else {
                 (self.looks / 2).max(1)
             };
@@ -86,7 +98,7 @@ impl Patience {
         }
     }
 
-    /// Waits between two looks: awake at first, and then asleep, up to the bell.
+    /// Waits between two looks: awake at first, and then asleep.
     pub(crate) fn wait<R: Wait>(&mut self, rt: &R, bell: &Bell) {
         if self.turn < self.looks {
             // Nobody else has this word, so that a step disturbs no other core.
@@ -94,12 +106,8 @@ impl Patience {
             for _ in 0..STEPS {
                 own.fetch_add(1, Ordering::Relaxed);
             }
-        } else if bell.word.load(Ordering::SeqCst) == AWAKE {
-            // The next look sees what the other end did before it could see this.
-            bell.word.store(ASLEEP, Ordering::SeqCst);
         } else {
-            bell.word
-                .park_timeout(rt, ASLEEP as u32, Duration::from_millis(SLEEP));
+            bell.sleep(rt);
         }
         self.turn = self.turn.saturating_add(1);
     }

@@ -4,7 +4,7 @@ ghost use Rattle.std.specs.Prelude.{◌≡◌, ◌≤◌, ◌<◌, IfOk, IsTrue}
 ghost use Rattle.pipe_rings.specs.Rings.{sent, received, AreEnds, SameTx, SameRx};
 ghost use Rattle.sim_run.specs.Ends.{ArePaired, AreUnused, SameRings, AllReceived};
 
-use pipe_rings::{Bell, NoMemory, Rx, Tx, ring_between, settle};
+use pipe_rings::{Bell, NoMemory, Rx, Tx, ring, ring_from, settle};
 use stage_core::{FromStage, Routed, ToStage, Turn};
 use std::alloc::Global;
 use std::sync::Wait;
@@ -93,23 +93,6 @@ pub struct StageEnds {
     pub to_merge: Tx<FromStage>,
 }
 
-impl StageEnds {
-    ghost use Rattle.sim_run.specs.Ends.{SameStageEnds};
-
-    /// Waits a while: for a free place where something is held, and else for a message.
-    pub(crate) fn pause<H: Wait>(&mut self, rt: &H)
-        ensures rings { SameStageEnds self.old self.new }
-        ensures received { received self.new.from_splitter ≡ received self.old.from_splitter }
-        ensures sent { sent self.new.to_merge ≡ sent self.old.to_merge }
-    {
-        if self.to_merge.posted() > 0 {
-            self.to_merge.pause(rt);
-        } else {
-            self.from_splitter.pause(rt);
-        }
-    }
-}
-
 /// What the merge receives from.
 #[derive(Drop)]
 pub struct MergeEnds {
@@ -145,13 +128,12 @@ impl Rings {
         ensures paired { IfOk result (λ rings. ArePaired rings) }
         ensures unused { IfOk result (λ rings. AreUnused rings) }
     {
-        let (splitter, i) = (Bell::new(alloc)?, Bell::new(alloc)?);
-        let (d, merge) = (Bell::new(alloc)?, Bell::new(alloc)?);
-        let (order_tx, order_rx) = ring_between::<Turn>(alloc, capacity, &splitter, &merge)?;
-        let (to_i_tx, to_i_rx) = ring_between::<ToStage>(alloc, capacity, &splitter, &i)?;
-        let (to_d_tx, to_d_rx) = ring_between::<ToStage>(alloc, capacity, &splitter, &d)?;
-        let (from_i_tx, from_i_rx) = ring_between::<FromStage>(alloc, capacity, &i, &merge)?;
-        let (from_d_tx, from_d_rx) = ring_between::<FromStage>(alloc, capacity, &d, &merge)?;
+        let splitter = Bell::new(alloc)?;
+        let (order_tx, order_rx) = ring_from::<Turn>(alloc, capacity, &splitter)?;
+        let (to_i_tx, to_i_rx) = ring_from::<ToStage>(alloc, capacity, &splitter)?;
+        let (to_d_tx, to_d_rx) = ring_from::<ToStage>(alloc, capacity, &splitter)?;
+        let (from_i_tx, from_i_rx) = ring::<FromStage>(alloc, capacity)?;
+        let (from_d_tx, from_d_rx) = ring::<FromStage>(alloc, capacity)?;
         Ok(Rings {
             splitter: SplitterEnds {
                 order: order_tx,

@@ -76,8 +76,8 @@ fn receive<H: Wait>(rt: &H, ends: &mut StageEnds) -> Result<ToStage, Stop>
     }
 }
 
-// The one place where a stage waits for a message. All that was posted is published while it waits,
-// also where the splitter is gone.
+// The one place where a stage waits for a message. It publishes all that it has posted before, also
+// where the splitter is gone.
 #[cold]
 fn await_message<H: Wait>(rt: &H, ends: &mut StageEnds) -> Result<ToStage, Stop>
     ensures from_splitter { SameRx ends.old.from_splitter ends.new.from_splitter }
@@ -87,20 +87,15 @@ fn await_message<H: Wait>(rt: &H, ends: &mut StageEnds) -> Result<ToStage, Stop>
     ensures sent { sent ends.new.to_merge ≡ sent ends.old.to_merge }
 {
     for _ in rt.forever() {
+        publish(rt, &mut ends.to_merge, true)?;
         if let Some(message) = ends.from_splitter.try_recv() {
             return Ok(message);
         }
-        if ends.to_merge.is_cut() {
-            return Err(Stop::Cut);
-        }
-        let moved = ends.to_merge.publish();
-        if ends.to_merge.posted() == 0 && ends.from_splitter.is_cut() {
+        if ends.from_splitter.is_cut() {
             // What was published between these two looks is still there.
             return ends.from_splitter.try_recv().ok_or(Stop::Cut);
         }
-        if moved == 0 {
-            ends.pause(rt);
-        }
+        ends.from_splitter.pause(rt);
     }
     unreachable!()
 }
