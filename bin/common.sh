@@ -1,0 +1,73 @@
+# What the commands of bin/ share. Each sets `self`, its name, before it reads this file.
+# shellcheck shell=bash
+
+# complain TEXT: a line on standard error, in the name of the command.
+complain() {
+    # shellcheck disable=SC2154  # each command sets its name
+    echo "$self: $1" >&2 || true
+}
+
+# die STATUS TEXT
+die() {
+    complain "$2"
+    exit "$1"
+}
+
+# refuse TEXT: the words of the call are not what the command takes.
+refuse() {
+    die 2 "$1; try --help"
+}
+
+# need COMMAND PACKAGE: ends the command where a tool is missing.
+need() {
+    command -v "$1" >/dev/null || die 69 "$1 is missing: install the package $2"
+}
+
+# show_help: prints what the command's own function `usage` says, and ends the command.
+show_help() {
+    usage 2>/dev/null || die 4 'the help text could not be written'
+    exit 0
+}
+
+# place MODE FILE TARGET: puts a whole copy of the file in the target's place, or nothing.
+place() {
+    local part=$3.part$$
+    if ! { cp "$2" "$part" && chmod "$1" "$part" && mv -f "$part" "$3"; } 2>/dev/null; then
+        rm -f "$part"
+        die 4 "$3 could not be written"
+    fi
+}
+
+# The simulator's program, and where it is built.
+top=$(cd "$(dirname "${BASH_SOURCE[0]}")/.." && pwd)
+crate=$top/crates/dinero_pipe
+program=$crate/out/dinero_pipe
+
+is_current() {
+    [ -x "$program" ] || return 1
+    local newer
+    newer=$(find "$top/crates" "$top/crates.txt" -path '*/out' -prune -o -type f -newer "$program" -print -quit)
+    [ -z "$newer" ]
+}
+
+# The program is built by a run of it on the crate's own words and trace.
+build() {
+    local words=()
+    [ ! -f "$crate/args" ] || mapfile -t words < "$crate/args"
+    (cd "$crate" && rt run -- "${words[@]}" < stdin)
+}
+
+# build_where_needed: proves and builds $program, unless it is that of the sources.
+build_where_needed() {
+    ! is_current || return 0
+    complain 'proving and building, which takes some minutes once'
+    local log
+    log=$(mktemp)
+    if ! build > "$log" 2>&1; then
+        cat "$log" >&2
+        rm -f "$log"
+        die 70 'the build failed'
+    fi
+    rm -f "$log"
+    touch "$program"
+}
