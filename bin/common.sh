@@ -29,13 +29,32 @@ show_help() {
     exit 0
 }
 
+# What a command leaves in the file system for itself, and takes away at its end.
+leftovers=()
+remove_leftovers() {
+    [ ${#leftovers[@]} -eq 0 ] || rm -rf "${leftovers[@]}"
+}
+
+# tidy_up_with FUNCTION: it is called at the command's end, also where that is an interrupt.
+tidy_up_with() {
+    # shellcheck disable=SC2064  # the function of now
+    trap "$1" EXIT
+    trap 'interrupt 129' HUP
+    trap 'interrupt 130' INT
+    trap 'interrupt 143' TERM
+}
+
+# interrupt STATUS
+interrupt() {
+    die "$1" interrupted
+}
+
 # place MODE FILE TARGET: puts a whole copy of the file in the target's place, or nothing.
 place() {
     local part=$3.part$$
-    if ! { cp "$2" "$part" && chmod "$1" "$part" && mv -f "$part" "$3"; } 2>/dev/null; then
-        rm -f "$part"
+    leftovers+=("$part")
+    { cp "$2" "$part" && chmod "$1" "$part" && mv -f "$part" "$3"; } 2>/dev/null ||
         die 4 "$3 could not be written"
-    fi
 }
 
 # The simulator's program, and where it is built.
