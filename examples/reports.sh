@@ -1,20 +1,24 @@
 #!/usr/bin/env bash
-# Runs each trace of this folder with the words beside it, and compares the report with the one that
-# was worked out by hand. The first argument is the program; without one the launcher is taken.
-set -u
+# Runs each lesson of this folder, and compares its reports with those that were worked out by hand. A
+# run has its words in RUN.words, one a line, its report in RUN.report and its trace in RUN.din; the
+# runs without a trace of their own share trace.din. The first argument is the program; without one
+# the launcher is taken.
+set -euo pipefail
 folder=$(cd "$(dirname "$0")" && pwd)
 program=${1:-$folder/../bin/dinero_pipe}
 passed=0
 failed=0
-for trace in "$folder"/*.din; do
-    name=$(basename "$trace" .din)
-    mapfile -t words <"$folder/$name.words"
-    if "$program" "${words[@]}" <"$trace" | diff "$folder/$name.report" -; then
+for list in "$folder"/*/*.words; do
+    run=${list%.words}
+    trace=$run.din
+    [ -f "$trace" ] || trace=$(dirname "$run")/trace.din
+    mapfile -t words <"$list"
+    if "$program" "${words[@]}" <"$trace" | diff "$run.report" -; then
         passed=$((passed + 1))
-        echo "passed: $name"
+        echo "passed: ${run#"$folder"/}"
     else
         failed=$((failed + 1))
-        echo "failed: $name"
+        echo "failed: ${run#"$folder"/}"
     fi
 done
 echo "$passed passed, $failed failed"
