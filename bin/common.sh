@@ -58,7 +58,7 @@ place() {
 }
 
 # The simulator's program, and where it is built.
-top=$(cd "$(dirname "${BASH_SOURCE[0]}")/.." && pwd)
+top=$(cd -P "$(dirname "${BASH_SOURCE[0]}")/.." && pwd)
 crate=$top/crates/dinero_pipe
 program=$crate/out/dinero_pipe
 

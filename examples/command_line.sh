@@ -6,8 +6,7 @@ top=$(cd "$(dirname "$0")/.." && pwd)
 program=${1:-$top/bin/dinero_pipe}
 work=$(mktemp -d)
 trap 'rm -rf "$work"' EXIT
-passed=0
-failed=0
+. "$(dirname "$0")/tally.sh"
 
 caches=(--l1-isize 16 --l1-ibsize 4 --l1-dsize 16 --l1-dbsize 4 --l1-dassoc 2
     --l2-usize 32 --l2-ubsize 8 --l2-uassoc 2 --ring 2)
@@ -67,11 +66,9 @@ printf '0 0\n\n5 0\n' >"$work/faulty.din"
 judge() {
     printf '%s' "$4" >"$work/line"
     if [ "$status" = "$2" ] && cmp -s "$work/out" "$3" && cmp -s "$work/err" "$work/line"; then
-        passed=$((passed + 1))
-        echo "passed: $1"
+        pass "$1"
     else
-        failed=$((failed + 1))
-        echo "failed: $1 (status $status, wanted $2)"
+        fail "$1 (status $status, wanted $2)"
         diff "$3" "$work/out" | head -n 5
         diff "$work/line" "$work/err" | head -n 5
     fi
@@ -142,5 +139,4 @@ for option in l1-{i,d}size l1-{i,d}bsize l1-{i,d}assoc l1-{i,d}repl l1-dwback l1
 done
 judge 'help' 0 "$nothing" ''
 
-echo "$passed passed, $failed failed"
-[ "$failed" -eq 0 ]
+tell

@@ -6,20 +6,16 @@
 set -euo pipefail
 folder=$(cd "$(dirname "$0")" && pwd)
 program=${1:-$folder/../bin/dinero_pipe}
-passed=0
-failed=0
+. "$folder/tally.sh"
 for list in "$folder"/*/*.words; do
     run=${list%.words}
     trace=$run.din
     [ -f "$trace" ] || trace=$(dirname "$run")/trace.din
     mapfile -t words <"$list"
     if "$program" "${words[@]}" <"$trace" | diff "$run.report" -; then
-        passed=$((passed + 1))
-        echo "passed: ${run#"$folder"/}"
+        pass "${run#"$folder"/}"
     else
-        failed=$((failed + 1))
-        echo "failed: ${run#"$folder"/}"
+        fail "${run#"$folder"/}"
     fi
 done
-echo "$passed passed, $failed failed"
-[ "$failed" -eq 0 ]
+tell

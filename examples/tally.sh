@@ -1,0 +1,30 @@
+# What the tests of this folder count. Read by them.
+# shellcheck shell=bash
+
+passed=0
+failed=0
+skipped=0
+
+pass() {
+    passed=$((passed + 1))
+    echo "passed: $1"
+}
+
+fail() {
+    failed=$((failed + 1))
+    echo "failed: $1"
+}
+
+# skip NAME WHAT: the machine lacks what the test needs.
+skip() {
+    skipped=$((skipped + 1))
+    echo "skipped: $1, without $2"
+}
+
+# tell: the counts in one line, with a status by them.
+tell() {
+    local line="$passed passed, $failed failed"
+    [ "$skipped" -eq 0 ] || line+=", $skipped skipped"
+    echo "$line"
+    [ "$failed" -eq 0 ]
+}
