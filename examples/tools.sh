@@ -95,10 +95,10 @@ start() {
     set +m
 }
 
-# until_true COMMAND..: waits for some seconds at most.
+# until_true COMMAND..: waits for 20 seconds at most.
 until_true() {
     local tries
-    for ((tries = 0; tries < 100; tries++)); do
+    for ((tries = 0; tries < 400; tries++)); do
         "$@" && return
         sleep 0.05
     done
@@ -637,7 +637,7 @@ verdict 'and no part of a program is left' $?
 
 # The man page has the help's options, each with its value and its words, in the help's order.
 help_options() {
-    sed -nE 's/^ +(-h, )?--([a-z0-9-]+)( <([^>]*)>)? +([^ ].*)$/\2|\4|\5/p' "$1"
+    sed -nE 's/^  (-h, |    )--([a-z0-9-]+)( <([^>]*)>)? +([^ ].*)$/\2|\4|\5/p' "$1"
 }
 
 page_options() {
