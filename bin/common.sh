@@ -53,8 +53,9 @@ interrupt() {
 place() {
     local part=$3.part$$
     leftovers+=("$part")
-    { cp "$2" "$part" && chmod "$1" "$part" && mv -f "$part" "$3"; } 2>/dev/null ||
+    if ! cp "$2" "$part" 2>/dev/null || ! chmod "$1" "$part" || ! mv -f "$part" "$3" 2>/dev/null; then
         die 4 "$3 could not be written"
+    fi
 }
 
 # The simulator's program, and where it is built.

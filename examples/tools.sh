@@ -377,6 +377,16 @@ test_parallel() {
     verdict "gathering a log's reports" $?
     ends 'a log of another grid' 2 'sweep: log.reports is of another grid; try --help' \
         "$sweep" --resume log "${grid[@]}" -- kinds.din
+    cp kinds.din no-log
+    ends 'a log that is none' 2 'sweep: no-log is no log of a sweep; try --help' \
+        "$sweep" --resume no-log "${grid[@]}" -- kinds.din
+    [ ! -e no-log.reports ] && cmp -s no-log kinds.din
+    verdict 'it is left as it was' $?
+    exec {lock}<log
+    flock "$lock"
+    ends 'a log in use' 4 'sweep: log is written by another sweep' \
+        "$sweep" --resume log "${long[@]}" -- long.din
+    exec {lock}<&-
     ends 'a log where none can be' 4 'sweep: the folder /dev/null/log.reports could not be made' \
         "$sweep" --resume /dev/null/log "${grid[@]}" -- kinds.din
 
@@ -609,6 +619,37 @@ else
     skip 'pictures' 'gnuplot and python3 (gnuplot-nox, python3)'
 fi
 
+# standing_still TOOL: a folder whose TOOL leaves a mark and half of its last word's file, and then
+# does nothing for long.
+standing_still() {
+    local folder=$work/still-$1
+    mkdir "$folder"
+    cat >"$folder/$1" <<'END'
+#!/usr/bin/env bash
+: >"$MARK"
+echo half >"${@: -1}"
+exec sleep 60
+END
+    chmod +x "$folder/$1"
+    echo "$folder"
+}
+
+# stopped NAME TOOL COMMAND..: Ctrl-C while the command waits for the tool.
+stopped() {
+    local folder
+    folder=$(standing_still "$2")
+    rm -f "$work/still"
+    MARK=$work/still PATH=$folder:$PATH start "${@:3}"
+    until_true test -e "$work/still"
+    kill -INT -- "-$started"
+    status=0
+    wait "$started" 2>/dev/null || status=$?
+    [ "$status" -eq 130 ] && [ ! -s "$out" ] && grep -qx "[a-z]*: interrupted" "$err"
+    verdict "$1" $?
+}
+
+! has gnuplot || stopped 'plot and Ctrl-C' gnuplot "$plot" kinds kinds.tsv stopped.svg
+
 # ---- install ----
 
 install=$bin/install
@@ -630,10 +671,11 @@ ends 'install with an unknown option' 2 "install: unknown option: '--all'; try -
 ends 'install with two folders' 2 'install: more than one folder is given; try --help' "$install" a b
 ends 'install where no folder can be' 4 'install: the folder of /dev/null/bin/dinero_pipe could not be made' \
     "$install" /dev/null
+stopped 'install and Ctrl-C' cp "$install" "$PWD/usr"
 ends 'install where there is no room' 4 "install: $PWD/$program could not be written" \
     no_room 4 "$install" "$PWD/usr"
 [ -z "$(find usr -type f)" ]
-verdict 'and no part of a program is left' $?
+verdict 'and no part of the program is left' $?
 
 # The man page has the help's options, each with its value and its words, in the help's order.
 help_options() {
