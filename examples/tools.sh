@@ -331,6 +331,8 @@ refused "--l1-dsize: no such value: '8;ls'" --vary --l1-dsize '8;ls' "${rest[@]}
 refused '--l1-dsize has several values, but no --vary before it' --l1-dsize 8,16 -- kinds.din
 refused '--vary has no values' --vary --l1-dsize
 refused "--jobs: not a number of runs: 'all'" --jobs all "${grid[@]}" -- kinds.din
+refused "--l1-dsize: no such value: '-8'" --vary --l1-dsize -8 "${rest[@]}" -- kinds.din
+refused '--gather takes no other words' --gather tasks "${grid[@]}" -- kinds.din
 refused '--task and --into go together' --task 1 "${grid[@]}" -- kinds.din
 ends 'sweep of a trace that is not there' 4 'sweep: no trace to read: nowhere.din' \
     "$sweep" "${grid[@]}" -- kinds.din nowhere.din
