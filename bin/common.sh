@@ -53,7 +53,8 @@ interrupt() {
 place() {
     local part=$3.part$$
     leftovers+=("$part")
-    if ! cp "$2" "$part" 2>/dev/null || ! chmod "$1" "$part" || ! mv -f "$part" "$3" 2>/dev/null; then
+    if ! cp "$2" "$part" 2>/dev/null || ! chmod "$1" "$part" ||
+        ! mv -fT "$part" "$3" 2>/dev/null; then
         die 4 "$3 could not be written"
     fi
 }
@@ -66,7 +67,8 @@ program=$crate/out/dinero_pipe
 is_current() {
     [ -x "$program" ] || return 1
     local newer
-    newer=$(find "$top/crates" "$top/crates.txt" -path '*/out' -prune -o -type f -newer "$program" -print -quit)
+    newer=$(find "$top/crates" "$top/crates.txt" -path '*/out' -prune -o \
+        -type f -newer "$program" -print -quit)
     [ -z "$newer" ]
 }
 

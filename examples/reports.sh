@@ -1,8 +1,8 @@
 #!/usr/bin/env bash
-# Runs each lesson of this folder, and compares its reports with those that were worked out by hand. A
-# run has its words in RUN.words, one a line, its report in RUN.report and its trace in RUN.din; the
-# runs without a trace of their own share trace.din. The first argument is the program; without one
-# the launcher is taken.
+# Runs each lesson of this folder, and compares its reports with those that were worked out by hand.
+# A run has its words in RUN.words, one a line, its report in RUN.report and its trace in RUN.din;
+# the runs without a trace of their own share trace.din. The first argument is the program; without
+# one the launcher is taken.
 set -euo pipefail
 folder=$(cd "$(dirname "$0")" && pwd)
 program=${1:-$folder/../bin/dinero_pipe}

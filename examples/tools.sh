@@ -1,6 +1,6 @@
 #!/usr/bin/env bash
-# Tests bin/record, bin/sweep, bin/plot and bin/install as users call them. What the machine lacks of
-# Debian's packages is said, and the tests that need it are skipped.
+# Tests bin/record, bin/sweep, bin/plot and bin/install as users call them. What the machine lacks
+# of Debian's packages is said, and the tests that need it are skipped.
 set -uo pipefail
 top=$(cd "$(dirname "$0")/.." && pwd)
 work=$(realpath "$(mktemp -d)")
@@ -85,8 +85,8 @@ no_room() (
     exec "${@:2}"
 )
 
-# start COMMAND..: in the background, in a group of its own, as a terminal starts it; its output is a
-# table or a trace in $out, and $started is its number.
+# start COMMAND..: in the background, in a group of its own, as a terminal starts it; its output is
+# a table or a trace in $out, and $started is its number.
 start() {
     : >"$out"
     set -m
@@ -133,15 +133,20 @@ for command in record sweep plot install; do
     to_full "$command --help to a full disk" "$command: the help text could not be written" \
         "$bin/$command" --help
 done
-# Each option that a command looks for is in its help.
-for command in sweep plot install; do
-    "$bin/$command" --help >"$out"
-    grep -oE '^ +(-[a-z-]+ \| )*--[a-z]+( \| --[a-z]+)*\)' "$bin/$command" | grep -oE -e '--[a-z]+' |
+# helps_with_options COMMAND: each option that the command looks for is in its help.
+helps_with_options() {
+    local option
+    "$bin/$1" --help >"$out"
+    grep -oE '^ +(-[a-z-]+ \| )*--[a-z]+( \| --[a-z]+)*\)' "$bin/$1" | grep -oE -e '--[a-z]+' |
         grep -vx -e --help | sort -u >"$work/options"
-    [ -s "$work/options" ] && while read -r option; do
-        grep -q -e "$option" "$out" || exit 1
+    [ -s "$work/options" ] || return
+    while read -r option; do
+        grep -q -e "$option" "$out" || return
     done <"$work/options"
-    verdict "$command --help has each option" $?
+}
+
+for command in sweep plot install; do
+    check "$command --help has each option" helps_with_options $command
 done
 
 # ---- record ----
