@@ -5,11 +5,12 @@
 #     sbatch examples/sweep.sbatch
 #     bin/sweep --gather lab/slurm > lab/columns.tsv       # once the array has ended
 #
-# A configuration whose task failed has a line with a fault; `sbatch --array=N` runs that one again.
+# A configuration whose task failed has a line with a fault, and lab/slurm-N.out says why; `sbatch
+# --array=N` runs that one again.
 #SBATCH --job-name=sweep
 #SBATCH --array=1-28
 #SBATCH --cpus-per-task=4
-#SBATCH --output=/dev/null
+#SBATCH --output=lab/slurm-%a.out
 set -euo pipefail
 
 bin/sweep --task "$SLURM_ARRAY_TASK_ID" --into lab/slurm \
