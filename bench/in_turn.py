@@ -1,22 +1,78 @@
 #!/usr/bin/env python3
-"""in_turn.py ROUNDS TRACE: reads commands, one a line with its name before a tab, and runs each of
-them on the trace in every round, so that all meet the same machine. For each it prints the name, and
-then what best.py prints of its runs, and how many times as fast as the first command it was, as the
-median of the rounds."""
+"""in_turn.py ROUNDS TRACE [COPIES]: reads commands, one a line with its name before a tab, and runs
+each of them on the trace in every round, so that all meet the same machine; so many copies of it at
+once, if COPIES is given. For each it prints the name; millions of references a second, of each copy,
+as the median and the worst of the rounds; how many times as fast that was as the first command, as
+the median and the worst; the processor's seconds of one copy, as the median; the greatest memory in
+megabytes; and the greatest share of a round that the machine's host took from it (steal)."""
 import shlex
 import statistics
+import subprocess
 import sys
+import os
+import time
 
-sys.dont_write_bytecode = True
-from best import best, run
+COLUMNS = "{:<24} {:>8} {:>8} {:>8} {:>8} {:>8} {:>6} {:>7}"
 
-rounds, trace = int(sys.argv[1]), sys.argv[2]
-commands = [line.rstrip("\n").split("\t") for line in sys.stdin]
-runs = {name: [] for name, _ in commands}
-for _ in range(rounds):
-    for name, command in commands:
-        runs[name].append(run(shlex.split(command), trace))
-first = runs[commands[0][0]]
-for name, its in runs.items():
-    speed = statistics.median(its_first[0] / its_own[0] for its_first, its_own in zip(first, its))
-    print("{:<24} {:8.3f} {:8.3f} {:8.0f} {:8.2f}".format(name, *best(its), speed))
+
+def steal():
+    """The time that the host has taken from this machine, and all time, in ticks."""
+    with open("/proc/stat") as stat:
+        ticks = [int(word) for word in stat.readline().split()[1:9]]
+    return ticks[7], sum(ticks)
+
+
+def run(command, trace, copies):
+    """Runs so many copies: their seconds, the processor's seconds of one, and its memory in MB."""
+    begin = time.perf_counter()
+    children = []
+    for _ in range(copies):
+        with open(trace) as text:
+            children.append(subprocess.Popen(command, stdin=text, stdout=subprocess.DEVNULL))
+    processor = memory = 0
+    for child in children:
+        _, status, used = os.wait4(child.pid, 0)
+        if status != 0:
+            sys.exit(f"{command[0]} ended with {status}")
+        processor += used.ru_utime + used.ru_stime
+        memory = max(memory, used.ru_maxrss / 1024)
+    return time.perf_counter() - begin, processor / copies, memory
+
+
+def measured(command, trace, copies):
+    """A run, and the share of it that the host took."""
+    stolen, ticks = steal()
+    result = run(command, trace, copies)
+    stolen_then, ticks_then = steal()
+    return result + ((stolen_then - stolen) / max(1, ticks_then - ticks),)
+
+
+def line(name, its, first, references):
+    """What is printed of the runs of a command."""
+    speeds = [references / one[0] / 1e6 for one in its]
+    ratios = [base[0] / own[0] for base, own in zip(first, its)]
+    figures = [statistics.median(speeds), min(speeds), statistics.median(ratios), min(ratios)]
+    figures.append(statistics.median(one[1] for one in its))
+    return COLUMNS.format(name, *("{:.2f}".format(figure) for figure in figures),
+                          "{:.0f}".format(max(one[2] for one in its)),
+                          "{:.0%}".format(max(one[3] for one in its)))
+
+
+def main():
+    rounds, trace = int(sys.argv[1]), sys.argv[2]
+    copies = int(sys.argv[3]) if len(sys.argv) > 3 else 1
+    commands = [text.rstrip("\n").split("\t") for text in sys.stdin]
+    with open(trace) as text:
+        references = sum(1 for _ in text)
+    runs = {name: [] for name, _ in commands}
+    for _ in range(rounds):
+        for name, command in commands:
+            runs[name].append(measured(shlex.split(command), trace, copies))
+    first = runs[commands[0][0]]
+    print(COLUMNS.format("run", "Mref/s", "worst", "ratio", "worst", "cpu s", "MB", "steal"))
+    for name, its in runs.items():
+        print(line(name, its, first, references))
+
+
+if __name__ == "__main__":
+    main()

@@ -1,20 +1,27 @@
 #!/usr/bin/env bash
 # How fast whole runs are: dinero_pipe, whose stages run in four threads, with rings of four
-# capacities, and plain_bench, which moves the same machines by hand on one thread.
+# capacities, against plain_bench, which moves the same machines by hand on one thread. On all cores,
+# on two and on one, with four runs at once, beside four programs that only burn time, and with a
+# real program's trace.
 #
-#   bench/run.sh [REFERENCES]        10,000,000 references, if no number is given
+#   bench/run.sh [REFERENCES [ROUNDS]]      3,000,000 references and 5 rounds, if none are given
 #
-# The trace is made with a fixed seed in a temporary folder. All runs read the same file, five times in
-# turn, and their reports have to be the same. Times are the best; the speed is against one thread, as
-# the median of the rounds.
+# The trace is made with a fixed seed in a temporary folder. All runs of a table read the same file,
+# in turn, and their reports have to be the same. Where valgrind is installed, the real program is ls.
 set -euo pipefail
-references=${1:-10000000}
+references=${1:-3000000}
+rounds=${2:-5}
 top=$(cd "$(dirname "$0")/.." && pwd)
 plain=$top/crates/plain_bench/out/plain_bench
 threads=$top/crates/dinero_pipe/out/dinero_pipe
 folder=$(mktemp -d)
-trap 'rm -rf "$folder"' EXIT
-trace=$folder/trace.din
+burners=()
+finish() {
+    for burner in "${burners[@]}"; do kill "$burner" 2> /dev/null || true; done
+    rm -rf "$folder"
+}
+trap finish EXIT
+trace=$folder/made.din
 
 (cd "$top/crates/plain_bench" && mapfile -t words < args && rt run -- "${words[@]}" < stdin) \
     > "$folder/build.log" 2>&1 || { cat "$folder/build.log" >&2; exit 1; }
@@ -51,20 +58,46 @@ same() {
     echo
 }
 
-# caches SIZE BLOCK WAYS SIZE BLOCK WAYS: both first-level caches alike, and the second level.
+# caches SIZE BLOCK WAYS SIZE BLOCK WAYS: the runs with both first-level caches alike, and the second
+# level.
 caches() {
     local words=(--l1-isize "$1" --l1-ibsize "$2" --l1-iassoc "$3" --l1-dsize "$1" --l1-dbsize "$2"
         --l1-dassoc "$3" --l2-usize "$4" --l2-ubsize "$5" --l2-uassoc "$6")
-    echo "== $1/$2/$3 with $4/$5/$6"
     rm -f "$folder/first"
     same 'one thread' "$plain" "${@:1:3}" "${@:1:3}" "${@:4:3}" > "$folder/runs"
-    for ring in 64 256 1024 65536; do
+    for ring in 64 1024 65536; do
         same "threads, ring $ring" "$threads" "${words[@]}" --ring "$ring" >> "$folder/runs"
     done
-    "$top/bench/in_turn.py" 5 "$trace" < "$folder/runs"
 }
 
-printf '%-24s %8s %8s %8s %8s\n' run seconds cpu MB speed
+# in_turn TITLE [COPIES]: a table of the runs.
+in_turn() {
+    echo "== $1"
+    "$top/bench/in_turn.py" "$rounds" "$trace" "${2:-1}" < "$folder/runs"
+}
+
+for sizes in '32768 64 8 1048576 64 16' '8192 32 1 262144 32 4' '16384 64 256 262144 64 4096'; do
+    # shellcheck disable=SC2086 # six words
+    caches $sizes
+    in_turn "$sizes, $(nproc) cores"
+done
+if command -v valgrind > /dev/null; then
+    mv "$trace" "$folder/kept.din"
+    "$top/bin/record" ls /usr/lib 2> /dev/null > "$trace"
+    caches 32768 64 8 1048576 64 16
+    in_turn "the references of ls, 32768 64 8 1048576 64 16, $(nproc) cores"
+    mv "$folder/kept.din" "$trace"
+fi
 caches 32768 64 8 1048576 64 16
-caches 8192 32 1 262144 32 4
-caches 16384 64 256 262144 64 4096
+cp "$folder/runs" "$folder/all"
+for cores in 0,1 0; do
+    sed "s/\t/\ttaskset -c $cores /" "$folder/all" > "$folder/runs"
+    in_turn "32768 64 8 1048576 64 16, cores $cores"
+done
+cp "$folder/all" "$folder/runs"
+in_turn "32768 64 8 1048576 64 16, four runs at once" 4
+for _ in 1 2 3 4; do
+    sh -c 'while :; do :; done' &
+    burners+=($!)
+done
+in_turn "32768 64 8 1048576 64 16, beside four programs that only burn time"
