@@ -1,4 +1,6 @@
 mod memory;
+mod neighbours;
+mod outbox;
 
 use super::*;
 use std::sync::Wait;

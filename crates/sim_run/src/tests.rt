@@ -7,6 +7,7 @@ mod devices;
 mod faults;
 mod gates;
 mod gone;
+mod late;
 mod layout;
 mod levels;
 mod many;

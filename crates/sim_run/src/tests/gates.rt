@@ -1,5 +1,5 @@
-//! Runs whose gates show that the stages run at once, and that they run while the trace is read. A
-//! gate gives up after many turns and notes it, so that each test ends by itself.
+//! Runs whose gates show that the stages run at once, and what passes them. A gate gives up after many
+//! turns and notes it, so that each test ends by itself.
 
 ghost use Rattle.std.specs.Prelude.{◌≤◌, ◌^◌};
 ghost use Rattle.stage_core.specs.Events.{IsBounded};
@@ -11,37 +11,35 @@ use cache_core::PerClass;
 use din_trace::{FromRead, FromWrite, MAX_LIMIT};
 use stage_core::{Selection, Totals};
 use std::alloc::Global;
-use std::io::Read;
 use std::process::Abort;
 use std::sync::Wait;
 use std::sync::atomic::{AtomicU64, Ordering};
 use std::test::Fail;
-use std::thread::Threads;
-use std::{io, thread};
+use std::thread::{self, Threads};
 
 /// How often a wait looks again before it gives up.
 const TURNS: u32 = 100_000_000;
 
 /// Whether something came, and whether a wait for it was in vain.
 #[derive(Drop)]
-struct Sign {
+pub(super) struct Sign {
     came: AtomicU64,
     missed: AtomicU64,
 }
 
 impl Sign {
-    fn new() -> Sign {
+    pub(super) fn new() -> Sign {
         Sign {
             came: AtomicU64::new(0),
             missed: AtomicU64::new(0),
         }
     }
 
-    fn show(&self) {
+    pub(super) fn show(&self) {
         self.came.store(1, Ordering::SeqCst);
     }
 
-    fn wait(&self) {
+    pub(super) fn wait(&self) {
         for _ in 0..TURNS {
             if self.came.load(Ordering::SeqCst) == 1 {
                 return;
@@ -51,7 +49,7 @@ impl Sign {
         self.missed.store(1, Ordering::SeqCst);
     }
 
-    fn was_missed(&self) -> bool {
+    pub(super) fn was_missed(&self) -> bool {
         self.missed.load(Ordering::SeqCst) == 1
     }
 }
@@ -122,52 +120,46 @@ fn the_splitter_may_wait_for_the_merge(rt: HostRuntime) -> Result<(), Fail> {
     run_held(&rt, rt.alloc(), (Who::Splitter, 2), (Who::Merge, 1))
 }
 
-/// Shows a sign when I's first message has come.
+/// Implements `arrive` alone. D's second message is held until the merge has all that comes before
+/// the answer to it, and the merge notes where that answer comes while the message is held.
 #[derive(Drop)]
-struct Notes {
+struct Between {
     sign: Sign,
+    passed: AtomicU64,
+    early: AtomicU64,
 }
 
-impl Gate for Notes {
+impl Gate for Between {
     fn arrive<H: Wait>(&self, _rt: &H, who: Who, nth: u64) {
-        if who == Who::I && nth == 1 {
-            self.sign.show();
+        match (who, nth) {
+            (Who::Merge, 4) => self.sign.show(),
+            (Who::Merge, 5) => {
+                if self.passed.load(Ordering::SeqCst) == 0 {
+                    self.early.store(1, Ordering::SeqCst);
+                }
+            }
+            (Who::D, 2) => {
+                self.sign.wait();
+                self.passed.store(1, Ordering::SeqCst);
+            }
+            _ => {}
         }
     }
 }
 
-/// Gives a line, then waits for a sign, then gives another line, then ends.
-#[derive(Drop)]
-struct Late<'a> {
-    sign: &'a Sign,
-    calls: u8,
-}
-
-impl Read for Late<'_> {
-    fn read(&mut self, buffer: &mut [u8]) -> io::Result<usize> {
-        let mut line: &[u8] = match self.calls {
-            0 => b"2 0\n",
-            1 => {
-                self.sign.wait();
-                b"2 4\n"
-            }
-            _ => b"",
-        };
-        self.calls = self.calls.saturating_add(1);
-        line.read(buffer)
-    }
-}
-
 #[test]
-fn the_stages_run_while_the_trace_is_read(rt: HostRuntime) -> Result<(), Fail> {
-    let gate = Notes { sign: Sign::new() };
-    let reader = Late {
-        sign: &gate.sign,
-        calls: 0,
+fn a_gate_of_arrive_alone_sees_a_message_before_it_is_handled(rt: HostRuntime) -> Result<(), Fail> {
+    let gate = Between {
+        sign: Sign::new(),
+        passed: AtomicU64::new(0),
+        early: AtomicU64::new(0),
     };
-    let totals = run_in_threads(&rt, rt.alloc(), reader, &gate, Vec::new(rt.alloc()))??;
-    assert_eq!(rt; totals.i, first_misses(instrs(2), instrs(2), 2));
+    // To the merge come a turn, a part, its end and a turn, and then the end of the second read.
+    let trace = b"0 0\n0 0\n".as_slice();
+    let totals = run_in_threads(&rt, rt.alloc(), trace, &gate, Vec::new(rt.alloc()))??;
+    assert_eq!(rt; totals.d, first_misses(reads(2), reads(1), 1));
     assert!(rt; !gate.sign.was_missed());
+    assert_eq!(rt; gate.early.load(Ordering::SeqCst), 0);
     Ok(())
 }
 

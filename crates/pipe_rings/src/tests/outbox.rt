@@ -1,0 +1,164 @@
+//! What is posted, published and received where both ends are in one thread: in which order, and
+//! how much of it is where.
+
+use crate::{Gone, Rx, SenderGone, Tx, ring, settle};
+use std::process::Abort;
+use std::sync::Wait;
+use std::test::Fail;
+
+/// Posts the numbers below `count`, where there is room. Says how many there was room for.
+fn post_below(tx: &mut Tx<u64>, count: u64) -> u64 {
+    let mut posted = 0u64;
+    for number in 0..count {
+        if tx.has_room() {
+            tx.post(number);
+            posted = posted.saturating_add(1);
+        }
+    }
+    posted
+}
+
+/// Receives numbers from `first` on while each comes in its turn. Says which one did not.
+fn receive_from(rx: &mut Rx<u64>, first: u64) -> u64 {
+    for number in first..1_000 {
+        if rx.try_recv() != Some(number) {
+            return number;
+        }
+    }
+    1_000
+}
+
+/// Publishes and receives by turns. Says which number did not come in its turn.
+fn carry_posted(tx: &mut Tx<u64>, rx: &mut Rx<u64>) -> u64 {
+    let mut next = 0;
+    for _ in 0..600u32 {
+        tx.publish();
+        next = receive_from(rx, next);
+    }
+    next
+}
+
+/// Of 100 posted numbers so many are published at once, and so many are left.
+fn publishes_some(
+    rt: &impl Abort,
+    tx: &mut Tx<u64>,
+    rx: &mut Rx<u64>,
+    published: usize,
+    left: usize,
+) {
+    assert_eq!(rt; post_below(tx, 100), 100);
+    assert_eq!(rt; tx.posted(), 100);
+    assert_eq!(rt; rx.try_recv(), None);
+    assert_eq!(rt; tx.publish(), published);
+    assert_eq!(rt; tx.posted(), left);
+    assert_eq!(rt; tx.publish(), 0);
+    assert_eq!(rt; carry_posted(tx, rx), 100);
+    assert_eq!(rt; tx.posted(), 0);
+}
+
+#[test]
+fn as_much_is_published_as_the_ring_has_room_for(rt: HostRuntime) -> Result<(), Fail> {
+    for (capacity, published, left) in [(1, 1, 99), (2, 2, 98), (64, 64, 36)] {
+        let (mut tx, mut rx) = ring(rt.alloc(), capacity)?;
+        publishes_some(&rt, &mut tx, &mut rx, published, left);
+    }
+    Ok(())
+}
+
+/// There is room for 512 numbers, and again for as many once these are published.
+fn fills_twice(rt: &impl Abort, tx: &mut Tx<u64>, rx: &mut Rx<u64>) {
+    assert_eq!(rt; post_below(tx, 511), 511);
+    assert!(rt; tx.has_room());
+    assert_eq!(rt; carry_posted(tx, rx), 511);
+    assert_eq!(rt; post_below(tx, 600), 512);
+    assert!(rt; !tx.has_room());
+    assert_eq!(rt; tx.posted(), 512);
+    assert_eq!(rt; carry_posted(tx, rx), 512);
+    assert_eq!(rt; tx.posted(), 0);
+    assert!(rt; tx.has_room());
+}
+
+#[test]
+fn an_outbox_holds_512_items(rt: HostRuntime) -> Result<(), Fail> {
+    for capacity in [1, 2, 64] {
+        let (mut tx, mut rx) = ring(rt.alloc(), capacity)?;
+        fills_twice(&rt, &mut tx, &mut rx);
+    }
+    Ok(())
+}
+
+#[test]
+fn what_is_in_the_outbox_and_in_the_ring_is_on_its_way(rt: HostRuntime) -> Result<(), Fail> {
+    let (mut tx, mut rx) = ring(rt.alloc(), 2)?;
+    assert_eq!(rt; post_below(&mut tx, 3), 3);
+    assert_eq!(rt; settle(&mut tx, &mut rx), 3);
+    assert_eq!(rt; tx.publish(), 2);
+    assert_eq!(rt; settle(&mut tx, &mut rx), 3);
+    assert_eq!(rt; rx.recv(&rt), Ok(0));
+    assert_eq!(rt; settle(&mut tx, &mut rx), 2);
+    Ok(())
+}
+
+#[test]
+fn what_is_in_the_batch_is_on_its_way(rt: HostRuntime) -> Result<(), Fail> {
+    let (mut tx, mut rx) = ring(rt.alloc(), 4)?;
+    assert_eq!(rt; post_below(&mut tx, 5), 5);
+    assert_eq!(rt; tx.publish(), 4);
+    assert_eq!(rt; [rx.try_recv(), rx.try_recv()], [Some(0), Some(1)]);
+    // The ring is empty now: two items are in the batch, and one is in the outbox.
+    assert_eq!(rt; settle(&mut tx, &mut rx), 3);
+    assert_eq!(rt; tx.publish(), 1);
+    assert_eq!(rt; settle(&mut tx, &mut rx), 3);
+    assert_eq!(rt; receive_from(&mut rx, 2), 5);
+    assert_eq!(rt; settle(&mut tx, &mut rx), 0);
+    Ok(())
+}
+
+/// Posts three numbers where the ring holds two, publishes, and is dropped.
+fn leave_one_unpublished(rt: &impl Abort, sender: Tx<u64>) {
+    let mut tx = sender;
+    assert_eq!(rt; post_below(&mut tx, 3), 3);
+    assert_eq!(rt; tx.publish(), 2);
+}
+
+#[test]
+fn what_was_published_is_received_though_the_sender_is_gone(rt: HostRuntime) -> Result<(), Fail> {
+    let (tx, mut rx) = ring(rt.alloc(), 2)?;
+    assert!(rt; !rx.is_cut());
+    leave_one_unpublished(&rt, tx);
+    assert!(rt; rx.is_cut());
+    assert_eq!(rt; [rx.recv(&rt), rx.recv(&rt)], [Ok(0), Ok(1)]);
+    assert_eq!(rt; rx.recv(&rt), Err(SenderGone));
+    assert_eq!(rt; rx.try_recv(), None);
+    Ok(())
+}
+
+#[test]
+fn what_is_sent_comes_behind_what_was_posted(rt: HostRuntime) -> Result<(), Fail> {
+    let (mut tx, mut rx) = ring(rt.alloc(), 4)?;
+    assert_eq!(rt; post_below(&mut tx, 2), 2);
+    assert_eq!(rt; tx.send(&rt, 2), Ok(()));
+    assert_eq!(rt; tx.posted(), 0);
+    assert_eq!(rt; post_below(&mut tx, 1), 1);
+    assert_eq!(rt; receive_from(&mut rx, 0), 3);
+    assert_eq!(rt; tx.publish(), 1);
+    assert_eq!(rt; rx.try_recv(), Some(0));
+    Ok(())
+}
+
+/// What was posted stays in the outbox where the receiver is gone, and an item comes back.
+fn hands_back<R: Wait + Abort>(rt: &R, tx: &mut Tx<u64>) {
+    assert!(rt; tx.is_cut());
+    assert_eq!(rt; tx.send(rt, 8), Err(Gone { item: 8 }));
+    assert_eq!(rt; tx.posted(), 1);
+}
+
+#[test]
+fn a_sender_sees_that_the_receiver_is_gone(rt: HostRuntime) -> Result<(), Fail> {
+    let (mut tx, rx) = ring(rt.alloc(), 2)?;
+    assert_eq!(rt; post_below(&mut tx, 1), 1);
+    assert!(rt; !tx.is_cut());
+    drop(rx);
+    hands_back(&rt, &mut tx);
+    Ok(())
+}
