@@ -1,6 +1,8 @@
 //! What is posted, published and received where both ends are in one thread: in which order, and
 //! how much of it is where.
 
+ghost use Rattle.pipe_rings.specs.Rings.{AreEnds, SameTx, SameRx};
+
 use crate::{Gone, Rx, SenderGone, Tx, ring, settle};
 use std::process::Abort;
 use std::sync::Wait;
@@ -87,30 +89,60 @@ fn an_outbox_holds_512_items(rt: HostRuntime) -> Result<(), Fail> {
     Ok(())
 }
 
+fn post_one(tx: &mut Tx<u64>, number: u64)
+    ensures ring { SameTx tx.old tx.new }
+{
+    if tx.has_room() {
+        tx.post(number);
+    }
+}
+
+fn post_three(tx: &mut Tx<u64>)
+    ensures ring { SameTx tx.old tx.new }
+{
+    post_one(tx, 0);
+    post_one(tx, 1);
+    post_one(tx, 2);
+}
+
+/// So many are on their way.
+fn are_left(rt: &impl Abort, tx: &mut Tx<u64>, rx: &mut Rx<u64>, count: usize)
+    requires { AreEnds tx.old rx.old }
+    ensures { AreEnds tx.new rx.new }
+{
+    assert_eq!(rt; settle(tx, rx), count);
+}
+
 #[test]
 fn what_is_in_the_outbox_and_in_the_ring_is_on_its_way(rt: HostRuntime) -> Result<(), Fail> {
     let (mut tx, mut rx) = ring(rt.alloc(), 2)?;
-    assert_eq!(rt; post_below(&mut tx, 3), 3);
-    assert_eq!(rt; settle(&mut tx, &mut rx), 3);
+    post_three(&mut tx);
+    are_left(&rt, &mut tx, &mut rx, 3);
     assert_eq!(rt; tx.publish(), 2);
-    assert_eq!(rt; settle(&mut tx, &mut rx), 3);
     assert_eq!(rt; rx.recv(&rt), Ok(0));
-    assert_eq!(rt; settle(&mut tx, &mut rx), 2);
+    are_left(&rt, &mut tx, &mut rx, 2);
     Ok(())
+}
+
+/// Receives the first item, which comes alone, and then the first of a batch.
+fn fill_batch(rt: &impl Abort, rx: &mut Rx<u64>)
+    ensures ring { SameRx rx.old rx.new }
+{
+    assert_eq!(rt; rx.try_recv(), Some(0));
+    assert_eq!(rt; rx.try_recv(), Some(1));
 }
 
 #[test]
 fn what_is_in_the_batch_is_on_its_way(rt: HostRuntime) -> Result<(), Fail> {
     let (mut tx, mut rx) = ring(rt.alloc(), 4)?;
-    assert_eq!(rt; post_below(&mut tx, 5), 5);
-    assert_eq!(rt; tx.publish(), 4);
-    assert_eq!(rt; [rx.try_recv(), rx.try_recv()], [Some(0), Some(1)]);
-    // The ring is empty now: two items are in the batch, and one is in the outbox.
-    assert_eq!(rt; settle(&mut tx, &mut rx), 3);
-    assert_eq!(rt; tx.publish(), 1);
-    assert_eq!(rt; settle(&mut tx, &mut rx), 3);
-    assert_eq!(rt; receive_from(&mut rx, 2), 5);
-    assert_eq!(rt; settle(&mut tx, &mut rx), 0);
+    post_three(&mut tx);
+    assert_eq!(rt; tx.publish(), 3);
+    post_one(&mut tx, 3);
+    fill_batch(&rt, &mut rx);
+    // The ring is empty: an item is in the batch, and one is in the outbox.
+    are_left(&rt, &mut tx, &mut rx, 2);
+    assert_eq!(rt; rx.try_recv(), Some(2));
+    are_left(&rt, &mut tx, &mut rx, 1);
     Ok(())
 }
 
