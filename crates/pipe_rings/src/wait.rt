@@ -2,9 +2,8 @@
 
 use crate::NoMemory;
 use std::alloc::Global;
-use std::sync::Arc;
-use std::sync::Wait;
 use std::sync::atomic::{AtomicU64, Ordering};
+use std::sync::{Arc, Wait};
 use std::time::Duration;
 
 /// The thread is awake, and need not be woken.
