@@ -2,13 +2,19 @@
 //!
 //! [`ring`] makes the two ends. [`Tx`] sends, and waits where the ring is full; [`Rx`] receives,
 //! and waits where it is empty; and [`settle`] counts what is still on its way once both ends are
-//! in one thread again. The ring itself is rtrb's: one producer, one consumer, no lock. The rooms:
-//! `tx` and `rx` the ends, `wait` how one end waits for the other.
+//! in one thread again. The ring itself is rtrb's: one producer, one consumer, no lock.
+//!
+//! Items go through in bulk. A sender may post items into an outbox, which takes no waiting, and
+//! publish them together; a receiver takes a batch out of the ring at a time. A thread that has
+//! nothing to do sleeps until the other end wakes it by its [`Bell`]; [`ring_from`] is for a thread
+//! that waits at several rings. The rooms: `tx` and `rx` the ends, `wait` how one end waits for the
+//! other.
 //!
 //! Proved: what was sent and what was received are lists that only grow at their end, by the item
-//! of the call and by no other; an item that is handed back was not sent; and what was sent is what
-//! was received, followed by as many items as `settle` counts. Tested only: that an end is told to
-//! be gone only where it was dropped, and that memory for a ring is granted.
+//! of the call and by no other; what is posted counts as sent, and publishing changes nothing of
+//! it; an item that is handed back was not sent; and what was sent is what was received, followed
+//! by as many items as `settle` counts. Tested only: that an end is told to be gone only where it
+//! was dropped, that an end which sleeps is woken, and that memory for a ring is granted.
 #![tactic(auto)]
 
 mod rx;

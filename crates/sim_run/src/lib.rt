@@ -6,6 +6,10 @@
 //! the report, [`simulate_plain`] the same on one thread. [`write_report`] writes the report of
 //! given totals, and [`write_block`] the block of one cache.
 //!
+//! No thread waits while it holds a message that it could let its neighbour see: the splitter waits in
+//! `split::wait_until` alone, a stage in `stage_thread::publish` and `await_message`, the merge where
+//! it receives.
+//!
 //! The rooms: `ends` has the rings, and which end each thread owns; `gate` holds threads for tests;
 //! `split`, `stage_thread` and `merge_thread` are the bodies of the threads; `pipeline` starts,
 //! joins and settles them; `simulation` and `plain` are the two runs; `report` lays out the lines;
