@@ -40,7 +40,7 @@ impl Promise<MergeEnd> for MergePromise {
 pub type MergeHandle = PromisedHandle<MergeEnd, MergePromise>;
 
 // The merge takes a side's message, and the second level serves what it brings.
-#[inline]
+#[inline(always)]
 fn serve(merge: &mut Merge, u: &mut L2Stage, message: FromStage) -> Result<(), Stop>
     requires { (wanted merge.old ≡ want.I) ⊎ (wanted merge.old ≡ want.D) }
     ensures merge { merge.new ≡ after_message merge.old message }
@@ -60,7 +60,7 @@ fn serve(merge: &mut Merge, u: &mut L2Stage, message: FromStage) -> Result<(), S
 }
 
 // Takes in the next message of the side that the merge wants.
-#[inline]
+#[inline(always)]
 fn take_in<H: Wait, G: Gate>(
     rt: &H,
     gate: &G,

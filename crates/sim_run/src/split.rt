@@ -101,6 +101,7 @@ fn next_record<H: Wait, R: ByteReader, G: Gate>(
 }
 
 // Sends the messages of one event, or those of the end.
+#[inline(always)]
 fn send_routed<H: Wait>(rt: &H, ends: &mut SplitterEnds, routed: Routed) -> Result<(), Stop>
     ensures rings { SameSplitterEnds ends.old ends.new }
     ensures sent { OnOk result (Sends ends.old routed ends.new) }
@@ -127,6 +128,7 @@ fn send_end<H: Wait>(rt: &H, ends: &mut SplitterEnds, routed: Routed) -> Result<
 }
 
 // Routes an event, if there is one, and sends its messages.
+#[inline(always)]
 fn send_some<H: Wait>(
     rt: &H,
     splitter: &mut Splitter,
