@@ -1,0 +1,133 @@
+# What a test of the commands checks, and how it calls them. Read by tools.sh.
+# shellcheck shell=bash disable=SC2154  # names that tools.sh and its other files set
+
+# verdict NAME STATUS: of the check that has just ended.
+verdict() {
+    if [ "$2" -eq 0 ] && is_tidy; then
+        pass "$1"
+    else
+        fail "$1 (status ${status-})"
+        head -n 5 "$err"
+    fi
+}
+
+# is_tidy: nothing is left of the command, neither a file nor a process.
+is_tidy() {
+    [ -z "$(ls -A "$TMPDIR")" ] && until_true all_have_ended && return
+    echo "left behind: $(ls -A "$TMPDIR") $(our_processes)"
+    return 1
+}
+
+# our_processes: those that were started from here, as their environment tells.
+our_processes() {
+    env -u TMPDIR grep -lzxF "TMPDIR=$TMPDIR" /proc/[0-9]*/environ 2>/dev/null
+}
+
+all_have_ended() {
+    [ -z "$(our_processes)" ]
+}
+
+# check NAME COMMAND..: the test passes where the command does.
+check() {
+    "${@:2}"
+    verdict "$1" $?
+}
+
+# run COMMAND..: keeps both streams and the status.
+run() {
+    status=0
+    "$@" >"$out" 2>"$err" </dev/null || status=$?
+}
+
+has() {
+    command -v "$1" >/dev/null
+}
+
+# ends NAME STATUS LINE COMMAND..: the command prints nothing, and says this one line.
+ends() {
+    run "${@:4}"
+    [ "$status" -eq "$2" ] && [ ! -s "$out" ] && [ "$(<"$err")" = "$3" ]
+    verdict "$1" $?
+}
+
+# to_full NAME LINE COMMAND..: the command's output is a full disk.
+to_full() {
+    status=0
+    "${@:3}" >/dev/full 2>"$err" </dev/null || status=$?
+    [ "$status" -eq 4 ] && [ "$(<"$err")" = "$2" ]
+    verdict "$1" $?
+}
+
+# no_room KILOBYTES COMMAND..: no file can grow longer, as on a full disk.
+no_room() (
+    ulimit -f "$1"
+    trap '' XFSZ
+    exec "${@:2}"
+)
+
+# start COMMAND..: in the background, in a group of its own, as a terminal starts it; its output is
+# a table or a trace in $out, and $started is its number.
+start() {
+    : >"$out"
+    set -m
+    "$@" >"$out" 2>"$err" </dev/null &
+    started=$!
+    set +m
+}
+
+# until_true COMMAND..: waits for some ten seconds at most.
+until_true() {
+    local end=$((SECONDS + 10))
+    until "$@"; do
+        [ $SECONDS -lt $end ] || return
+        sleep 0.05
+    done
+}
+
+lines_at_least() {
+    [ "$(wc -l <"$1")" -ge "$2" ]
+}
+
+# whole_lines FILE FIELDS: it ends in a line feed, and each line has so many fields.
+whole_lines() {
+    [ -s "$1" ] && [ -z "$(tail -c 1 "$1")" ] && awk -F '\t' -v fields="$2" 'NF != fields { exit 1 }' "$1"
+}
+
+# without COMMAND: a folder to take as PATH, with all of this machine's commands but that one.
+without() {
+    local folder=$work/without-$1 file
+    mkdir "$folder"
+    for file in /usr/bin/* /bin/*; do
+        [ "${file##*/}" = "$1" ] || ln -sf "$file" "$folder/${file##*/}"
+    done
+    echo "$folder"
+}
+
+# standing_still TOOL: a folder whose TOOL leaves a mark and half of its last word's file, and then
+# does nothing for long.
+standing_still() {
+    local folder=$work/still-$1
+    mkdir "$folder"
+    cat >"$folder/$1" <<'END'
+#!/usr/bin/env bash
+: >"$MARK"
+echo half >"${@: -1}"
+exec sleep 60
+END
+    chmod +x "$folder/$1"
+    echo "$folder"
+}
+
+# stopped NAME TOOL COMMAND..: Ctrl-C while the command waits for the tool.
+stopped() {
+    local folder
+    folder=$(standing_still "$2")
+    rm -f "$work/still"
+    MARK=$work/still PATH=$folder:$PATH start "${@:3}"
+    until_true test -e "$work/still"
+    kill -INT -- "-$started"
+    status=0
+    wait "$started" 2>/dev/null || status=$?
+    [ "$status" -eq 130 ] && [ ! -s "$out" ] && grep -qx "[a-z]*: interrupted" "$err"
+    verdict "$1" $?
+}

@@ -1,0 +1,26 @@
+# Tests the help of the commands. Read by tools.sh.
+# shellcheck shell=bash disable=SC2154  # names that tools.sh and its other files set
+
+for command in record sweep plot install; do
+    run "$bin/$command" --help
+    [ "$status" -eq 0 ] && [ ! -s "$err" ] && grep -q '^Usage: bin/'"$command" "$out" &&
+        grep -q '^Exit status:' "$out"
+    verdict "$command --help" $?
+    to_full "$command --help to a full disk" "$command: the help text could not be written" \
+        "$bin/$command" --help
+done
+# helps_with_options COMMAND: each option that the command looks for is in its help.
+helps_with_options() {
+    local option
+    "$bin/$1" --help >"$out"
+    grep -oE '^ +(-[a-z-]+ \| )*--[a-z]+( \| --[a-z]+)*\)' "$bin/$1" | grep -oE -e '--[a-z]+' |
+        grep -vx -e --help | sort -u >"$work/options"
+    [ -s "$work/options" ] || return
+    while read -r option; do
+        grep -q -e "$option" "$out" || return
+    done <"$work/options"
+}
+
+for command in sweep plot install; do
+    check "$command --help has each option" helps_with_options $command
+done
