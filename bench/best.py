@@ -1,22 +1,28 @@
 #!/usr/bin/env python3
-"""best.py RUNS TRACE COMMAND..: runs the command on the trace so many times, and prints the best time
-in seconds, the processor time of that run, and the greatest memory of any run in megabytes."""
+"""best.py RUNS TRACE COMMAND..: runs the command on the trace RUNS times. Prints the best time in
+seconds, the processor seconds of that run, and the greatest memory of any run in megabytes."""
 import os
 import subprocess
 import sys
 import time
 
 
-def run(command, trace):
-    """Runs it once: its time and its processor time in seconds, and its memory in megabytes."""
-    with open(trace) as text:
-        begin = time.perf_counter()
-        child = subprocess.Popen(command, stdin=text, stdout=subprocess.DEVNULL)
+def run(command, trace, copies=1):
+    """Runs that many copies at once: their seconds, and the processor seconds and the greatest
+    memory in megabytes of one."""
+    begin = time.perf_counter()
+    children = []
+    for _ in range(copies):
+        with open(trace) as text:
+            children.append(subprocess.Popen(command, stdin=text, stdout=subprocess.DEVNULL))
+    processor = memory = 0
+    for child in children:
         _, status, used = os.wait4(child.pid, 0)
-        seconds = time.perf_counter() - begin
-    if status != 0:
-        sys.exit(f"{command[0]} ended with {status}")
-    return seconds, used.ru_utime + used.ru_stime, used.ru_maxrss / 1024
+        if status != 0:
+            sys.exit(f"{command[0]} ended with {status}")
+        processor += used.ru_utime + used.ru_stime
+        memory = max(memory, used.ru_maxrss / 1024)
+    return time.perf_counter() - begin, processor / copies, memory
 
 
 def best(runs):

@@ -1,16 +1,20 @@
 #!/usr/bin/env python3
-"""in_turn.py ROUNDS TRACE [COPIES]: reads commands, one a line with its name before a tab, and runs
-each of them on the trace in every round, so that all meet the same machine; so many copies of it at
-once, if COPIES is given. For each it prints the name; millions of references a second, of each copy,
-as the median and the worst of the rounds; how many times as fast that was as the first command, as
-the median and the worst; the processor's seconds of one copy, as the median; the greatest memory in
-megabytes; and the greatest share of a round that the machine's host took from it (steal)."""
+"""in_turn.py ROUNDS TRACE [COPIES]: compares commands by running them in turn.
+
+Reads commands, one a line, with its name before a tab. Runs each command on the trace in every
+round, so that all of them meet the same machine; COPIES of it at once, if that is given. Prints for
+each its name, and then:
+
+- the millions of references a second of each copy, the median and the worst of the rounds;
+- how many times as fast that was as the first command, the median and the worst;
+- the processor seconds of one copy, the median;
+- the greatest memory in megabytes;
+- the greatest share of a round that the machine's host took from it (steal)."""
 import shlex
 import statistics
-import subprocess
 import sys
-import os
-import time
+
+from best import run
 
 COLUMNS = "{:<24} {:>8} {:>8} {:>8} {:>8} {:>8} {:>6} {:>7}"
 
@@ -20,23 +24,6 @@ def steal():
     with open("/proc/stat") as stat:
         ticks = [int(word) for word in stat.readline().split()[1:9]]
     return ticks[7], sum(ticks)
-
-
-def run(command, trace, copies):
-    """Runs so many copies: their seconds, the processor's seconds of one, and its memory in MB."""
-    begin = time.perf_counter()
-    children = []
-    for _ in range(copies):
-        with open(trace) as text:
-            children.append(subprocess.Popen(command, stdin=text, stdout=subprocess.DEVNULL))
-    processor = memory = 0
-    for child in children:
-        _, status, used = os.wait4(child.pid, 0)
-        if status != 0:
-            sys.exit(f"{command[0]} ended with {status}")
-        processor += used.ru_utime + used.ru_stime
-        memory = max(memory, used.ru_maxrss / 1024)
-    return time.perf_counter() - begin, processor / copies, memory
 
 
 def measured(command, trace, copies):

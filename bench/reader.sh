@@ -3,8 +3,9 @@
 #
 #   bench/reader.sh [RECORDS]        10,000,000 records, if no number is given
 #
-# Each trace is made with a fixed seed in a temporary folder. `wc -l` reads the same file in the same
-# run, so that the machine of the day falls out. Times are the best of five, in seconds.
+# Each trace is made with a fixed seed in a temporary folder. `wc -l` reads the same file in the
+# same run, so that the ratio does not depend on the machine. Times are the best of five, in
+# seconds.
 set -euo pipefail
 records=${1:-10000000}
 top=$(cd "$(dirname "$0")/.." && pwd)
@@ -12,13 +13,13 @@ program=$top/crates/reader_bench/out/reader_bench
 folder=$(mktemp -d)
 trap 'rm -rf "$folder"' EXIT
 
-# rt run builds the program where it isn't there, or isn't that of the sources.
+# rt run builds the program if it is missing or older than the sources.
 (cd "$top/crates/reader_bench" && rt run --jobs 1 < stdin > "$folder/build.log" 2>&1) || {
     cat "$folder/build.log" >&2
     exit 1
 }
 
-# make FORM RECORDS: a trace with labels 0 to 4 and addresses of 6 to 8 digits, in one of four forms.
+# make FORM RECORDS: prints a trace with labels 0 to 4 and addresses of 6 to 8 digits, in a form.
 make() {
     awk -v form="$1" -v records="$2" 'BEGIN {
         srand(1)

@@ -3,9 +3,9 @@
 #
 #   bench/ring.sh [MESSAGES]        10,000,000 messages, if no number is given
 #
-# A ring of 1 passes one message in 64 of them, a ring of 16 one in four. Each figure is the best and
-# the median of nine rounds, in millions a second. Then the processor time of a thread that waits
-# for another one, which sends a message a second.
+# A ring of 1 passes 1/64 of the messages, a ring of 16 a quarter. The figures are the best and the
+# median of nine rounds, in millions of messages a second. Then comes the processor time of a thread
+# that waits for another one, which sends a message a second.
 set -euo pipefail
 messages=${1:-10000000}
 top=$(cd "$(dirname "$0")/.." && pwd)
@@ -13,7 +13,7 @@ program=$top/crates/ring_bench/out/ring_bench
 folder=$(mktemp -d)
 trap 'rm -rf "$folder"' EXIT
 
-# rt run builds the program where it isn't there, or isn't that of the sources.
+# rt run builds the program if it is missing or older than the sources.
 (cd "$top/crates/ring_bench" && rt run --jobs 1 -- 1000 > "$folder/build.log" 2>&1) || {
     cat "$folder/build.log" >&2
     exit 1

@@ -1,13 +1,13 @@
 #!/usr/bin/env bash
-# How fast whole runs are: dinero_pipe, whose stages run in four threads, with rings of four
-# capacities, against plain_bench, which moves the same machines by hand on one thread. On all cores,
-# on two and on one, with four runs at once, beside four programs that only burn time, and with a
-# real program's trace.
+# How fast whole runs are: dinero_pipe, whose stages run in four threads, with rings of several
+# capacities, against plain_bench, which runs the same machines on one thread. On all cores, on two
+# and on one, with four runs at once, beside four programs that only burn time, and with a real
+# program's trace.
 #
 #   bench/run.sh [REFERENCES [ROUNDS]]      3,000,000 references and 5 rounds, if none are given
 #
 # The trace is made with a fixed seed in a temporary folder. All runs of a table read the same file,
-# in turn, and their reports have to be the same. Where valgrind is installed, the real program is ls.
+# in turn, and their reports must be the same. If valgrind is installed, the real program is ls.
 set -euo pipefail
 references=${1:-3000000}
 rounds=${2:-5}
@@ -27,8 +27,8 @@ trace=$folder/made.din
     > "$folder/build.log" 2>&1 || { cat "$folder/build.log" >&2; exit 1; }
 "$top/bin/dinero_pipe" --help > /dev/null
 
-# Six in ten are fetches, which run on and jump to one of 64 loops now and then. Of the data, three in
-# ten are writes; most lie in 16 KiB, some in 256 KiB, few in 16 MiB.
+# Six in ten references are fetches, which run on and sometimes jump to one of 64 loops. Of the data
+# references, three in ten are writes; most are to 16 KiB, some to 256 KiB, few to 16 MiB.
 awk -v references="$references" 'BEGIN {
     srand(1)
     for (i = 0; i < references; i++) {
@@ -58,8 +58,8 @@ same() {
     echo
 }
 
-# caches SIZE BLOCK WAYS SIZE BLOCK WAYS: the runs with both first-level caches alike, and the second
-# level.
+# caches SIZE BLOCK WAYS SIZE BLOCK WAYS: the runs with these first-level caches, which are alike,
+# and this second level.
 caches() {
     local words=(--l1-isize "$1" --l1-ibsize "$2" --l1-iassoc "$3" --l1-dsize "$1" --l1-dbsize "$2"
         --l1-dassoc "$3" --l2-usize "$4" --l2-ubsize "$5" --l2-uassoc "$6")

@@ -1,6 +1,6 @@
 #!/usr/bin/env bash
-# What a long and a slow trace cost: the memory for 2 GB of one line, and the processor's time while a
-# pipe gives a line a second.
+# What a long and a slow trace cost: the memory for 2 GB of one line, and the processor time while
+# a pipe gives a line a second.
 #
 #   bench/waiting.sh [LINES [SECONDS]]        222,222,222 lines and 10 seconds, if none are given
 set -euo pipefail
@@ -14,6 +14,7 @@ long() { yes '2 400d7c' | head -n "$lines"; }
 slow() { for ((i = 0; i < seconds; i++)); do echo '0 1000'; sleep 1; done; }
 
 for trace in long slow; do
-    read -r took processor peak < <("$top/bench/best.py" 1 <($trace) "$top/bin/dinero_pipe" "${words[@]}")
+    read -r took processor peak \
+        < <("$top/bench/best.py" 1 <($trace) "$top/bin/dinero_pipe" "${words[@]}")
     echo "$trace: $took seconds, $processor of the processor, at most $peak MB"
 done
