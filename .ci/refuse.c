@@ -1,11 +1,11 @@
-/* Put in front of the C library by .ci/refusals, refuses one growth of a program's memory: the one whose
- * number REFUSE_AT gives, counted from 1. It notes that in the file REFUSE_NOTE, as "growth", or as
- * "thread" where the growth was the start of a thread.
+/* .ci/refusals puts this in front of the C library. It refuses one allocation of a program: the one
+ * whose number REFUSE_AT gives, counted from 1. It notes that in the file REFUSE_NOTE, as "growth",
+ * or as "thread" if the allocation was for the start of a thread.
  *
- * A list that is refused the room for all that it expects asks at once for room for one more, and does
- * with that. Such a second request is the same growth, and is refused too: one that comes from the same
- * thread, at the same depth of its stack, with no other call for memory or to free any in between, and
- * is for no more than was refused. */
+ * A list that is refused the room for all that it expects retries at once with room for one more.
+ * The retry counts as the same allocation, and is refused too. A retry comes from the same thread,
+ * at the same depth of its stack, with no other allocation or free in between, and asks for no more
+ * than was refused. */
 #define _GNU_SOURCE
 #include <dlfcn.h>
 #include <errno.h>
@@ -24,7 +24,7 @@ extern void __libc_free(void *block);
 static long refused_at;
 static long grown;
 static __thread int starts_thread;
-/* The depth of this thread's stack when its last call was refused, if it was, and what it asked for. */
+/* If this thread's last call was refused: the depth of its stack then, and what it asked for. */
 static __thread const void *refused_depth;
 static __thread size_t refused_size;
 

@@ -90,7 +90,8 @@ lines_at_least() {
 
 # whole_lines FILE FIELDS: it ends in a line feed, and each line has so many fields.
 whole_lines() {
-    [ -s "$1" ] && [ -z "$(tail -c 1 "$1")" ] && awk -F '\t' -v fields="$2" 'NF != fields { exit 1 }' "$1"
+    [ -s "$1" ] && [ -z "$(tail -c 1 "$1")" ] &&
+        awk -F '\t' -v fields="$2" 'NF != fields { exit 1 }' "$1"
 }
 
 # without COMMAND: a folder to take as PATH, with all of this machine's commands but that one.

@@ -47,7 +47,8 @@ test_plot() {
     verdict 'it has a bar for each configuration' $?
     run "$plot" rates kinds.tsv rates.svg
     [ "$status" -eq 0 ] && [ ! -s "$out$err" ] &&
-        shows rates.svg 'kinds.din, l1-dcache' 'size of l1-dcache (bytes)' 'miss rate (% of fetches)' \
+        shows rates.svg 'kinds.din, l1-dcache' 'size of l1-dcache (bytes)' \
+            'miss rate (% of fetches)' \
             '1 way' '2 ways' 8 16
     verdict 'a picture of the miss rates' $?
     for kind in kinds rates; do
@@ -62,7 +63,8 @@ test_plot() {
     ends 'plot of several traces' 1 \
         'plot: both.tsv: several lines have one size and one number of ways: choose by --only' \
         "$plot" kinds both.tsv none.svg
-    ends 'plot of another file' 1 'plot: kinds.din: no table of bin/sweep' "$plot" rates kinds.din none.svg
+    ends 'plot of another file' 1 'plot: kinds.din: no table of bin/sweep' \
+        "$plot" rates kinds.din none.svg
     ends 'plot of a cache whose size is not varied' 1 'plot: kinds.tsv: the table has no column l2-usize' \
         "$plot" rates kinds.tsv none.svg --cache l2-ucache
     ends 'plot of no line' 1 'plot: kinds.tsv: no line of the table is left' \

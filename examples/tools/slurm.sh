@@ -8,10 +8,12 @@ cp ../here/kinds.din lab/columns.din
 for ((number = 1; number <= 28; number++)); do
     SLURM_ARRAY_TASK_ID=$number bash "$top/examples/sweep.sbatch" || echo "task $number failed"
 done >"$out" 2>"$err"
-[ ! -s "$out" ] && [ ! -s "$err" ] && grep -q '^#SBATCH --array=1-28$' "$top/examples/sweep.sbatch" &&
+[ ! -s "$out" ] && [ ! -s "$err" ] &&
+    grep -q '^#SBATCH --array=1-28$' "$top/examples/sweep.sbatch" &&
     run bin/sweep --gather lab/slurm && [ "$status" -eq 0 ] && lines_at_least "$out" 29 &&
     bin/sweep --vary --l1-dsize 1k,2k,4k,8k,16k,32k,64k --vary --l1-dassoc 1,2,4,8 --l1-isize 32k \
-        --l1-ibsize 32 --l1-dbsize 32 --l2-usize 1m --l2-ubsize 32 --l2-uassoc 8 -- lab/columns.din |
+        --l1-ibsize 32 --l1-dbsize 32 --l2-usize 1m --l2-ubsize 32 --l2-uassoc 8 \
+        -- lab/columns.din |
     cmp -s - "$out"
 verdict "the Slurm script's tasks, one by one" $?
 cp "$out" whole
@@ -46,7 +48,8 @@ NodeName=$name NodeAddr=127.0.0.1 CPUs=$(nproc) State=UNKNOWN
 PartitionName=all Nodes=ALL Default=YES State=UP
 END
     export SLURM_CONF=$folder/slurm.conf
-    env -u TMPDIR munged --force --foreground --key-file="$folder/key" --socket="$folder/munge.socket" \
+    env -u TMPDIR munged --force --foreground \
+        --key-file="$folder/key" --socket="$folder/munge.socket" \
         --pid-file="$folder/munge.pid" --log-file="$folder/munge.log" --seed-file="$folder/seed" \
         >"$folder/munge.out" 2>&1 &
     daemons+=($!)

@@ -22,7 +22,8 @@ one_by_one() {
     for trace; do
         for size in 8 16; do
             for ways in 1 2; do
-                "$bin/dinero_pipe" --l1-dsize "$size" --l1-dassoc "$ways" "${rest[@]}" <"$trace" >"$work/report"
+                "$bin/dinero_pipe" --l1-dsize "$size" --l1-dassoc "$ways" "${rest[@]}" \
+                    <"$trace" >"$work/report"
                 printf '%s\t%s\t%s\t' "$trace" "$size" "$ways"
                 for line in 2 3 4 5 6 7 8 9 14 15 16 17 18 19 20 21 26 27 28 29 30 31 32 33; do
                     sed -n "${line}p" "$work/report" | cut -c 19-30 | tr -d ' \n'
@@ -54,7 +55,8 @@ check "the names of sweep's columns" names_are_right
 
 # Misses of lesson 3, worked out by hand: FIFO in the small and the large cache, LRU in both.
 run "$sweep" --vary --l1-drepl f,l --vary --l1-dsize 8,16 --l1-dassoc 2 "${rest[@]}" -- fifo.din
-[ "$status" -eq 0 ] && [ "$(tail -n +2 "$out" | cut -f 2,3,13 | tr '\t\n' ' ,')" = 'f 8 6,f 16 7,l 8 7,l 16 6,' ]
+[ "$status" -eq 0 ] &&
+    [ "$(tail -n +2 "$out" | cut -f 2,3,13 | tr '\t\n' ' ,')" = 'f 8 6,f 16 7,l 8 7,l 16 6,' ]
 verdict 'sweep of a lesson' $?
 
 cp long.din first.din
@@ -119,7 +121,8 @@ refused '--task and --into go together' --task 1 "${grid[@]}" -- kinds.din
 ends 'sweep of a trace that is not there' 4 'sweep: no trace to read: nowhere.din' \
     "$sweep" "${grid[@]}" -- kinds.din nowhere.din
 ends 'gathering from nowhere' 4 'sweep: no folder of reports: nowhere' "$sweep" --gather nowhere
-to_full 'sweep to a full disk' 'sweep: the table could not be written' "$sweep" "${long[@]}" -- long.din
+to_full 'sweep to a full disk' 'sweep: the table could not be written' \
+    "$sweep" "${long[@]}" -- long.din
 "$sweep" "${long[@]}" -- long.din 2>"$err" | head -n 1 >"$out"
 status=${PIPESTATUS[0]}
 [ "$status" -eq 141 ] && [ ! -s "$err" ]
@@ -230,7 +233,8 @@ test_ssh() {
     verdict 'all of its runs were made there' $?
     echo nowhere.invalid >machines
     run "$sweep" --hosts machines "${grid[@]}" -- kinds.din
-    [ "$status" -eq 1 ] && [ "$(cut -f 28 "$out" | sort | uniq -c | tr -s ' \n' ' ')" = ' 1 fault 4 no report ' ]
+    [ "$status" -eq 1 ] &&
+        [ "$(cut -f 28 "$out" | sort | uniq -c | tr -s ' \n' ' ')" = ' 1 fault 4 no report ' ]
     verdict 'sweep over a machine that is not there' $?
 }
 
