@@ -13,6 +13,7 @@ pub mod Positions
 pub mod StreamCounts
 pub mod Blocked
 pub mod NeverStuck
+pub mod Waits
 pub mod Kept
 pub mod Schedules
 pub mod Given

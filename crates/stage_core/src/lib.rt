@@ -16,7 +16,8 @@
 //! by place, I's before D's, whichever is there first (`specs/Merging`); and a run answers the
 //! counts that the definitions give over the whole event list (`specs/Seen`), or want of memory. No
 //! order of events is stuck, however small the rings are, and all have the same end
-//! (`specs/Network`, `specs/NetworkLaws`).
+//! (`specs/Network`, `specs/NetworkLaws`). Nor do threads that keep outboxes ever all wait in vain,
+//! if each waits only where it may (`specs/Waiting`).
 #![tactic(auto)]
 
 mod config;
@@ -45,7 +46,7 @@ pub use l2_stage::L2Stage;
 pub use laws::{
     complete_schedules_are_as_long, events_keep_consistency, merge_takes_what_is_seen,
     no_schedule_is_stuck, rings_carry_beginnings, second_level_is_given_few, second_level_sees_few,
-    selections_make_few, stages_answer_their_streams,
+    selections_make_few, stages_answer_their_streams, waiting_threads_have_ended,
 };
 pub use memory::NoMemory;
 pub use merge::Merge;

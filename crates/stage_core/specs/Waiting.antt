@@ -1,0 +1,150 @@
+-- Where threads wait that post into outboxes, and publish from there into the rings.
+use Rattle.std.specs.Prelude.{◌≡◌, ◌⊎◌, ℕ, ◌+◌, ◌<◌, ◌≤◌, Bool, true, false, List, [], ◌++◌, map}
+use Rattle.std.specs.Prelude.{length}
+use Rattle.std.specs.List.{list_any}
+use Rattle.din_trace.specs.declared.record.DinRecord.{DinRecord}
+use Rattle.stage_core.specs.Places.{over, one_if}
+use Rattle.stage_core.specs.Seen.{Parts}
+use Rattle.stage_core.specs.Streams.{turn_of, told, replies, is_finish}
+use Rattle.stage_core.specs.Merging.{Stand, wanted, merged, all_used}
+use Rattle.stage_core.specs.declared.message.Side.{Side}
+use Rattle.stage_core.specs.declared.message.Side.TheVariants as side
+use Rattle.stage_core.specs.declared.message.What.{What}
+use Rattle.stage_core.specs.declared.message.Turn.{Turn}
+use Rattle.stage_core.specs.declared.message.Turn.TheVariants as turn
+use Rattle.stage_core.specs.declared.message.Want.{Want}
+use Rattle.stage_core.specs.declared.message.Want.TheVariants as want
+use Rattle.stage_core.specs.declared.message.ToStage.{ToStage}
+use Rattle.stage_core.specs.declared.message.ToStage.TheVariants as to_stage
+use Rattle.stage_core.specs.declared.message.FromStage.{FromStage}
+
+-- the sending end of a ring: all that was posted, and the last part of it, which the outbox holds
+pub record Sender (A : Type 0) : Type 0 where
+  pub posted : List A
+  pub held : List A
+
+-- the splitter between two events: those that it has posted, whether the end too, and its senders
+pub record SplitterThread : Type 0 where
+  pub events : List DinRecord
+  pub closed : Bool
+  pub order : Sender Turn
+  pub to : Side → Sender ToStage
+
+-- a stage: what it received, its sender, and what it has still to post
+pub record StageThread : Type 0 where
+  pub received : List ToStage
+  pub from : Sender FromStage
+  pub unposted : List FromStage
+
+-- the merge: what it received, where it stands, and what the second level was given
+pub record MergeThread : Type 0 where
+  pub turns : List Turn
+  pub from : Side → List FromStage
+  pub at : Stand
+  pub given : List What
+
+-- the four threads, and what waits in the rings between them: it was published, and not received
+pub record Threads : Type 0 where
+  pub splitter : SplitterThread
+  pub stage : Side → StageThread
+  pub merge : MergeThread
+  pub order : List Turn
+  pub to : Side → List ToStage
+  pub from : Side → List FromStage
+
+-- what was posted on each ring was received, or waits there, or is held
+pub record RingsCarry (n : Threads) : Type 0 where
+  pub order : n.splitter.order.posted ≡ n.merge.turns ++ (n.order ++ n.splitter.order.held)
+  pub to : (s : Side) →
+      (n.splitter.to s).posted ≡ (n.stage s).received ++ (n.to s ++ (n.splitter.to s).held)
+  pub from : (s : Side) →
+      (n.stage s).from.posted ≡ n.merge.from s ++ (n.from s ++ (n.stage s).from.held)
+
+-- what the splitter has posted is, ring by ring, what it has to send for its events
+pub record HasPosted (t : SplitterThread) : Type 0 where
+  pub order : t.order.posted ≡ map (λ e. turn_of e.label) t.events ++ one_if t.closed turn.Finish
+  pub to : (s : Side) → (t.to s).posted ≡ over (told s) t.events ++ one_if t.closed to_stage.Finish
+
+-- what a stage has posted, with what it has still to post, answers what it received
+abbrev pub HasAnswered : Parts → Side → StageThread → Type 0
+HasAnswered parts s t = t.from.posted ++ t.unposted ≡ replies parts s t.received
+
+-- the merge's rule has used up what was received
+abbrev pub HasMerged : MergeThread → Type 0
+HasMerged t = merged t.turns (t.from side.I) (t.from side.D) ≡ all_used t.given t.at
+
+-- how many messages the splitter holds
+abbrev pub splitter_holds : SplitterThread → ℕ
+splitter_holds t = length t.order.held + length (t.to side.I).held + length (t.to side.D).held
+
+-- the splitter may wait for room where it holds something, and has ended where all is published
+pub record SplitterMayWait (t : SplitterThread) : Type 0 where
+  pub posted : HasPosted t
+  pub holds : 0 < splitter_holds t
+
+pub record SplitterEnded (t : SplitterThread) : Type 0 where
+  pub posted : HasPosted t
+  pub closed : t.closed ≡ true
+  pub published : splitter_holds t ≡ 0
+
+-- a stage may wait for room where it holds something
+pub record MayAwaitRoom (parts : Parts) (s : Side) (t : StageThread) : Type 0 where
+  pub answered : HasAnswered parts s t
+  pub holds : 0 < length t.from.held
+
+-- where all is published, it may wait for a message, or has ended if Finish came
+pub record HasPublished (finished : Bool) (parts : Parts) (s : Side) (t : StageThread)
+    : Type 0 where
+  pub answered : HasAnswered parts s t
+  pub posted : t.unposted ≡ []
+  pub published : t.from.held ≡ []
+  pub finish : list_any is_finish t.received ≡ finished
+
+abbrev pub MayAwaitMessage : Parts → Side → StageThread → Type 0
+MayAwaitMessage = HasPublished false
+
+abbrev pub StageEnded : Parts → Side → StageThread → Type 0
+StageEnded = HasPublished true
+
+-- the merge may wait for the ring that it wants, and has ended where it wants none
+abbrev pub MergeEnded : MergeThread → Type 0
+MergeEnded t = HasMerged t × (wanted t.at ≡ want.Nothing)
+
+-- a ring has no room for what is held: nothing is, or the ring is full
+abbrev pub NoRoom : {A : Type 0} → ℕ → Sender A → List A → Type 0
+NoRoom capacity s waiting = (s.held ≡ []) ⊎ (capacity ≤ length waiting)
+
+-- nothing waits in the ring that is wanted
+abbrev pub NothingFor : Want → Threads → Type 0
+NothingFor want.Order n = n.order ≡ []
+NothingFor want.I n = n.from side.I ≡ []
+NothingFor want.D n = n.from side.D ≡ []
+NothingFor want.Nothing n = ⊥
+
+-- the splitter waits in vain: no ring has room for what it holds
+pub record SplitterWaits (capacity : ℕ) (n : Threads) : Type 0 where
+  pub may : SplitterMayWait n.splitter
+  pub order : NoRoom capacity n.splitter.order n.order
+  pub to : (s : Side) → NoRoom capacity (n.splitter.to s) (n.to s)
+
+-- a stage waits in vain: for room where there is none, or for a message where none is
+abbrev pub StageWaits : Parts → ℕ → Side → Threads → Type 0
+StageWaits parts capacity s n =
+    (MayAwaitRoom parts s (n.stage s) × NoRoom capacity (n.stage s).from (n.from s))
+    ⊎ (MayAwaitMessage parts s (n.stage s) × (n.to s ≡ []))
+
+-- the merge waits in vain
+abbrev pub MergeWaits : Threads → Type 0
+MergeWaits n = HasMerged n.merge × NothingFor (wanted n.merge.at) n
+
+-- each thread waits in vain, or has ended
+pub record NoneGoesOn (parts : Parts) (capacity : ℕ) (n : Threads) : Type 0 where
+  pub splitter : SplitterWaits capacity n ⊎ SplitterEnded n.splitter
+  pub stage : (s : Side) → StageWaits parts capacity s n ⊎ StageEnded parts s (n.stage s)
+  pub merge : MergeWaits n ⊎ MergeEnded n.merge
+
+-- each has ended
+pub record AllEnded (parts : Parts) (n : Threads) : Type 0 where
+  pub splitter : SplitterEnded n.splitter
+  pub stage : (s : Side) → StageEnded parts s (n.stage s)
+  pub merge : MergeEnded n.merge
