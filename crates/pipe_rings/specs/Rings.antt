@@ -1,5 +1,5 @@
 -- What a contract sees of the two ends of a ring: which ring, what was sent, what was received.
-use Rattle.std.specs.Prelude.{◌≡◌, ℕ, ◌-◌, ◌<◌, List, ◌++◌, length, take, drop}
+use Rattle.std.specs.Prelude.{◌≡◌, ◌⊎◌, ℕ, ◌-◌, ◌<◌, List, [], ◌++◌, length, take, drop}
 use Rattle.rtrb.specs.Ring as ring
 use Rattle.pipe_rings.specs.declared.tx.Tx.{Tx}
 use Rattle.pipe_rings.specs.declared.rx.Rx.{Rx}
@@ -17,10 +17,18 @@ module _ {T : Type 0} where
   unfoldable pub HasRoom : Tx T → Type 0
   HasRoom tx = length tx.outbox.items < 512
 
+  -- what was posted was published, as far as the sender knows of free places in the ring
+  unfoldable pub LookedForRoom : Tx T → Type 0
+  LookedForRoom tx = (posted tx ≡ []) ⊎ (ring.known_free tx.end ≡ 0)
+
   -- every item received so far, oldest first: those that came out of the ring, without the ones that
   -- are left of the batch
   unfoldable pub received : Rx T → List T
   received rx = take (length (ring.received rx.end) - rx.left) (ring.received rx.end)
+
+  -- the receiver knows of no item that it could receive, in the ring or left of the batch
+  unfoldable pub LookedForItem : Rx T → Type 0
+  LookedForItem rx = (rx.left ≡ 0) × (ring.known_items rx.end ≡ [])
 
   -- the two ends of one ring
   abbrev pub AreEnds : Tx T → Rx T → Type 0

@@ -33,10 +33,10 @@ pub struct Rx<T: Copy> {
 #[derive(Debug, Clone, Copy, PartialEq, Eq)]
 pub struct SenderGone;
 
-#[tactic(auto, unfolding(crate::specs::Rings::received))]
+#[tactic(auto, unfolding(crate::specs::Rings::received, crate::specs::Rings::LookedForItem))]
 impl<T: Copy> Rx<T> {
     ghost use Rattle.std.specs.Prelude.{◌≡◌, ◌<◌, [], ◌∷◌, ◌++◌, IfOk, IfSome, OnErr, IsNone};
-    ghost use Rattle.pipe_rings.specs.Rings.{received, SameRx};
+    ghost use Rattle.pipe_rings.specs.Rings.{received, SameRx, LookedForItem};
 
     /// Receives the next item, once there is one.
     #[inline]
@@ -76,6 +76,7 @@ impl<T: Copy> Rx<T> {
         ensures ring { SameRx self.old self.new }
         ensures some { IfSome result (λ item. received self.new ≡ received self.old ++ item ∷ []) }
         ensures none { IsNone result → received self.new ≡ received self.old }
+        ensures looked { IsNone result → LookedForItem self.new }
     {
         if self.left > 0 {
             return Some(self.next_left());
@@ -90,6 +91,7 @@ impl<T: Copy> Rx<T> {
         ensures ring { SameRx self.old self.new }
         ensures some { IfSome result (λ item. received self.new ≡ received self.old ++ item ∷ []) }
         ensures none { IsNone result → received self.new ≡ received self.old }
+        ensures looked { IsNone result → LookedForItem self.new }
     {
         if self.batch.is_empty() {
             return self.first();
@@ -135,6 +137,7 @@ impl<T: Copy> Rx<T> {
         ensures ring { SameRx self.old self.new }
         ensures some { IfSome result (λ item. received self.new ≡ received self.old ++ item ∷ []) }
         ensures none { IsNone result → received self.new ≡ received self.old }
+        ensures looked { IsNone result → LookedForItem self.new }
     {
         let Ok(item) = self.end.pop() else {
             return None;
@@ -152,6 +155,7 @@ impl<T: Copy> Rx<T> {
         ensures same { received self.new ≡ received self.old }
         ensures left { self.new.left ≡ self.old.left }
         ensures batch { (self.new.batch ≡ self.old.batch) × (self.new.count ≡ self.old.count) }
+        ensures end { self.new.end ≡ self.old.end }
     {
         self.patience.renew();
         self.peer.ring();
@@ -162,6 +166,7 @@ impl<T: Copy> Rx<T> {
         requires { self.old.left ≡ 0 }
         ensures ring { SameRx self.old self.new }
         ensures same { received self.new ≡ received self.old }
+        ensures looked { 0 < length self.old.batch.items → self.new.left ≡ 0 → LookedForItem self.new }
     {
         self.count = self.end.pop_partial_slice(&mut self.batch);
         self.left = self.count;

@@ -29,11 +29,11 @@ pub struct Gone<T> {
     pub item: T,
 }
 
-#[tactic(auto, unfolding(crate::specs::Rings::sent, crate::specs::Rings::posted, crate::specs::Rings::HasRoom))]
+#[tactic(auto, unfolding(crate::specs::Rings::sent, crate::specs::Rings::posted, crate::specs::Rings::HasRoom, crate::specs::Rings::LookedForRoom))]
 impl<T: Copy> Tx<T> {
     ghost use Rattle.std.specs.Prelude.{◌≡◌, ◌<◌, [], ◌∷◌, ◌++◌, ◌↔◌, OnOk, IfErr, IsTrue, false};
-    ghost use Rattle.std.specs.Prelude.{length};
-    ghost use Rattle.pipe_rings.specs.Rings.{sent, posted, SameTx, HasRoom};
+    ghost use Rattle.std.specs.Prelude.{length, ◌+◌};
+    ghost use Rattle.pipe_rings.specs.Rings.{sent, posted, SameTx, HasRoom, LookedForRoom};
 
     /// Sends the item, once there is a free place for it behind all that was posted. Where the
     /// receiver was dropped before the call, the item comes back though there is a free place.
@@ -86,8 +86,10 @@ impl<T: Copy> Tx<T> {
     pub fn publish(&mut self) -> usize
         ensures ring { SameTx self.old self.new }
         ensures sent { sent self.new ≡ sent self.old }
-        ensures posted { posted self.old ≡ [] → posted self.new ≡ [] }
+        ensures posted { length (posted self.old) ≡ result + length (posted self.new) }
+        ensures looked { LookedForRoom self.new }
         ensures room { HasRoom self.old → HasRoom self.new }
+        ensures emptied { length (posted self.new) ≡ 0 → HasRoom self.new }
     {
         let count = self.move_posted();
         if count > 0 {
@@ -100,8 +102,10 @@ impl<T: Copy> Tx<T> {
     fn move_posted(&mut self) -> usize
         ensures ring { SameTx self.old self.new }
         ensures sent { sent self.new ≡ sent self.old }
-        ensures posted { posted self.old ≡ [] → posted self.new ≡ [] }
+        ensures posted { length (posted self.old) ≡ result + length (posted self.new) }
+        ensures looked { LookedForRoom self.new }
         ensures room { HasRoom self.old → HasRoom self.new }
+        ensures emptied { length (posted self.new) ≡ 0 → HasRoom self.new }
     {
         let (moved, left) = self.end.push_partial_slice(&self.outbox[self.first..]);
         let count = moved.len();
@@ -139,6 +143,7 @@ impl<T: Copy> Tx<T> {
         ensures ring { SameTx self.old self.new }
         ensures sent { sent self.new ≡ sent self.old }
         ensures posted { posted self.new ≡ posted self.old }
+        ensures looked { LookedForRoom self.old → LookedForRoom self.new }
         ensures room { HasRoom self.old → HasRoom self.new }
     {
         self.patience.renew();

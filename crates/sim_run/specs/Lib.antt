@@ -4,3 +4,4 @@ pub mod Ends
 pub mod Threads
 pub mod Machines
 pub mod Runs
+pub mod Waits

@@ -1,6 +1,6 @@
 -- What each of the four threads has done with its ends.
 use Rattle.std.specs.Prelude.{◌≡◌, ℕ, false, List, [], ◌∷◌, ◌++◌, map, length, option_to_list}
-use Rattle.std.specs.Prelude.{None, Result, Ok, Err}
+use Rattle.std.specs.Prelude.{Some, None, Result, Ok, Err}
 use Rattle.std.specs.List.{list_any}
 use Rattle.pipe_rings.specs.Rings.{sent, received}
 use Rattle.din_trace.specs.declared.record.DinRecord.{DinRecord}
@@ -19,6 +19,7 @@ use Rattle.stage_core.specs.Standing.{second_cache}
 use Rattle.stage_core.specs.declared.message.Side.TheVariants as side
 use Rattle.stage_core.specs.declared.message.Routed.{Routed}
 use Rattle.stage_core.specs.declared.message.What.{What}
+use Rattle.stage_core.specs.declared.message.Turn.TheVariants as turn
 use Rattle.stage_core.specs.declared.message.ToStage.{ToStage}
 use Rattle.stage_core.specs.declared.message.ToStage.TheVariants as to_stage
 use Rattle.stage_core.specs.declared.selection.Selection.{Selection}
@@ -36,6 +37,12 @@ pub record Sends (was : SplitterEnds) (routed : Routed) (now : SplitterEnds) : T
   pub order : sent now.order ≡ sent was.order ++ routed.turn ∷ []
   pub to_i : sent now.to_i ≡ sent was.to_i ++ option_to_list routed.i
   pub to_d : sent now.to_d ≡ sent was.to_d ++ option_to_list routed.d
+
+-- these are the messages of the end
+pub record IsEnd (routed : Routed) : Type 0 where
+  pub turn : routed.turn ≡ turn.Finish
+  pub i : routed.i ≡ Some to_stage.Finish
+  pub d : routed.d ≡ Some to_stage.Finish
 
 -- the splitter has sent all messages of these events, the last of which has this place
 pub record HasSent (events : List DinRecord) (place : ℕ) (ends : SplitterEnds) : Type 0 where

@@ -21,6 +21,7 @@ impl SplitterEnds {
     ghost use Rattle.std.specs.Prelude.{◌↔◌};
     ghost use Rattle.sim_run.specs.Ends.{HaveRoom, SameSplitterEnds, SentSame};
     ghost use Rattle.sim_run.specs.Threads.{Sends};
+    ghost use Rattle.sim_run.specs.Waits.{LookedEverywhere, held};
 
     /// Whether the messages of one event more may be posted.
     #[inline]
@@ -46,11 +47,15 @@ impl SplitterEnds {
         }
     }
 
-    /// Publishes what was posted, as far as there are free places. Answers how many messages the
-    /// other threads see more.
+    /// Publishes what was posted, as far as there are free places in each of the three rings. Answers
+    /// whether the other threads see more.
     pub(crate) fn publish(&mut self) -> bool
         ensures rings { SameSplitterEnds self.old self.new }
         ensures sent { SentSame self.old self.new }
+        ensures looked { LookedEverywhere self.new }
+        ensures fewer { held self.new ≤ held self.old }
+        ensures moved { IsTrue result → held self.new < held self.old }
+        ensures emptied { held self.new ≡ 0 → HaveRoom self.new }
     {
         let order = self.order.publish();
         let to_i = self.to_i.publish();
@@ -59,28 +64,17 @@ impl SplitterEnds {
     }
 
     /// Whether all that was posted is published.
-    pub(crate) fn are_published(&self) -> bool {
-        self.order.posted() == 0 && self.to_i.posted() == 0 && self.to_d.posted() == 0
-    }
-
-    /// Waits a while at an end that holds something.
-    pub(crate) fn pause<H: Wait>(&mut self, rt: &H)
-        ensures rings { SameSplitterEnds self.old self.new }
-        ensures sent { SentSame self.old self.new }
+    pub(crate) fn are_published(&self) -> bool
+        ensures { IsTrue result ↔ (held self.now ≡ 0) }
     {
-        if self.order.posted() > 0 {
-            self.order.pause(rt);
-        } else if self.to_i.posted() > 0 {
-            self.to_i.pause(rt);
-        } else {
-            self.to_d.pause(rt);
-        }
+        self.order.posted() == 0 && self.to_i.posted() == 0 && self.to_d.posted() == 0
     }
 
     /// Whether one of the receivers is gone.
     pub(crate) fn are_cut(&mut self) -> bool
         ensures rings { SameSplitterEnds self.old self.new }
         ensures sent { SentSame self.old self.new }
+        ensures held { held self.new ≡ held self.old }
     {
         self.order.is_cut() || self.to_i.is_cut() || self.to_d.is_cut()
     }

@@ -6,9 +6,9 @@
 //! the report, [`simulate_plain`] the same on one thread. [`write_report`] writes the report of
 //! given totals, and [`write_block`] the block of one cache.
 //!
-//! No thread waits while it holds a message that it could let its neighbour see: the splitter waits in
-//! `split::wait_until` alone, a stage in `stage_thread::publish` and `await_message`, the merge where
-//! it receives.
+//! The threads wait for one another in the functions of `waits` alone. Each of these asks that its
+//! thread may wait there and has looked in vain, and a law of stage_core says that threads which
+//! wait only so never all wait in vain.
 //!
 //! The rooms: `ends` has the rings, and which end each thread owns; `gate` holds threads for tests;
 //! `split`, `stage_thread` and `merge_thread` are the bodies of the threads; `pipeline` starts,
@@ -39,6 +39,7 @@ mod split;
 mod stage_thread;
 #[cfg(test)]
 mod tests;
+mod waits;
 
 pub use ends::Rings;
 pub use fault::RunFault;

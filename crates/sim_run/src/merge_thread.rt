@@ -11,13 +11,14 @@ ghost use Rattle.stage_core.specs.declared.message.FromStage.{FromStage};
 ghost use Rattle.sim_run.specs.declared.fault.Stop.{Stop};
 ghost use Rattle.sim_run.specs.Ends.{UnusedMerge};
 ghost use Rattle.sim_run.specs.Threads.{HasMerged};
+ghost use Rattle.sim_run.specs.Waits.{MergeUsed};
 
 use crate::ends::MergeEnds;
 use crate::fault::{NoThread, Stop};
 use crate::gate::{Gate, Who, pass};
+use crate::waits::{await_from_d, await_from_i, await_turn};
 use cache_core::MAX_EVENTS;
-use pipe_rings::Rx;
-use stage_core::{FromStage, L2Stage, Merge, Want};
+use stage_core::{FromStage, L2Stage, Merge, Turn, Want};
 use std::snapshot::Snapshot;
 use std::sync::Wait;
 use std::thread::{Promise, PromisedHandle, Scope, Threads};
@@ -59,28 +60,73 @@ fn serve(merge: &mut Merge, u: &mut L2Stage, message: FromStage) -> Result<(), S
     u.on(what).or(Err(Stop::Memory))
 }
 
-// Takes in the next message of the side that the merge wants.
+// The next turn.
+#[inline(always)]
+fn next_turn<H: Wait>(rt: &H, merge: &Merge, ends: &mut MergeEnds) -> Result<Turn, Stop>
+    requires used { MergeUsed merge.now ends.old }
+    requires wants { wanted merge.now ≡ want.Order }
+    ensures order { SameRx ends.old.order ends.new.order }
+    ensures received { IfOk result (λ turn. received ends.new.order
+        ≡ received ends.old.order ++ turn ∷ []) }
+    ensures from_i { ends.new.from_i ≡ ends.old.from_i }
+    ensures from_d { ends.new.from_d ≡ ends.old.from_d }
+{
+    match ends.order.try_recv() {
+        Some(turn) => Ok(turn),
+        None => await_turn(rt, merge, ends),
+    }
+}
+
+// The next message of I.
+#[inline(always)]
+fn next_from_i<H: Wait>(rt: &H, merge: &Merge, ends: &mut MergeEnds) -> Result<FromStage, Stop>
+    requires used { MergeUsed merge.now ends.old }
+    requires wants { wanted merge.now ≡ want.I }
+    ensures order { ends.new.order ≡ ends.old.order }
+    ensures from_i { SameRx ends.old.from_i ends.new.from_i }
+    ensures received { IfOk result (λ message. received ends.new.from_i
+        ≡ received ends.old.from_i ++ message ∷ []) }
+    ensures from_d { ends.new.from_d ≡ ends.old.from_d }
+{
+    match ends.from_i.try_recv() {
+        Some(message) => Ok(message),
+        None => await_from_i(rt, merge, ends),
+    }
+}
+
+// The next message of D.
+#[inline(always)]
+fn next_from_d<H: Wait>(rt: &H, merge: &Merge, ends: &mut MergeEnds) -> Result<FromStage, Stop>
+    requires used { MergeUsed merge.now ends.old }
+    requires wants { wanted merge.now ≡ want.D }
+    ensures order { ends.new.order ≡ ends.old.order }
+    ensures from_i { ends.new.from_i ≡ ends.old.from_i }
+    ensures from_d { SameRx ends.old.from_d ends.new.from_d }
+    ensures received { IfOk result (λ message. received ends.new.from_d
+        ≡ received ends.old.from_d ++ message ∷ []) }
+{
+    match ends.from_d.try_recv() {
+        Some(message) => Ok(message),
+        None => await_from_d(rt, merge, ends),
+    }
+}
+
+// Passes the gate with a side's message, and the merge takes it.
 #[inline(always)]
 fn take_in<H: Wait, G: Gate>(
     rt: &H,
     gate: &G,
-    rx: &mut Rx<FromStage>,
     merge: &mut Merge,
     u: &mut L2Stage,
+    message: FromStage,
     count: u64,
 ) -> Result<u64, Stop>
     requires { (wanted merge.old ≡ want.I) ⊎ (wanted merge.old ≡ want.D) }
-    ensures ring { SameRx rx.old rx.new }
     ensures rules { rules_of (second_cache u.new) ≡ rules_of (second_cache u.old) }
-    ensures taken { OnOk result ((message : FromStage)
-        × (received rx.new ≡ received rx.old ++ message ∷ [])
-        × (merge.new ≡ after_message merge.old message)
-        × ((before : List What) → SecondStandsFor u.old before
-        → SecondStandsFor u.new (before ++ what_in message))) }
+    ensures merge { OnOk result (merge.new ≡ after_message merge.old message) }
+    ensures stands { OnOk result ((before : List What) → SecondStandsFor u.old before
+        → SecondStandsFor u.new (before ++ what_in message)) }
 {
-    let Ok(message) = rx.recv(rt) else {
-        return Err(Stop::Cut);
-    };
     let count = pass(rt, gate, Who::Merge, count)?;
     serve(merge, u, message)?;
     Ok(count)
@@ -102,17 +148,23 @@ fn merge_all<H: Wait, G: Gate>(
     for _ in rt.forever() {
         match merge.wants() {
             Want::Order => {
-                let Ok(turn) = ends.order.recv(rt) else {
+                let Ok(turn) = next_turn(rt, &merge, ends) else {
                     return Err(Stop::Cut);
                 };
                 received = pass(rt, gate, Who::Merge, received)?;
                 merge.turn(turn);
             }
             Want::I => {
-                received = take_in(rt, gate, &mut ends.from_i, &mut merge, u, received)?;
+                let Ok(message) = next_from_i(rt, &merge, ends) else {
+                    return Err(Stop::Cut);
+                };
+                received = take_in(rt, gate, &mut merge, u, message, received)?;
             }
             Want::D => {
-                received = take_in(rt, gate, &mut ends.from_d, &mut merge, u, received)?;
+                let Ok(message) = next_from_d(rt, &merge, ends) else {
+                    return Err(Stop::Cut);
+                };
+                received = take_in(rt, gate, &mut merge, u, message, received)?;
             }
             Want::Nothing => return Ok(()),
         }

@@ -1,21 +1,25 @@
 //! The splitter, in the caller's thread: from a source to the rings.
 
 ghost use Rattle.std.specs.Prelude.{◌≡◌, ◌<◌, ◌≤◌, ◌+◌, ◌*◌, ◌++◌, ◌∷◌, [], List, ℕ, OnOk};
-ghost use Rattle.std.specs.Prelude.{◌≢◌, IfOk, IfErr, IsSome, MatchResult, option_to_list};
+ghost use Rattle.std.specs.Prelude.{◌≢◌, ◌⊎◌, IfOk, IfErr, IsSome, IsFalse, MatchResult};
+ghost use Rattle.std.specs.Prelude.{option_to_list};
 ghost use Rattle.pipe_rings.specs.Rings.{sent};
 ghost use Rattle.din_trace.specs.Left.{Left, Script, Fate, Follows, first_answer, behind_first};
-ghost use Rattle.din_trace.specs.Source.{HasLeft, IsSettled, Takes, room_of};
+ghost use Rattle.din_trace.specs.Source.{HasLeft, IsSettled, Takes, reader_of, room_of};
 ghost use Rattle.din_trace.specs.declared.record.DinRecord.{DinRecord};
 ghost use Rattle.stage_core.specs.Events.{IsBounded, picked_events};
 ghost use Rattle.sim_run.specs.Faults.{IsMet};
 ghost use Rattle.sim_run.specs.declared.fault.Stop.{Stop};
 ghost use Rattle.sim_run.specs.declared.fault.RunFault.{RunFault};
 ghost use Rattle.sim_run.specs.Ends.{SameSplitterEnds, SentSame, HaveRoom, UnusedSplitter};
-ghost use Rattle.sim_run.specs.Threads.{HasSent, Sends, SplitUp};
+ghost use Rattle.sim_run.specs.Threads.{HasSent, IsEnd, Sends, SplitUp};
+ghost use Rattle.sim_run.specs.Waits.{PostedWhole, held};
+ghost use Rattle.sim_run.specs.declared.waits.Until.TheVariants as Until;
 
 use crate::ends::SplitterEnds;
 use crate::fault::{RunFault, Stop, fault_of_source};
 use crate::gate::{Gate, Who};
+use crate::waits::{Until, await_rooms};
 use din_trace::{ByteReader, DinRecord, Label, MAX_LIMIT, Source, TraceFault};
 use stage_core::{Picked, Routed, Selection, Selector, Splitter};
 use std::sync::Wait;
@@ -29,21 +33,14 @@ const INSERTED: DinRecord = DinRecord {
 /// How many events' messages are posted before they are published.
 const EACH: usize = 32;
 
-/// What is waited for.
-#[derive(Clone, Copy)]
-enum Until {
-    /// The messages of another event may be posted.
-    Room,
-    /// All that was posted is published.
-    Published,
-}
-
-// The one place where the splitter waits for the others. Each look publishes what fits into each of
-// the three rings, so that none of them waits for another to be emptied.
-fn wait_until<H: Wait>(rt: &H, ends: &mut SplitterEnds, until: Until) -> Result<(), Stop>
+// Publishes what was posted, until all is or there is room for another event. Each look publishes
+// what fits into each of the three rings, so that none of them waits for another to be emptied.
+fn publish<H: Wait>(rt: &H, ends: &mut SplitterEnds, until: Until) -> Result<(), Stop>
+    requires whole { PostedWhole ends.old }
     ensures rings { SameSplitterEnds ends.old ends.new }
     ensures sent { SentSame ends.old ends.new }
     ensures room { OnOk result (HaveRoom ends.new) }
+    ensures published { until ≡ Until.Published → OnOk result (held ends.new ≡ 0) }
     ensures cut { IfErr result (λ why. why ≡ Stop.Cut) }
 {
     for _ in rt.forever() {
@@ -51,30 +48,60 @@ fn wait_until<H: Wait>(rt: &H, ends: &mut SplitterEnds, until: Until) -> Result<
             return Err(Stop::Cut);
         }
         let moved = ends.publish();
-        let reached = match until {
-            Until::Room => true,
-            Until::Published => ends.are_published(),
-        };
-        if reached && ends.have_room() {
+        if ends.are_published() {
+            return Ok(());
+        }
+        if until == Until::Room && ends.have_room() {
             return Ok(());
         }
         if !moved {
-            ends.pause(rt);
+            await_rooms(rt, ends)?;
         }
     }
     unreachable!()
 }
 
-// The next record of the source, or its end or fault. The reader and a gate may hold this thread for
-// long, so what was posted is published before.
-fn next_record<H: Wait, R: ByteReader, G: Gate>(
+// Asks the reader. It may hold this thread for long, so nothing is to be held back.
+fn ask<R: ByteReader>(
+    source: &mut Source<R>,
+    ends: &SplitterEnds,
+) -> Result<Option<DinRecord>, TraceFault>
+    requires published { held ends.now ≡ 0 }
+    ensures reads { (given : List ℕ) × (fate : Fate)
+        × Takes R.remaining R.failures source.old source.new given fate
+        × ((before later : Script) (l : Left)
+        → Follows fate given before later → HasLeft source.old before l
+        → (result ≡ first_answer l) × HasLeft source.new later (behind_first l)) }
+    ensures settled { IsSettled source.old → source.new ≡ source.old }
+    ensures records { IfOk result (λ found. IsSome found → room_of source.new < room_of source.old) }
+    ensures room { room_of source.old ≤ MAX_LIMIT }
+{
+    source.next()
+}
+
+// Passes the gate with a record. One that isn't open may hold this thread for long, so nothing is to
+// be held back.
+#[inline]
+fn arrive<H: Wait, G: Gate>(rt: &H, gate: &G, is_open: bool, ends: &SplitterEnds, nth: u64)
+    requires published { IsFalse is_open → held ends.now ≡ 0 }
+{
+    gate.arrive(rt, Who::Splitter, nth);
+}
+
+// The next record of the source, or its end or fault.
+fn next_record<H: Wait, R: ByteReader>(
     rt: &H,
-    gate: &G,
+    is_open: bool,
     source: &mut Source<R>,
     ends: &mut SplitterEnds,
 ) -> Result<Result<Option<DinRecord>, TraceFault>, Stop>
+    requires whole { PostedWhole ends.old }
     ensures rings { SameSplitterEnds ends.old ends.new }
     ensures sent { SentSame ends.old ends.new }
+    // All that was posted is published, before the reader is asked or where the gate isn't open.
+    ensures published { IsFalse is_open → OnOk result (held ends.new ≡ 0) }
+    ensures asked { OnOk result ((reader_of source.new ≡ reader_of source.old)
+        ⊎ (held ends.new ≡ 0)) }
     ensures reads { (given : List ℕ) × (fate : Fate)
         × Takes R.remaining R.failures source.old source.new given fate
         × ((before later : Script) (l : Left)
@@ -88,27 +115,28 @@ fn next_record<H: Wait, R: ByteReader, G: Gate>(
     ensures room { OnOk result (room_of source.old ≤ MAX_LIMIT) }
     ensures cut { IfErr result (λ why. why ≡ Stop.Cut) }
 {
-    if !gate.is_open() && wait_until(rt, ends, Until::Published).is_err() {
+    if !is_open && publish(rt, ends, Until::Published).is_err() {
         return Err(Stop::Cut);
     }
     if let Some(answer) = source.at_hand() {
         return Ok(answer);
     }
-    if wait_until(rt, ends, Until::Published).is_err() {
+    if publish(rt, ends, Until::Published).is_err() {
         return Err(Stop::Cut);
     }
-    Ok(source.next())
+    Ok(ask(source, ends))
 }
 
 // Sends the messages of one event, or those of the end.
 #[inline(always)]
 fn send_routed<H: Wait>(rt: &H, ends: &mut SplitterEnds, routed: Routed) -> Result<(), Stop>
+    requires whole { PostedWhole ends.old }
     ensures rings { SameSplitterEnds ends.old ends.new }
     ensures sent { OnOk result (Sends ends.old routed ends.new) }
     ensures cut { IfErr result (λ why. why ≡ Stop.Cut) }
 {
     if !ends.have_room() {
-        wait_until(rt, ends, Until::Room)?;
+        publish(rt, ends, Until::Room)?;
     }
     ends.post(routed);
     if ends.order.posted() % EACH == 0 {
@@ -119,12 +147,14 @@ fn send_routed<H: Wait>(rt: &H, ends: &mut SplitterEnds, routed: Routed) -> Resu
 
 // Sends the messages of the end, and publishes all.
 fn send_end<H: Wait>(rt: &H, ends: &mut SplitterEnds, routed: Routed) -> Result<(), Stop>
+    requires sent { (es : List DinRecord) × (place : ℕ) × HasSent es place ends.old }
+    requires finish { IsEnd routed }
     ensures rings { SameSplitterEnds ends.old ends.new }
     ensures sent { OnOk result (Sends ends.old routed ends.new) }
     ensures cut { IfErr result (λ why. why ≡ Stop.Cut) }
 {
     send_routed(rt, ends, routed)?;
-    wait_until(rt, ends, Until::Published)
+    publish(rt, ends, Until::Published)
 }
 
 // Routes an event, if there is one, and sends its messages.
@@ -135,7 +165,8 @@ fn send_some<H: Wait>(
     ends: &mut SplitterEnds,
     event: Option<DinRecord>,
 ) -> Result<(), Stop>
-    requires { splitter.old < 2 * MAX_LIMIT }
+    requires few { splitter.old < 2 * MAX_LIMIT }
+    requires sent { (es : List DinRecord) × HasSent es splitter.old ends.old }
     ensures rings { SameSplitterEnds ends.old ends.new }
     ensures place { splitter.new ≤ splitter.old + 1 }
     ensures sent { OnOk result ((es : List DinRecord) → HasSent es splitter.old ends.old
@@ -155,7 +186,8 @@ fn send_picked<H: Wait>(
     ends: &mut SplitterEnds,
     picked: Picked,
 ) -> Result<(), Stop>
-    requires { splitter.old + 1 < 2 * MAX_LIMIT }
+    requires few { splitter.old + 1 < 2 * MAX_LIMIT }
+    requires sent { (es : List DinRecord) × HasSent es splitter.old ends.old }
     ensures rings { SameSplitterEnds ends.old ends.new }
     ensures place { splitter.new ≤ splitter.old + 2 }
     ensures sent { OnOk result ((es : List DinRecord) → HasSent es splitter.old ends.old
@@ -189,13 +221,14 @@ pub fn split<H: Wait, R: ByteReader, G: Gate>(
 {
     let mut selector = Selector::new(selection);
     let mut splitter = Splitter::new();
+    let is_open = gate.is_open();
     for _ in rt.forever() {
-        let Ok(answer) = next_record(rt, gate, source, ends) else {
+        let Ok(answer) = next_record(rt, is_open, source, ends) else {
             return Err(RunFault::Cut);
         };
         match answer {
             Ok(Some(next)) => {
-                gate.arrive(rt, Who::Splitter, selector.offered() + 1);
+                arrive(rt, gate, is_open, ends, selector.offered() + 1);
                 let picked = selector.offer(next);
                 if send_picked(rt, &mut splitter, ends, picked).is_err() {
                     return Err(RunFault::Cut);

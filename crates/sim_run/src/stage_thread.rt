@@ -1,19 +1,24 @@
 //! The thread of a first-level stage.
 
-ghost use Rattle.std.specs.Prelude.{◌≡◌, [], ◌∷◌, ◌++◌, OnOk, IfOk, IfErr};
-ghost use Rattle.pipe_rings.specs.Rings.{sent, received, HasRoom, SameTx, SameRx};
+ghost use Rattle.std.specs.Prelude.{◌≡◌, [], ◌∷◌, ◌++◌, length, false, OnOk, IfOk, IfErr};
+ghost use Rattle.std.specs.List.{list_any};
+ghost use Rattle.pipe_rings.specs.Rings.{sent, posted, received, HasRoom, SameTx, SameRx};
+ghost use Rattle.stage_core.specs.Streams.{is_finish};
+ghost use Rattle.stage_core.specs.Waiting.{HasAnswered};
 ghost use Rattle.stage_core.specs.Standing.{StageStandsFor, IsReady, cache_of, side_of};
 ghost use Rattle.stage_core.specs.Standing.{outbox_of, took_finish};
 ghost use Rattle.sim_run.specs.declared.fault.Stop.{Stop};
 ghost use Rattle.sim_run.specs.Ends.{UnusedStage};
 ghost use Rattle.sim_run.specs.Threads.{StageEnded};
+ghost use Rattle.sim_run.specs.Waits.{OfStage};
+ghost use Rattle.sim_run.specs.declared.waits.Until.TheVariants as Until;
 
 use crate::ends::StageEnds;
 use crate::fault::{NoThread, Stop};
 use crate::gate::{Gate, Who, pass};
+use crate::waits::{Until, await_message, await_room};
 use cache_core::MAX_EVENTS;
-use pipe_rings::Tx;
-use stage_core::{FromStage, L1Stage, ToStage};
+use stage_core::{L1Stage, ToStage};
 use std::snapshot::Snapshot;
 use std::sync::Wait;
 use std::thread::{Promise, PromisedHandle, Scope, Threads};
@@ -38,24 +43,29 @@ pub type StageHandle = PromisedHandle<StageEnd, StagePromise>;
 /// How many messages are posted before they are published.
 const EACH: usize = 32;
 
-// The one place where a stage waits for room: until all that was posted is published, or as much as
-// makes room for another message.
-fn publish<H: Wait>(rt: &H, tx: &mut Tx<FromStage>, all: bool) -> Result<(), Stop>
-    ensures ring { SameTx tx.old tx.new }
-    ensures sent { sent tx.new ≡ sent tx.old }
-    ensures room { OnOk result (HasRoom tx.new) }
+// Publishes all that was posted, or as much as makes room for another message.
+fn publish<H: Wait>(rt: &H, stage: &L1Stage, ends: &mut StageEnds, until: Until) -> Result<(), Stop>
+    requires answered { OfStage HasAnswered stage.now ends.old }
+    ensures from_splitter { ends.new.from_splitter ≡ ends.old.from_splitter }
+    ensures ring { SameTx ends.old.to_merge ends.new.to_merge }
+    ensures sent { sent ends.new.to_merge ≡ sent ends.old.to_merge }
+    ensures room { OnOk result (HasRoom ends.new.to_merge) }
+    ensures published { until ≡ Until.Published → OnOk result (length (posted ends.new.to_merge) ≡ 0) }
     ensures cut { IfErr result (λ why. why ≡ Stop.Cut) }
 {
     for _ in rt.forever() {
-        if tx.is_cut() {
+        if ends.to_merge.is_cut() {
             return Err(Stop::Cut);
         }
-        let moved = tx.publish();
-        if (!all || tx.posted() == 0) && tx.has_room() {
+        let moved = ends.to_merge.publish();
+        if ends.to_merge.posted() == 0 {
+            return Ok(());
+        }
+        if until == Until::Room && ends.to_merge.has_room() {
             return Ok(());
         }
         if moved == 0 {
-            tx.pause(rt);
+            await_room(rt, stage, ends)?;
         }
     }
     unreachable!()
@@ -63,7 +73,10 @@ fn publish<H: Wait>(rt: &H, tx: &mut Tx<FromStage>, all: bool) -> Result<(), Sto
 
 // Receives the next message.
 #[inline]
-fn receive<H: Wait>(rt: &H, ends: &mut StageEnds) -> Result<ToStage, Stop>
+fn receive<H: Wait>(rt: &H, stage: &L1Stage, ends: &mut StageEnds) -> Result<ToStage, Stop>
+    requires answered { OfStage HasAnswered stage.now ends.old }
+    requires ready { IsReady stage.now }
+    requires goes_on { list_any is_finish (received ends.old.from_splitter) ≡ false }
     ensures from_splitter { SameRx ends.old.from_splitter ends.new.from_splitter }
     ensures to_merge { SameTx ends.old.to_merge ends.new.to_merge }
     ensures received { IfOk result (λ message. received ends.new.from_splitter
@@ -72,32 +85,31 @@ fn receive<H: Wait>(rt: &H, ends: &mut StageEnds) -> Result<ToStage, Stop>
 {
     match ends.from_splitter.try_recv() {
         Some(message) => Ok(message),
-        None => await_message(rt, ends),
+        None => publish_and_receive(rt, stage, ends),
     }
 }
 
-// The one place where a stage waits for a message. It publishes all that it has posted before, also
-// where the splitter is gone.
+// Receives the next message once all that was posted is published.
 #[cold]
-fn await_message<H: Wait>(rt: &H, ends: &mut StageEnds) -> Result<ToStage, Stop>
+fn publish_and_receive<H: Wait>(
+    rt: &H,
+    stage: &L1Stage,
+    ends: &mut StageEnds,
+) -> Result<ToStage, Stop>
+    requires answered { OfStage HasAnswered stage.now ends.old }
+    requires ready { IsReady stage.now }
+    requires goes_on { list_any is_finish (received ends.old.from_splitter) ≡ false }
     ensures from_splitter { SameRx ends.old.from_splitter ends.new.from_splitter }
     ensures to_merge { SameTx ends.old.to_merge ends.new.to_merge }
     ensures received { IfOk result (λ message. received ends.new.from_splitter
         ≡ received ends.old.from_splitter ++ message ∷ []) }
     ensures sent { sent ends.new.to_merge ≡ sent ends.old.to_merge }
 {
-    for _ in rt.forever() {
-        publish(rt, &mut ends.to_merge, true)?;
-        if let Some(message) = ends.from_splitter.try_recv() {
-            return Ok(message);
-        }
-        if ends.from_splitter.is_cut() {
-            // What was published between these two looks is still there.
-            return ends.from_splitter.try_recv().ok_or(Stop::Cut);
-        }
-        ends.from_splitter.pause(rt);
+    publish(rt, stage, ends, Until::Published)?;
+    match ends.from_splitter.try_recv() {
+        Some(message) => Ok(message),
+        None => await_message(rt, stage, ends),
     }
-    unreachable!()
 }
 
 // Sends all that is in the outbox. Where nothing may be held back, all is published; else some time
@@ -105,28 +117,34 @@ fn await_message<H: Wait>(rt: &H, ends: &mut StageEnds) -> Result<ToStage, Stop>
 fn send_outbox<H: Wait>(
     rt: &H,
     stage: &mut L1Stage,
-    tx: &mut Tx<FromStage>,
+    ends: &mut StageEnds,
     urgent: bool,
 ) -> Result<(), Stop>
-    ensures ring { SameTx tx.old tx.new }
-    ensures sent { OnOk result (sent tx.new ≡ sent tx.old ++ outbox_of stage.old) }
+    requires answered { OfStage HasAnswered stage.old ends.old }
+    ensures from_splitter { ends.new.from_splitter ≡ ends.old.from_splitter }
+    ensures ring { SameTx ends.old.to_merge ends.new.to_merge }
+    ensures sent { OnOk result (sent ends.new.to_merge
+        ≡ sent ends.old.to_merge ++ outbox_of stage.old) }
     ensures empty { OnOk result (outbox_of stage.new ≡ []) }
     ensures cut { IfErr result (λ why. why ≡ Stop.Cut) }
     ensures cache { cache_of stage.new ≡ cache_of stage.old }
     ensures side { side_of stage.new ≡ side_of stage.old }
     ensures finish { took_finish stage.new ≡ took_finish stage.old }
 {
+    if !ends.to_merge.has_room() {
+        publish(rt, stage, ends, Until::Room)?;
+    }
     while let Some(message) = stage.outbox_next() {
-        if !tx.has_room() {
-            publish(rt, tx, false)?;
+        ends.to_merge.post(message);
+        if ends.to_merge.posted() % EACH == 0 {
+            ends.to_merge.publish();
         }
-        tx.post(message);
-        if tx.posted() % EACH == 0 {
-            tx.publish();
+        if !ends.to_merge.has_room() {
+            publish(rt, stage, ends, Until::Room)?;
         }
     }
     if urgent {
-        return publish(rt, tx, true);
+        return publish(rt, stage, ends, Until::Published);
     }
     Ok(())
 }
@@ -146,7 +164,7 @@ fn serve_all<H: Wait, G: Gate>(
 {
     let mut count = 0;
     for _ in rt.forever() {
-        let Ok(message) = receive(rt, ends) else {
+        let Ok(message) = receive(rt, stage, ends) else {
             return Err(Stop::Cut);
         };
         count = pass(rt, gate, who, count)?;
@@ -157,7 +175,7 @@ fn serve_all<H: Wait, G: Gate>(
         let Ok(()) = stage.on(message) else {
             return Err(Stop::Memory);
         };
-        send_outbox(rt, stage, &mut ends.to_merge, urgent)?;
+        send_outbox(rt, stage, ends, urgent)?;
         if stage.finished() {
             return Ok(());
         }

@@ -15,5 +15,5 @@ returns-then-is_err-clause-reads g c = (
 pub returns-clause-reads : goal.returns-clause-reads
 returns-clause-reads g c =
     answers-asked g.R.ByteReader.remaining g.R.ByteReader.failures c.args.source.now
-    c.at_hand.new.self c.next.new.self c.next.result c.in_default.ensures.reads.0
-    c.in_default.ensures.reads.1 c.next.ensures.reads c.next.ensures.settled
+    c.at_hand.new.self c.ask.new.source c.ask.result c.in_default.ensures.reads.0
+    c.in_default.ensures.reads.1 c.ask.ensures.reads c.ask.ensures.settled

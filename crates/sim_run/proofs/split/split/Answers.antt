@@ -12,6 +12,7 @@ use Rattle.sim_run.specs.Threads.{HasSent, HasSentAll}
 use Rattle.sim_run.proofs.Splitting.{same-ends, ends-stay, sent-same, sends-end, left-record}
 use Rattle.sim_run.proofs.Splitting.{left-end}
 use Rattle.sim_run.proofs.Splitting.{left-fault, rest-record, rest-end, rest-cut, answers-fault}
+use Rattle.sim_run.proofs.Waiting.{events-whole}
 use Rattle.sim_run.proofs.split.split.Goals as goal
 use Rattle.sim_run.proofs.split.split.Goals.{After-next_record}
 use Rattle.sim_run.proofs.split.split.Given.{Over}
@@ -27,6 +28,12 @@ composed g c given fate went =
     calls g.R.ByteReader.remaining g.R.ByteReader.failures c.args.source.now c.loop.source
     c.next_record.new.source going.given given going.fate fate going.went went
     c.next_record.ensures.settled
+
+pub next_record-requires : goal.next_record-requires
+next_record-requires g c = record {
+  whole = events-whole (events c.args.selection c.loop.invariant.2.past) c.loop.splitter c.loop.ends
+      c.loop.invariant.2.sends;
+}
 
 pub loop-init : goal.loop-init
 loop-init g c = (

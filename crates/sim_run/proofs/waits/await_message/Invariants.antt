@@ -1,6 +1,6 @@
 use Rattle.std.proofs.Common.{◌≡◌}
 use Rattle.pipe_rings.specs.Rings.{sent, received, SameTx, SameRx}
-use Rattle.sim_run.proofs.stage_thread.await_message.Given as goal
+use Rattle.sim_run.proofs.waits.await_message.Given as goal
 
 abbrev pub invariant-loop : goal.invariant-loop
 invariant-loop g l =
