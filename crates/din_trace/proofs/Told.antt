@@ -20,11 +20,11 @@ text_left-front given rest limit long =
     let longer : limit < length (given ++ rest) = simp length-append (omega arith) in
     rw (lt-leb (length (given ++ rest)) limit longer, lt-leb (length given) limit long, take-append-le limit given rest (omega arith)) refl
 
-module _ {R : Type 0} (failures : R → ℕ) (reader last : R) (text : List ℕ) (limit : ℕ) where
+module _ {R : Type 0} (remaining : R → Option (List ℕ)) (failures : R → ℕ) (reader last : R) (text : List ℕ) (limit : ℕ) where
   -- this may be left of a reader that tells the text
   pub record MayBeLeft (l : Left) : Type 0 where
     pub no_fault : l.fault ≡ None → (fault ADDRESS_MAX text limit ≡ None) × (l.records ≡ records ADDRESS_MAX text)
-    pub some_fault : (met : TraceFault) → l.fault ≡ Some met → IsFaultOf failures reader text limit met
+    pub some_fault : (met : TraceFault) → l.fault ≡ Some met → IsFaultOf remaining failures reader text limit met
 
   whole : MayBeLeft (text_left ADDRESS_MAX 1 text limit false)
   whole =
@@ -34,7 +34,7 @@ module _ {R : Type 0} (failures : R → ℕ) (reader last : R) (text : List ℕ)
         some_fault = λ met some. inl (sym is ∙ some);
       }
 
-  front : (given : List ℕ) → FailedBehind failures reader text given → MayBeLeft (text_left ADDRESS_MAX 1 given limit true)
+  front : (given : List ℕ) → FailedBehind remaining failures reader text given → MayBeLeft (text_left ADDRESS_MAX 1 given limit true)
   front given failed =
       let law = leaves_text ADDRESS_MAX given limit in
       record {
@@ -50,26 +50,26 @@ module _ {R : Type 0} (failures : R → ℕ) (reader last : R) (text : List ℕ)
       }
 
   -- a script that such a reader may have had, and what it leaves
-  pub script_of_told : (fate : Fate) (given : List ℕ) (new : Option (List ℕ)) → FateIs fate (Some text) given new (failures reader) (failures last)
+  pub script_of_told : (fate : Fate) (given : List ℕ) (new : Option (List ℕ)) → remaining last ≡ new → FateIs fate (Some text) given new (failures reader) (failures last)
       → (before later : Script) × Follows fate given before later × MayBeLeft (text_left ADDRESS_MAX 1 before.given limit before.fails)
-  script_of_told Open given None is = absurd is.0
-  script_of_told Open given (Some rest) is = (
+  script_of_told Open given None told is = absurd is.0
+  script_of_told Open given (Some rest) told is = (
     record { given = text; fails = false },
     record { given = rest; fails = false },
     ap (λ (bytes : List ℕ). record { given = bytes; fails = false }) is.0,
     whole,
   )
-  script_of_told Ended given None is = absurd is.0
-  script_of_told Ended given (Some rest) is = (
+  script_of_told Ended given None told is = absurd is.0
+  script_of_told Ended given (Some rest) told is = (
     record { given = text; fails = false },
     record { given = []; fails = false },
     ap (λ (bytes : List ℕ). record { given = bytes; fails = false }) (rw (is.1, append-nil given) at is.0),
     whole,
   )
-  script_of_told Failed given None is = absurd is.0
-  script_of_told Failed given (Some rest) is = (
+  script_of_told Failed given None told is = absurd is.0
+  script_of_told Failed given (Some rest) told is = (
     record { given = given; fails = true },
     record { given = []; fails = false },
     refl,
-    front given (record { rest = rest; whole = is.0; last = last; failed = is.1 }),
+    front given (record { rest = rest; whole = is.0; last = last; told = told; failed = is.1 }),
   )

@@ -35,7 +35,7 @@ pub fn simulate_plain<R: ByteReader + Drop, W: ByteWriter>(
         (report_of config.now selection.now text)) }
     ensures trace { (text : List ℕ) → R.remaining reader ≡ Some text
         → (why : TraceFault) → result ≡ Err (RunFault.Trace why)
-        → IsFaultOf R.failures reader text limit why }
+        → IsFaultOf R.remaining R.failures reader text limit why }
     ensures memory { result ≢ Err (RunFault.Trace TraceFault.Memory) }
     ensures alone { (result ≢ Err RunFault.Threads) × (result ≢ Err RunFault.Cut) }
     ensures sound { OnOk result (W.failures writer.new ≡ W.failures writer.old) }

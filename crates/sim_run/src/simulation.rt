@@ -55,7 +55,7 @@ pub fn simulate<H: Threads + Wait + Sync, R: ByteReader + Drop, G: Gate, W: Byte
         Appends (W.contents writer.old) (W.contents writer.new) (report settled.totals)) }
     ensures trace { (text : List ℕ) → R.remaining reader ≡ Some text
         → (why : TraceFault) → result ≡ Err (RunFault.Trace why)
-        → IsFaultOf R.failures reader text limit why }
+        → IsFaultOf R.remaining R.failures reader text limit why }
     ensures memory { result ≢ Err (RunFault.Trace TraceFault.Memory) }
     ensures sound { OnOk result (W.failures writer.new ≡ W.failures writer.old) }
     ensures write { result ≡ Err RunFault.Write

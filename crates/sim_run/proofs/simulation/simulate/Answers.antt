@@ -1,4 +1,4 @@
-use Rattle.std.proofs.Common.{rules, Err, ◌≡◌, List, subst}
+use Rattle.std.proofs.Common.{rules, Err, ◌≡◌, List, subst, refl}
 use Rattle.din_trace.specs.declared.record.DinRecord.{DinRecord}
 use Rattle.din_trace.specs.Source.{reader_of}
 use Rattle.din_trace.proofs.Told.{script_of_told}
@@ -13,8 +13,8 @@ pub returns-in_err-settled-clause-trace : goal.returns-in_err-settled-clause-tra
 returns-in_err-settled-clause-trace g c text known why is =
     let reads = c.run_pipeline-source.ensures.reads in
     let same : reader_of c.new-source.result ≡ c.args.reader = c.new-source.ensures.reader in
-    let script = script_of_told g.R.ByteReader.failures c.args.reader
-    (reader_of c.run_pipeline-source.result.0) text c.args.limit reads.1 reads.0 _
+    let script = script_of_told g.R.ByteReader.remaining g.R.ByteReader.failures c.args.reader
+    (reader_of c.run_pipeline-source.result.0) text c.args.limit reads.1 reads.0 _ refl
     (rw (same, known) at reads.2.reader) in
     let met : c.run_pipeline-source.result.1 ≡ Err (Trace why) = search rules in
     let ended = rw met at reads.3 script.0 script.1 _ script.2
@@ -25,8 +25,8 @@ pub returns-clause-run : goal.returns-clause-run
 returns-clause-run g c text known =
     let reads = c.run_pipeline-source.ensures.reads in
     let same : reader_of c.new-source.result ≡ c.args.reader = c.new-source.ensures.reader in
-    let script = script_of_told g.R.ByteReader.failures c.args.reader
-    (reader_of c.run_pipeline-source.result.0) text c.args.limit reads.1 reads.0 _
+    let script = script_of_told g.R.ByteReader.remaining g.R.ByteReader.failures c.args.reader
+    (reader_of c.run_pipeline-source.result.0) text c.args.limit reads.1 reads.0 _ refl
     (rw (same, known) at reads.2.reader) in
     let ended = rw c.in_ok-settled.was at reads.3 script.0 script.1 _ script.2
     (c.new-source.ensures.left script.0) in
