@@ -13,6 +13,7 @@ use Rattle.std.proofs.lemmas.List.Sorted.{Contains-permutation, IsPermutation-sy
 use Rattle.std.proofs.lemmas.List.Kept.{Contains-dedup_nat, Contains-from_dedup}
 use Rattle.std.proofs.lemmas.Map.Keys.{sorted_from_strictly_increasing, IsStrictlyIncreasing-dedup}
 use Rattle.cache_core.specs.Dirty.{place, rising}
+use Rattle.cache_core.specs.Laws.{IsBelow, Rises}
 use Rattle.cache_core.proofs.Reuse.{has}
 
 -- two tests that hold together are one
@@ -20,14 +21,6 @@ pub same_test : (a b : Bool) → (a ≡ true → b ≡ true) → (b ≡ true →
 same_test true b f g = sym (f refl)
 same_test false true f g = g refl
 same_test false false f g = refl
-
-abbrev pub IsBelow : ℕ → List ℕ → Type 0
-IsBelow x [] = Unit {0}
-IsBelow x (y ∷ ys) = (x < y) × IsBelow x ys
-
-abbrev pub Rises : List ℕ → Type 0
-Rises [] = Unit {0}
-Rises (x ∷ xs) = IsBelow x xs × Rises xs
 
 below-has : (x : ℕ) (ys : List ℕ) → IsBelow x ys → (z : ℕ) → has ys z ≡ true → x < z
 below-has x [] b z h = cc

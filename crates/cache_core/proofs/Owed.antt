@@ -11,10 +11,10 @@ use Rattle.cache_core.specs.Residents.{hits, uses, renews, renewals, is_resident
 use Rattle.cache_core.specs.Dirty.{is_written, is_dirty, dirty_blocks}
 use Rattle.cache_core.specs.Parts.{dirty_victim, outcome_of, part_count}
 use Rattle.cache_core.specs.Order.{ranked}
-use Rattle.cache_core.specs.Laws.{AccessesPay, FlushesPay}
+use Rattle.cache_core.specs.Laws.{AccessesPay, FlushesPay, Rises}
 use Rattle.cache_core.proofs.Reuse.{has, has-take, has-filter}
 use Rattle.cache_core.proofs.Shift.{without, IsOnce}
-use Rattle.cache_core.proofs.Ascending.{Rises, not-itself, rises-rising, has-rising}
+use Rattle.cache_core.proofs.Ascending.{not-itself, rises-rising, has-rising}
 use Rattle.cache_core.proofs.Flushed.{has-filter_both, filter-has}
 use Rattle.cache_core.proofs.Turns.{renewals-yes, renewals-no, block-fifo}
 use Rattle.cache_core.proofs.Victim.{resident-marked, elsewhere, front-is, later-is, lru-same}
@@ -84,13 +84,13 @@ module _ (r : Rules) (h : History) where
   dirty-from y a b c = and_from (r.write_back && is_resident r (renewals r h) y) (is_written r h y)
       (and_from r.write_back (is_resident r (renewals r h) y) a b) c
 
-  dirty-has : (y : ℕ) → is_dirty r h y ≡ true → has (dirty_blocks r h) y ≡ true
+  pub dirty-has : (y : ℕ) → is_dirty r h y ≡ true → has (dirty_blocks r h) y ≡ true
   unfolding dirty_blocks
   dirty-has y d = has-rising (filter (is_dirty r h) (renewals r h)) y
       ∙ filter-has (is_dirty r h) (renewals r h) y
       (resident-marked r (renewals r h) y (dirty-parts y d).1) d
 
-  has-dirty : (y : ℕ) → has (dirty_blocks r h) y ≡ true → is_dirty r h y ≡ true
+  pub has-dirty : (y : ℕ) → has (dirty_blocks r h) y ≡ true → is_dirty r h y ≡ true
   unfolding dirty_blocks
   has-dirty y g = (has-filter_both (is_dirty r h) (renewals r h) y
       (sym (has-rising (filter (is_dirty r h) (renewals r h)) y) ∙ g)).1

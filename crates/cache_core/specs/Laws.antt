@@ -1,12 +1,13 @@
 -- Laws over the definitions.
-use Rattle.std.specs.Prelude.{◌≡◌, ◌≢◌, ℕ, ◌+◌, ◌%◌, ◌≤◌, true, false, ◌==◌, [], ◌∷◌, length, Some}
+use Rattle.std.specs.Prelude.{◌≡◌, ◌≢◌, ℕ, ◌+◌, ◌^◌, ◌%◌, ◌<◌, ◌≤◌, true, false, ◌==◌, List, [], ◌∷◌}
+use Rattle.std.specs.Prelude.{length, Some}
 use Rattle.std.specs.List.{list_any}
 use Rattle.cache_core.specs.declared.access.Access.{Access}
 use Rattle.cache_core.specs.declared.access.MissKind.TheVariants.{Conflict}
 use Rattle.cache_core.specs.History.{access, flush, History, Rules, is_write}
 use Rattle.cache_core.specs.Residents.{is_resident, leaves, renewals}
 use Rattle.cache_core.specs.Order.{residents_of}
-use Rattle.cache_core.specs.Dirty.{dirty_blocks}
+use Rattle.cache_core.specs.Dirty.{is_dirty, dirty_blocks}
 use Rattle.cache_core.specs.Parts.{one_if, outcome_of, part_count}
 
 -- the blocks of a set by falling last use (FIFO: by falling load), cut at its ways, are its
@@ -39,3 +40,22 @@ AccessesPay = (r : Rules) (h : History) (x : Access) →
 -- after a flush nothing is dirty
 abbrev pub FlushesPay : Type 0
 FlushesPay = (r : Rules) (h : History) → dirty_blocks r (flush ∷ h) ≡ []
+
+-- the number is below all of these
+abbrev pub IsBelow : ℕ → List ℕ → Type 0
+IsBelow x [] = Unit {0}
+IsBelow x (y ∷ ys) = (x < y) × IsBelow x ys
+
+-- each number is below all that stand behind it
+abbrev pub Rises : List ℕ → Type 0
+Rises [] = Unit {0}
+Rises (x ∷ xs) = IsBelow x xs × Rises xs
+
+-- the list of the dirty blocks rises, so that none stands in it twice
+abbrev pub DirtyBlocksRise : Type 0
+DirtyBlocksRise = (r : Rules) (h : History) → Rises (dirty_blocks r h)
+
+-- and it has the blocks that are dirty, and no other
+abbrev pub DirtyBlocksAreDirty : Type 0
+DirtyBlocksAreDirty = (r : Rules) (h : History) (b : ℕ) →
+    list_any (λ m. m == b) (dirty_blocks r h) ≡ is_dirty r h b

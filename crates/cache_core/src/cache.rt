@@ -214,7 +214,7 @@ impl Cache {
         ensures failed { has_failed self.old ≡ true → IsErr result }
         ensures rules { rules_of self.new ≡ rules_of self.old }
     {
-        if self.failed {
+        if self.failed() {
             return Err(NoMemory);
         }
         let Ok(firsts) = dirty_firsts(self.alloc, &self.sets) else {

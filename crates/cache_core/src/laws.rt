@@ -1,8 +1,12 @@
 //! Laws over the definitions. Each is a function that does nothing, whose contract is the law.
 
+ghost use Rattle.std.specs.Prelude.{◌≡◌, ◌^◌};
 ghost use Rattle.cache_core.specs.Examples.{WorkedExamples};
 ghost use Rattle.cache_core.specs.Laws.{AccessesPay, AtMostOneLeaves, FlushesPay};
+ghost use Rattle.cache_core.specs.Laws.{DirtyBlocksAreDirty, DirtyBlocksRise};
 ghost use Rattle.cache_core.specs.Laws.{OneLruSetHasNoConflict, OrderedWaysAreResidents};
+
+use crate::cache::MAX_EVENTS;
 
 /// The stack property of LRU (Mattson and others), and its like for FIFO: blocks ordered by last
 /// use (by last load) and cut at the number of ways are the residents by reuse distance, writes
@@ -27,6 +31,17 @@ pub fn one_lru_set_has_no_conflict()
 pub fn write_backs_are_paid()
     ensures accesses { AccessesPay }
     ensures flushes { FlushesPay }
+{}
+
+/// The list of the dirty blocks rises, each once, and has those that are dirty and no other.
+pub fn dirty_blocks_are_the_dirty_ones()
+    ensures rises { DirtyBlocksRise }
+    ensures dirty { DirtyBlocksAreDirty }
+{}
+
+/// How many events a cache serves, as a number: more than any trace within the limits makes.
+pub fn a_cache_serves_as_many_events()
+    ensures { MAX_EVENTS ≡ 2 ^ 44 }
 {}
 
 /// What the definitions say of small traces, each worked out by hand.

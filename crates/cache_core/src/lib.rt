@@ -31,7 +31,8 @@ pub use cache::{Cache, MAX_EVENTS, NoMemory};
 pub use counts::{Counts, PerClass};
 pub use geometry::{Geometry, GeometryFault};
 pub use laws::{
-    at_most_one_block_leaves, definitions_meet_worked_examples, one_lru_set_has_no_conflict,
-    ordered_ways_are_residents, write_backs_are_paid,
+    a_cache_serves_as_many_events, at_most_one_block_leaves, definitions_meet_worked_examples,
+    dirty_blocks_are_the_dirty_ones, one_lru_set_has_no_conflict, ordered_ways_are_residents,
+    write_backs_are_paid,
 };
 pub use policy::{Policy, Repl};

@@ -6,9 +6,11 @@ use crate::{
 use std::alloc::Global;
 use std::process::Abort;
 
+mod against_slow;
 mod geometries;
 mod many_ways;
 mod memory;
+mod slow;
 mod traces;
 
 const HIT: Outcome = Outcome {

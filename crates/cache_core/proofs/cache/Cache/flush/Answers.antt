@@ -24,13 +24,14 @@ use Rattle.cache_core.proofs.Steps.{flush-counts}
 use Rattle.cache_core.proofs.cache.Cache.flush.Goals as goal
 
 pub invariant_of-self-2 : goal.invariant_of-self-2
+unfolding has_failed
 invariant_of-self-2 c =
     let old = c.args.self.now in
     let few = c.in-Ok.ensures.few in
     let count = dirty_count-filter (ways_in old.sets) in
     let len = c.len.ensures in
     let paid = old.paid in
-    let none = ap one_if c.if-self.false in
+    let none = ap one_if (sym c.failed.ensures ∙ c.if-failed.false) in
     let fits : old.counts.written_back + c.len.result ≤ old.served = omega arith in
     let clean : dirty_count (ways_in c.clear_sets.new.sets) ≡ 0 =
     ap dirty_count (c.clear_sets.ensures.empty _ _ old.room) ∙ dirty_count-replicate _ in
