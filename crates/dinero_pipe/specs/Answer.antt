@@ -13,13 +13,18 @@ use Rattle.stage_core.specs.declared.config.CacheName.TheVariants as cache_name
 use Rattle.stage_core.specs.declared.config.CacheSpec.{CacheSpec}
 use Rattle.stage_core.specs.declared.config.Config.{Config}
 use Rattle.stage_core.specs.declared.selection.Selection.{Selection}
-use Rattle.dinero_pipe.specs.Options.{Kind, size, count, bounded, replacement, choice, command_app}
-use Rattle.dinero_pipe.specs.Options.{id_of, kind_of_option, options}
+use Rattle.dinero_pipe.specs.Options.{command_app, data_options, id_of}
+use Rattle.dinero_pipe.specs.Options.{instruction_options, kind_of_option, options}
+use Rattle.dinero_pipe.specs.Options.{second_level_options}
 use Rattle.dinero_pipe.specs.Values.{bounded_value, choice_value, count_value, replacement_value}
 use Rattle.dinero_pipe.specs.Values.{size_value}
+use Rattle.dinero_pipe.specs.declared.opt.CacheOptions.{CacheOptions}
+use Rattle.dinero_pipe.specs.declared.opt.Kind.{Kind}
+use Rattle.dinero_pipe.specs.declared.opt.Kind.TheVariants.{Size, Count, Bounded, Replacement}
+use Rattle.dinero_pipe.specs.declared.opt.Kind.TheVariants.{Choice}
 use Rattle.dinero_pipe.specs.declared.opt.Opt.{Opt}
 use Rattle.dinero_pipe.specs.declared.opt.Opt.TheVariants as o
-use Rattle.dinero_pipe.specs.declared.wanted.Wanted.{Wanted}
+use Rattle.dinero_pipe.specs.declared.settings.Settings.{Settings}
 use Rattle.dinero_pipe.specs.declared.words.WordsFault.{WordsFault}
 use Rattle.dinero_pipe.specs.declared.words.WordsFault.TheVariants as fault
 
@@ -29,84 +34,76 @@ text_of rows x = unwrap_or (first_of (id_of x) rows) []
 
 -- can a text be read as a value of this kind?
 abbrev pub reads_as : Kind → Text → Bool
-reads_as size text = is_some (size_value text)
-reads_as count text = is_some (count_value text)
-reads_as bounded text = is_some (bounded_value text)
-reads_as replacement text = is_some (replacement_value text)
-reads_as choice text = is_some (choice_value text)
+reads_as Size text = is_some (size_value text)
+reads_as Count text = is_some (count_value text)
+reads_as Bounded text = is_some (bounded_value text)
+reads_as Replacement text = is_some (replacement_value text)
+reads_as Choice text = is_some (choice_value text)
 
 -- the refusal of an option of this kind
 abbrev pub refusal_by : Kind → Opt → WordsFault
-refusal_by size x = fault.Number x
-refusal_by count x = fault.Number x
-refusal_by bounded x = fault.Number x
-refusal_by replacement x = fault.Choice x
-refusal_by choice x = fault.Choice x
+refusal_by Size x = fault.Number x
+refusal_by Count x = fault.Number x
+refusal_by Bounded x = fault.Number x
+refusal_by Replacement x = fault.Choice x
+refusal_by Choice x = fault.Choice x
 
+-- the refusal of an option whose text can't be read
 abbrev pub refusal_by_option : Opt → WordsFault
 refusal_by_option x = refusal_by (kind_of_option x) x
 
 -- can the text of an option be read?
-unfoldable pub is_good : List Row → Opt → Bool
-is_good rows x = reads_as (kind_of_option x) (text_of rows x)
+unfoldable pub is_readable : List Row → Opt → Bool
+is_readable rows x = reads_as (kind_of_option x) (text_of rows x)
 
 -- the first of these options whose text can't be read
-abbrev pub first_bad : List Row → List Opt → Option Opt
-first_bad rows xs = find (λ x. not (is_good rows x)) xs
+abbrev pub first_unreadable : List Row → List Opt → Option Opt
+first_unreadable rows xs = find (λ x. not (is_readable rows x)) xs
 
 -- the value, unless one of these options can't be read
-unfoldable pub unless_bad : {A : Type 0} → List Row → List Opt → A → Result A WordsFault
-unless_bad rows xs a = option_map_or (λ x. Err (refusal_by_option x)) (first_bad rows xs) (Ok a)
+unfoldable pub if_readable : {A : Type 0} → List Row → List Opt → A → Result A WordsFault
+if_readable rows xs a = option_map_or
+    (λ x. Err (refusal_by_option x)) (first_unreadable rows xs) (Ok a)
 
--- the value of an option whose text can be read
+-- the size that an option sets; 0 where its text can't be read
 abbrev pub size_at : List Row → Opt → ℕ
 size_at rows x = unwrap_or (size_value (text_of rows x)) 0
 
+-- the count that an option sets; 0 where its text can't be read
 abbrev pub count_at : List Row → Opt → ℕ
 count_at rows x = unwrap_or (count_value (text_of rows x)) 0
 
+-- the count of at most 2 ^ 40 that an option sets; 0 where its text can't be read
 abbrev pub bounded_at : List Row → Opt → ℕ
 bounded_at rows x = unwrap_or (bounded_value (text_of rows x)) 0
 
+-- the replacement that an option sets; LRU where its text can't be read
 abbrev pub replacement_at : List Row → Opt → Repl
 replacement_at rows x = unwrap_or (replacement_value (text_of rows x)) Lru
 
+-- the choice that an option sets; never where its text can't be read
 abbrev pub choice_at : List Row → Opt → Bool
 choice_at rows x = unwrap_or (choice_value (text_of rows x)) false
 
--- the three caches; the write choices of the instruction cache are both true
-abbrev pub instruction_cache : List Row → CacheSpec
-instruction_cache rows = record {
-  size = size_at rows o.L1Isize;
-  bsize = size_at rows o.L1Ibsize;
-  assoc = count_at rows o.L1Iassoc;
-  policy = record { repl = replacement_at rows o.L1Irepl; wback = true; walloc = true };
-}
+-- write back and write allocation; both are true where a cache has no options for them
+abbrev pub write_choices : List Row → Option (Opt × Opt) → Bool × Bool
+write_choices rows None = (true, true)
+write_choices rows (Some pair) = (choice_at rows pair.0, choice_at rows pair.1)
 
-abbrev pub data_cache : List Row → CacheSpec
-data_cache rows = record {
-  size = size_at rows o.L1Dsize;
-  bsize = size_at rows o.L1Dbsize;
-  assoc = count_at rows o.L1Dassoc;
+-- the cache that these options ask for
+abbrev pub cache_at : List Row → CacheOptions → CacheSpec
+cache_at rows c = record {
+  size = size_at rows c.size;
+  bsize = size_at rows c.bsize;
+  assoc = count_at rows c.assoc;
   policy = record {
-    repl = replacement_at rows o.L1Drepl;
-    wback = choice_at rows o.L1Dwback;
-    walloc = choice_at rows o.L1Dwalloc;
+    repl = replacement_at rows c.repl;
+    wback = (write_choices rows c.write).0;
+    walloc = (write_choices rows c.write).1;
   };
 }
 
-abbrev pub second_level : List Row → CacheSpec
-second_level rows = record {
-  size = size_at rows o.L2Usize;
-  bsize = size_at rows o.L2Ubsize;
-  assoc = count_at rows o.L2Uassoc;
-  policy = record {
-    repl = replacement_at rows o.L2Urepl;
-    wback = choice_at rows o.L2Uwback;
-    walloc = choice_at rows o.L2Uwalloc;
-  };
-}
-
+-- which references are simulated, and where flushes are put in
 abbrev pub selection_at : List Row → Selection
 selection_at rows = record {
   skip = bounded_at rows o.Skipcount;
@@ -115,37 +112,37 @@ selection_at rows = record {
 }
 
 -- all that the words ask for
-abbrev pub wanted : List Row → Wanted
-wanted rows = record {
-  i = instruction_cache rows;
-  d = data_cache rows;
-  u = second_level rows;
+abbrev pub settings_at : List Row → Settings
+settings_at rows = record {
+  i = cache_at rows instruction_options;
+  d = cache_at rows data_options;
+  u = cache_at rows second_level_options;
   ring = count_at rows o.Ring;
   selection = selection_at rows;
 }
 
 -- the configuration is what was asked for
-pub record IsConfigOf (c : Config) (w : Wanted) : Type 0 where
+pub record IsConfigOf (c : Config) (w : Settings) : Type 0 where
   pub i : IsCacheOf c cache_name.I w.i
   pub d : IsCacheOf c cache_name.D w.d
   pub u : IsCacheOf c cache_name.U w.u
   pub ring : ring_of c ≡ w.ring
 
 -- what was asked for, where it is lawful, or the first rule that it breaks
-abbrev pub Configures : Wanted → Result (Config × Selection) WordsFault → Type 0
+abbrev pub Configures : Settings → Result (Config × Selection) WordsFault → Type 0
 Configures w (Ok p) = (refusal_of w.i w.d w.u w.ring ≡ None) × IsConfigOf p.0 w
     × (p.1 ≡ w.selection)
 Configures w (Err f) = option_map fault.Config (refusal_of w.i w.d w.u w.ring) ≡ Some f
 
 -- the refusal of an option, or else what comes of what was asked for
-abbrev pub Follows : Result Wanted WordsFault → Result (Config × Selection) WordsFault → Type 0
+abbrev pub Follows : Result Settings WordsFault → Result (Config × Selection) WordsFault → Type 0
 Follows (Err f) r = r ≡ Err f
 Follows (Ok w) r = Configures w r
 
 -- what clap's matches come to: the refusal of the first option that can't be read, or else what
 -- comes of all that the words ask for
 abbrev pub AnswersRows : List Row → Result (Config × Selection) WordsFault → Type 0
-AnswersRows rows r = Follows (unless_bad rows options (wanted rows)) r
+AnswersRows rows r = Follows (if_readable rows options (settings_at rows)) r
 
 -- what a refusal of clap comes to
 abbrev pub refusal_by_kind : ErrorKind → WordsFault

@@ -28,56 +28,58 @@ why_word why.Range = codes "range"
 why_word why.Tail = codes "tail"
 
 -- the words for a faulty trace
-abbrev pub trace_words : TraceFault → List ℕ
-trace_words (trace.Bad line why) = codes "line " ++ (decimal line ++ (codes ": " ++ why_word why))
-trace_words trace.TooLong = codes "trace too long"
-trace_words trace.Read = codes "trace read failed"
-trace_words trace.Memory = codes "out of memory"
+abbrev pub trace_fault_text : TraceFault → List ℕ
+trace_fault_text (trace.Bad line why) = codes "line " ++
+    (decimal line ++ (codes ": " ++ why_word why))
+trace_fault_text trace.TooLong = codes "trace too long"
+trace_fault_text trace.Read = codes "trace read failed"
+trace_fault_text trace.Memory = codes "out of memory"
 
 -- the words for a run without a report
-abbrev pub run_words : RunFault → List ℕ
-run_words (run.Trace fault) = trace_words fault
-run_words run.Memory = codes "out of memory"
-run_words run.Threads = codes "no thread"
-run_words run.Cut = codes "pipeline cut"
-run_words run.Write = codes "report write failed"
+abbrev pub run_fault_text : RunFault → List ℕ
+run_fault_text (run.Trace fault) = trace_fault_text fault
+run_fault_text run.Memory = codes "out of memory"
+run_fault_text run.Threads = codes "no thread"
+run_fault_text run.Cut = codes "pipeline cut"
+run_fault_text run.Write = codes "report write failed"
 
 -- a cache's name, as in the report
-abbrev pub cache_words : CacheName → List ℕ
-cache_words cache.I = codes "l1-icache"
-cache_words cache.D = codes "l1-dcache"
-cache_words cache.U = codes "l2-ucache"
+abbrev pub cache_name_text : CacheName → List ℕ
+cache_name_text cache.I = codes "l1-icache"
+cache_name_text cache.D = codes "l1-dcache"
+cache_name_text cache.U = codes "l2-ucache"
 
 -- the words for an unlawful geometry
-abbrev pub geometry_words : GeometryFault → List ℕ
-geometry_words geometry.SizeNotPower = codes "size is not a power of two"
-geometry_words geometry.SizeRange = codes "size is out of range"
-geometry_words geometry.BlockNotPower = codes "block is not a power of two"
-geometry_words geometry.BlockRange = codes "block is out of range"
-geometry_words geometry.AssocNotPower = codes "associativity is not a power of two"
-geometry_words geometry.AssocTooLarge = codes "associativity is too large"
+abbrev pub geometry_fault_text : GeometryFault → List ℕ
+geometry_fault_text geometry.SizeNotPower = codes "size is not a power of two"
+geometry_fault_text geometry.SizeRange = codes "size is out of range"
+geometry_fault_text geometry.BlockNotPower = codes "block is not a power of two"
+geometry_fault_text geometry.BlockRange = codes "block is out of range"
+geometry_fault_text geometry.AssocNotPower = codes "associativity is not a power of two"
+geometry_fault_text geometry.AssocTooLarge = codes "associativity is too large"
 
 -- the words for an unlawful configuration
-abbrev pub config_words : ConfigFault → List ℕ
-config_words (config.Geometry which fault) = cache_words which ++
-    (codes ": " ++ geometry_words fault)
-config_words config.BlockOrder = codes "l2 block is shorter than an l1 block"
-config_words config.Ring = codes "ring is not from 1 to 65536"
+abbrev pub config_fault_text : ConfigFault → List ℕ
+config_fault_text (config.Geometry which fault) = cache_name_text which ++
+    (codes ": " ++ geometry_fault_text fault)
+config_fault_text config.BlockOrder = codes "l2 block is shorter than an l1 block"
+config_fault_text config.Ring = codes "ring is not from 1 to 65536"
 
 -- the words for a refused command line; none for help
-abbrev pub words_words : WordsFault → List ℕ
-words_words words.Words = codes "command line refused, try --help"
-words_words (words.Number option) = name_of option ++ codes ": not a number"
-words_words (words.Choice option) = name_of option ++ codes ": not a lawful letter"
-words_words (words.Config fault) = config_words fault
-words_words words.Help = []
-words_words words.Memory = codes "out of memory"
+abbrev pub words_fault_text : WordsFault → List ℕ
+words_fault_text words.Words = codes "command line refused, try --help"
+words_fault_text (words.Number option) = name_of option ++ codes ": not a number"
+words_fault_text (words.Choice option) = name_of option ++ codes ": not a lawful letter"
+words_fault_text (words.Config fault) = config_fault_text fault
+words_fault_text words.Help = []
+words_fault_text words.Memory = codes "out of memory"
 
 -- the words for a fault
-abbrev pub fault_words : Fault → List ℕ
-fault_words (Run fault) = run_words fault
-fault_words (Words fault) = words_words fault
+abbrev pub message_of : Fault → List ℕ
+message_of (Run fault) = run_fault_text fault
+message_of (Words fault) = words_fault_text fault
 
+-- is this the request for help?
 abbrev pub asks_for_help : Fault → Bool
 asks_for_help (Words words.Help) = true
 asks_for_help _ = false
@@ -86,7 +88,7 @@ asks_for_help _ = false
 abbrev pub fault_line : Fault → List ℕ
 fault_line fault =
     if asks_for_help fault then []
-    else codes "dinero_pipe: " ++ (fault_words fault ++ 10 ∷ [])
+    else codes "dinero_pipe: " ++ (message_of fault ++ 10 ∷ [])
 
 -- the status of a faulty trace
 abbrev pub trace_status : TraceFault → ℕ

@@ -1,7 +1,12 @@
 -- The options of the command line, and the command that clap reads them by.
-use Rattle.std.specs.Prelude.{List, [], ◌∷◌, ◌++◌, fold, codes, true, Option, Some, None, is_none}
+use Rattle.std.specs.Prelude.{◌≡◌, ⊤, List, [], ◌∷◌, ◌++◌, fold, codes, true, Option, Some, None}
+use Rattle.std.specs.Prelude.{is_none}
 use Rattle.std.specs.Option.{option_map_or}
 use Rattle.clap.specs.Words.{App, Rule, Text, new_app, new_rule, with_rule}
+use Rattle.dinero_pipe.specs.declared.opt.CacheOptions.{CacheOptions}
+use Rattle.dinero_pipe.specs.declared.opt.Kind.{Kind}
+use Rattle.dinero_pipe.specs.declared.opt.Kind.TheVariants.{Size, Count, Bounded, Replacement}
+use Rattle.dinero_pipe.specs.declared.opt.Kind.TheVariants.{Choice}
 use Rattle.dinero_pipe.specs.declared.opt.Opt.{Opt}
 use Rattle.dinero_pipe.specs.declared.opt.Opt.TheVariants.{L1Isize, L1Ibsize, L1Iassoc, L1Irepl}
 use Rattle.dinero_pipe.specs.declared.opt.Opt.TheVariants.{L1Dsize, L1Dbsize, L1Dassoc, L1Drepl}
@@ -9,15 +14,44 @@ use Rattle.dinero_pipe.specs.declared.opt.Opt.TheVariants.{L1Dwback, L1Dwalloc, 
 use Rattle.dinero_pipe.specs.declared.opt.Opt.TheVariants.{L2Uassoc, L2Urepl, L2Uwback, L2Uwalloc}
 use Rattle.dinero_pipe.specs.declared.opt.Opt.TheVariants.{Ring, Skipcount, Maxcount, Flushcount}
 
--- the options of each cache
-abbrev pub instruction_options : List Opt
-instruction_options = L1Isize ∷ L1Ibsize ∷ L1Iassoc ∷ L1Irepl ∷ []
+-- the options of the instruction cache, which has none for writes
+abbrev pub instruction_options : CacheOptions
+instruction_options = record {
+  size = L1Isize;
+  bsize = L1Ibsize;
+  assoc = L1Iassoc;
+  repl = L1Irepl;
+  write = None;
+}
 
-abbrev pub data_options : List Opt
-data_options = L1Dsize ∷ L1Dbsize ∷ L1Dassoc ∷ L1Drepl ∷ L1Dwback ∷ L1Dwalloc ∷ []
+-- the options of the data cache
+abbrev pub data_options : CacheOptions
+data_options = record {
+  size = L1Dsize;
+  bsize = L1Dbsize;
+  assoc = L1Dassoc;
+  repl = L1Drepl;
+  write = Some (L1Dwback, L1Dwalloc);
+}
 
-abbrev pub second_level_options : List Opt
-second_level_options = L2Usize ∷ L2Ubsize ∷ L2Uassoc ∷ L2Urepl ∷ L2Uwback ∷ L2Uwalloc ∷ []
+-- the options of the second level
+abbrev pub second_level_options : CacheOptions
+second_level_options = record {
+  size = L2Usize;
+  bsize = L2Ubsize;
+  assoc = L2Uassoc;
+  repl = L2Urepl;
+  write = Some (L2Uwback, L2Uwalloc);
+}
+
+-- the options for writes, if there are any: write back, then write allocation
+abbrev pub write_options : Option (Opt × Opt) → List Opt
+write_options None = []
+write_options (Some pair) = pair.0 ∷ pair.1 ∷ []
+
+-- the options of one cache, in their order
+abbrev pub cache_options : CacheOptions → List Opt
+cache_options c = c.size ∷ c.bsize ∷ c.assoc ∷ c.repl ∷ write_options c.write
 
 -- the options of the selection
 abbrev pub selection_options : List Opt
@@ -25,8 +59,8 @@ selection_options = Skipcount ∷ Maxcount ∷ Flushcount ∷ []
 
 -- all options, in their order
 abbrev pub options : List Opt
-options = instruction_options ++ (data_options ++
-    (second_level_options ++ Ring ∷ selection_options))
+options = cache_options instruction_options ++ (cache_options data_options ++
+    (cache_options second_level_options ++ Ring ∷ selection_options))
 
 -- an option without its hyphens
 abbrev pub id_of : Opt → Text
@@ -55,45 +89,51 @@ id_of Flushcount = codes "flushcount"
 abbrev pub name_of : Opt → Text
 name_of option = codes "--" ++ id_of option
 
--- what an option's value is: a number of bytes, a count, a count for the selection, a letter for
--- the replacement, or a letter for always or never
-pub data Kind : Type 0 where
-  size : Kind
-  count : Kind
-  bounded : Kind
-  replacement : Kind
-  choice : Kind
-
+-- the kind of an option's value
 abbrev pub kind_of_option : Opt → Kind
-kind_of_option L1Isize = size
-kind_of_option L1Ibsize = size
-kind_of_option L1Iassoc = count
-kind_of_option L1Irepl = replacement
-kind_of_option L1Dsize = size
-kind_of_option L1Dbsize = size
-kind_of_option L1Dassoc = count
-kind_of_option L1Drepl = replacement
-kind_of_option L1Dwback = choice
-kind_of_option L1Dwalloc = choice
-kind_of_option L2Usize = size
-kind_of_option L2Ubsize = size
-kind_of_option L2Uassoc = count
-kind_of_option L2Urepl = replacement
-kind_of_option L2Uwback = choice
-kind_of_option L2Uwalloc = choice
-kind_of_option Ring = count
-kind_of_option Skipcount = bounded
-kind_of_option Maxcount = bounded
-kind_of_option Flushcount = bounded
+kind_of_option L1Isize = Size
+kind_of_option L1Ibsize = Size
+kind_of_option L1Iassoc = Count
+kind_of_option L1Irepl = Replacement
+kind_of_option L1Dsize = Size
+kind_of_option L1Dbsize = Size
+kind_of_option L1Dassoc = Count
+kind_of_option L1Drepl = Replacement
+kind_of_option L1Dwback = Choice
+kind_of_option L1Dwalloc = Choice
+kind_of_option L2Usize = Size
+kind_of_option L2Ubsize = Size
+kind_of_option L2Uassoc = Count
+kind_of_option L2Urepl = Replacement
+kind_of_option L2Uwback = Choice
+kind_of_option L2Uwalloc = Choice
+kind_of_option Ring = Count
+kind_of_option Skipcount = Bounded
+kind_of_option Maxcount = Bounded
+kind_of_option Flushcount = Bounded
 
--- what stands where an option of this kind is not given; none: it has to be given
+-- the options for writes, if there are any, are choices
+abbrev pub HaveChoices : Option (Opt × Opt) → Type 0
+HaveChoices None = ⊤
+HaveChoices (Some pair) = (kind_of_option pair.0 ≡ Choice) × (kind_of_option pair.1 ≡ Choice)
+
+-- each option of a cache has the kind of its value
+pub record HasTheirKinds (c : CacheOptions) : Type 0 where
+  pub size : kind_of_option c.size ≡ Size
+  pub bsize : kind_of_option c.bsize ≡ Size
+  pub assoc : kind_of_option c.assoc ≡ Count
+  pub repl : kind_of_option c.repl ≡ Replacement
+  pub write : HaveChoices c.write
+
+-- the value of an option of this kind that is not given; none: the option is required
 abbrev pub default_by : Kind → Option Text
-default_by size = None
-default_by count = Some (codes "1")
-default_by bounded = Some (codes "0")
-default_by replacement = Some (codes "l")
-default_by choice = Some (codes "a")
+default_by Size = None
+default_by Count = Some (codes "1")
+default_by Bounded = Some (codes "0")
+default_by Replacement = Some (codes "l")
+default_by Choice = Some (codes "a")
 
+-- the value of an option that is not given
 abbrev pub default_of : Opt → Option Text
 default_of Ring = Some (codes "64")
 default_of option = default_by (kind_of_option option)

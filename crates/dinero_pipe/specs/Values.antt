@@ -15,6 +15,7 @@ use Rattle.cache_core.specs.declared.policy.Repl.TheVariants.{Lru, Fifo}
 abbrev pub is_count : Text → Bool
 is_count text = nat_le 1 (length text) && (nat_le (length text) 12 && list_all is_ascii_digit text)
 
+-- the number that a count gives
 abbrev pub count_value : Text → Option ℕ
 count_value text = if is_count text then Some (digits_value 10 text) else None
 

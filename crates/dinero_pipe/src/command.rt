@@ -44,7 +44,7 @@ pub(crate) fn command<'a>(alloc: Global) -> Result<Command<'a>, AllocError>
     Ok(command)
 }
 
-/// The help, as clap lays it out. Nothing is claimed of the text.
+/// The help, as clap lays it out. The contract says nothing of the text.
 pub fn help_text(alloc: Global) -> Result<String, NoMemory> {
     let Ok(mut command) = command(alloc) else {
         return Err(NoMemory);

@@ -2,9 +2,11 @@
 
 ghost use Rattle.std.specs.Prelude.{◌≡◌};
 ghost use Rattle.din_trace.specs.Device.{Writes};
-ghost use Rattle.dinero_pipe.specs.FaultText.{asks_for_help, cache_words, config_words, fault_line};
-ghost use Rattle.dinero_pipe.specs.FaultText.{fault_words, geometry_words, run_words, status_of};
-ghost use Rattle.dinero_pipe.specs.FaultText.{trace_words, why_word, words_words};
+ghost use Rattle.dinero_pipe.specs.FaultText.{asks_for_help, cache_name_text, config_fault_text};
+ghost use Rattle.dinero_pipe.specs.FaultText.{fault_line};
+ghost use Rattle.dinero_pipe.specs.FaultText.{message_of, geometry_fault_text, run_fault_text};
+ghost use Rattle.dinero_pipe.specs.FaultText.{status_of};
+ghost use Rattle.dinero_pipe.specs.FaultText.{trace_fault_text, why_word, words_fault_text};
 
 use crate::words::WordsFault;
 use cache_core::GeometryFault;
@@ -14,7 +16,7 @@ use sim_run::RunFault;
 use stage_core::{CacheName, ConfigFault};
 use thiserror::Error;
 
-/// Why the program ends without a report. What is printed of it is the line of [`fault_text`].
+/// Why the program ends without a report. [`fault_text`] gives the line that is printed.
 #[derive(Clone, Copy, Debug, PartialEq, Eq, Error)]
 pub enum Fault {
     #[error("the run failed")]
@@ -23,8 +25,8 @@ pub enum Fault {
     Words(WordsFault),
 }
 
-/// The exit status: 0 where help was asked for, 1 for a faulty trace, 2 for a refused command line,
-/// 3 where memory or a thread was refused or a stage was cut off, 4 where a device failed.
+/// The exit status: 0 if help was asked for, 1 for a faulty trace, 2 for a refused command line, 3
+/// if memory or a thread was refused or a stage was cut off, 4 if a device failed.
 pub fn status(fault: &Fault) -> u8
     ensures { result ≡ status_of fault.now }
 {
@@ -51,7 +53,7 @@ fn why_text(why: Why) -> &'static str
 }
 
 fn put_trace<W: ByteWriter>(fault: TraceFault, writer: &mut W) -> Result<(), DeviceFailed>
-    ensures { Writes W.contents W.failures writer.old writer.new result (trace_words fault) }
+    ensures { Writes W.contents W.failures writer.old writer.new result (trace_fault_text fault) }
 {
     match fault {
         TraceFault::Bad { line, why } => {
@@ -68,7 +70,7 @@ fn put_trace<W: ByteWriter>(fault: TraceFault, writer: &mut W) -> Result<(), Dev
 }
 
 fn put_run<W: ByteWriter>(fault: RunFault, writer: &mut W) -> Result<(), DeviceFailed>
-    ensures { Writes W.contents W.failures writer.old writer.new result (run_words fault) }
+    ensures { Writes W.contents W.failures writer.old writer.new result (run_fault_text fault) }
 {
     match fault {
         RunFault::Trace(fault) => put_trace(fault, writer),
@@ -80,7 +82,7 @@ fn put_run<W: ByteWriter>(fault: RunFault, writer: &mut W) -> Result<(), DeviceF
 }
 
 fn cache_text(name: CacheName) -> &'static str
-    ensures { result.now ≡ cache_words name }
+    ensures { result.now ≡ cache_name_text name }
 {
     match name {
         CacheName::I => "l1-icache",
@@ -90,7 +92,7 @@ fn cache_text(name: CacheName) -> &'static str
 }
 
 fn geometry_text(fault: GeometryFault) -> &'static str
-    ensures { result.now ≡ geometry_words fault }
+    ensures { result.now ≡ geometry_fault_text fault }
 {
     match fault {
         GeometryFault::SizeNotPower => "size is not a power of two",
@@ -103,7 +105,7 @@ fn geometry_text(fault: GeometryFault) -> &'static str
 }
 
 fn put_config<W: ByteWriter>(fault: ConfigFault, writer: &mut W) -> Result<(), DeviceFailed>
-    ensures { Writes W.contents W.failures writer.old writer.new result (config_words fault) }
+    ensures { Writes W.contents W.failures writer.old writer.new result (config_fault_text fault) }
 {
     match fault {
         ConfigFault::Geometry(which, fault) => {
@@ -117,7 +119,7 @@ fn put_config<W: ByteWriter>(fault: ConfigFault, writer: &mut W) -> Result<(), D
 }
 
 fn put_words<W: ByteWriter>(fault: WordsFault, writer: &mut W) -> Result<(), DeviceFailed>
-    ensures { Writes W.contents W.failures writer.old writer.new result (words_words fault) }
+    ensures { Writes W.contents W.failures writer.old writer.new result (words_fault_text fault) }
 {
     match fault {
         WordsFault::Words => writer.put(b"command line refused, try --help"),
@@ -136,7 +138,7 @@ fn put_words<W: ByteWriter>(fault: WordsFault, writer: &mut W) -> Result<(), Dev
 }
 
 fn put_fault<W: ByteWriter>(fault: &Fault, writer: &mut W) -> Result<(), DeviceFailed>
-    ensures { Writes W.contents W.failures writer.old writer.new result (fault_words fault.now) }
+    ensures { Writes W.contents W.failures writer.old writer.new result (message_of fault.now) }
 {
     match fault {
         Fault::Run(fault) => put_run(*fault, writer),
@@ -150,7 +152,7 @@ fn is_help(fault: &Fault) -> bool
     matches!(fault, Fault::Words(WordsFault::Help))
 }
 
-/// Writes the one line that tells of a fault. Help has none.
+/// Writes the one line of a fault. Help has none.
 pub fn fault_text<W: ByteWriter>(fault: &Fault, writer: &mut W) -> Result<(), DeviceFailed>
     ensures { Writes W.contents W.failures writer.old writer.new result (fault_line fault.now) }
 {

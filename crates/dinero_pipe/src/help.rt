@@ -2,7 +2,7 @@
 
 use crate::opt::Opt;
 
-/// What stands above the options.
+/// The text above the options.
 pub(crate) fn about<'a>() -> &'a str {
     "Simulates an instruction cache, a data cache and a second-level cache behind them over the din
 trace on standard input, and writes their counts of misses to standard output."
@@ -13,7 +13,7 @@ pub(crate) fn usage<'a>() -> &'a str {
                    --l2-usize <SIZE> --l2-ubsize <SIZE> [OPTIONS] < TRACE"
 }
 
-/// What stands below the options.
+/// The text below the options.
 pub(crate) fn more<'a>() -> &'a str {
     "An option without a default is required, and each is given at most once.
   <SIZE>   bytes: 1 to 12 decimal digits, then nothing, k (times 1024) or m (times 1048576); 8k, 1M

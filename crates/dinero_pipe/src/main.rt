@@ -1,25 +1,24 @@
-//! The command line of the simulator: a din trace on standard input to the report of two levels of
-//! cache on standard output.
+//! The command line of the simulator: reads a din trace from standard input, and writes the report
+//! of two levels of cache to standard output.
 //!
-//! The rooms: `opt` names the options, `help` says what each one sets, `command` hands them to
-//! clap; `values` reads a size, a count or a letter; `wanted` reads the options in their order, and
-//! `words` goes from the words to a lawful configuration and a selection; `fault` has the line and
-//! the exit status of everything that can go wrong.
+//! `opt` names the options, and `help` says what each one sets. `command` hands them to clap.
+//! `values` reads a size, a count or a letter. `settings` reads the options in their order, and
+//! `words` goes from the words to a lawful configuration and a selection. `fault` has the line and
+//! the exit status of each fault.
 //!
-//! Proved: what the words come to is what the definitions of `specs/Answer` make of clap's own
-//! matches of them, and each refusal is the first one by those definitions, or want of memory; a
-//! fault's line and status are those of `specs/FaultText`. The text of the help, and that this file
-//! joins the right streams, are shown by tests and by a run alone.
+//! Proved: the words give what `specs/Answer` says of clap's own matches of them. A refusal is the
+//! first one by those definitions, or out of memory. A fault's line and status are those of
+//! `specs/FaultText`. Only tested: the text of the help, and that `main` joins the right streams.
 #![tactic(auto)]
 
 mod command;
 mod fault;
 mod help;
 mod opt;
+mod settings;
 #[cfg(test)]
 mod tests;
 mod values;
-mod wanted;
 mod words;
 
 ghost use Rattle.std.specs.Prelude.{IfOk};
@@ -38,8 +37,7 @@ use std::process::ExitCode;
 use std::sync::Wait;
 use std::thread::Threads;
 
-/// Simulates the trace that is read from `input`, and writes its report to `output`. The buffer
-/// turns the report into one write.
+/// Simulates the trace that `input` gives, and writes its report to `output`, in one write.
 fn report<H: Threads + Wait + Sync, R: Read + Drop, W: Write + Drop>(
     rt: &H,
     alloc: Global,
@@ -80,34 +78,34 @@ fn write_help(rt: &HostRuntime) -> Result<(), Fault> {
     }
 }
 
-/// What words come to that can't be taken: memory was refused, or one of them is no text.
-fn untaken(kind: ErrorKind) -> WordsFault {
+/// The fault of arguments that can't be read: memory was refused, or one of them is not UTF-8.
+fn words_fault_of(kind: ErrorKind) -> WordsFault {
     match kind {
         ErrorKind::OutOfMemory => WordsFault::Memory,
         _ => WordsFault::Words,
     }
 }
 
-/// What the words ask for.
-fn asked_for(rt: &HostRuntime) -> Result<(Config, Selection), Fault>
-    ensures { IfOk result (λ asked. IsBounded asked.1) }
+/// Reads the program's arguments.
+fn parse_args(rt: &HostRuntime) -> Result<(Config, Selection), Fault>
+    ensures { IfOk result (λ parsed. IsBounded parsed.1) }
 {
     let alloc = rt.alloc();
     let mut arguments = match env::args(rt) {
         Ok(arguments) => arguments,
-        Err(error) => return Err(Fault::Words(untaken(error.kind()))),
+        Err(error) => return Err(Fault::Words(words_fault_of(error.kind()))),
     };
     let _program = arguments.next();
     let Ok(words) = arguments.collect::<Vec<String>>(alloc) else {
         return Err(Fault::Words(WordsFault::Memory));
     };
     match parse_words(alloc, words.as_slice()) {
-        Ok(asked) => Ok(asked),
+        Ok(parsed) => Ok(parsed),
         Err(fault) => Err(Fault::Words(fault)),
     }
 }
 
-/// Prints the line of a fault, and answers its status, also where the line can't be printed.
+/// Prints the line of a fault, and answers its status, even if the line can't be printed.
 fn refuse(rt: &HostRuntime, fault: Fault) -> ExitCode {
     let mut errors = FromWrite::new(rt.stderr());
     let _ = fault_text(&fault, &mut errors);
@@ -115,7 +113,7 @@ fn refuse(rt: &HostRuntime, fault: Fault) -> ExitCode {
 }
 
 fn main(rt: HostRuntime) -> ExitCode {
-    let ended = match asked_for(&rt) {
+    let ended = match parse_args(&rt) {
         Ok((config, selection)) => report(
             &rt,
             rt.alloc(),

@@ -1,4 +1,4 @@
-//! Tests of the words, of the values, of the lines of faults and of want of memory.
+//! Tests of the words, the values, the fault lines and refused memory.
 
 mod faults;
 mod memory;

@@ -15,8 +15,8 @@ pub fn read_count(text: &str) -> Option<u64>
     count_of(text.as_bytes())
 }
 
-/// Reads a number of bytes: 1 to 12 decimal digits, and behind them nothing, `k` or `K` for 1,024
-/// of them, or `m` or `M` for 1,048,576.
+/// Reads a number of bytes: 1 to 12 decimal digits, then nothing, `k` or `K` (times 1,024), or `m`
+/// or `M` (times 1,048,576).
 pub fn read_size(text: &str) -> Option<u64>
     ensures { result ≡ size_value text.now }
 {
@@ -40,7 +40,7 @@ pub(crate) fn read_bounded(text: &str) -> Option<u64>
     if count <= 1 << 40 { Some(count) } else { None }
 }
 
-/// What a letter behind the digits multiplies by.
+/// What a letter after the digits multiplies by.
 fn unit(byte: u8) -> Option<u64>
     ensures { result ≡ unit_value byte }
 {

@@ -7,22 +7,22 @@ ghost use Rattle.dinero_pipe.specs.Answer.{AnswersRows, AnswersWords, refusal_by
 
 use crate::command::command;
 use crate::opt::Opt;
-use crate::wanted::read_wanted;
+use crate::settings::read_settings;
 use clap::ArgMatches;
 use clap::error::ErrorKind;
 use stage_core::{Config, ConfigFault, Selection};
 use std::alloc::Global;
 
-/// Why the words give no configuration. What clap refuses comes first, then the first option whose
-/// value can't be read, then the first rule that the configuration breaks.
+/// Why the words give no configuration. If several things are wrong, it is what clap refuses, then
+/// the first option whose value can't be read, then the first rule that the configuration breaks.
 #[derive(Clone, Copy, Debug, PartialEq, Eq)]
 pub enum WordsFault {
     /// clap refused the words: an unknown option, one given twice or without a value, or one that
     /// is required and missing.
     Words,
-    /// The value of the option is no size or no count, or a selection's is above 2^40.
+    /// The value of the option is not a size or a count, or a count of the selection is above 2^40.
     Number(Opt),
-    /// The value of the option is none of its two letters.
+    /// The value of the option is not one of its two letters.
     Choice(Opt),
     Config(ConfigFault),
     /// Help was asked for.
@@ -36,14 +36,14 @@ fn answer(matches: &ArgMatches) -> Result<(Config, Selection), WordsFault>
     ensures value { AnswersRows (rows_of (found_of matches.now)) result }
     ensures bound { IfOk result (λ p. IsBounded p.1) }
 {
-    let wanted = read_wanted(matches)?;
-    match Config::new(wanted.i, wanted.d, wanted.u, wanted.ring) {
-        Ok(config) => Ok((config, wanted.selection)),
+    let settings = read_settings(matches)?;
+    match Config::new(settings.i, settings.d, settings.u, settings.ring) {
+        Ok(config) => Ok((config, settings.selection)),
         Err(fault) => Err(WordsFault::Config(fault)),
     }
 }
 
-/// What a refusal of clap comes to.
+/// The fault for a refusal of clap.
 fn refusal(kind: ErrorKind) -> WordsFault
     ensures { result ≡ refusal_by_kind kind }
 {
@@ -55,7 +55,7 @@ fn refusal(kind: ErrorKind) -> WordsFault
 }
 
 /// Reads the words behind the program's name. Each number of the selection is at most 2^40.
-/// `Memory` may stand in the place of any answer.
+/// `Memory` may take the place of any answer.
 pub fn parse_words(alloc: Global, words: &[String]) -> Result<(Config, Selection), WordsFault>
     ensures answer { AnswersWords (map string_bytes words.now) result }
     ensures bound { IfOk result (λ p. IsBounded p.1) }

@@ -1,4 +1,4 @@
-//! What words come to.
+//! Words, and the configuration or the fault that they give.
 
 use crate::command::help_text;
 use crate::fault::{Fault, status};

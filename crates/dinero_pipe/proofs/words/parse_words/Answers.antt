@@ -2,7 +2,7 @@ use Rattle.std.proofs.Common.{◌≡◌, ◌∙◌, ap, refl, true}
 use Rattle.clap.specs.Words.{is_simple, is_simple_and_free}
 use Rattle.dinero_pipe.specs.Answer.{refusal_by_kind}
 use Rattle.dinero_pipe.specs.Options.{command_app}
-use Rattle.dinero_pipe.proofs.AnswerLemmas.{refused, taken}
+use Rattle.dinero_pipe.proofs.AnswerLemmas.{answers_refusal, answers_matches}
 use Rattle.dinero_pipe.proofs.words.parse_words.Goals as goal
 
 -- the command is one of which clap's matches and faults are known
@@ -16,10 +16,10 @@ pub returns-in-Ok-try_get_matches_from-clause-answer :
     goal.returns-in-Ok-try_get_matches_from-clause-answer
 returns-in-Ok-try_get_matches_from-clause-answer c =
     let m = c.in-Ok-try_get_matches_from in
-    taken _ _ m.matches c.answer.result c.in-Ok.ensures plain free m.ensures.matches
+    answers_matches _ _ m.matches c.answer.result c.in-Ok.ensures plain free m.ensures.matches
     m.ensures.kinds c.answer.ensures.value
 
 pub returns-in-Err-clause-answer : goal.returns-in-Err-clause-answer
 returns-in-Err-clause-answer c =
-    refused _ _ c.in-Err.error c.refusal.result c.in-Ok.ensures free c.in-Err.ensures.passes
+    answers_refusal _ _ c.in-Err.error c.refusal.result c.in-Ok.ensures free c.in-Err.ensures.passes
     c.in-Err.ensures.kinds (c.refusal.ensures ∙ ap refusal_by_kind c.kind.ensures)
