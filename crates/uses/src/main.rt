@@ -1,0 +1,41 @@
+//! A use of each library, as its README shows it. Run as a program, it prints what they answer.
+#![tactic(auto)]
+
+mod cache;
+mod ring;
+mod run;
+mod stages;
+mod trace;
+
+use anyhow::bail;
+use std::io::Write;
+
+fn main(rt: HostRuntime) -> anyhow::Result<()> {
+    let alloc = rt.alloc();
+    let Ok(config) = run::small_caches() else {
+        bail!("no lawful configuration");
+    };
+    let Ok(stores) = trace::stores(alloc, b"2 400d7c\n0 1000\n1 1004 a comment\n") else {
+        bail!("no records");
+    };
+    println!(rt; "din_trace: {stores} store")?;
+    let Ok(kind) = cache::kind_of_third_read(alloc) else {
+        bail!("no cache");
+    };
+    println!(rt; "cache_core: {kind:?}")?;
+    let Ok(ends) = ring::two_ends(alloc) else {
+        bail!("no ring");
+    };
+    let sum = ring::pass(&rt, ends);
+    println!(rt; "pipe_rings: {sum}")?;
+    let Ok(misses) = stages::second_level_misses(alloc, &config) else {
+        bail!("no counts");
+    };
+    println!(rt; "stage_core: {misses} misses")?;
+    let Ok(report) = run::report(&rt, alloc, &config, b"1 0\n0 8\n0 10\n") else {
+        bail!("no report");
+    };
+    println!(rt; "sim_run:")?;
+    rt.stdout().write_all(report.as_slice())?;
+    Ok(())
+}
