@@ -1,5 +1,5 @@
-//! Serves the same generated references to caches of one size and 1, 8, 256 and 4,096 ways, and says
-//! what missed.
+//! Serves the same generated references to caches of one size and 1, 8, 256 and 4,096 ways, and
+//! says what missed.
 //!
 //! Words: the number of references, and `time` where the time of one access is wanted.
 #![tactic(auto)]
