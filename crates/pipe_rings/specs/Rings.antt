@@ -30,6 +30,10 @@ module _ {T : Type 0} where
   unfoldable pub LookedForItem : Rx T → Type 0
   LookedForItem rx = (rx.left ≡ 0) × (ring.known_items rx.end ≡ [])
 
+  -- for how many items the ring of this end has room
+  abbrev pub capacity_of : Tx T → ℕ
+  capacity_of tx = ring.producer_capacity tx.end
+
   -- the two ends of one ring
   abbrev pub AreEnds : Tx T → Rx T → Type 0
   AreEnds tx rx = ring.IsPair tx.end rx.end

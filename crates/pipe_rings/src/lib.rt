@@ -12,8 +12,8 @@
 //!
 //! Proved: what was sent and what was received are lists that only grow at their end, by the item
 //! of the call and by no other; what is posted counts as sent, and publishing changes nothing of
-//! it; an item that is handed back was not sent; and what was sent is what was received, followed
-//! by as many items as `settle` counts. Tested only: that an end is told to be gone only where it
+//! it; an item that is handed back was not sent; what was sent is what was received, followed by
+//! as many items as `settle` counts; and a ring has the room that was asked for, and keeps it. Tested only: that an end is told to be gone only where it
 //! was dropped, that an end which sleeps is woken, and that memory for a ring is granted.
 #![tactic(auto)]
 
@@ -24,7 +24,8 @@ mod tx;
 mod wait;
 
 ghost use Rattle.std.specs.Prelude.{◌≡◌, ◌≤◌, [], IfOk};
-ghost use Rattle.pipe_rings.specs.Rings.{sent, received, AreEnds, SameTx, SameRx, IsBehindBy};
+ghost use Rattle.pipe_rings.specs.Rings.{sent, received, capacity_of, AreEnds, SameTx, SameRx};
+ghost use Rattle.pipe_rings.specs.Rings.{IsBehindBy};
 
 use rtrb::RingBuffer;
 use rx::BATCH;
@@ -42,6 +43,7 @@ pub struct NoMemory;
 pub fn ring<T: Copy>(alloc: Global, capacity: usize) -> Result<(Tx<T>, Rx<T>), NoMemory>
     requires { (1 ≤ capacity) × (capacity ≤ 65536) }
     ensures one { IfOk result (λ r. AreEnds r.0 r.1) }
+    ensures capacity { IfOk result (λ r. capacity_of r.0 ≡ capacity) }
     ensures new { IfOk result (λ r. (sent r.0 ≡ []) × (received r.1 ≡ [])) }
 {
     ring_from(alloc, capacity, &Bell::new(alloc)?)
@@ -57,6 +59,7 @@ pub fn ring_from<T: Copy>(
 ) -> Result<(Tx<T>, Rx<T>), NoMemory>
     requires { (1 ≤ capacity) × (capacity ≤ 65536) }
     ensures one { IfOk result (λ r. AreEnds r.0 r.1) }
+    ensures capacity { IfOk result (λ r. capacity_of r.0 ≡ capacity) }
     ensures new { IfOk result (λ r. (sent r.0 ≡ []) × (received r.1 ≡ [])) }
 {
     let Ok((producer, consumer)) = RingBuffer::new(alloc, capacity) else {

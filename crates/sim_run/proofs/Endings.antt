@@ -79,15 +79,16 @@ leaves-all l HasLeft left = record {
   left = left;
 }
 
-pub runs-over : (c : Hierarchy) (selection : Selection) (l : Left) (HasLeft : Left → Type 0)
-    (ends : SplitterEnds) (fed : Result (Unit {0}) RunFault) (result : Result Settled RunFault)
+pub runs-over : (ring : ℕ) (c : Hierarchy) (selection : Selection) (l : Left)
+    (HasLeft : Left → Type 0) (ends : SplitterEnds) (fed : Result (Unit {0}) RunFault)
+    (result : Result Settled RunFault)
     → SplitUp selection l HasLeft ends fed → OnOk result (IsOk fed)
-    → IfOk result (λ s. (es : List DinRecord) → HasSentAll es ends → HasRun c es s)
+    → IfOk result (λ s. (es : List DinRecord) → HasSentAll es ends → HasRun ring c es s)
     → IfErr result (λ why. (left : Option TraceFault) → IfErr fed (MayAnswer left)
-    → MayAnswer left why) → RunsOver c selection l HasLeft result
-runs-over c selection l HasLeft ends (Ok done) (Ok settled) up fine whole answers =
+    → MayAnswer left why) → RunsOver ring c selection l HasLeft result
+runs-over ring c selection l HasLeft ends (Ok done) (Ok settled) up fine whole answers =
     (up.0, whole (events selection l.records) up.1, up.2)
-runs-over c selection l HasLeft ends (Ok done) (Err why) up fine whole answers = (
+runs-over ring c selection l HasLeft ends (Ok done) (Err why) up fine whole answers = (
   answers l.fault tt,
   record {
     gone = l.records;
@@ -97,15 +98,15 @@ runs-over c selection l HasLeft ends (Ok done) (Err why) up fine whole answers =
     left = up.2;
   },
 )
-runs-over c selection l HasLeft ends (Err f) (Ok settled) up fine whole answers = absurd cc
-runs-over c selection l HasLeft ends (Err f) (Err why) up fine whole answers =
+runs-over ring c selection l HasLeft ends (Err f) (Ok settled) up fine whole answers = absurd cc
+runs-over ring c selection l HasLeft ends (Err f) (Err why) up fine whole answers =
     (answers l.fault up.0, up.1)
 
 -- the same where no thread was fed
-pub runs-refused : (c : Hierarchy) (selection : Selection) (l : Left) (HasLeft : Left → Type 0)
-    (why : RunFault) → (why ≡ Memory) ⊎ (why ≡ Threads) → HasLeft l
-    → RunsOver c selection l HasLeft (Err why)
-runs-refused c selection l HasLeft why refused left = (
+pub runs-refused : (ring : ℕ) (c : Hierarchy) (selection : Selection) (l : Left)
+    (HasLeft : Left → Type 0) (why : RunFault) → (why ≡ Memory) ⊎ (why ≡ Threads) → HasLeft l
+    → RunsOver ring c selection l HasLeft (Err why)
+runs-refused ring c selection l HasLeft why refused left = (
   elim refused [
     | inl e ↦ subst (MayAnswer l.fault) (sym e) tt
     | inr e ↦ subst (MayAnswer l.fault) (sym e) tt

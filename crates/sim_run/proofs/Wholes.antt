@@ -1,6 +1,6 @@
 -- From what each thread did, and rings that are settled, to the whole run.
-use Rattle.std.proofs.Common.{◌≡◌, List, [], ◌∷◌, ◌++◌, refl, ap, sym, ◌∙◌}
-use Rattle.pipe_rings.specs.Rings.{sent, received}
+use Rattle.std.proofs.Common.{◌≡◌, ℕ, List, [], ◌∷◌, ◌++◌, refl, ap, sym, ◌∙◌}
+use Rattle.pipe_rings.specs.Rings.{sent, received, capacity_of}
 use Rattle.pipe_rings.proofs.Ends.{ends_stay}
 use Rattle.din_trace.specs.declared.record.DinRecord.{DinRecord}
 use Rattle.cache_core.specs.Counts.{counts_of}
@@ -28,12 +28,13 @@ use Rattle.stage_core.specs.declared.totals.Totals.{Totals}
 use Rattle.stage_core.specs.declared.l1_stage.L1Stage.{L1Stage}
 use Rattle.stage_core.specs.declared.l2_stage.L2Stage.{L2Stage}
 use Rattle.stage_core.proofs.Told.{taken_in-to_side}
+use Rattle.sim_run.specs.declared.ends.SplitterEnds.{SplitterEnds}
 use Rattle.sim_run.specs.declared.ends.StageEnds.{StageEnds}
 use Rattle.sim_run.specs.declared.ends.Rings.{Rings}
 use Rattle.sim_run.specs.declared.pipeline.Machines.{Machines}
 use Rattle.sim_run.specs.Ends.{Carried, whole, ArePaired, SameRings, AllReceived, SameSplitterEnds}
 use Rattle.sim_run.specs.Ends.{SameStageEnds, SameMergeEnds, on_order, on_to_i, on_to_d, on_from_i}
-use Rattle.sim_run.specs.Ends.{on_from_d}
+use Rattle.sim_run.specs.Ends.{on_from_d, HaveCapacity}
 use Rattle.sim_run.specs.Threads.{HasSentAll, HasServed, HasMerged}
 use Rattle.sim_run.specs.Machines.{AreNew, IsNew, rules_in}
 use Rattle.sim_run.specs.Runs.{HasRun}
@@ -53,6 +54,38 @@ paired-after was now paired splitter i d merge = record {
       merge.from_i paired.from_i;
   from_d = ends_stay was.d.to_merge now.d.to_merge was.merge.from_d now.merge.from_d d.to_merge
       merge.from_d paired.from_d;
+}
+
+-- rings keep their capacity: fed by the splitter, served by the stages, and settled
+pub capacity-fed : (n : ℕ) (rings : Rings) (splitter : SplitterEnds) → HaveCapacity n rings
+    → SameSplitterEnds rings.splitter splitter
+    → HaveCapacity n (record rings { splitter = splitter })
+capacity-fed n rings splitter room same = record {
+  order = same.order.1 ∙ room.order;
+  to_i = same.to_i.1 ∙ room.to_i;
+  to_d = same.to_d.1 ∙ room.to_d;
+  from_i = room.from_i;
+  from_d = room.from_d;
+}
+
+capacity-served : (n : ℕ) (was now : Rings) → HaveCapacity n was → now.splitter ≡ was.splitter
+    → SameStageEnds was.i now.i → SameStageEnds was.d now.d → HaveCapacity n now
+capacity-served n was now room same i d = record {
+  order = ap (λ (s : SplitterEnds). capacity_of s.order) same ∙ room.order;
+  to_i = ap (λ (s : SplitterEnds). capacity_of s.to_i) same ∙ room.to_i;
+  to_d = ap (λ (s : SplitterEnds). capacity_of s.to_d) same ∙ room.to_d;
+  from_i = i.to_merge.1 ∙ room.from_i;
+  from_d = d.to_merge.1 ∙ room.from_d;
+}
+
+capacity-settled : (n : ℕ) (was now : Rings) → HaveCapacity n was → SameRings was now
+    → HaveCapacity n now
+capacity-settled n was now room same = record {
+  order = same.splitter.order.1 ∙ room.order;
+  to_i = same.splitter.to_i.1 ∙ room.to_i;
+  to_d = same.splitter.to_d.1 ∙ room.to_d;
+  from_i = same.i.to_merge.1 ∙ room.from_i;
+  from_d = same.d.to_merge.1 ∙ room.from_d;
 }
 
 -- a ring whose list sent is this, and was received
@@ -99,7 +132,8 @@ module _ (stages : StagesAnswerTheirStreams) (merges : MergeTakesWhatIsSeen) (es
     (i d : L1Stage) (u : L2Stage) (fed : HasSentAll es was.splitter)
     (ran_i : HasServed machines.i start.i i was.i) (ran_d : HasServed machines.d start.d d was.d)
     (ran_u : HasMerged AtEnd machines.u start.merge u was.merge) (same : SameRings was now)
-    (all : AllReceived now) where
+    (all : AllReceived now) (ring : ℕ) (room : HaveCapacity ring start)
+    (feeder : was.splitter ≡ start.splitter) where
   abbrev c : Hierarchy
   c = rules_in machines
 
@@ -168,8 +202,10 @@ module _ (stages : StagesAnswerTheirStreams) (merges : MergeTakesWhatIsSeen) (es
       → totals.d ≡ counts_of (rules_of (cache_of d)) (taken_in ms))
       → ((ws : List What) → SecondStandsFor u ws
       → totals.u ≡ counts_of (rules_of (second_cache u)) (second_history ws))
-      → HasRun c es (record { totals = totals; rings = now })
+      → HasRun ring c es (record { totals = totals; rings = now })
   whole-run totals count_i count_d count_u = record {
+    capacity = capacity-settled ring was now
+        (capacity-served ring start was room feeder ran_i.rings ran_d.rings) same;
     paired = same.paired;
     order = into-order;
     to_i = into-i;

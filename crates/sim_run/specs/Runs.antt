@@ -14,7 +14,8 @@ use Rattle.stage_core.specs.declared.config.Config.{Config}
 use Rattle.stage_core.specs.declared.selection.Selection.{Selection}
 use Rattle.sim_run.specs.Report.{report}
 use Rattle.sim_run.specs.Faults.{MayAnswer}
-use Rattle.sim_run.specs.Ends.{ArePaired, whole, on_order, on_to_i, on_to_d, on_from_i, on_from_d}
+use Rattle.sim_run.specs.Ends.{ArePaired, HaveCapacity, whole, on_order, on_to_i, on_to_d}
+use Rattle.sim_run.specs.Ends.{on_from_i, on_from_d}
 use Rattle.sim_run.specs.Threads.{LeavesRest, at_end}
 use Rattle.sim_run.specs.declared.fault.RunFault.{RunFault}
 use Rattle.sim_run.specs.declared.pipeline.Settled.{Settled}
@@ -24,8 +25,9 @@ unfoldable pub report_of : Config → Selection → List ℕ → List ℕ
 report_of config selection text =
     report (totals (hierarchy_of config) (events selection (records ADDRESS_MAX text)))
 
--- the threads of a run have worked these events off, to the end
-pub record HasRun (c : Hierarchy) (es : List DinRecord) (s : Settled) : Type 0 where
+-- the threads of a run, over rings of this capacity, have worked these events off, to the end
+pub record HasRun (ring : ℕ) (c : Hierarchy) (es : List DinRecord) (s : Settled) : Type 0 where
+  pub capacity : HaveCapacity ring s.rings
   -- each ring has carried its whole stream: the list received is the list sent
   pub paired : ArePaired s.rings
   pub order : on_order s.rings ≡ whole (streams.order es)
@@ -41,8 +43,8 @@ pub record HasRun (c : Hierarchy) (es : List DinRecord) (s : Settled) : Type 0 w
   pub counted : s.totals ≡ totals c es
 
 -- what a run over a source that had this left comes to, and what is left of it then
-abbrev pub RunsOver : Hierarchy → Selection → Left → (Left → Type 0) → Result Settled RunFault
-    → Type 0
-RunsOver c selection l HasLeft (Ok settled) =
-    (l.fault ≡ None) × HasRun c (events selection l.records) settled × HasLeft at_end
-RunsOver c selection l HasLeft (Err why) = MayAnswer l.fault why × LeavesRest l HasLeft
+abbrev pub RunsOver : ℕ → Hierarchy → Selection → Left → (Left → Type 0)
+    → Result Settled RunFault → Type 0
+RunsOver ring c selection l HasLeft (Ok settled) =
+    (l.fault ≡ None) × HasRun ring c (events selection l.records) settled × HasLeft at_end
+RunsOver ring c selection l HasLeft (Err why) = MayAnswer l.fault why × LeavesRest l HasLeft

@@ -2,7 +2,7 @@
 
 ghost use Rattle.std.specs.Prelude.{◌≡◌, ◌≤◌, ◌<◌, IfOk, IsTrue};
 ghost use Rattle.pipe_rings.specs.Rings.{sent, received, AreEnds, SameTx, SameRx};
-ghost use Rattle.sim_run.specs.Ends.{ArePaired, AreUnused, SameRings, AllReceived};
+ghost use Rattle.sim_run.specs.Ends.{ArePaired, AreUnused, HaveCapacity, SameRings, AllReceived};
 
 use pipe_rings::{Bell, NoMemory, Rx, Tx, ring, ring_from, settle};
 use stage_core::{FromStage, Routed, ToStage, Turn};
@@ -121,6 +121,7 @@ impl Rings {
         requires { (0 < capacity) × (capacity ≤ 65536) }
         ensures paired { IfOk result (λ rings. ArePaired rings) }
         ensures unused { IfOk result (λ rings. AreUnused rings) }
+        ensures capacity { IfOk result (λ rings. HaveCapacity capacity rings) }
     {
         let splitter = Bell::new(alloc)?;
         let (order_tx, order_rx) = ring_from::<Turn>(alloc, capacity, &splitter)?;

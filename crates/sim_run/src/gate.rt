@@ -1,6 +1,6 @@
 //! A caller's hold on the threads of a run.
 
-ghost use Rattle.std.specs.Prelude.{◌≡◌, ◌+◌, ◌≤◌, IfOk, IfErr};
+ghost use Rattle.std.specs.Prelude.{◌≡◌, ◌+◌, ◌<◌, ◌≤◌, IfOk, IfErr};
 ghost use Rattle.sim_run.specs.declared.fault.Stop.{Stop};
 
 use crate::fault::Stop;
@@ -43,13 +43,14 @@ impl Gate for OpenGate {
 }
 
 /// Counts one message more and passes the gate with it. A thread can't know that what it receives
-/// is lawful, so it stops where the count would leave what a cache can serve.
+/// is lawful, so it stops where the count would reach `MAX_EVENTS`: what passes is below it.
 #[inline]
 pub fn pass<H: Wait, G: Gate>(rt: &H, gate: &G, who: Who, received: u64) -> Result<u64, Stop>
     ensures counted { IfOk result (λ nth. nth ≡ received + 1) }
-    ensures cut { IfErr result (λ why. (why ≡ Stop.Cut) × (MAX_EVENTS ≤ received)) }
+    ensures below { IfOk result (λ nth. nth < MAX_EVENTS) }
+    ensures cut { IfErr result (λ why. (why ≡ Stop.Cut) × (MAX_EVENTS ≤ received + 1)) }
 {
-    if received >= MAX_EVENTS {
+    if received >= MAX_EVENTS - 1 {
         return Err(Stop::Cut);
     }
     let nth = received + 1;

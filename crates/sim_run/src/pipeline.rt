@@ -6,17 +6,18 @@ ghost use Rattle.din_trace.specs.Left.{Left, Script, Fate, Follows};
 ghost use Rattle.din_trace.specs.Source.{HasLeft, Takes};
 ghost use Rattle.din_trace.specs.declared.fault.TraceFault.{TraceFault};
 ghost use Rattle.din_trace.specs.declared.record.DinRecord.{DinRecord};
-ghost use Rattle.stage_core.specs.Config.{hierarchy_of};
+ghost use Rattle.stage_core.specs.Config.{hierarchy_of, ring_of};
 ghost use Rattle.stage_core.specs.Events.{IsBounded};
 ghost use Rattle.sim_run.specs.Faults.{IsMet, MayAnswer};
-ghost use Rattle.sim_run.specs.Ends.{ArePaired, AreUnused, SameRings, AllReceived};
+ghost use Rattle.sim_run.specs.Ends.{ArePaired, AreUnused, HaveCapacity, SameRings, AllReceived};
 ghost use Rattle.sim_run.specs.Threads.{HasSentAll, StageCounted, MergeCounted};
 ghost use Rattle.sim_run.specs.Machines.{AreNew, rules_in, machines_at, rings_at};
 ghost use Rattle.sim_run.specs.Runs.{HasRun, RunsOver};
 
 use crate::ends::{MergeEnds, Rings, SplitterEnds, StageEnds};
-use crate::fault::{NoThread, RunFault, Stop, gravest};
+use crate::fault::{NoThread, RunFault, gravest};
 use crate::gate::{Gate, Who};
+use crate::joins::{all_ended, join_merge, join_stage, why_stopped, wind_up};
 use crate::merge_thread::{MergeEnd, MergeHandle, start_merge};
 use crate::split::split;
 use crate::stage_thread::{StageEnd, StageHandle, start_stage};
@@ -68,6 +69,7 @@ fn prepare(alloc: Global, config: &Config) -> Result<(Machines, Rings), NoMemory
     ensures rules { IfOk result (λ r. rules_in r.0 ≡ hierarchy_of config.now) }
     ensures paired { IfOk result (λ r. ArePaired r.1) }
     ensures unused { IfOk result (λ r. AreUnused r.1) }
+    ensures capacity { IfOk result (λ r. HaveCapacity (ring_of config.now) r.1) }
 {
     let Ok(rings) = Rings::new(alloc, config.ring()) else {
         return Err(NoMemory);
@@ -83,27 +85,6 @@ pub struct Started {
     pub i: StageHandle,
     pub d: StageHandle,
     pub merge: MergeHandle,
-}
-
-// Why a stage's thread stopped before its end, if it was started and did.
-fn stop_of<H: Threads>(rt: &H, stage: Option<StageHandle>) -> Option<Stop>
-    ensures { IsNone stage → result ≡ None }
-{
-    match stage {
-        Some(handle) => handle.join(rt).err(),
-        None => None,
-    }
-}
-
-/// Joins the stages' threads that were started before another was not granted. The ends that feed
-/// them must be gone.
-pub fn wind_up<H: Threads>(rt: &H, i: Option<StageHandle>, d: Option<StageHandle>) -> RunFault
-    ensures met { (result ≡ RunFault.Memory) ⊎ (result ≡ RunFault.Threads) }
-    ensures none { IsNone i → IsNone d → result ≡ RunFault.Threads }
-{
-    let i = stop_of(rt, i);
-    let d = stop_of(rt, d);
-    gravest(RunFault::Threads, i, d, None)
 }
 
 // Lets go of what the rest of a run was to own, and only then joins what was started of it.
@@ -153,50 +134,6 @@ fn start<'s, E, H: Threads + Wait + Sync, G: Gate>(
     })
 }
 
-// Joins a thread that may have stopped before its end, and says why it did.
-fn why_stopped<H: Threads, T: Drop, P: Promise<Result<T, Stop>>>(
-    rt: &H,
-    handle: PromisedHandle<Result<T, Stop>, P>,
-) -> Option<Stop> {
-    handle.join(rt).err()
-}
-
-// Joins a stage's thread: what the stage has counted, and its ends.
-fn join_stage<H: Threads>(rt: &H, handle: StageHandle) -> Result<(Counts, StageEnds), Stop>
-    ensures { IfOk result (λ r. StageCounted handle.promise.machine.value
-        handle.promise.ends.value r.0 r.1) }
-{
-    let (stage, ends) = handle.join(rt)?;
-    Ok((stage.counts(), ends))
-}
-
-// Joins the merge's thread: what the second level has counted, and the merge's ends.
-fn join_merge<H: Threads>(rt: &H, handle: MergeHandle) -> Result<(Counts, MergeEnds), Stop>
-    ensures { IfOk result (λ r. MergeCounted handle.promise.machine.value
-        handle.promise.ends.value r.0 r.1) }
-{
-    let (u, ends) = handle.join(rt)?;
-    Ok((u.counts(), ends))
-}
-
-// What all three threads came to. Where one stopped before its end, the gravest of why they did.
-fn all_ended<A: Drop, B: Drop, C: Drop>(
-    i: Result<A, Stop>,
-    d: Result<B, Stop>,
-    merge: Result<C, Stop>,
-) -> Result<(A, B, C), RunFault>
-    ensures i { IfOk result (λ ends. i ≡ Ok ends.0) }
-    ensures d { IfOk result (λ ends. d ≡ Ok ends.1) }
-    ensures merge { IfOk result (λ ends. merge ≡ Ok ends.2) }
-    ensures all { IsOk i → IsOk d → IsOk merge → IsOk result }
-    ensures stopped { IfErr result (λ why. (why ≡ RunFault.Memory) ⊎ (why ≡ RunFault.Cut)) }
-{
-    match (i, d, merge) {
-        (Ok(i), Ok(d), Ok(merge)) => Ok((i, d, merge)),
-        (i, d, merge) => Err(gravest(RunFault::Cut, i.err(), d.err(), merge.err())),
-    }
-}
-
 // Hands the counts and the rings of a run out, where all that was sent was received.
 fn settle(totals: Totals, rings: Rings) -> Result<Settled, RunFault>
     requires { ArePaired rings }
@@ -222,8 +159,9 @@ fn finish<H: Threads>(
     requires paired { ArePaired (rings_at started) }
     requires met { IfErr fed IsMet }
     ensures fed { OnOk result (IsOk fed) }
-    ensures whole { IfOk result (λ settled. (es : List DinRecord) → AreNew (machines_at started)
-        → HasSentAll es started.splitter → HasRun (rules_in (machines_at started)) es settled) }
+    ensures whole { IfOk result (λ settled. (ring : ℕ) → HaveCapacity ring (rings_at started)
+        → (es : List DinRecord) → AreNew (machines_at started) → HasSentAll es started.splitter
+        → HasRun ring (rules_in (machines_at started)) es settled) }
     ensures met { IfErr result IsMet }
     ensures answers { IfErr result (λ why. (left : Option TraceFault)
         → IfErr fed (MayAnswer left) → MayAnswer left why) }
@@ -279,9 +217,9 @@ fn run_in<'s, E, H: Threads + Wait + Sync, R: ByteReader + Drop, G: Gate>(
     ensures met { IfErr result.1 IsMet }
     ensures reads { (given : List ℕ) × (fate : Fate)
         × Takes R.remaining R.failures source result.0 given fate
-        × ((before later : Script) (l : Left)
+        × ((ring : ℕ) (before later : Script) (l : Left) → HaveCapacity ring rings
         → Follows fate given before later → HasLeft source before l
-        → RunsOver (rules_in machines) selection l (HasLeft result.0 later) result.1) }
+        → RunsOver ring (rules_in machines) selection l (HasLeft result.0 later) result.1) }
 {
     let mut source = source;
     let mut started = match start(scope, rt, gate, machines, rings) {
@@ -314,7 +252,8 @@ pub fn run_pipeline<H: Threads + Wait + Sync, R: ByteReader + Drop, G: Gate>(
         × Takes R.remaining R.failures source result.0 given fate
         × ((before later : Script) (l : Left)
         → Follows fate given before later → HasLeft source before l
-        → RunsOver (hierarchy_of config.now) selection.now l (HasLeft result.0 later) result.1) }
+        → RunsOver (ring_of config.now) (hierarchy_of config.now) selection.now l
+        (HasLeft result.0 later) result.1) }
 {
     let Ok((machines, rings)) = prepare(alloc, config) else {
         return (source, Err(RunFault::Memory));
@@ -331,9 +270,10 @@ pub fn run_pipeline<H: Threads + Wait + Sync, R: ByteReader + Drop, G: Gate>(
             ensures met { IfErr result.1 IsMet }
             ensures reads { (given : List ℕ) × (fate : Fate)
                 × Takes R.remaining R.failures source result.0 given fate
-                × ((before later : Script) (l : Left)
+                × ((ring : ℕ) (before later : Script) (l : Left) → HaveCapacity ring rings
                 → Follows fate given before later → HasLeft source before l
-                → RunsOver (rules_in machines) selection l (HasLeft result.0 later) result.1) }
+                → RunsOver ring (rules_in machines) selection l (HasLeft result.0 later)
+                result.1) }
         { run_in(scope, rt, gate, selection, source, machines, rings) },
     )
 }

@@ -6,7 +6,7 @@ ghost use Rattle.din_trace.specs.Device.{once_more};
 ghost use Rattle.din_trace.specs.Line.{ADDRESS_MAX};
 ghost use Rattle.din_trace.specs.Text.{fault, records};
 ghost use Rattle.din_trace.specs.Faults.{IsFaultOf};
-ghost use Rattle.stage_core.specs.Config.{hierarchy_of};
+ghost use Rattle.stage_core.specs.Config.{hierarchy_of, ring_of};
 ghost use Rattle.stage_core.specs.Events.{IsBounded, events};
 ghost use Rattle.sim_run.specs.Report.{report};
 ghost use Rattle.sim_run.specs.Runs.{HasRun};
@@ -43,13 +43,13 @@ pub fn simulate<H: Threads + Wait + Sync, R: ByteReader + Drop, G: Gate, W: Byte
     // records have gone their whole way, and counts what the definitions count over all of them.
     ensures run { (text : List ℕ) → R.remaining reader ≡ Some text → IfOk result (λ settled.
         (fault ADDRESS_MAX text limit ≡ None)
-        × HasRun (hierarchy_of config.now) (events selection.now (records ADDRESS_MAX text))
-        settled) }
+        × HasRun (ring_of config.now) (hierarchy_of config.now)
+        (events selection.now (records ADDRESS_MAX text)) settled) }
     // Whatever the reader, it is so for some text.
     ensures whole { IfOk result (λ settled. (text : List ℕ)
         × (fault ADDRESS_MAX text limit ≡ None)
-        × HasRun (hierarchy_of config.now) (events selection.now (records ADDRESS_MAX text))
-        settled) }
+        × HasRun (ring_of config.now) (hierarchy_of config.now)
+        (events selection.now (records ADDRESS_MAX text)) settled) }
     // The writer was given the report of those counts.
     ensures report { IfOk result (λ settled.
         Appends (W.contents writer.old) (W.contents writer.new) (report settled.totals)) }

@@ -3,6 +3,7 @@
 ghost use Rattle.std.specs.Prelude.{◌≤◌};
 ghost use Rattle.stage_core.specs.Events.{IsBounded};
 
+mod counts;
 mod devices;
 mod faults;
 mod gates;
@@ -13,18 +14,22 @@ mod levels;
 mod many;
 mod memory;
 mod pipelines;
+mod rates;
+mod reported;
 mod runs;
+mod starved;
 mod writers;
 
 use crate::fault::RunFault;
 use crate::gate::{Gate, OpenGate};
 use crate::pipeline::{Settled, run_pipeline};
 use crate::plain::simulate_plain;
-use crate::report::write_report;
 use crate::simulation::simulate;
-use cache_core::{Counts, PerClass, Policy, Repl};
+use cache_core::{Policy, Repl};
+use counts::{first_misses, instrs, reads, reads_and_writes, writes};
 use din_trace::{FromRead, FromWrite, MAX_LIMIT, Source, TraceFault, Why};
-use stage_core::{CacheSpec, Config, Selection, Totals, drive};
+use reported::{is_counted, reports};
+use stage_core::{CacheSpec, Config, Selection, Totals};
 use std::alloc::Global;
 use std::io::{Read, Write};
 use std::process::Abort;
@@ -69,46 +74,6 @@ fn config_with(data: Policy) -> Result<Config, Fail> {
 
 fn config() -> Result<Config, Fail> {
     config_with(USUAL)
-}
-
-fn instrs(instr: u64) -> PerClass {
-    PerClass {
-        instr,
-        ..PerClass::default()
-    }
-}
-
-fn reads(read: u64) -> PerClass {
-    PerClass {
-        read,
-        ..PerClass::default()
-    }
-}
-
-fn writes(write: u64) -> PerClass {
-    PerClass {
-        write,
-        ..PerClass::default()
-    }
-}
-
-fn reads_and_writes(read: u64, write: u64) -> PerClass {
-    PerClass {
-        read,
-        write,
-        ..PerClass::default()
-    }
-}
-
-/// Counts in which each miss is the first use of its block, and loads it.
-fn first_misses(fetches: PerClass, misses: PerClass, loaded: u64) -> Counts {
-    Counts {
-        fetches,
-        misses,
-        compulsory: misses,
-        loaded,
-        ..Counts::default()
-    }
 }
 
 /// The counts of a run in threads. The rings that it hands out are dropped.
@@ -283,64 +248,4 @@ fn run_source<'a, H: Threads + Wait + Sync>(
 
 fn bad(line: u64, why: Why) -> RunFault {
     RunFault::Trace(TraceFault::Bad { line, why })
-}
-
-/// Do the machines of the network come to these totals, event by event, whichever is chosen next?
-fn is_driven_to(
-    alloc: Global,
-    config: &Config,
-    selection: &Selection,
-    trace: &[u8],
-    totals: &Totals,
-) -> Result<bool, Fail>
-    requires { IsBounded selection.now }
-{
-    let records = Source::new(FromRead::new(trace), MAX_LIMIT).rest(alloc)?;
-    let (driven, _events) = drive(alloc, config, selection, &records, &[3, 0, 1, 2, 1])?;
-    Ok(driven == *totals)
-}
-
-/// Does a run over a trace end well, with the report of just these totals?
-fn is_reported<H: Threads + Wait + Abort + Sync>(
-    rt: &H,
-    alloc: Global,
-    config: &Config,
-    selection: &Selection,
-    trace: &[u8],
-    totals: &Totals,
-) -> Result<bool, Fail>
-    requires { IsBounded selection.now }
-{
-    let mut written = Vec::new(alloc);
-    run(rt, alloc, config, selection, trace, MAX_LIMIT, &mut written)?;
-    let mut expected = Vec::new(alloc);
-    write_report(totals, &mut FromWrite::new(&mut expected))?;
-    Ok(written.as_slice() == expected.as_slice())
-}
-
-/// A run over a trace ends well, with the report of just these totals, to which the network comes
-/// too.
-fn reports<H: Threads + Wait + Abort + Sync>(
-    rt: &H,
-    alloc: Global,
-    config: &Config,
-    selection: &Selection,
-    trace: &[u8],
-    totals: &Totals,
-) -> Result<(), Fail>
-    requires { IsBounded selection.now }
-{
-    assert!(rt; is_reported(rt, alloc, config, selection, trace, totals)?);
-    assert!(rt; is_driven_to(alloc, config, selection, trace, totals)?);
-    Ok(())
-}
-
-/// The same with the usual caches and the whole trace.
-fn is_counted<H: Threads + Wait + Abort + Sync>(
-    rt: &H,
-    alloc: Global,
-    trace: &[u8],
-    totals: &Totals,
-) -> Result<(), Fail> {
-    reports(rt, alloc, &config()?, &EVERYTHING, trace, totals)
 }

@@ -12,12 +12,17 @@ use std::test::Fail;
 use std::thread::Threads;
 
 /// Traces, each with the line of its fault and what it is.
-static FAULTY: [(&[u8], u64, Why); 5] = [
+static FAULTY: [(&[u8], u64, Why); 10] = [
     (b"0 0\n\n5 0\n", 3, Why::Label),
     (b"0 10000000000000000\n", 1, Why::Range),
     (b"0 10000000000000000g\n", 1, Why::Range),
     (b"2 0\n0 12g\n", 2, Why::Tail),
+    (b"0 100000000g\n", 1, Why::Tail),
     (b"4\n9 0\n", 1, Why::Gap),
+    (b"12 0\n", 1, Why::Gap),
+    (b"0", 1, Why::Gap),
+    (b"0 0x\n", 1, Why::Address),
+    (b"0 ", 1, Why::Address),
 ];
 
 #[test]

@@ -8,8 +8,8 @@ use super::config;
 use crate::ends::{MergeEnds, Rings, StageEnds};
 use crate::fault::{RunFault, Stop};
 use crate::gate::{OpenGate, Who};
+use crate::joins::wind_up;
 use crate::merge_thread::run_merge;
-use crate::pipeline::wind_up;
 use crate::stage_thread::{StageHandle, run_stage, start_stage};
 use cache_core::Class;
 use pipe_rings::{Rx, SenderGone, Tx, ring};
@@ -21,7 +21,7 @@ use std::test::Fail;
 use std::thread;
 use std::thread::{Scope, Threads};
 
-fn stage(alloc: Global, side: Side) -> Result<L1Stage, Fail>
+pub(super) fn stage(alloc: Global, side: Side) -> Result<L1Stage, Fail>
     ensures ready { IfOk result IsReady }
     ensures new { IfOk result (λ stage. StageStandsFor stage []) }
 {

@@ -1,8 +1,8 @@
 //! The pipeline by itself, long traces through narrow rings, and which fault is answered.
 
 use super::{
-    EVERYTHING, USUAL, bad, config_of, ends_with, first_misses, reads, reads_and_writes, reports,
-    run_source,
+    EVERYTHING, USUAL, bad, config, config_of, ends_with, first_misses, reads, reads_and_writes,
+    reports, run_source,
 };
 use crate::fault::{RunFault, Stop, gravest};
 use cache_core::Counts;
@@ -31,6 +31,13 @@ fn a_source_is_handed_back_at_its_end(rt: HostRuntime) -> Result<(), Fail> {
     assert_eq!(rt; ended?, one_written_back());
     assert_eq!(rt; source.next(), Ok(None));
     Ok(())
+}
+
+#[test]
+fn a_run_reports_what_the_network_counts(rt: HostRuntime) -> Result<(), Fail> {
+    let trace = b"1 0\n0 8\n0 10\n";
+    let totals = one_written_back();
+    reports(&rt, rt.alloc(), &config()?, &EVERYTHING, trace, &totals)
 }
 
 #[test]

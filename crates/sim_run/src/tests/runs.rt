@@ -94,6 +94,18 @@ fn a_line_may_have_blanks_a_prefix_and_a_comment(rt: HostRuntime) -> Result<(), 
 }
 
 #[test]
+fn an_address_may_have_zeros_before_it_or_a_prefix(rt: HostRuntime) -> Result<(), Fail> {
+    // The reads of one block are written in two ways each.
+    let totals = Totals {
+        d: first_misses(reads(4), reads(2), 2),
+        u: first_misses(reads(2), reads(2), 2),
+        ..Totals::default()
+    };
+    let trace = b"0 00000000000ffffffff\n0 ffffffff\n0 0Xab\n0 ab\n";
+    is_counted(&rt, rt.alloc(), trace, &totals)
+}
+
+#[test]
 fn the_highest_address_lies_in_the_last_block(rt: HostRuntime) -> Result<(), Fail> {
     // The fetch that follows hits the second level in the block that the read brought there.
     let totals = Totals {

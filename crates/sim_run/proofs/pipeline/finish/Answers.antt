@@ -1,4 +1,4 @@
-use Rattle.std.proofs.Common.{rules, ap, ◌∙◌, sym, subst}
+use Rattle.std.proofs.Common.{rules, ap, ◌∙◌, sym, subst, refl}
 use Rattle.std.proofs.lemmas.Result.{IfOk-weaker, IfErr-weaker}
 use Rattle.stage_core.specs.declared.totals.Totals.{Totals}
 use Rattle.sim_run.specs.declared.pipeline.Settled.{Settled}
@@ -38,10 +38,10 @@ returns-clause-whole g c =
     let i = rw ended.i at c.join_stage-i.ensures in
     let d = rw ended.d at c.join_stage-d.ensures in
     let u = rw ended.merge at c.join_merge-merge.ensures in
-    IfOk-weaker c.settle.result _ _ (λ (s : Settled) is es new fed.
+    IfOk-weaker c.settle.result _ _ (λ (s : Settled) is ring room es new fed.
     whole-run c.stages_answer_their_streams.ensures c.merge_takes_what_is_seen.ensures es
     (machines_at c.args.started) new (rings_at c.args.started) _ s.rings i.stage
-    d.stage u.u fed i.ended.served d.ended.served u.merged is.1 is.2 s.totals
+    d.stage u.u fed i.ended.served d.ended.served u.merged is.1 is.2 ring room refl s.totals
     (λ ms stands. ap (λ (t : Totals). t.i) is.0 ∙ i.counted ms stands)
     (λ ms stands. ap (λ (t : Totals). t.d) is.0 ∙ d.counted ms stands)
     (λ ws stands. ap (λ (t : Totals). t.u) is.0 ∙ u.counted ws stands)) c.settle.ensures.settled

@@ -2,7 +2,7 @@ use Rattle.std.proofs.Common.{rules, [], subst, inl, refl}
 use Rattle.din_trace.specs.Left.{Open}
 use Rattle.din_trace.specs.Source.{HasLeft}
 use Rattle.din_trace.proofs.Calls.{no_calls}
-use Rattle.stage_core.specs.Config.{hierarchy_of}
+use Rattle.stage_core.specs.Config.{hierarchy_of, ring_of}
 use Rattle.stage_core.specs.Seen.{Hierarchy}
 use Rattle.sim_run.specs.Runs.{RunsOver}
 use Rattle.sim_run.specs.declared.fault.RunFault.TheVariants.{Memory}
@@ -14,8 +14,8 @@ returns-in_default-clause-reads g c = (
   [],
   Open,
   no_calls g.R.ByteReader.remaining g.R.ByteReader.failures c.args.source,
-  λ first last l is left. runs-refused (hierarchy_of c.args.config.now) c.args.selection.now l
-      (HasLeft c.args.source last) Memory (inl refl)
+  λ first last l is left. runs-refused (ring_of c.args.config.now) (hierarchy_of c.args.config.now)
+      c.args.selection.now l (HasLeft c.args.source last) Memory (inl refl)
       (subst (λ s. HasLeft c.args.source s l) is left),
 )
 
@@ -40,6 +40,7 @@ returns-clause-reads g c =
       reads.1,
       reads.2,
       λ first last l is left. subst
-          (λ (h : Hierarchy). RunsOver h c.args.selection.now l (HasLeft c.scoped.result.0 last)
-          c.scoped.result.1) c.in-Ok.ensures.rules (reads.3 first last l is left),
+          (λ (h : Hierarchy). RunsOver (ring_of c.args.config.now) h c.args.selection.now l
+          (HasLeft c.scoped.result.0 last) c.scoped.result.1) c.in-Ok.ensures.rules
+          (reads.3 (ring_of c.args.config.now) first last l c.in-Ok.ensures.capacity is left),
     )

@@ -2,7 +2,7 @@ use Rattle.std.proofs.Common.{rules, Err, ◌≡◌, List, subst, refl}
 use Rattle.din_trace.specs.declared.record.DinRecord.{DinRecord}
 use Rattle.din_trace.specs.Source.{reader_of}
 use Rattle.din_trace.proofs.Told.{script_of_told}
-use Rattle.stage_core.specs.Config.{hierarchy_of}
+use Rattle.stage_core.specs.Config.{hierarchy_of, ring_of}
 use Rattle.stage_core.specs.Events.{events}
 use Rattle.sim_run.specs.declared.fault.RunFault.TheVariants.{Trace}
 use Rattle.sim_run.specs.Runs.{HasRun}
@@ -32,14 +32,14 @@ returns-clause-run g c text known =
     (c.new-source.ensures.left script.0) in
     let good = script.3.no_fault ended.0 in (
       good.0,
-      subst (λ (t : List DinRecord). HasRun (hierarchy_of c.args.config.now)
-          (events c.args.selection.now t) c.in_ok-settled.settled) good.1 ended.1,
+      subst (λ (t : List DinRecord). HasRun (ring_of c.args.config.now)
+          (hierarchy_of c.args.config.now) (events c.args.selection.now t) c.in_ok-settled.settled) good.1 ended.1,
     )
 
 pub returns-clause-whole : goal.returns-clause-whole
 returns-clause-whole g c =
     let reads = c.run_pipeline-source.ensures.reads in
-    of-some-text c.args.limit (λ t. HasRun (hierarchy_of c.args.config.now)
-    (events c.args.selection.now t) c.in_ok-settled.settled) reads.1 reads.0
+    of-some-text c.args.limit (λ t. HasRun (ring_of c.args.config.now)
+    (hierarchy_of c.args.config.now) (events c.args.selection.now t) c.in_ok-settled.settled) reads.1 reads.0
     (λ before later is. let ended = rw c.in_ok-settled.was at reads.3 before later _ is
     (c.new-source.ensures.left before) in (ended.0, ended.1))

@@ -1,0 +1,76 @@
+//! Joins the threads of a run, and says what they came to.
+
+ghost use Rattle.std.specs.Prelude.{◌≡◌, ◌⊎◌, None, IsNone, IfOk, IfErr, IsOk, Ok};
+ghost use Rattle.sim_run.specs.Threads.{StageCounted, MergeCounted};
+
+use crate::ends::{MergeEnds, StageEnds};
+use crate::fault::{RunFault, Stop, gravest};
+use crate::merge_thread::MergeHandle;
+use crate::stage_thread::StageHandle;
+use cache_core::Counts;
+use std::thread::{Promise, PromisedHandle, Threads};
+
+/// Joins a thread that may have stopped before its end, and says why it did.
+pub fn why_stopped<H: Threads, T: Drop, P: Promise<Result<T, Stop>>>(
+    rt: &H,
+    handle: PromisedHandle<Result<T, Stop>, P>,
+) -> Option<Stop> {
+    handle.join(rt).err()
+}
+
+// Why a stage's thread stopped before its end, if it was started and did.
+fn stop_of<H: Threads>(rt: &H, stage: Option<StageHandle>) -> Option<Stop>
+    ensures { IsNone stage → result ≡ None }
+{
+    match stage {
+        Some(handle) => why_stopped(rt, handle),
+        None => None,
+    }
+}
+
+/// Joins the stages' threads that were started before another was not granted. The ends that feed
+/// them must be gone.
+pub fn wind_up<H: Threads>(rt: &H, i: Option<StageHandle>, d: Option<StageHandle>) -> RunFault
+    ensures met { (result ≡ RunFault.Memory) ⊎ (result ≡ RunFault.Threads) }
+    ensures none { IsNone i → IsNone d → result ≡ RunFault.Threads }
+{
+    let i = stop_of(rt, i);
+    let d = stop_of(rt, d);
+    gravest(RunFault::Threads, i, d, None)
+}
+
+/// Joins a stage's thread: what the stage has counted, and its ends.
+pub fn join_stage<H: Threads>(rt: &H, handle: StageHandle) -> Result<(Counts, StageEnds), Stop>
+    ensures { IfOk result (λ r. StageCounted handle.promise.machine.value
+        handle.promise.ends.value r.0 r.1) }
+{
+    let (stage, ends) = handle.join(rt)?;
+    Ok((stage.counts(), ends))
+}
+
+/// Joins the merge's thread: what the second level has counted, and the merge's ends.
+pub fn join_merge<H: Threads>(rt: &H, handle: MergeHandle) -> Result<(Counts, MergeEnds), Stop>
+    ensures { IfOk result (λ r. MergeCounted handle.promise.machine.value
+        handle.promise.ends.value r.0 r.1) }
+{
+    let (u, ends) = handle.join(rt)?;
+    Ok((u.counts(), ends))
+}
+
+/// What all three threads came to. Where one stopped before its end, the gravest of why they did.
+pub fn all_ended<A: Drop, B: Drop, C: Drop>(
+    i: Result<A, Stop>,
+    d: Result<B, Stop>,
+    merge: Result<C, Stop>,
+) -> Result<(A, B, C), RunFault>
+    ensures i { IfOk result (λ ends. i ≡ Ok ends.0) }
+    ensures d { IfOk result (λ ends. d ≡ Ok ends.1) }
+    ensures merge { IfOk result (λ ends. merge ≡ Ok ends.2) }
+    ensures all { IsOk i → IsOk d → IsOk merge → IsOk result }
+    ensures stopped { IfErr result (λ why. (why ≡ RunFault.Memory) ⊎ (why ≡ RunFault.Cut)) }
+{
+    match (i, d, merge) {
+        (Ok(i), Ok(d), Ok(merge)) => Ok((i, d, merge)),
+        (i, d, merge) => Err(gravest(RunFault::Cut, i.err(), d.err(), merge.err())),
+    }
+}

@@ -1,0 +1,74 @@
+//! Runs that are compared with counts: what they write is the report of these, and the network comes
+//! to the same.
+
+ghost use Rattle.stage_core.specs.Events.{IsBounded};
+
+use super::{EVERYTHING, config, run};
+use crate::report::write_report;
+use din_trace::{FromRead, FromWrite, MAX_LIMIT, Source};
+use stage_core::{Config, Selection, Totals, drive};
+use std::alloc::Global;
+use std::process::Abort;
+use std::sync::Wait;
+use std::test::Fail;
+use std::thread::Threads;
+
+/// Do the machines of the network come to these totals, event by event, whichever is chosen next?
+fn is_driven_to(
+    alloc: Global,
+    config: &Config,
+    selection: &Selection,
+    trace: &[u8],
+    totals: &Totals,
+) -> Result<bool, Fail>
+    requires { IsBounded selection.now }
+{
+    let records = Source::new(FromRead::new(trace), MAX_LIMIT).rest(alloc)?;
+    let (driven, _events) = drive(alloc, config, selection, &records, &[3, 0, 1, 2, 1])?;
+    Ok(driven == *totals)
+}
+
+/// Does a run over a trace end well, with the report of just these totals?
+fn is_reported<H: Threads + Wait + Abort + Sync>(
+    rt: &H,
+    alloc: Global,
+    config: &Config,
+    selection: &Selection,
+    trace: &[u8],
+    totals: &Totals,
+) -> Result<bool, Fail>
+    requires { IsBounded selection.now }
+{
+    let mut written = Vec::new(alloc);
+    run(rt, alloc, config, selection, trace, MAX_LIMIT, &mut written)?;
+    let mut expected = Vec::new(alloc);
+    write_report(totals, &mut FromWrite::new(&mut expected))?;
+    Ok(written.as_slice() == expected.as_slice())
+}
+
+/// A run over a trace ends well, with the report of just these totals, to which the network comes
+/// too.
+pub(super) fn reports<H: Threads + Wait + Abort + Sync>(
+    rt: &H,
+    alloc: Global,
+    config: &Config,
+    selection: &Selection,
+    trace: &[u8],
+    totals: &Totals,
+) -> Result<(), Fail>
+    requires { IsBounded selection.now }
+{
+    assert!(rt; is_reported(rt, alloc, config, selection, trace, totals)?);
+    assert!(rt; is_driven_to(alloc, config, selection, trace, totals)?);
+    Ok(())
+}
+
+/// The same with the usual caches and the whole trace.
+pub(super) fn is_counted<H: Threads + Wait + Abort + Sync>(
+    rt: &H,
+    alloc: Global,
+    trace: &[u8],
+    totals: &Totals,
+) -> Result<(), Fail> {
+    reports(rt, alloc, &config()?, &EVERYTHING, trace, totals)
+}
