@@ -16,6 +16,8 @@ pub mod NeverStuck
 pub mod Waits
 pub mod Kept
 pub mod Schedules
+pub mod Chosen
+pub mod Held
 pub mod Given
 pub mod Enabled
 pub mod Picks

@@ -106,7 +106,7 @@ next-events parts capacity (Stage side.D) n n' h =
     omega (arith, ap events_made x.2, stage-events parts capacity side.D n.d.outbox n.d x.0 x.1)
 next-events parts capacity Merging n n' h = merge-events n (wanted n.at) n' h
 
-and_then-some : {A B : Type 0} (f : A → Option B) (o : Option A) (y : B)
+pub and_then-some : {A B : Type 0} (f : A → Option B) (o : Option A) (y : B)
     → option_and_then f o ≡ Some y → (x : A) × (o ≡ Some x) × (f x ≡ Some y)
 and_then-some f None y h = absurd (cc)
 and_then-some f (Some x) y h = (x, refl, h)

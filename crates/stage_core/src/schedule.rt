@@ -1,10 +1,12 @@
 //! A whole run of the network, by choices.
 
-ghost use Rattle.std.specs.Prelude.{◌≡◌, ◌<◌, ◌≤◌, ◌*◌, ◌%◌, ◌^◌, IfOk, length, slice_index};
+ghost use Rattle.std.specs.Prelude.{◌≡◌, ◌<◌, ◌≤◌, ◌*◌, ◌%◌, ◌^◌, IfOk, List, length};
+ghost use Rattle.std.specs.Prelude.{slice_index};
 ghost use Rattle.stage_core.specs.Events.{IsBounded, events};
 ghost use Rattle.stage_core.specs.Seen.{totals};
-ghost use Rattle.stage_core.specs.Config.{hierarchy_of};
-ghost use Rattle.stage_core.specs.Network.{messages};
+ghost use Rattle.stage_core.specs.Config.{hierarchy_of, ring_of};
+ghost use Rattle.stage_core.specs.Network.{Machine, messages};
+ghost use Rattle.stage_core.specs.Choices.{IsNamed};
 ghost use Rattle.stage_core.specs.Cores.{parts_for, started};
 
 use crate::config::Config;
@@ -36,6 +38,10 @@ fn run(core: &mut Core, choices: &[u8]) -> Result<(Totals, u64), NoMemory>
         ≡ totals (hierarchy_of core.old.config) core.old.events) }
     ensures events { IfOk result (λ answer. answer.1
         ≡ 2 * messages (parts_for core.old.config) core.old.events) }
+    ensures schedule { IfOk result (λ answer. (ms : List Machine)
+        × IsNamed (parts_for core.old.config) (ring_of core.old.config) choices.now
+        core.old.events ms
+        × (answer.1 ≡ length ms)) }
 {
     let mut made: u64 = 0;
     'run: while core.enabled() > 0 {
@@ -63,6 +69,11 @@ pub fn drive(
         ≡ totals (hierarchy_of config.now) (events selection.now records.now)) }
     ensures events { IfOk result (λ answer. answer.1
         ≡ 2 * messages (parts_for config.now) (events selection.now records.now)) }
+    // The run was the one that the choices name.
+    ensures schedule { IfOk result (λ answer. (ms : List Machine)
+        × IsNamed (parts_for config.now) (ring_of config.now) choices.now
+        (events selection.now records.now) ms
+        × (answer.1 ≡ length ms)) }
 {
     second_level_sees_few();
     selections_make_few();

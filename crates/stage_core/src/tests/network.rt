@@ -51,7 +51,11 @@ fn a_trace_has_as_many_events_whatever_the_choices(rt: HostRuntime) -> Result<()
 #[test]
 fn choices_may_be_fewer_or_more(rt: HostRuntime) -> Result<(), Fail> {
     let config = config_of(data(), 2)?;
-    for choices in [[].as_slice(), &[3, 1], &[6; 100]] {
+    let mut in_turn = Vec::new(rt.alloc());
+    for k in 0..100 {
+        in_turn.push(k % 2)?;
+    }
+    for choices in [[].as_slice(), &[3, 1], &[0; 100], &[6; 100], &in_turn] {
         let answer = drive(rt.alloc(), &config, &selection(0), &victim(), choices)?;
         assert_eq!(rt; answer, (victim_totals(), 36));
     }

@@ -301,6 +301,17 @@ fn is_seen(
     is_merged(rt, alloc, &streams, wanted)
 }
 
+// Fetches carry the first byte of the block, the highest address's too.
+#[test]
+fn a_fetch_is_of_the_whole_block(rt: HostRuntime) -> Result<(), Fail> {
+    let usual = data().policy;
+    let events = [read(0x1f), write(0xffff_ffff)];
+    let wanted = [fetch(0x1c), fetch(0xffff_fffc)];
+    is_seen(&rt, rt.alloc(), usual, &events, &wanted)?;
+    let wanted = [fetch(0xffff_ffff_ffff_fffc)];
+    is_seen(&rt, rt.alloc(), usual, &[read(u64::MAX)], &wanted)
+}
+
 #[test]
 fn the_second_level_sees_parts_in_order(rt: HostRuntime) -> Result<(), Fail> {
     let alloc = rt.alloc();

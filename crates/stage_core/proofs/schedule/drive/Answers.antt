@@ -1,8 +1,9 @@
-use Rattle.std.proofs.Common.{◌≡◌, ◌*◌, IfOk, arith, ap, subst, sym, ◌∙◌}
+use Rattle.std.proofs.Common.{◌≡◌, ◌*◌, List, length, IfOk, arith, ap, subst, sym, ◌∙◌}
 use Rattle.stage_core.specs.Events.{events}
 use Rattle.stage_core.specs.Seen.{totals}
-use Rattle.stage_core.specs.Config.{hierarchy_of}
-use Rattle.stage_core.specs.Network.{messages}
+use Rattle.stage_core.specs.Config.{hierarchy_of, ring_of}
+use Rattle.stage_core.specs.Network.{Machine, messages}
+use Rattle.stage_core.specs.Choices.{IsNamed}
 use Rattle.stage_core.specs.Cores.{CoreState, parts_for, started}
 use Rattle.stage_core.proofs.Bounds.{few-messages}
 use Rattle.stage_core.proofs.schedule.drive.Goals as goal
@@ -34,3 +35,10 @@ returns-clause-events c =
     subst (λ (s : CoreState). IfOk c.run.result
     (λ answer. answer.1 ≡ 2 * messages (parts_for s.config) s.events))
     c.in_ok-core.ensures c.run.ensures.events
+
+pub returns-clause-schedule : goal.returns-clause-schedule
+returns-clause-schedule c =
+    subst (λ (s : CoreState). IfOk c.run.result (λ answer. (ms : List Machine)
+    × IsNamed (parts_for s.config) (ring_of s.config) c.args.choices.now s.events ms
+    × (answer.1 ≡ length ms)))
+    c.in_ok-core.ensures c.run.ensures.schedule
