@@ -74,5 +74,6 @@ module _ (size bsize assoc : ℕ) (ok : refusal_of size bsize assoc ≡ None) wh
       let all : size ≡ 1 * (bsize * assoc) = whole ∙ ap (λ n. n * (bsize * assoc)) e in
       let low = law.block_low in
       let pos : 0 < bsize = omega arith in
-      let turned : 1 * (bsize * assoc) ≡ assoc * bsize = let c = mul_comm bsize assoc in omega arith in
+      let turned : 1 * (bsize * assoc) ≡ assoc * bsize =
+      let c = mul_comm bsize assoc in omega arith in
       sym (mul-div_cancel assoc pos) ∙ ap (λ n. n / bsize) (sym (all ∙ turned))

@@ -10,6 +10,7 @@ use Rattle.cache_core.specs.History.{is_instr, is_read, is_write, is_misc}
 use Rattle.cache_core.specs.Kinds.{is_kind}
 use Rattle.cache_core.specs.Parts.{one_if}
 
+-- one more in the class of this access, if it is counted
 abbrev pub with_one : Access → Bool → PerClass → PerClass
 with_one x counted p = record {
   instr = one_if (is_instr x && counted) + p.instr;
@@ -26,6 +27,7 @@ with_kind x k c = record c {
   conflict = with_one x (is_kind Conflict k) c.conflict;
 }
 
+-- the counts with this access and its outcome
 abbrev pub with_access : Access → Outcome → Counts → Counts
 with_access x o c = record {
   fetches = with_one x true c.fetches;
@@ -43,6 +45,7 @@ with_access x o c = record {
 abbrev pub with_flush : ℕ → Counts → Counts
 with_flush n c = record c { written_back = c.written_back + n; flushes = c.flushes + 1 }
 
+-- no count of a class is above this number
 pub record IsWithin (p : PerClass) (n : ℕ) : Type 0 where
   pub instr : p.instr ≤ n
   pub read : p.read ≤ n

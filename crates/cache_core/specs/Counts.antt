@@ -16,6 +16,7 @@ tally test [] = 0
 tally test (flush ∷ h) = tally test h
 tally test (access x ∷ h) = one_if (test h x) + tally test h
 
+-- how many accesses of each class pass the test
 abbrev pub by_class : (History → Access → Bool) → History → PerClass
 by_class test h = record {
   instr = tally (λ g x. is_instr x && test g x) h;
@@ -50,6 +51,7 @@ module _ (r : Rules) where
     flushes = flushes_in h;
   }
 
+-- no access of any class
 abbrev pub none_by_class : PerClass
 none_by_class = record { instr = 0; read = 0; write = 0; misc = 0 }
 
@@ -67,6 +69,7 @@ no_counts = record {
   flushes = 0;
 }
 
+-- all classes together
 abbrev pub total_of : PerClass → ℕ
 total_of p = p.instr + p.read + p.write + p.misc
 

@@ -9,12 +9,15 @@ use Rattle.cache_core.specs.Dirty.{dirty_blocks}
 use Rattle.cache_core.specs.Parts.{outcome_of}
 use Rattle.cache_core.specs.Counts.{counts_of, none_by_class, no_counts}
 
+-- a fetch of an instruction at this address
 abbrev pub instr : ℕ → Event
 instr a = access (record { class = Instr; addr = a })
 
+-- a read at this address
 abbrev pub read : ℕ → Event
 read a = access (record { class = Read; addr = a })
 
+-- a write at this address
 abbrev pub write : ℕ → Event
 write a = access (record { class = Write; addr = a })
 
@@ -40,6 +43,7 @@ outcomes r h [] = []
 outcomes r h (flush ∷ es) = outcomes r (flush ∷ h) es
 outcomes r h (access x ∷ es) = outcome_of r h x ∷ outcomes r (access x ∷ h) es
 
+-- the outcome of a hit
 abbrev pub hit : Outcome
 hit = record { hit = true; kind = None; back = None; fetch = false; through = false }
 
@@ -51,9 +55,11 @@ missed k = record { hit = false; kind = Some k; back = None; fetch = true; throu
 abbrev pub missed_back : MissKind → ℕ → Outcome
 missed_back k a = record (missed k) { back = Some a }
 
+-- the outcome of the first access to a block
 abbrev pub new : Outcome
 new = missed Compulsory
 
+-- what small caches answer, worked out by hand
 pub record WorkedExamples : Type 0 where
   -- 0 was used after 8, so 16 takes the place of 8
   pub lru : outcomes data_cache [] (read 0 ∷ read 8 ∷ read 0 ∷ read 16 ∷ read 0 ∷ [])

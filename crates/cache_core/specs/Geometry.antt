@@ -14,9 +14,11 @@ bsize_of g = g.bsize
 unfoldable pub assoc_of : Geometry → ℕ
 assoc_of g = g.assoc
 
+-- how many sets there are
 abbrev pub sets_of : Geometry → ℕ
 sets_of g = size_of g / (bsize_of g * assoc_of g)
 
+-- how many blocks the cache holds
 abbrev pub blocks_of : Geometry → ℕ
 blocks_of g = size_of g / bsize_of g
 

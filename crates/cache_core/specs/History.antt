@@ -32,14 +32,18 @@ pub record Rules : Type 0 where
 abbrev pub block_of : Rules → Access → ℕ
 block_of r x = x.addr / r.block_size
 
+-- the access fetches an instruction
 abbrev pub is_instr : Access → Bool
 is_instr x = elim x.class as (λ _. Bool) [ Instr ↦ true | _ ↦ false ]
 
+-- the access is a read
 abbrev pub is_read : Access → Bool
 is_read x = elim x.class as (λ _. Bool) [ Read ↦ true | _ ↦ false ]
 
+-- the access is a write
 abbrev pub is_write : Access → Bool
 is_write x = elim x.class as (λ _. Bool) [ Write ↦ true | _ ↦ false ]
 
+-- the access is another reference to data, served as a read
 abbrev pub is_misc : Access → Bool
 is_misc x = elim x.class as (λ _. Bool) [ Misc ↦ true | _ ↦ false ]

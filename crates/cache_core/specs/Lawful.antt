@@ -8,6 +8,7 @@ use Rattle.cache_core.specs.declared.geometry.GeometryFault.TheVariants.{BlockNo
 use Rattle.cache_core.specs.declared.geometry.GeometryFault.TheVariants.{AssocNotPower}
 use Rattle.cache_core.specs.declared.geometry.GeometryFault.TheVariants.{AssocTooLarge}
 
+-- the number is below the lower bound or above the upper one
 abbrev pub is_outside : ℕ → ℕ → ℕ → Bool
 is_outside low high n = nat_lt n low || nat_lt high n
 

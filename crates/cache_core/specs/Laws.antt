@@ -1,5 +1,6 @@
 -- Laws over the definitions.
-use Rattle.std.specs.Prelude.{◌≡◌, ◌≢◌, ℕ, ◌+◌, ◌^◌, ◌%◌, ◌<◌, ◌≤◌, true, false, ◌==◌, List, [], ◌∷◌}
+use Rattle.std.specs.Prelude.{◌≡◌, ◌≢◌, ℕ, ◌+◌, ◌^◌, ◌%◌, ◌<◌, ◌≤◌, ◌==◌}
+use Rattle.std.specs.Prelude.{true, false, List, [], ◌∷◌}
 use Rattle.std.specs.Prelude.{length, Some}
 use Rattle.std.specs.List.{list_any}
 use Rattle.cache_core.specs.declared.access.Access.{Access}
@@ -16,6 +17,7 @@ abbrev pub OrderedWaysAreResidents : Type 0
 OrderedWaysAreResidents = (r : Rules) (h : History) (b : ℕ) →
     list_any (λ m. m == b) (residents_of r h (b % r.sets)) ≡ is_resident r (renewals r h) b
 
+-- at most one block leaves at an access
 abbrev pub AtMostOneLeaves : Type 0
 AtMostOneLeaves = (r : Rules) (h : History) (x : Access) (a b : ℕ) →
     leaves r h x a ≡ true → leaves r h x b ≡ true → a ≡ b
@@ -26,6 +28,7 @@ pub record IsOneLruSet (r : Rules) : Type 0 where
   pub all_blocks : r.ways ≡ r.blocks
   pub lru : r.fifo ≡ false
 
+-- an LRU cache of one set has no conflict miss
 abbrev pub OneLruSetHasNoConflict : Type 0
 OneLruSetHasNoConflict = (r : Rules) → IsOneLruSet r → (h : History) (x : Access) →
     (outcome_of r h x).kind ≢ Some Conflict

@@ -32,12 +32,15 @@ touched_entries b write_back write fifo es =
 abbrev pub dirty_entry : ℕ × Bool → Option ℕ
 dirty_entry e = if e.1 then Some e.0 else None
 
+-- a set as a map: its blocks in order, each with its dirty mark
 abbrev pub Entered : Type 0
 Entered = LruCache ℕ Bool
 
+-- how many blocks it may hold
 abbrev pub cap_of : Entered → ℕ
 cap_of m = m.cap
 
+-- the same map without its blocks
 abbrev pub emptied : Entered → Entered
 emptied m = lru_cache [] m.cap
 

@@ -8,6 +8,7 @@ use Rattle.cache_core.specs.Residents.{hits, uses, loads, renewals, victim}
 use Rattle.cache_core.specs.Dirty.{is_dirty}
 use Rattle.cache_core.specs.Kinds.{kind_of_miss}
 
+-- 1 if it is true, else 0
 abbrev pub one_if : Bool → ℕ
 one_if b = if b then 1 else 0
 

@@ -12,6 +12,7 @@ use Rattle.cache_core.specs.Dirty.{is_written}
 use Rattle.cache_core.specs.Parts.{one_if}
 use Rattle.cache_core.specs.Order.{ranked}
 
+-- the way holds the block with this first byte
 abbrev pub holds_block : ℕ → Way → Bool
 holds_block b w = w.held && w.first == b
 
@@ -23,15 +24,19 @@ row n s xs = take n (drop (s * n) xs)
 abbrev pub empty_way : Way
 empty_way = record { first = 0; held = false; dirty = false }
 
+-- the way, marked dirty
 abbrev pub dirtied : Way → Way
 dirtied w = record w { dirty = true }
 
+-- the way holds a block
 abbrev pub is_held : Way → Bool
 is_held w = w.held
 
+-- the way holds a dirty block
 abbrev pub is_dirty_way : Way → Bool
 is_dirty_way w = w.held && w.dirty
 
+-- the first byte of the block of a way
 abbrev pub first_of : Way → ℕ
 first_of w = w.first
 

@@ -29,6 +29,7 @@ rules_from g p = record {
   allocate = p.walloc;
 }
 
+-- the rules that a cache follows
 unfoldable pub rules_of : Cache → Rules
 rules_of c = rules_from c.geometry c.policy
 
@@ -36,6 +37,7 @@ rules_of c = rules_from c.geometry c.policy
 unfoldable pub served_of : Cache → ℕ
 served_of c = c.served
 
+-- the counts that a cache keeps
 unfoldable pub counts_kept : Cache → Counts
 counts_kept c = c.counts
 
@@ -47,6 +49,7 @@ has_failed c = c.failed
 unfoldable pub held_in : Cache → ℕ → List ℕ
 held_in c s = map first_of (filter is_held (row (assoc_of c.geometry) s (ways_in c.sets)))
 
+-- a block as an entry of a map without values
 abbrev with_unit : ℕ → ℕ × Unit {0}
 with_unit b = (b, tt)
 

@@ -80,8 +80,8 @@ fn outcome_from(policy: Policy, write: bool, served: Served, seen: Seen) -> Outc
 
 #[tactic(auto, unfolding(crate::specs::Standing::rules_of, crate::specs::Standing::served_of, crate::specs::Standing::counts_kept, crate::specs::Standing::has_failed))]
 impl Cache {
-    ghost use Rattle.std.specs.Prelude.{◌≡◌, ◌≢◌, ◌<◌, ◌≤◌, ◌+◌, ◌*◌, ◌^◌, ◌++◌, map, length, []};
-    ghost use Rattle.std.specs.Prelude.{◌∷◌, ℕ, true, false, IfOk, OnOk, OnErr, IsErr};
+    ghost use Rattle.std.specs.Prelude.{◌≡◌, ◌<◌, ◌≤◌, ◌+◌, ◌*◌, ◌^◌, ◌++◌, map, length, []};
+    ghost use Rattle.std.specs.Prelude.{◌∷◌, true, false, IfOk, OnOk, OnErr, IsErr};
     ghost use Rattle.cache_core.specs.History.{History, access as accessed, flush as flushed};
     ghost use Rattle.cache_core.specs.Dirty.{dirty_blocks};
     ghost use Rattle.cache_core.specs.Parts.{outcome_of};

@@ -1,7 +1,7 @@
 //! The counts of one cache.
 
-ghost use Rattle.std.specs.Prelude.{◌≡◌, ◌≤◌, ◌<◌, ◌^◌, ◌+◌};
-ghost use Rattle.cache_core.specs.Counts.{total_of, no_counts};
+ghost use Rattle.std.specs.Prelude.{◌≡◌, ◌<◌, ◌^◌, ◌+◌};
+ghost use Rattle.cache_core.specs.Counts.{total_of};
 ghost use Rattle.cache_core.specs.Counting.{with_one, with_kind, with_access, with_flush};
 ghost use Rattle.cache_core.specs.Counting.{IsWithin, AreWithin};
 

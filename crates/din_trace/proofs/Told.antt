@@ -18,23 +18,32 @@ text_left-front : (given rest : List ℕ) (limit : ℕ) → limit < length given
     → text_left ADDRESS_MAX 1 (given ++ rest) limit false ≡ text_left ADDRESS_MAX 1 given limit true
 text_left-front given rest limit long =
     let longer : limit < length (given ++ rest) = simp length-append (omega arith) in
-    rw (lt-leb (length (given ++ rest)) limit longer, lt-leb (length given) limit long, take-append-le limit given rest (omega arith)) refl
+    rw (
+      lt-leb (length (given ++ rest)) limit longer,
+      lt-leb (length given) limit long,
+      take-append-le limit given rest (omega arith),
+    ) refl
 
-module _ {R : Type 0} (remaining : R → Option (List ℕ)) (failures : R → ℕ) (reader last : R) (text : List ℕ) (limit : ℕ) where
+module _ {R : Type 0} (remaining : R → Option (List ℕ)) (failures : R → ℕ) (reader last : R)
+    (text : List ℕ) (limit : ℕ) where
   -- this may be left of a reader that tells the text
   pub record MayBeLeft (l : Left) : Type 0 where
-    pub no_fault : l.fault ≡ None → (fault ADDRESS_MAX text limit ≡ None) × (l.records ≡ records ADDRESS_MAX text)
-    pub some_fault : (met : TraceFault) → l.fault ≡ Some met → IsFaultOf remaining failures reader text limit met
+    pub no_fault : l.fault ≡ None
+        → (fault ADDRESS_MAX text limit ≡ None) × (l.records ≡ records ADDRESS_MAX text)
+    pub some_fault : (met : TraceFault) → l.fault ≡ Some met
+        → IsFaultOf remaining failures reader text limit met
 
   whole : MayBeLeft (text_left ADDRESS_MAX 1 text limit false)
   whole =
       let is = text_left-fault ADDRESS_MAX text limit in
       record {
-        no_fault = λ none. let good = sym is ∙ none in (good, text_left-records ADDRESS_MAX text limit good);
+        no_fault = λ none. let good = sym is ∙ none in
+            (good, text_left-records ADDRESS_MAX text limit good);
         some_fault = λ met some. inl (sym is ∙ some);
       }
 
-  front : (given : List ℕ) → FailedBehind remaining failures reader text given → MayBeLeft (text_left ADDRESS_MAX 1 given limit true)
+  front : (given : List ℕ) → FailedBehind remaining failures reader text given
+      → MayBeLeft (text_left ADDRESS_MAX 1 given limit true)
   front given failed =
       let law = leaves_text ADDRESS_MAX given limit in
       record {
@@ -43,15 +52,20 @@ module _ {R : Type 0} (remaining : R → Option (List ℕ)) (failures : R → �
           | inl e ↦ let short = leb-true (length given) limit e in
               inr (given, failed, short, sym (law.failed_is short) ∙ some)
           | inr e ↦
-              let same = text_left-front given failed.rest limit (leb-false (length given) limit e) in
-              let of_text = subst (λ t. (text_left ADDRESS_MAX 1 t limit false).fault ≡ Some met) (sym failed.whole) (ap (λ (l : Left). l.fault) same ∙ some) in
+              let same =
+              text_left-front given failed.rest limit (leb-false (length given) limit e) in
+              let of_text = subst (λ t. (text_left ADDRESS_MAX 1 t limit false).fault ≡ Some met)
+              (sym failed.whole) (ap (λ (l : Left). l.fault) same ∙ some) in
               inl (sym (text_left-fault ADDRESS_MAX text limit) ∙ of_text)
         ];
       }
 
   -- a script that such a reader may have had, and what it leaves
-  pub script_of_told : (fate : Fate) (given : List ℕ) (new : Option (List ℕ)) → remaining last ≡ new → FateIs fate (Some text) given new (failures reader) (failures last)
-      → (before later : Script) × Follows fate given before later × MayBeLeft (text_left ADDRESS_MAX 1 before.given limit before.fails)
+  pub script_of_told : (fate : Fate) (given : List ℕ) (new : Option (List ℕ))
+      → remaining last ≡ new
+      → FateIs fate (Some text) given new (failures reader) (failures last)
+      → (before later : Script) × Follows fate given before later
+      × MayBeLeft (text_left ADDRESS_MAX 1 before.given limit before.fails)
   script_of_told Open given None told is = absurd is.0
   script_of_told Open given (Some rest) told is = (
     record { given = text; fails = false },
@@ -63,7 +77,8 @@ module _ {R : Type 0} (remaining : R → Option (List ℕ)) (failures : R → �
   script_of_told Ended given (Some rest) told is = (
     record { given = text; fails = false },
     record { given = []; fails = false },
-    ap (λ (bytes : List ℕ). record { given = bytes; fails = false }) (rw (is.1, append-nil given) at is.0),
+    ap (λ (bytes : List ℕ). record { given = bytes; fails = false })
+        (rw (is.1, append-nil given) at is.0),
     whole,
   )
   script_of_told Failed given None told is = absurd is.0

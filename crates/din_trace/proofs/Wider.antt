@@ -41,5 +41,6 @@ module _ (small great : ℕ) (le : small ≤ great) where
   wider text limit none =
       elim (cases_Bool (nat_le (length text) limit)) [
         | inl e ↦ rw e (lines-wider 1 (lines text) (rw e at none))
-        | inr e ↦ absurd (first_fault-some small TooLong 1 (ended_lines (take limit text)) (rw e at none))
+        | inr e ↦ absurd
+            (first_fault-some small TooLong 1 (ended_lines (take limit text)) (rw e at none))
       ]

@@ -31,6 +31,7 @@ pub record Writes {W T E : Type 0} (contents : W → Option (List ℕ)) (failure
 unfoldable pub unread_bytes : {R : Type 0} → (R → Option (List ℕ)) → FromRead R → Option (List ℕ)
 unread_bytes remaining reader = remaining reader.inner
 
+-- how many times such a reader has failed
 unfoldable pub read_failures : {R : Type 0} → FromRead R → ℕ
 read_failures reader = reader.failures
 
@@ -38,5 +39,6 @@ read_failures reader = reader.failures
 unfoldable pub held_bytes : {W : Type 0} → (W → Option (List ℕ)) → FromWrite W → Option (List ℕ)
 held_bytes contents writer = contents writer.inner
 
+-- how many times such a writer has failed
 unfoldable pub write_failures : {W : Type 0} → FromWrite W → ℕ
 write_failures writer = writer.failures

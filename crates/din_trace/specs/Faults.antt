@@ -15,8 +15,8 @@ pub record FailedBehind {R : Type 0} (remaining : R → Option (List ℕ)) (fail
   pub told : remaining last ≡ Some rest
   pub failed : failures last ≡ once_more (failures reader)
 
--- the fault of the reader's text under the limit, or that of a reader which failed behind a front of
--- it
+-- the fault of the reader's text under the limit, or that of a reader which failed behind a front
+-- of it
 abbrev pub IsFaultOf : {R : Type 0} → (R → Option (List ℕ)) → (R → ℕ) → R → List ℕ → ℕ
     → TraceFault → Type 0
 IsFaultOf remaining failures reader text limit met =

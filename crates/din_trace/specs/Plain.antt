@@ -33,8 +33,10 @@ pub record Run (Holds : ℕ → Type 0) (bytes : List ℕ) (start stop : ℕ) : 
 abbrev pub Blanks : List ℕ → ℕ → ℕ → Type 0
 Blanks bytes start stop = Run (λ byte. is_blank byte ≡ true) bytes start stop
 
+-- the bytes between these two places are hexadecimal digits
 abbrev pub Digits : List ℕ → ℕ → ℕ → Type 0
 Digits bytes start stop = Run (λ byte. is_hex byte ≡ true) bytes start stop
 
+-- no byte between these two places is an LF
 abbrev pub Others : List ℕ → ℕ → ℕ → Type 0
 Others bytes start stop = Run (λ byte. (byte == 10) ≡ false) bytes start stop

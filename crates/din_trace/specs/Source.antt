@@ -32,7 +32,8 @@ IsSettled source = is_reading source.backlog.state ≡ false
 
 -- it goes on, and holds no byte that it has not read: it has to ask its reader
 unfoldable pub MustAsk : {R : Type 0} → Source R → Type 0
-MustAsk source = (source.backlog.state ≡ state.Reading) × (source.backlog.at ≡ source.backlog.filled)
+MustAsk source =
+    (source.backlog.state ≡ state.Reading) × (source.backlog.at ≡ source.backlog.filled)
 
 -- a reader that ended or failed settles it
 unfoldable pub Settles : {R : Type 0} → Fate → Source R → Type 0

@@ -1,6 +1,6 @@
 //! The bytes that came from a reader and were not judged yet.
 
-ghost use Rattle.std.specs.Prelude.{◌≡◌, ℕ, ◌+◌, ◌-◌, ◌<◌, ◌≤◌, ◌^◌, List, [], ◌∷◌, ◌++◌, true};
+ghost use Rattle.std.specs.Prelude.{◌≡◌, ℕ, ◌+◌, ◌-◌, ◌<◌, ◌≤◌, ◌^◌, List, [], ◌++◌, true};
 ghost use Rattle.std.specs.Prelude.{false, length, IfSome, IfNone, IfOk, OnOk, OnErr};
 ghost use Rattle.std.specs.Prelude.{IsSome, Ok, Err, None, Some};
 ghost use Rattle.std.specs.Io.KnownBytes.{Consumes, Keeps, IsAtEnd};
@@ -53,6 +53,7 @@ impl Backlog {
     ghost use Rattle.din_trace.specs.Backlog.{HasLeft, held, taken, room};
     ghost use Rattle.din_trace.specs.declared.backlog.State.{State};
 
+    /// What a source holds before it has asked its reader.
     pub fn new(limit: u64) -> Backlog
         requires { limit ≤ 2 ^ 40 }
         ensures left { (script : Script)

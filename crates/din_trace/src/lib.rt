@@ -2,10 +2,10 @@
 //!
 //! A line is a label, a gap of blanks and a hexadecimal address; what follows behind a blank is
 //! a comment. `LineReader` reads a trace byte by byte, and stores no line. `Source` reads one from
-//! any `ByteReader`, and holds one buffer of it: `next` answers, and `at_hand` answers as long as the
-//! reader need not be asked. The rooms: `device` has the readers and writers, `line` one line as it
-//! is read, `plain` the plain lines of which most traces consist, read in one go, `buffer` the room
-//! of a source, `backlog` the bytes that wait there, and `text` a trace in memory.
+//! any `ByteReader`, and holds one buffer of it: `next` answers, and `at_hand` answers as long as
+//! the reader need not be asked. The rooms: `device` has the readers and writers, `line` one line
+//! as it is read, `plain` the plain lines of which most traces consist, read in one go, `buffer`
+//! the room of a source, `backlog` the bytes that wait there, and `text` a trace in memory.
 //!
 //! Proved, of every trace and however its reader cuts it: the records and the fault are those that
 //! `specs/Line` and `specs/Text` define of the bytes. A fault is repeated for ever, no more than

@@ -1,6 +1,6 @@
 //! A trace from any reader, record by record.
 
-ghost use Rattle.std.specs.Prelude.{◌≡◌, ◌≢◌, ◌⊎◌, ℕ, true, false, None, Some, ◌+◌, ◌<◌, ◌≤◌, List};
+ghost use Rattle.std.specs.Prelude.{◌≡◌, ◌≢◌, ◌⊎◌, ℕ, true, None, Some, ◌+◌, ◌<◌, ◌≤◌, List};
 ghost use Rattle.std.specs.Prelude.{[], MatchResult, MatchOption, IfOk, IfSome, IfNone, IsSome};
 ghost use Rattle.std.specs.Prelude.{vec_len};
 ghost use Rattle.din_trace.specs.Line.{ADDRESS_MAX};
@@ -46,7 +46,7 @@ impl<R: ByteReader> Source<R> {
     /// ask the reader, which this call never does.
     #[inline(always)]
     pub fn at_hand(&mut self) -> Option<Result<Option<DinRecord>, TraceFault>>
-        // An answer is the first of what was left, and the others stay left. With no answer all stays.
+        // An answer is the first of what was left, and the others stay left. With none, all stays.
         ensures reads { Takes R.remaining R.failures self.old self.new [] Open
             × ((script : Script) (l : Left) → HasLeft self.old script l
             → MatchOption result (HasLeft self.new script l)

@@ -21,8 +21,8 @@ module _ {T : Type 0} where
   unfoldable pub LookedForRoom : Tx T → Type 0
   LookedForRoom tx = (posted tx ≡ []) ⊎ (ring.known_free tx.end ≡ 0)
 
-  -- every item received so far, oldest first: those that came out of the ring, without the ones that
-  -- are left of the batch
+  -- every item received so far, oldest first: those that came out of the ring, without the ones
+  -- that are left of the batch
   unfoldable pub received : Rx T → List T
   received rx = take (length (ring.received rx.end) - rx.left) (ring.received rx.end)
 

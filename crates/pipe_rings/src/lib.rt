@@ -13,8 +13,9 @@
 //! Proved: what was sent and what was received are lists that only grow at their end, by the item
 //! of the call and by no other; what is posted counts as sent, and publishing changes nothing of
 //! it; an item that is handed back was not sent; what was sent is what was received, followed by
-//! as many items as `settle` counts; and a ring has the room that was asked for, and keeps it. Tested only: that an end is told to be gone only where it
-//! was dropped, that an end which sleeps is woken, and that memory for a ring is granted.
+//! as many items as `settle` counts; and a ring has the room that was asked for, and keeps it.
+//! Tested only: that an end is told to be gone only where it was dropped, that an end which sleeps
+//! is woken, and that memory for a ring is granted.
 #![tactic(auto)]
 
 mod rx;

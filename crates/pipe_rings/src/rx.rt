@@ -166,7 +166,8 @@ impl<T: Copy> Rx<T> {
         requires { self.old.left ≡ 0 }
         ensures ring { SameRx self.old self.new }
         ensures same { received self.new ≡ received self.old }
-        ensures looked { 0 < length self.old.batch.items → self.new.left ≡ 0 → LookedForItem self.new }
+        ensures looked { 0 < length self.old.batch.items → self.new.left ≡ 0
+            → LookedForItem self.new }
     {
         self.count = self.end.pop_partial_slice(&mut self.batch);
         self.left = self.count;

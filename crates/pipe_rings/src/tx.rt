@@ -81,8 +81,8 @@ impl<T: Copy> Tx<T> {
         self.outbox.push_reserved(item);
     }
 
-    /// Moves what was posted into the ring, as far as that has free places, and never waits. Answers
-    /// how many items the receiver sees more.
+    /// Moves what was posted into the ring, as far as that has free places, and never waits.
+    /// Answers how many items the receiver sees more.
     pub fn publish(&mut self) -> usize
         ensures ring { SameTx self.old self.new }
         ensures sent { sent self.new ≡ sent self.old }

@@ -18,7 +18,8 @@ const STEPS: u32 = 64;
 /// How often a thread looks at most before it sleeps.
 const MOST_LOOKS: u32 = 64;
 
-/// How many milliseconds a thread sleeps at most. The other end wakes it before, if it has a reason.
+/// How many milliseconds a thread sleeps at most. The other end wakes it before, if it has a
+/// reason.
 const LONGEST_SLEEP: u64 = 100;
 
 /// What a thread sleeps by, and what the threads at the other ends wake it with. Ends at which one
@@ -84,8 +85,8 @@ impl Patience {
         Patience { turn: 0, looks: 1 }
     }
 
-    /// Something was found. Where that was before the thread had to sleep, it stays awake longer the
-    /// next time, and else less long.
+    /// Something was found. Where that was before the thread had to sleep, it stays awake longer
+    /// the next time, and else less long.
     pub(crate) fn renew(&mut self) {
         if self.turn > 0 {
             self.looks = if self.turn <= self.looks {

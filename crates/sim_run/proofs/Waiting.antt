@@ -52,7 +52,8 @@ taken-answers began start stage was m next now going got same same_side same_rul
     let rules : Rules = rules_of (cache_of began) in
     let s : Side = side_of began in
     ap (λ l. l ++ outbox_of next) same ∙ ap (λ l. sent was.to_merge ++ l) filled
-    ∙ ap (λ (r : Rules). sent was.to_merge ++ reply (parts_of r) (side_of stage) before m) going.rules
+    ∙ ap (λ (r : Rules). sent was.to_merge ++ reply (parts_of r) (side_of stage) before m)
+    going.rules
     ∙ ap (λ (x : Side). sent was.to_merge ++ reply (parts_of rules) x before m) going.side
     ∙ ap (λ l. l ++ reply (parts_of rules) s before m) going.answered
     ∙ sym (over-more (reply (parts_of rules) s) before m)

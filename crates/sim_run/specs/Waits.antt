@@ -24,6 +24,7 @@ use Rattle.sim_run.specs.declared.ends.MergeEnds.{MergeEnds}
 abbrev pub sender : {Message : Type 0} → Tx Message → Sender Message
 sender tx = record { posted = ring.sent tx; held = ring.posted tx }
 
+-- the splitter's sending end to a side
 abbrev pub sender_to : SplitterEnds → Side → Sender ToStage
 sender_to ends side.I = sender ends.to_i
 sender_to ends side.D = sender ends.to_d
@@ -41,6 +42,7 @@ splitter_at es closed ends = record {
 abbrev pub PostedWhole : SplitterEnds → Type 0
 PostedWhole ends = (es : List DinRecord) × (closed : Bool) × HasPosted (splitter_at es closed ends)
 
+-- with these ends the splitter may wait
 abbrev pub SplitterMay : SplitterEnds → Type 0
 SplitterMay ends =
     (es : List DinRecord) × (closed : Bool) × SplitterMayWait (splitter_at es closed ends)
@@ -69,6 +71,7 @@ abbrev pub received_from : MergeEnds → Side → List FromStage
 received_from ends side.I = received ends.from_i
 received_from ends side.D = received ends.from_d
 
+-- the merge, which stands there and has given this to the second level
 abbrev pub merge_at : Stand → List What → MergeEnds → MergeThread
 merge_at at given ends = record {
   turns = received ends.order;

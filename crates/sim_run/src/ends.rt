@@ -47,8 +47,8 @@ impl SplitterEnds {
         }
     }
 
-    /// Publishes what was posted, as far as there are free places in each of the three rings. Answers
-    /// whether the other threads see more.
+    /// Publishes what was posted, as far as there are free places in each of the three rings.
+    /// Answers whether the other threads see more.
     pub(crate) fn publish(&mut self) -> bool
         ensures rings { SameSplitterEnds self.old self.new }
         ensures sent { SentSame self.old self.new }

@@ -1,6 +1,6 @@
 //! The run of threads: the stages are started, fed, joined and settled.
 
-ghost use Rattle.std.specs.Prelude.{◌≡◌, ◌⊎◌, List, ℕ, Option, None, IsNone, IfOk, IfErr, IsOk};
+ghost use Rattle.std.specs.Prelude.{◌≡◌, ◌⊎◌, List, ℕ, Option, None, IfOk, IfErr, IsOk};
 ghost use Rattle.std.specs.Prelude.{OnOk, Ok, Err};
 ghost use Rattle.din_trace.specs.Left.{Left, Script, Fate, Follows};
 ghost use Rattle.din_trace.specs.Source.{HasLeft, Takes};
@@ -10,7 +10,7 @@ ghost use Rattle.stage_core.specs.Config.{hierarchy_of, ring_of};
 ghost use Rattle.stage_core.specs.Events.{IsBounded};
 ghost use Rattle.sim_run.specs.Faults.{IsMet, MayAnswer};
 ghost use Rattle.sim_run.specs.Ends.{ArePaired, AreUnused, HaveCapacity, SameRings, AllReceived};
-ghost use Rattle.sim_run.specs.Threads.{HasSentAll, StageCounted, MergeCounted};
+ghost use Rattle.sim_run.specs.Threads.{HasSentAll};
 ghost use Rattle.sim_run.specs.Machines.{AreNew, rules_in, machines_at, rings_at};
 ghost use Rattle.sim_run.specs.Runs.{HasRun, RunsOver};
 

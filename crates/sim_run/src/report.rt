@@ -1,6 +1,6 @@
 //! The report, written piece by piece: no line is put together first, so no memory is asked for.
 
-ghost use Rattle.std.specs.Prelude.{◌≡◌, ◌<◌, ◌≤◌, ◌^◌, ◌∷◌, [], IsOkUnless, replicate, decimal};
+ghost use Rattle.std.specs.Prelude.{◌<◌, ◌≤◌, ◌^◌, ◌∷◌, [], IsOkUnless, replicate, decimal};
 ghost use Rattle.std.specs.Prelude.{codes};
 ghost use Rattle.std.specs.List.{concat};
 ghost use Rattle.din_trace.specs.Device.{Writes};

@@ -1,6 +1,6 @@
 //! The splitter, in the caller's thread: from a source to the rings.
 
-ghost use Rattle.std.specs.Prelude.{◌≡◌, ◌<◌, ◌≤◌, ◌+◌, ◌*◌, ◌++◌, ◌∷◌, [], List, ℕ, OnOk};
+ghost use Rattle.std.specs.Prelude.{◌≡◌, ◌<◌, ◌≤◌, ◌+◌, ◌*◌, ◌++◌, List, ℕ, OnOk};
 ghost use Rattle.std.specs.Prelude.{◌≢◌, ◌⊎◌, IfOk, IfErr, IsSome, IsFalse, MatchResult};
 ghost use Rattle.std.specs.Prelude.{option_to_list};
 ghost use Rattle.pipe_rings.specs.Rings.{sent};
@@ -73,14 +73,15 @@ fn ask<R: ByteReader>(
         → Follows fate given before later → HasLeft source.old before l
         → (result ≡ first_answer l) × HasLeft source.new later (behind_first l)) }
     ensures settled { IsSettled source.old → source.new ≡ source.old }
-    ensures records { IfOk result (λ found. IsSome found → room_of source.new < room_of source.old) }
+    ensures records { IfOk result (λ found. IsSome found
+        → room_of source.new < room_of source.old) }
     ensures room { room_of source.old ≤ MAX_LIMIT }
 {
     source.next()
 }
 
-// Passes the gate with a record. One that isn't open may hold this thread for long, so nothing is to
-// be held back.
+// Passes the gate with a record. One that isn't open may hold this thread for long, so nothing is
+// to be held back.
 #[inline]
 fn arrive<H: Wait, G: Gate>(rt: &H, gate: &G, is_open: bool, ends: &SplitterEnds, nth: u64)
     requires published { IsFalse is_open → held ends.now ≡ 0 }

@@ -50,7 +50,8 @@ fn publish<H: Wait>(rt: &H, stage: &L1Stage, ends: &mut StageEnds, until: Until)
     ensures ring { SameTx ends.old.to_merge ends.new.to_merge }
     ensures sent { sent ends.new.to_merge ≡ sent ends.old.to_merge }
     ensures room { OnOk result (HasRoom ends.new.to_merge) }
-    ensures published { until ≡ Until.Published → OnOk result (length (posted ends.new.to_merge) ≡ 0) }
+    ensures published { until ≡ Until.Published
+        → OnOk result (length (posted ends.new.to_merge) ≡ 0) }
     ensures cut { IfErr result (λ why. why ≡ Stop.Cut) }
 {
     for _ in rt.forever() {

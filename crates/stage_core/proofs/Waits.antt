@@ -1,7 +1,8 @@
 -- Threads that wait are never stuck: to the merge, what is held in an outbox is as if it waited in
 -- the ring.
 use Rattle.std.proofs.Common.{◌≡◌, ℕ, ◌<◌, ◌⊎◌, inl, inr, Bool, true, false, List, [], ◌∷◌}
-use Rattle.std.proofs.Common.{◌++◌, map, length, refl, sym, ap, ◌∙◌, append_assoc, append-nil, arith}
+use Rattle.std.proofs.Common.{◌++◌, map, length, refl, sym, ap, ◌∙◌, append_assoc, append-nil}
+use Rattle.std.proofs.Common.{arith}
 use Rattle.std.proofs.Common.{length-append, ◌≢◌}
 use Rattle.std.proofs.lemmas.List.{nil_from_length, append_cancel_right}
 use Rattle.din_trace.specs.declared.record.DinRecord.{DinRecord}

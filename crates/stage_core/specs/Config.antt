@@ -16,6 +16,7 @@ geometry_in c cache_name.I = c.i.0
 geometry_in c cache_name.D = c.d.0
 geometry_in c cache_name.U = c.u.0
 
+-- the policy of one of the caches
 unfoldable pub policy_in : Config → CacheName → Policy
 policy_in c cache_name.I = c.i.1
 policy_in c cache_name.D = c.d.1

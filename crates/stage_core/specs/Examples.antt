@@ -19,6 +19,7 @@ use Rattle.stage_core.specs.declared.message.Turn.TheVariants as turn
 use Rattle.stage_core.specs.declared.message.ToStage.TheVariants as to_stage
 use Rattle.stage_core.specs.declared.message.FromStage.TheVariants as from_stage
 
+-- an LRU cache with write back and write allocation
 abbrev lru : ℕ → ℕ → ℕ → Rules
 lru block_size sets ways = record {
   block_size = block_size;
@@ -34,9 +35,11 @@ lru block_size sets ways = record {
 abbrev small : Hierarchy
 small = record { i = lru 4 4 1; d = lru 4 2 2; u = lru 8 2 2 }
 
+-- a record
 abbrev at_label : Label → ℕ → DinRecord
 at_label l a = record { label = l; addr = a }
 
+-- a write whose block leaves at the third record
 abbrev victim_trace : List DinRecord
 victim_trace = at_label label.Write 0 ∷ at_label label.Read 8 ∷ at_label label.Read 16 ∷ []
 
@@ -80,6 +83,7 @@ unfolding parts_of outcome_of victim renewals is_resident reuse_distance dirty_b
     is_written
 messages-victim = refl
 
+-- two writes and a flush
 abbrev flush_trace : List DinRecord
 flush_trace = at_label label.Write 8 ∷ at_label label.Write 0 ∷ at_label label.Flush 0 ∷ []
 

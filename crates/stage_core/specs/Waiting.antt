@@ -77,11 +77,12 @@ HasMerged t = merged t.turns (t.from side.I) (t.from side.D) ≡ all_used t.give
 abbrev pub splitter_holds : SplitterThread → ℕ
 splitter_holds t = length t.order.held + length (t.to side.I).held + length (t.to side.D).held
 
--- the splitter may wait for room where it holds something, and has ended where all is published
+-- the splitter may wait for room where it holds something
 pub record SplitterMayWait (t : SplitterThread) : Type 0 where
   pub posted : HasPosted t
   pub holds : 0 < splitter_holds t
 
+-- it has ended where the end is posted and all is published
 pub record SplitterEnded (t : SplitterThread) : Type 0 where
   pub posted : HasPosted t
   pub closed : t.closed ≡ true
@@ -100,9 +101,11 @@ pub record HasPublished (finished : Bool) (parts : Parts) (s : Side) (t : StageT
   pub published : t.from.held ≡ []
   pub finish : list_any is_finish t.received ≡ finished
 
+-- a stage may wait for a message
 abbrev pub MayAwaitMessage : Parts → Side → StageThread → Type 0
 MayAwaitMessage = HasPublished false
 
+-- a stage has ended
 abbrev pub StageEnded : Parts → Side → StageThread → Type 0
 StageEnded = HasPublished true
 

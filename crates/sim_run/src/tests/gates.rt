@@ -1,5 +1,5 @@
-//! Runs whose gates show that the stages run at once, and what passes them. A gate gives up after many
-//! turns and notes it, so that each test ends by itself.
+//! Runs whose gates show that the stages run at once, and what passes them. A gate gives up after
+//! many turns and notes it, so that each test ends by itself.
 
 ghost use Rattle.std.specs.Prelude.{◌≤◌, ◌^◌};
 ghost use Rattle.stage_core.specs.Events.{IsBounded};

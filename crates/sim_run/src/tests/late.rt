@@ -1,4 +1,5 @@
-//! Runs whose readers give the rest of a trace late: what they gave before is served while they wait.
+//! Runs whose readers give the rest of a trace late: what they gave before is served while they
+//! wait.
 
 use super::gates::Sign;
 use super::{first_misses, instrs, run_in_threads};

@@ -1,5 +1,5 @@
-//! Runs that are compared with counts: what they write is the report of these, and the network comes
-//! to the same.
+//! Runs that are compared with counts: what they write is the report of these, and the network
+//! comes to the same.
 
 ghost use Rattle.stage_core.specs.Events.{IsBounded};
 

@@ -24,7 +24,8 @@ pub loop-preserved-in-I : goal.loop-preserved-in-I
 loop-preserved-in-I g c = (
   tt,
   tt,
-  merges-i c.args.u.now c.args.ends.now c.loop.merge c.loop.u c.loop.ends c.in-Ok-next_from_i.message
+  merges-i c.args.u.now c.args.ends.now c.loop.merge c.loop.u c.loop.ends
+      c.in-Ok-next_from_i.message
       c.take_in.new.merge c.in_ok-received-in-I.ensures.merge c.take_in.new.u
       c.next_from_i.new.ends c.loop.invariant.2 c.in_ok-received-in-I.ensures.stands
       c.take_in.ensures.rules (sym c.in-I.ensures) c.next_from_i.ensures.from_i
@@ -35,7 +36,8 @@ pub loop-preserved : goal.loop-preserved
 loop-preserved g c = (
   tt,
   tt,
-  merges-d c.args.u.now c.args.ends.now c.loop.merge c.loop.u c.loop.ends c.in-Ok-next_from_d.message
+  merges-d c.args.u.now c.args.ends.now c.loop.merge c.loop.u c.loop.ends
+      c.in-Ok-next_from_d.message
       c.take_in-in-D.new.merge c.in_ok-received-in-D.ensures.merge c.take_in-in-D.new.u
       c.next_from_d.new.ends c.loop.invariant.2 c.in_ok-received-in-D.ensures.stands
       c.take_in-in-D.ensures.rules (sym c.in-D.ensures) c.next_from_d.ensures.from_d

@@ -28,8 +28,9 @@ pub returns-in-Err-clause-trace : goal.returns-in-Err-clause-trace
 returns-in-Err-clause-trace g c text known why is =
     let reads = c.rest.ensures.reads in
     let same : reader_of c.new-source.result ≡ c.args.reader = c.new-source.ensures.reader in
-    let script = script_of_told g.R.ByteReader.remaining g.R.ByteReader.failures c.args.reader (reader_of c.rest.new.self)
-    text c.args.limit reads.1 reads.0 _ refl (rw (same, known) at reads.2.reader) in
+    let script = script_of_told g.R.ByteReader.remaining g.R.ByteReader.failures c.args.reader
+    (reader_of c.rest.new.self) text c.args.limit reads.1 reads.0 _ refl
+    (rw (same, known) at reads.2.reader) in
     let told = (rw c.in-Err.is at reads.3 script.0 script.1 _ script.2
     (c.new-source.ensures.left script.0)) in
     let met = only_trace c.in-Err.fault why _
@@ -41,8 +42,9 @@ unfolding report_of
 returns-clause-report g c text known =
     let reads = c.rest.ensures.reads in
     let same : reader_of c.new-source.result ≡ c.args.reader = c.new-source.ensures.reader in
-    let script = script_of_told g.R.ByteReader.remaining g.R.ByteReader.failures c.args.reader (reader_of c.rest.new.self)
-    text c.args.limit reads.1 reads.0 _ refl (rw (same, known) at reads.2.reader) in
+    let script = script_of_told g.R.ByteReader.remaining g.R.ByteReader.failures c.args.reader
+    (reader_of c.rest.new.self) text c.args.limit reads.1 reads.0 _ refl
+    (rw (same, known) at reads.2.reader) in
     let told = (rw c.in-Ok.is at reads.3 script.0 script.1 _ script.2
     (c.new-source.ensures.left script.0)) in
     let good = script.3.no_fault told.1 in

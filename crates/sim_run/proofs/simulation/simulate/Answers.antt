@@ -33,13 +33,15 @@ returns-clause-run g c text known =
     let good = script.3.no_fault ended.0 in (
       good.0,
       subst (λ (t : List DinRecord). HasRun (ring_of c.args.config.now)
-          (hierarchy_of c.args.config.now) (events c.args.selection.now t) c.in_ok-settled.settled) good.1 ended.1,
+          (hierarchy_of c.args.config.now) (events c.args.selection.now t)
+          c.in_ok-settled.settled) good.1 ended.1,
     )
 
 pub returns-clause-whole : goal.returns-clause-whole
 returns-clause-whole g c =
     let reads = c.run_pipeline-source.ensures.reads in
     of-some-text c.args.limit (λ t. HasRun (ring_of c.args.config.now)
-    (hierarchy_of c.args.config.now) (events c.args.selection.now t) c.in_ok-settled.settled) reads.1 reads.0
+    (hierarchy_of c.args.config.now) (events c.args.selection.now t)
+    c.in_ok-settled.settled) reads.1 reads.0
     (λ before later is. let ended = rw c.in_ok-settled.was at reads.3 before later _ is
     (c.new-source.ensures.left before) in (ended.0, ended.1))

@@ -31,7 +31,8 @@ longer : (c : goal.In_ok-step) → let start = c.args.core.now in
     (ms : List Machine)
     × (run (parts_for start.config) (ring_of start.config) ms start.network
     ≡ Some c.step.new.self.network)
-    × IsNamedFrom (parts_for start.config) (ring_of start.config) c.args.choices.now 0 ms start.network
+    × IsNamedFrom (parts_for start.config) (ring_of start.config) c.args.choices.now 0 ms
+    start.network
     × (c.run.made + 1 ≡ length ms)
 longer c =
     let start = c.args.core.now in
@@ -47,10 +48,12 @@ longer c =
     let can : enabled_in old ≡ enabled parts capacity old.network =
     working old c.run.invariant.works
     ∙ ap (λ (x : Config). enabled (parts_for x) (ring_of x) old.network) config in
-    let number : c.chosen-nth.result ≡ slice_index c.args.choices.now c.run.made % length (enabled_in old) =
+    let number : c.chosen-nth.result
+    ≡ slice_index c.args.choices.now c.run.made % length (enabled_in old) =
     c.chosen-nth.ensures.exact
     ∙ ap (λ n. slice_index c.args.choices.now c.run.made % n) c.enabled-in-run.ensures.count in
-    let chosen : named c.args.choices.now c.run.made (enabled parts capacity old.network) ≡ Some made.0 =
+    let chosen : named c.args.choices.now c.run.made (enabled parts capacity old.network)
+    ≡ Some made.0 =
     ap (named c.args.choices.now c.run.made) (sym can)
     ∙ ap (slice_get (enabled_in old)) (sym number) ∙ made.1 in (
       so_far.0 ++ made.0 ∷ [],
@@ -129,8 +132,8 @@ returns-clause-schedule c =
     ap (λ (s : CoreState). s.network) c.requires.start in (
       so_far.0,
       record {
-        named = subst (IsNamedFrom (parts_for start.config) (ring_of start.config) c.args.choices.now 0
-            so_far.0) begins so_far.2;
+        named = subst (IsNamedFrom (parts_for start.config) (ring_of start.config)
+            c.args.choices.now 0 so_far.0) begins so_far.2;
         last = c.run.core.network;
         leads = ap (run (parts_for start.config) (ring_of start.config) so_far.0) (sym begins)
             ∙ so_far.1;

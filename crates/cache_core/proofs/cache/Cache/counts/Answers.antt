@@ -11,4 +11,5 @@ returns-clause-one_lru_set c = λ h st one lru.
     let g = c.args.self.now.geometry in
     let all = one_set g.size g.bsize g.assoc g.lawful one in
     ap (λ k. k.conflict) st.counts
-    ∙ none-counted (rules_of c.args.self.now) (record { one_set = one; all_blocks = all; lru = lru }) h
+    ∙ none-counted (rules_of c.args.self.now)
+    (record { one_set = one; all_blocks = all; lru = lru }) h

@@ -24,7 +24,8 @@ asks-preserved g c =
           (consumes-append (g.R.ByteReader.remaining c.args.self.now.reader)
           (g.R.ByteReader.remaining c.asks.self.reader)
           (g.R.ByteReader.remaining c.refill.new.reader) now.given more.0 now.consumed more.2);
-      count = simp length-append (omega (arith, c.at_hand.ensures.taken, c.in-Ok.ensures.taken, more.1, now.count));
+      count = simp length-append
+          (omega (arith, c.at_hand.ensures.taken, c.in-Ok.ensures.taken, more.1, now.count));
       left_same =
           λ script left h. c.in_default.ensures.reads.1 script left (more.3 script left
           (now.left_same (record { given = more.0 ++ script.given; fails = script.fails }) left
@@ -49,7 +50,8 @@ returns-in-Some-clause-reads g c =
               ∙ now.failures_same,
         );
         settles = tt;
-        taken = simp length-append (omega (arith, c.at_hand.ensures.taken, c.in-Ok.ensures.taken, more.1, now.count));
+        taken = simp length-append
+            (omega (arith, c.at_hand.ensures.taken, c.in-Ok.ensures.taken, more.1, now.count));
       },
       λ before later l is left. c.in-Some.ensures.reads.1 later l (more.3 later l
           (now.left_same (record { given = more.0 ++ later.given; fails = later.fails }) l

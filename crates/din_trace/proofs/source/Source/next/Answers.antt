@@ -17,6 +17,7 @@ returns-in-Some-clause-reads g c = answers-at_hand g.R.ByteReader.remaining g.R.
 pub returns-in-None-clause-reads : goal.returns-in-None-clause-reads
 unfolding words.IsSettled words.MustAsk
 returns-in-None-clause-reads g c = answers-asked g.R.ByteReader.remaining g.R.ByteReader.failures
-    c.args.self.now c.at_hand.new.self c.ask-answer.new.self c.ask-answer.result c.in-None.ensures.reads.0
+    c.args.self.now c.at_hand.new.self c.ask-answer.new.self c.ask-answer.result
+    c.in-None.ensures.reads.0
     c.in-None.ensures.reads.1 c.ask-answer.ensures.reads
     (λ settled. absurd (goes-on c.at_hand.new.self.backlog.state c.in-None.ensures.asks.0 settled))

@@ -43,8 +43,10 @@ records-preserved g c =
     let now = c.records.invariant in
     record {
       few =
-          let fall : room_of c.next.new.self < room_of c.records.self = (rw c.in-Some.is at c.in-Ok.ensures.records) refl in
-          let longer : vec_len c.push.new.self ≡ vec_len c.records.records + 1 = rw c.if-is_err.ensures.negation at c.push.ensures.len in
+          let fall : room_of c.next.new.self < room_of c.records.self =
+          (rw c.in-Some.is at c.in-Ok.ensures.records) refl in
+          let longer : vec_len c.push.new.self ≡ vec_len c.records.records + 1 =
+          rw c.if-is_err.ensures.negation at c.push.ensures.len in
           omega arith;
       limit_same = c.next.ensures.limit ∙ now.limit_same;
       given = all.given;

@@ -1,4 +1,4 @@
-use Rattle.std.proofs.Common.{arith, rules, ◌≡◌, ◌-◌, ◌≤◌, length, take, drop, vec_len, ◌<◌, [], ◌∷◌, ◌++◌, IfOk, IfSome, OnErr, IsNone, ℕ, ◌+◌, ◌*◌, ◌/◌, ◌%◌, Bool, true, false, nat_eq, nat_lt, List, slice_index_or, slice_set, bit_and, bit_or, Fits, w8, w32, w64, Bor, MutBor}
+use Rattle.std.proofs.Common.{arith}
 use Rattle.rtrb.specs.Ring as ring
 use Rattle.pipe_rings.specs.Rings.{received, SameRx}
 use Rattle.pipe_rings.proofs.rx.Rx.next_left.Goals as goal
@@ -7,11 +7,18 @@ use Rattle.pipe_rings.proofs.Batches.{one_more}
 pub invariant_of-self : goal.invariant_of-self
 invariant_of-self g c =
     let s = c.args.self.now in
-    let more = one_more (ring.received s.end) s.batch.items s.count s.left c.index-item.result.now c.requires s.bounds s.kept c.index-item.ensures in
-    record { bounds = (let b = s.bounds in omega arith, s.bounds.1, let b = s.bounds in omega arith); few = s.few; kept = more.1 }
+    let more = one_more (ring.received s.end) s.batch.items s.count s.left
+    c.index-item.result.now c.requires s.bounds s.kept c.index-item.ensures in
+    record {
+      bounds =
+          (let b = s.bounds in omega arith, s.bounds.1, let b = s.bounds in omega arith);
+      few = s.few;
+      kept = more.1;
+    }
 
 pub returns-clause-item : goal.returns-clause-item
 unfolding received
 returns-clause-item g c =
     let s = c.args.self.now in
-    (one_more (ring.received s.end) s.batch.items s.count s.left c.index-item.result.now c.requires s.bounds s.kept c.index-item.ensures).0
+    (one_more (ring.received s.end) s.batch.items s.count s.left c.index-item.result.now
+    c.requires s.bounds s.kept c.index-item.ensures).0

@@ -23,7 +23,8 @@ loop-next-preserved c =
     ∙ ap (λ (s : Selection). picked s (count_by is_reference (before ++ next ∷ [])) next)
     inv.selection in
     let longer = events-more selection before next c.offer-picked.result
-    (option_to_list c.inserted.result) c.inserted.ensures picks ∙ ap (events selection) (sym more) in
+    (option_to_list c.inserted.result) c.inserted.ensures picks
+    ∙ ap (events selection) (sym more) in
     record {
       selection = c.offer-picked.ensures.selection ∙ inv.selection;
       offered = subst (WasOffered c.offer-picked.new.self) (sym more)
