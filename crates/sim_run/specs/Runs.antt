@@ -28,7 +28,8 @@ report_of config selection text =
 -- the threads of a run, over rings of this capacity, have worked these events off, to the end
 pub record HasRun (ring : ℕ) (c : Hierarchy) (es : List DinRecord) (s : Settled) : Type 0 where
   pub capacity : HaveCapacity ring s.rings
-  -- each ring has carried its whole stream: the list received is the list sent
+  -- each ring has carried its whole stream, which ends with its only Finish (stage_core's law
+  -- `finish_ends_each_stream`): the list received is the list sent
   pub paired : ArePaired s.rings
   pub order : on_order s.rings ≡ whole (streams.order es)
   pub to_i : on_to_i s.rings ≡ whole (streams.to_side side.I es)

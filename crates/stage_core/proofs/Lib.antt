@@ -4,6 +4,7 @@ pub mod Merged
 pub mod Few
 pub mod Told
 pub mod Turns
+pub mod Finishes
 pub mod Worked
 pub mod Sums
 pub mod Pops

@@ -44,10 +44,10 @@ pub use config::{CacheName, CacheSpec, Config, ConfigFault};
 pub use l1_stage::L1Stage;
 pub use l2_stage::L2Stage;
 pub use laws::{
-    complete_schedules_are_as_long, events_keep_consistency, merge_takes_what_is_seen,
-    no_schedule_is_stuck, rings_carry_beginnings, rings_hold_their_capacity,
-    second_level_is_given_few, second_level_sees_few, selections_make_few,
-    stages_answer_their_streams, waiting_threads_have_ended,
+    complete_schedules_are_as_long, events_keep_consistency, finish_ends_each_stream,
+    merge_takes_what_is_seen, no_schedule_is_stuck, rings_carry_beginnings,
+    rings_hold_their_capacity, second_level_is_given_few, second_level_sees_few,
+    selections_make_few, stages_answer_their_streams, waiting_threads_have_ended,
 };
 pub use memory::NoMemory;
 pub use merge::Merge;
