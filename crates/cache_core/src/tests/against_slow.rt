@@ -1,4 +1,4 @@
-//! Long pseudo-random traces, served by a cache and by the plain, slow one.
+//! Pseudo-random traces, served by a cache and by the plain, slow one.
 
 use super::slow::Slow;
 use super::{FIFO, LRU, cache_of, expect_counts, flush, serve};
