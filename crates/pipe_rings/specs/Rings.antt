@@ -15,7 +15,7 @@ module _ {T : Type 0} where
 
   -- the outbox has room for another item
   unfoldable pub HasRoom : Tx T → Type 0
-  HasRoom tx = length tx.outbox.items < 512
+  HasRoom tx = length tx.outbox.items < tx.room
 
   -- what was posted was published, as far as the sender knows of free places in the ring
   unfoldable pub LookedForRoom : Tx T → Type 0
@@ -33,6 +33,10 @@ module _ {T : Type 0} where
   -- for how many items the ring of this end has room
   abbrev pub capacity_of : Tx T → ℕ
   capacity_of tx = ring.producer_capacity tx.end
+
+  -- for how many items the outbox of this end has room
+  abbrev pub outbox_of : Tx T → ℕ
+  outbox_of tx = tx.room
 
   -- the two ends of one ring
   abbrev pub AreEnds : Tx T → Rx T → Type 0

@@ -25,8 +25,8 @@ mod tx;
 mod wait;
 
 ghost use Rattle.std.specs.Prelude.{◌≡◌, ◌≤◌, [], IfOk};
-ghost use Rattle.pipe_rings.specs.Rings.{sent, received, capacity_of, AreEnds, SameTx, SameRx};
-ghost use Rattle.pipe_rings.specs.Rings.{IsBehindBy};
+ghost use Rattle.pipe_rings.specs.Rings.{sent, received, capacity_of, outbox_of};
+ghost use Rattle.pipe_rings.specs.Rings.{AreEnds, SameTx, SameRx, IsBehindBy};
 
 use rtrb::RingBuffer;
 use rx::BATCH;
@@ -47,26 +47,30 @@ pub fn ring<T: Copy>(alloc: Global, capacity: usize) -> Result<(Tx<T>, Rx<T>), N
     ensures capacity { IfOk result (λ r. capacity_of r.0 ≡ capacity) }
     ensures new { IfOk result (λ r. (sent r.0 ≡ []) × (received r.1 ≡ [])) }
 {
-    ring_from(alloc, capacity, &Bell::new(alloc)?)
+    ring_from(alloc, capacity, OUTBOX, &Bell::new(alloc)?)
 }
 
-/// The same, for a sender that waits at several rings at a time: whoever receives from one of them
-/// wakes it by this bell.
+/// The same, with an outbox that has room for so many items: for one at least, and for [`OUTBOX`]
+/// at most. The bell is that of the sender, which may wait at several rings at a time: whoever
+/// receives from one of them rings it.
 #[tactic(auto, unfolding(crate::specs::Rings::sent, crate::specs::Rings::received))]
 pub fn ring_from<T: Copy>(
     alloc: Global,
     capacity: usize,
+    outbox: usize,
     sender: &Bell,
 ) -> Result<(Tx<T>, Rx<T>), NoMemory>
     requires { (1 ≤ capacity) × (capacity ≤ 65536) }
     ensures one { IfOk result (λ r. AreEnds r.0 r.1) }
     ensures capacity { IfOk result (λ r. capacity_of r.0 ≡ capacity) }
+    ensures outbox { (1 ≤ outbox) → (outbox ≤ OUTBOX) → IfOk result (λ r. outbox_of r.0 ≡ outbox) }
     ensures new { IfOk result (λ r. (sent r.0 ≡ []) × (received r.1 ≡ [])) }
 {
     let Ok((producer, consumer)) = RingBuffer::new(alloc, capacity) else {
         return Err(NoMemory);
     };
-    let Ok(outbox) = Vec::with_capacity(alloc, OUTBOX) else {
+    let room = outbox.clamp(1, OUTBOX);
+    let Ok(outbox) = Vec::with_capacity(alloc, room) else {
         return Err(NoMemory);
     };
     let Ok(batch) = Vec::with_capacity(alloc, BATCH) else {
@@ -77,6 +81,7 @@ pub fn ring_from<T: Copy>(
         end: producer,
         outbox,
         first: 0,
+        room,
         patience: Patience::new(),
         own: sender.share()?,
         peer: receiver.share()?,

@@ -6,7 +6,7 @@ use crate::wait::{Bell, Patience};
 use rtrb::Producer;
 use std::sync::Wait;
 
-/// How many items an outbox holds at most.
+/// How many items an outbox has room for at most.
 pub const OUTBOX: usize = 512;
 
 /// The end of a ring that sends. It can move to another thread.
@@ -15,12 +15,15 @@ pub struct Tx<T: Copy> {
     // What was posted and is not yet in the ring: the items from `first` on.
     pub(crate) outbox: Vec<T>,
     pub(crate) first: usize,
+    // How many items the outbox has room for.
+    pub(crate) room: usize,
     pub(crate) patience: Patience,
     // What this end sleeps by, and what wakes the other one.
     pub(crate) own: Bell,
     pub(crate) peer: Bell,
-    ghost bounds: { (first ≤ length outbox.items) × (length outbox.items ≤ 512) },
-    ghost reserved: { 512 ≤ vec_capacity outbox },
+    ghost bounds: { (first ≤ length outbox.items) × (length outbox.items ≤ room) },
+    ghost some_room: { (1 ≤ room) × (room ≤ 512) },
+    ghost reserved: { room ≤ vec_capacity outbox },
 }
 
 /// The receiver was dropped, and the item comes back.
@@ -59,7 +62,7 @@ impl<T: Copy> Tx<T> {
     pub fn has_room(&self) -> bool
         ensures { IsTrue result ↔ HasRoom self.now }
     {
-        self.outbox.len() < OUTBOX
+        self.outbox.len() < self.room
     }
 
     /// How many items were posted and are not yet published.
@@ -171,6 +174,7 @@ impl<T: Copy> Drop for Tx<T> {
             end,
             outbox: _,
             first: _,
+            room: _,
             patience: _,
             own: _,
             peer,

@@ -4,7 +4,7 @@ ghost use Rattle.std.specs.Prelude.{◌≡◌, ◌≤◌, ◌<◌, IfOk, IsTrue}
 ghost use Rattle.pipe_rings.specs.Rings.{sent, received, AreEnds, SameTx, SameRx};
 ghost use Rattle.sim_run.specs.Ends.{ArePaired, AreUnused, HaveCapacity, SameRings, AllReceived};
 
-use pipe_rings::{Bell, NoMemory, Rx, Tx, ring, ring_from, settle};
+use pipe_rings::{Bell, NoMemory, Rx, Tx, ring_from, settle};
 use stage_core::{FromStage, Routed, ToStage, Turn};
 use std::alloc::Global;
 use std::sync::Wait;
@@ -116,19 +116,22 @@ fn is_settled<T: Copy>(tx: &mut Tx<T>, rx: &mut Rx<T>) -> bool
 }
 
 impl Rings {
-    /// Five new rings, each with room for `capacity` messages.
-    pub(crate) fn new(alloc: Global, capacity: usize) -> Result<Rings, NoMemory>
+    /// Five new rings, each with room for `capacity` messages, and an outbox before each, with room
+    /// for `outbox`.
+    pub(crate) fn new(alloc: Global, capacity: usize, outbox: usize) -> Result<Rings, NoMemory>
         requires { (0 < capacity) × (capacity ≤ 65536) }
         ensures paired { IfOk result (λ rings. ArePaired rings) }
         ensures unused { IfOk result (λ rings. AreUnused rings) }
         ensures capacity { IfOk result (λ rings. HaveCapacity capacity rings) }
     {
         let splitter = Bell::new(alloc)?;
-        let (order_tx, order_rx) = ring_from::<Turn>(alloc, capacity, &splitter)?;
-        let (to_i_tx, to_i_rx) = ring_from::<ToStage>(alloc, capacity, &splitter)?;
-        let (to_d_tx, to_d_rx) = ring_from::<ToStage>(alloc, capacity, &splitter)?;
-        let (from_i_tx, from_i_rx) = ring::<FromStage>(alloc, capacity)?;
-        let (from_d_tx, from_d_rx) = ring::<FromStage>(alloc, capacity)?;
+        let (order_tx, order_rx) = ring_from::<Turn>(alloc, capacity, outbox, &splitter)?;
+        let (to_i_tx, to_i_rx) = ring_from::<ToStage>(alloc, capacity, outbox, &splitter)?;
+        let (to_d_tx, to_d_rx) = ring_from::<ToStage>(alloc, capacity, outbox, &splitter)?;
+        let i = Bell::new(alloc)?;
+        let (from_i_tx, from_i_rx) = ring_from::<FromStage>(alloc, capacity, outbox, &i)?;
+        let d = Bell::new(alloc)?;
+        let (from_d_tx, from_d_rx) = ring_from::<FromStage>(alloc, capacity, outbox, &d)?;
         Ok(Rings {
             splitter: SplitterEnds {
                 order: order_tx,

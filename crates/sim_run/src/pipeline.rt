@@ -23,6 +23,7 @@ use crate::split::split;
 use crate::stage_thread::{StageEnd, StageHandle, start_stage};
 use cache_core::Counts;
 use din_trace::{ByteReader, Source};
+use pipe_rings::OUTBOX;
 use stage_core::{
     Config, L1Stage, L2Stage, NoMemory, Selection, Side, Totals, merge_takes_what_is_seen,
     stages_answer_their_streams,
@@ -63,15 +64,19 @@ impl Machines {
     }
 }
 
-// The rings and the machines of a run, before it begins.
-fn prepare(alloc: Global, config: &Config) -> Result<(Machines, Rings), NoMemory>
+// The rings and the machines of a run, before it begins. Each outbox has room for so many messages.
+pub(crate) fn prepare(
+    alloc: Global,
+    config: &Config,
+    outbox: usize,
+) -> Result<(Machines, Rings), NoMemory>
     ensures new { IfOk result (λ r. AreNew r.0) }
     ensures rules { IfOk result (λ r. rules_in r.0 ≡ hierarchy_of config.now) }
     ensures paired { IfOk result (λ r. ArePaired r.1) }
     ensures unused { IfOk result (λ r. AreUnused r.1) }
     ensures capacity { IfOk result (λ r. HaveCapacity (ring_of config.now) r.1) }
 {
-    let Ok(rings) = Rings::new(alloc, config.ring()) else {
+    let Ok(rings) = Rings::new(alloc, config.ring(), outbox) else {
         return Err(NoMemory);
     };
     let machines = Machines::new(alloc, config)?;
@@ -201,7 +206,7 @@ fn finish<H: Threads>(
 }
 
 // Runs what the source gives through the machines.
-fn run_in<'s, E, H: Threads + Wait + Sync, R: ByteReader + Drop, G: Gate>(
+pub(crate) fn run_in<'s, E, H: Threads + Wait + Sync, R: ByteReader + Drop, G: Gate>(
     scope: &Scope<'s, E>,
     rt: &'s H,
     gate: &'s G,
@@ -255,7 +260,7 @@ pub fn run_pipeline<H: Threads + Wait + Sync, R: ByteReader + Drop, G: Gate>(
         → RunsOver (ring_of config.now) (hierarchy_of config.now) selection.now l
         (HasLeft result.0 later) result.1) }
 {
-    let Ok((machines, rings)) = prepare(alloc, config) else {
+    let Ok((machines, rings)) = prepare(alloc, config, OUTBOX) else {
         return (source, Err(RunFault::Memory));
     };
     let selection = *selection;

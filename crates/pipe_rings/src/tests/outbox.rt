@@ -3,7 +3,7 @@
 
 ghost use Rattle.pipe_rings.specs.Rings.{AreEnds, SameTx, SameRx};
 
-use crate::{Gone, Rx, SenderGone, Tx, ring, settle};
+use crate::{Bell, Gone, Rx, SenderGone, Tx, ring, ring_from, settle};
 use std::process::Abort;
 use std::sync::Wait;
 use std::test::Fail;
@@ -85,6 +85,20 @@ fn an_outbox_holds_512_items(rt: HostRuntime) -> Result<(), Fail> {
     for capacity in [1, 2, 64] {
         let (mut tx, mut rx) = ring(rt.alloc(), capacity)?;
         fills_twice(&rt, &mut tx, &mut rx);
+    }
+    Ok(())
+}
+
+/// An outbox has the room that was asked for, but never none, and never more than 512.
+#[test]
+fn an_outbox_has_room_for_as_many_items_as_asked_for(rt: HostRuntime) -> Result<(), Fail> {
+    for (outbox, room) in [(0, 1), (1, 1), (2, 2), (512, 512), (600, 512)] {
+        let bell = Bell::new(rt.alloc())?;
+        let (mut tx, mut rx) = ring_from(rt.alloc(), 4, outbox, &bell)?;
+        assert_eq!(rt; post_below(&mut tx, 600), room);
+        assert!(rt; !tx.has_room());
+        assert_eq!(rt; carry_posted(&mut tx, &mut rx), room);
+        assert!(rt; tx.has_room());
     }
     Ok(())
 }

@@ -12,7 +12,7 @@ use crate::joins::wind_up;
 use crate::merge_thread::run_merge;
 use crate::stage_thread::{StageHandle, run_stage, start_stage};
 use cache_core::Class;
-use pipe_rings::{Rx, SenderGone, Tx, ring};
+use pipe_rings::{OUTBOX, Rx, SenderGone, Tx, ring};
 use stage_core::{FromStage, L1Stage, L2Stage, Side, ToStage, Turn, What};
 use std::alloc::Global;
 use std::process::Abort;
@@ -154,7 +154,7 @@ fn a_merge_without_turns_stops(rt: HostRuntime) -> Result<(), Fail> {
         i,
         d,
         merge,
-    } = Rings::new(rt.alloc(), 4)?;
+    } = Rings::new(rt.alloc(), 4, OUTBOX)?;
     drop(splitter);
     let stop = stop_of_merge(&rt, rt.alloc(), merge);
     // The stages' ends are there until then.
@@ -170,7 +170,7 @@ fn without_side<H: Wait + Abort>(rt: &H, alloc: Global, turn: Turn) -> Result<()
         i,
         d,
         merge,
-    } = Rings::new(alloc, 4)?;
+    } = Rings::new(alloc, 4, OUTBOX)?;
     let (gone, mut other) = if turn == Turn::I { (i, d) } else { (d, i) };
     drop(gone);
     is_sent(rt, &mut splitter.order, turn);
@@ -273,7 +273,7 @@ fn wind_up_new<H: Threads + Wait + Sync>(
 ) -> Result<RunFault, Fail> {
     let i = stage(alloc, Side::I)?;
     let d = stage(alloc, Side::D)?;
-    let rings = Rings::new(alloc, 2)?;
+    let rings = Rings::new(alloc, 2, OUTBOX)?;
     Ok(wind_up_after(rt, i, d, rings, started))
 }
 

@@ -1,15 +1,23 @@
-//! Many short runs through narrow rings. Each of them ends by itself, and always alike.
+//! Many short runs through narrow rings, with outboxes as they are and with room for one message
+//! alone. Each of them ends by itself, and always alike.
+
+ghost use Rattle.sim_run.specs.Ends.{ArePaired, AreUnused};
+ghost use Rattle.sim_run.specs.Machines.{AreNew};
 
 use super::layout::ONE_WRITE_BACK;
-use super::{EVERYTHING, USUAL, bad, config_of, first_misses, instrs, reads, threaded};
+use super::{EVERYTHING, USUAL, bad, config_of, first_misses, instrs, reads, threaded, totals_of};
+use crate::fault::RunFault;
+use crate::gate::OpenGate;
+use crate::pipeline::{Settled, prepare, run_in};
 use crate::report::write_report;
 use cache_core::{Counts, PerClass};
-use din_trace::{FromWrite, MAX_LIMIT, Why};
+use din_trace::{FromRead, FromWrite, MAX_LIMIT, Source, Why};
 use stage_core::{Config, Totals};
 use std::alloc::Global;
 use std::process::Abort;
 use std::sync::Wait;
 use std::test::Fail;
+use std::thread;
 use std::thread::Threads;
 
 /// A trace without a fault, and three that have one at the start, in the middle or at the end.
@@ -26,43 +34,111 @@ static TRACES: [(&[u8], Option<(u64, Why)>); 4] = [
     ),
 ];
 
+/// How large the outboxes of a run are.
+#[derive(Clone, Copy)]
+enum Outboxes {
+    AsTheyAre,
+    OfOne,
+}
+
+/// How a run in threads over a trace ended, with an outbox for one message before each ring; what
+/// it wrote stands in the list.
+fn one_by_one<H: Threads + Wait + Sync>(
+    rt: &H,
+    alloc: Global,
+    config: &Config,
+    trace: &[u8],
+    written: &mut Vec<u8>,
+) -> Result<Option<RunFault>, Fail> {
+    let (machines, rings) = prepare(alloc, config, 1)?;
+    let source = Source::new(FromRead::new(trace), MAX_LIMIT);
+    let (source, ended) = thread::scope(
+        thread::scope_env(),
+        rt,
+        move |scope| -> (Source<FromRead<&[u8]>>, Result<Settled, RunFault>)
+            requires new { AreNew machines }
+            requires paired { ArePaired rings }
+            requires unused { AreUnused rings }
+        { run_in(scope, rt, &OpenGate, EVERYTHING, source, machines, rings) },
+    );
+    drop(source);
+    match totals_of(ended) {
+        Ok(totals) => {
+            write_report(&totals, &mut FromWrite::new(written))?;
+            Ok(None)
+        }
+        Err(fault) => Ok(Some(fault)),
+    }
+}
+
+/// How a run in threads over a trace ended; what it wrote stands in the list.
+fn run_with<H: Threads + Wait + Sync>(
+    rt: &H,
+    alloc: Global,
+    config: &Config,
+    outboxes: Outboxes,
+    trace: &[u8],
+    written: &mut Vec<u8>,
+) -> Result<Option<RunFault>, Fail> {
+    match outboxes {
+        Outboxes::AsTheyAre => Ok(threaded(
+            rt,
+            alloc,
+            config,
+            &EVERYTHING,
+            trace,
+            MAX_LIMIT,
+            written,
+        )),
+        Outboxes::OfOne => one_by_one(rt, alloc, config, trace, written),
+    }
+}
+
 /// Runs in threads over a trace and finds its fault, or writes its report.
 fn ends_alike<H: Threads + Wait + Abort + Sync>(
     rt: &H,
     alloc: Global,
     config: &Config,
+    outboxes: Outboxes,
     trace: &[u8],
     fault: Option<(u64, Why)>,
-) {
+) -> Result<(), Fail> {
     let mut written = Vec::new(alloc);
-    let ended = threaded(
-        rt,
-        alloc,
-        config,
-        &EVERYTHING,
-        trace,
-        MAX_LIMIT,
-        &mut written,
-    );
+    let ended = run_with(rt, alloc, config, outboxes, trace, &mut written)?;
     let (expected, text) = match fault {
         Some((line, why)) => (Some(bad(line, why)), ""),
         None => (None, ONE_WRITE_BACK),
     };
     assert_eq!(rt; ended, expected);
     assert!(rt; written.as_slice() == text.as_bytes());
+    Ok(())
 }
 
-#[test]
-fn a_thousand_runs_end_alike(rt: HostRuntime) -> Result<(), Fail> {
+/// A thousand runs through rings of each of these capacities.
+fn a_thousand_end_alike<H: Threads + Wait + Abort + Sync>(
+    rt: &H,
+    alloc: Global,
+    outboxes: Outboxes,
+) -> Result<(), Fail> {
     for ring in [1, 2, 3, 64] {
         let config = config_of(USUAL, ring)?;
-        for _ in 0..63 {
+        for _ in 0..250 {
             for (trace, fault) in TRACES {
-                ends_alike(&rt, rt.alloc(), &config, trace, fault);
+                ends_alike(rt, alloc, &config, outboxes, trace, fault)?;
             }
         }
     }
     Ok(())
+}
+
+#[test]
+fn a_thousand_runs_end_alike(rt: HostRuntime) -> Result<(), Fail> {
+    a_thousand_end_alike(&rt, rt.alloc(), Outboxes::AsTheyAre)
+}
+
+#[test]
+fn a_thousand_runs_with_outboxes_of_one_end_alike(rt: HostRuntime) -> Result<(), Fail> {
+    a_thousand_end_alike(&rt, rt.alloc(), Outboxes::OfOne)
 }
 
 /// How often the long trace goes round.
@@ -102,9 +178,12 @@ fn totals_of_rounds() -> Totals {
     Totals { i, d, u }
 }
 
-#[test]
-fn long_runs_write_the_same(rt: HostRuntime) -> Result<(), Fail> {
-    let alloc = rt.alloc();
+/// Twelve long runs through rings of each of these capacities.
+fn long_runs_end_alike<H: Threads + Wait + Abort + Sync>(
+    rt: &H,
+    alloc: Global,
+    outboxes: Outboxes,
+) -> Result<(), Fail> {
     let trace = rounds(alloc)?;
     let mut expected = Vec::new(alloc);
     write_report(&totals_of_rounds(), &mut FromWrite::new(&mut expected))?;
@@ -112,18 +191,20 @@ fn long_runs_write_the_same(rt: HostRuntime) -> Result<(), Fail> {
         let config = config_of(USUAL, ring)?;
         for _ in 0..12 {
             let mut written = Vec::new(alloc);
-            let ended = threaded(
-                &rt,
-                alloc,
-                &config,
-                &EVERYTHING,
-                trace.as_slice(),
-                MAX_LIMIT,
-                &mut written,
-            );
+            let ended = run_with(rt, alloc, &config, outboxes, &trace, &mut written)?;
             assert_eq!(rt; ended, None);
             assert!(rt; written.as_slice() == expected.as_slice());
         }
     }
     Ok(())
+}
+
+#[test]
+fn long_runs_write_the_same(rt: HostRuntime) -> Result<(), Fail> {
+    long_runs_end_alike(&rt, rt.alloc(), Outboxes::AsTheyAre)
+}
+
+#[test]
+fn long_runs_with_outboxes_of_one_write_the_same(rt: HostRuntime) -> Result<(), Fail> {
+    long_runs_end_alike(&rt, rt.alloc(), Outboxes::OfOne)
 }

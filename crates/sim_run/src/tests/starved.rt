@@ -8,6 +8,7 @@ use crate::ends::{Rings, StageEnds};
 use crate::fault::{RunFault, Stop};
 use crate::joins::{why_stopped, wind_up};
 use crate::stage_thread::{StageEnd, StageHandle, StagePromise};
+use pipe_rings::OUTBOX;
 use stage_core::{L1Stage, Side};
 use std::alloc::Global;
 use std::snapshot::Snapshot;
@@ -70,7 +71,7 @@ fn wind_up_new<H: Threads + Wait + Sync>(
 ) -> Result<RunFault, Fail> {
     let i = stage(alloc, Side::I)?;
     let d = stage(alloc, Side::D)?;
-    let rings = Rings::new(alloc, 2)?;
+    let rings = Rings::new(alloc, 2, OUTBOX)?;
     Ok(thread::scope(thread::scope_env(), rt, move |scope| -> RunFault {
         wind_up_in(scope, rt, i, d, rings, started)
     }))
@@ -106,7 +107,7 @@ fn a_thread_that_stopped_says_why(rt: HostRuntime) -> Result<(), Fail> {
         i,
         d,
         merge,
-    } = Rings::new(rt.alloc(), 2)?;
+    } = Rings::new(rt.alloc(), 2, OUTBOX)?;
     let rt = &rt;
     let stop = thread::scope(thread::scope_env(), rt, move |scope| -> Option<Stop> {
         why_in(scope, rt, machine, i)
