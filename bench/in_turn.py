@@ -1,15 +1,16 @@
 #!/usr/bin/env python3
 """in_turn.py ROUNDS TRACE [COPIES]: compares commands by running them in turn.
 
-Reads commands, one a line, with its name before a tab. Runs each command on the trace in every
-round, so that all of them meet the same machine; COPIES of it at once, if that is given. Prints for
-each its name, and then:
+Reads commands from standard input, one on each line: a name, a tab and the command. Every round
+runs each command once on the trace, so that a slow moment of the machine meets all commands alike.
+If COPIES is given, that many copies of the command run at once. Prints for each command its name,
+and then:
 
-- the millions of references a second of each copy, the median and the worst of the rounds;
-- how many times as fast that was as the first command, the median and the worst;
-- the processor seconds of one copy, the median;
+- the millions of references a second of one copy: the median and the worst of the rounds;
+- how many times as fast that was as the first command: the median and the worst;
+- the processor seconds of one copy: the median;
 - the greatest memory in megabytes;
-- the greatest share of a round that the machine's host took from it (steal)."""
+- the greatest share of a round's time that the host took from this machine (steal)."""
 import shlex
 import statistics
 import sys

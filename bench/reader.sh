@@ -1,11 +1,12 @@
 #!/usr/bin/env bash
-# How fast traces are read: reader_bench calls Source::next for each record and does nothing else.
+# How fast traces are read. The program reader_bench calls Source::next for each record, and does
+# nothing else.
 #
 #   bench/reader.sh [RECORDS]        10,000,000 records, if no number is given
 #
-# Each trace is made with a fixed seed in a temporary folder. `wc -l` reads the same file in the
-# same run, so that the ratio does not depend on the machine. Times are the best of five, in
-# seconds.
+# Each trace is made with a fixed seed in a temporary folder. The script also times `wc -l` on the
+# same file, so that their ratio depends less on the machine. Times are the best of five, in
+# seconds. If valgrind is installed, the script also prints the instructions for each record.
 set -euo pipefail
 records=${1:-10000000}
 top=$(cd "$(dirname "$0")/.." && pwd)

@@ -1,11 +1,12 @@
 #!/usr/bin/env bash
-# How fast messages pass through one ring between two threads, and what a thread costs that waits.
+# How fast messages pass through one ring between two threads, and how much processor time a waiting
+# thread takes.
 #
 #   bench/ring.sh [MESSAGES]        10,000,000 messages, if no number is given
 #
-# A ring of 1 passes 1/64 of the messages, a ring of 16 a quarter. The figures are the best and the
-# median of nine rounds, in millions of messages a second. Then comes the processor time of a thread
-# that waits for another one, which sends a message a second.
+# A ring of capacity 1 passes 1/64 of the messages, and a ring of capacity 16 a quarter of them. The
+# figures are the best and the median of nine rounds, in millions of messages a second. Then comes
+# the processor time of a thread that waits for another one, which sends one message a second.
 set -euo pipefail
 messages=${1:-10000000}
 top=$(cd "$(dirname "$0")/.." && pwd)

@@ -1,13 +1,14 @@
 #!/usr/bin/env bash
-# How fast whole runs are: dinero_pipe, whose stages run in four threads, with rings of several
-# capacities, against plain_bench, which runs the same machines on one thread. On all cores, on two
-# and on one, with four runs at once, beside four programs that only burn time, and with a real
-# program's trace.
+# How fast whole runs are. dinero_pipe runs its stages in four threads, with rings of several
+# capacities. plain_bench runs the same machines on one thread. The script compares them on all
+# cores, on two and on one; with four runs at once; while four other programs only burn time; and
+# with a real program's trace.
 #
 #   bench/run.sh [REFERENCES [ROUNDS]]      3,000,000 references and 5 rounds, if none are given
 #
 # The trace is made with a fixed seed in a temporary folder. All runs of a table read the same file,
-# in turn, and their reports must be the same. If valgrind is installed, the real program is ls.
+# in turn, and their reports must be the same. The real program is ls; without valgrind that part is
+# left out.
 set -euo pipefail
 references=${1:-3000000}
 rounds=${2:-5}

@@ -1,6 +1,6 @@
 #!/usr/bin/env bash
-# What a long and a slow trace cost: the memory for 2 GB of one line, and the processor time while
-# a pipe gives a line a second.
+# What a long trace and a slow trace cost: how much memory a trace takes that repeats one line up to
+# 2 GB, and how much processor time the program takes while a pipe gives one line a second.
 #
 #   bench/waiting.sh [LINES [SECONDS]]        222,222,222 lines and 10 seconds, if none are given
 set -euo pipefail
