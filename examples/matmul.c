@@ -1,5 +1,5 @@
-/* c = a * b, with b walked down its columns; with -DROWS all three are walked along their rows.
-   PAD makes the rows of b longer than a power of two. */
+/* c = a * b. The loops walk down the columns of b; with -DROWS they walk along the rows of all
+   three matrices. -DPAD=N makes each row of b longer by N numbers. */
 #define N 64
 #ifndef PAD
 #define PAD 0
