@@ -71,6 +71,7 @@ module _ (g : Geometry) (p : Policy) (h : History) (x : Access) where
 
   module _ (xs : List Way) (rows : (t : ℕ) → t < r.sets
       → row (assoc_of g) t xs ≡ row_of r h t) where
+    -- what the set's row, the known blocks and the shadow give is the outcome of the definitions
     pub answers : (hit known in_shadow : Bool) (back : Option ℕ) (entries : List (ℕ × Unit {0}))
         → hit ≡ is_some (found xs) → back
         ≡ pushed_out p.wback p.walloc first (is_write x) (row (assoc_of g) s xs) (found xs)
@@ -105,6 +106,8 @@ module _ (g : Geometry) (p : Policy) (h : History) (x : Access) where
         (list_any (λ t. nat_eq t b) (known_blocks r h)) t) e3
         ∙ outcome-is r pos (pred (assoc_of g)) size h x
 
+    -- where the row of its set took the step and the others stayed, the rows are those after the
+    -- access
     pub rows-after : (ys : List Way)
         → row (assoc_of g) s ys ≡ next_row p.wback p.walloc first (is_write x)
         (row (assoc_of g) s xs) (found xs) (is_fifo p)
@@ -113,6 +116,7 @@ module _ (g : Geometry) (p : Policy) (h : History) (x : Access) where
     rows-after ys now others = rows-step r pos (pred (assoc_of g)) size h x xs ys rows now others
         inside
 
+  -- the shadow is the one after the access
   pub shadow-after : (in_shadow load : Bool) (cap : ℕ) (old new : List (ℕ × Unit {0}))
       → new ≡ cond (not in_shadow && load)
       (put_entries nat_eq (lru_cache (promoted (nat_eq b) old) cap) b tt)
@@ -129,6 +133,7 @@ module _ (g : Geometry) (p : Policy) (h : History) (x : Access) where
       ∙ ap (after_see b (not (is_write x) || p.walloc) r.blocks) old-is
       ∙ shadow-step r h x (pred r.blocks) (suc_pred r.blocks facts.blocks_pos)
 
+  -- so are the known blocks
   pub known-after : (hit : Bool) (had : ℕ → Bool) → hit ≡ hits r (renewals r h) x
       → ((q : ℕ) → had q ≡ list_any (λ t. nat_eq t q) (known_blocks r h)) → (q : ℕ)
       → (not hit && nat_eq b q || had q)

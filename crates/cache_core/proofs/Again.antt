@@ -10,6 +10,7 @@ use Rattle.lru.specs.LruCache.{lru_cache, promoted, put_entries}
 abbrev Shown : Type 0
 Shown = List (ℕ × Unit {0})
 
+-- an option that passes the test for b has b
 pub last-is : (o : Option ℕ) (b : ℕ) → option_map_or (λ x. eqb x b) o false ≡ true → o ≡ Some b
 last-is None b h = cc
 last-is (Some x) b h = ap Some (eqb-true x b h)
@@ -17,12 +18,14 @@ last-is (Some x) b h = ap Some (eqb-true x b h)
 self : (b : ℕ) → nat_eq b b ≡ true
 self b = eq-eqb b b refl
 
+-- a block that stands first is found
 pub first-there : (es : Shown) (b : ℕ) → slice_get es 0 ≡ Some (b, tt)
     → is_some (lookup (nat_eq b) es) ≡ true
 first-there [] b h = cc
 first-there (e ∷ es) b h = let same : e ≡ (b, tt) = cc in let at : nat_eq b e.0 ≡ true =
     ap (λ z. nat_eq b z.0) same ∙ self b in rw at refl
 
+-- its use changes nothing
 pub first-stays : (es : Shown) (b : ℕ) → slice_get es 0 ≡ Some (b, tt) → promoted (nat_eq b) es ≡ es
 first-stays [] b h = cc
 first-stays (e ∷ es) b h = let same : e ≡ (b, tt) = cc in let at : nat_eq b e.0 ≡ true =
@@ -35,6 +38,7 @@ known-stays known b q h = (elim (eqb b q) as (λ t. eqb b q ≡ t → known q �
   | false ↦ λ e. refl
 ]) refl
 
+-- a block that is there stands first after its use
 pub promoted-first : (es : Shown) (b : ℕ) → is_some (lookup (nat_eq b) es) ≡ true
     → slice_get (promoted (nat_eq b) es) 0 ≡ Some (b, tt)
 promoted-first es b h = (elim (lookup_entry (nat_eq b) es) as (λ o. lookup_entry (nat_eq b) es ≡ o
@@ -57,6 +61,7 @@ promoted-first es b h = (elim (lookup_entry (nat_eq b) es) as (λ o. lookup_entr
             | false ↦ λ q g. found fs e g
           ]) refl h
 
+-- a block that is put in stands first
 pub put-first : (es : Shown) (cap b : ℕ)
     → slice_get (put_entries nat_eq (lru_cache es cap) b tt) 0 ≡ Some (b, tt)
 put-first es cap b = (elim (lookup_entry (nat_eq b) es) as (λ o. lookup_entry (nat_eq b) es ≡ o

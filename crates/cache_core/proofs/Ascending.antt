@@ -33,10 +33,12 @@ below-less : (w x : ℕ) (ys : List ℕ) → w < x → IsBelow x ys → IsBelow 
 below-less w x [] l b = tt
 below-less w x (y ∷ ys) l b = (let lt = b.0 in omega arith, below-less w x ys l b.1)
 
+-- a number below all of a list is not in it
 pub not-itself : (x : ℕ) (ys : List ℕ) → IsBelow x ys → has ys x ≡ false
 not-itself x ys b = false_from_ne_true (has ys x) (λ h. let lt = below-has x ys b x h in
     absurd (omega arith))
 
+-- two rising lists with the same members are the same list
 pub same-rising : (xs ys : List ℕ) → Rises xs → Rises ys → ((z : ℕ) → has xs z ≡ has ys z) → xs ≡ ys
 same-rising [] [] a b same = refl
 same-rising [] (y ∷ ys) a b same =
@@ -91,6 +93,7 @@ rises-place x (y ∷ ys) r = (elim (ltb x y) as (λ t. ltb x y ≡ t
           ]) refl
     ]) refl
 
+-- `rising` makes a list that rises
 pub rises-rising : (xs : List ℕ) → Rises (rising xs)
 rises-rising [] = tt
 rises-rising (x ∷ xs) = rises-place x (rising xs) (rises-rising xs)
@@ -120,6 +123,7 @@ has-place x (y ∷ ys) z = (elim (ltb x y) as (λ t.
           ]) refl
     ])
 
+-- with the same members
 pub has-rising : (xs : List ℕ) (z : ℕ) → has (rising xs) z ≡ has xs z
 has-rising [] z = refl
 has-rising (x ∷ xs) z = has-place x (rising xs) z ∙ ap (λ t. eqb x z || t) (has-rising xs z)
@@ -132,6 +136,7 @@ below-times n x (y ∷ ys) p b = (
   below-times n x ys p b.1,
 )
 
+-- the multiples of a rising list rise
 pub rises-times : (n : ℕ) (xs : List ℕ) → 0 < n → Rises xs → Rises (map (λ b. b * n) xs)
 rises-times n [] p r = tt
 rises-times n (x ∷ xs) p r = (below-times n x xs p r.0, rises-times n xs p r.1)
@@ -152,12 +157,14 @@ has-at (x ∷ xs) z (suc k) l e = or_right (eqb x z) (has xs z) (has-at xs z k (
 has-contains : (xs : List ℕ) (z : ℕ) → Contains xs z → has xs z ≡ true
 has-contains xs z c = has-at xs z c.0 c.1 c.2
 
+-- a permutation has the same members
 pub has-permutation : (xs ys : List ℕ) (z : ℕ) → IsPermutation xs ys → has ys z ≡ has xs z
 has-permutation xs ys z p = same_test (has ys z) (has xs z)
     (λ h. has-contains xs z (Contains-permutation ys xs z (IsPermutation-sym xs ys p)
     (contains-has ys z h)))
     (λ h. has-contains ys z (Contains-permutation xs ys z p (contains-has xs z h)))
 
+-- so has a list without its repetitions
 pub has-dedup : (xs : List ℕ) (z : ℕ) → has (dedup eqb xs) z ≡ has xs z
 has-dedup xs z = same_test (has (dedup eqb xs) z) (has xs z)
     (λ h. has-contains xs z (Contains-from_dedup eqb xs z (contains-has (dedup eqb xs) z h)))

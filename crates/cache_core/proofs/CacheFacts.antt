@@ -31,6 +31,7 @@ IsWithin-with_one x t p n h = record {
       one_more _ p.misc n h.misc;
 }
 
+-- where no count is above n, none is above n + 1 after an access
 pub AreWithin-with_access : (x : Access) (o : Outcome) (c : Counts) (n : ℕ) → AreWithin c n
     → AreWithin (with_access x o c) (n + 1)
 AreWithin-with_access x o c n h = record {
@@ -49,6 +50,7 @@ IsWithin-more : (p : PerClass) (n : ℕ) → IsWithin p n → IsWithin p (n + 1)
 IsWithin-more p n h = let a = h.instr in let b = h.read in let c = h.write in let d = h.misc in
     record { instr = omega arith; read = omega arith; write = omega arith; misc = omega arith }
 
+-- nor after a flush, where what it writes back fits
 pub AreWithin-with_flush : (k : ℕ) (c : Counts) (n : ℕ) → c.written_back + k ≤ n → AreWithin c n
     → AreWithin (with_flush k c) (n + 1)
 AreWithin-with_flush k c n le h = record {
@@ -101,6 +103,7 @@ kinds-made wb a w false true true back = refl
 kinds-made wb a w false true false back = refl
 kinds-made wb a w false false in_shadow back = refl
 
+-- after an access the kinds of miss still add up to the misses
 pub KindsAddUp-with_access : (x : Access) (wb a w hit known in_shadow : Bool) (back : Option ℕ)
     (c : Counts) → KindsAddUp c → KindsAddUp
     (with_access x (outcome_made wb a w hit back known in_shadow) c)
@@ -117,6 +120,7 @@ none-within = record {
       omega arith;
 }
 
+-- no count is above 0 at the start
 pub AreWithin-none : AreWithin no_counts 0
 AreWithin-none = record {
   fetches = none-within;

@@ -36,18 +36,21 @@ module _ (n : ℕ) where
         more : suc s * n ≡ length (shown n m.entries) + s * n
         more = let e = shown-long m.entries in omega arith
 
+  -- a row of all sets is what its map shows
   pub row-here : (ms : List Entered) (i : ℕ) (d : Entered) → i < length ms
       → row n i (flat n ms) ≡ shown n (get_or ms i d).entries
   row-here [] i d l = absurd (omega arith)
   row-here (m ∷ ms) zero d l = row-first m ms
   row-here (m ∷ ms) (suc i) d l = row-next i m ms ∙ row-here ms i d (omega arith)
 
+  -- so it is where that map was replaced
   pub row-set : (ms : List Entered) (i : ℕ) (x : Entered) → i < length ms
       → row n i (flat n (slice_set ms i x)) ≡ shown n x.entries
   row-set [] i x l = absurd (omega arith)
   row-set (m ∷ ms) zero x l = row-first x ms
   row-set (m ∷ ms) (suc i) x l = row-next i m (slice_set ms i x) ∙ row-set ms i x (omega arith)
 
+  -- and the other rows are as before
   pub row-set_other : (ms : List Entered) (i s : ℕ) (x : Entered) → s ≢ i
       → row n s (flat n (slice_set ms i x)) ≡ row n s (flat n ms)
   row-set_other [] i s x l = refl
@@ -57,6 +60,7 @@ module _ (n : ℕ) where
   row-set_other (m ∷ ms) (suc i) (suc s) x l = row-next s m (slice_set ms i x)
       ∙ row-set_other ms i s x (λ e. l (ap suc e)) ∙ sym (row-next s m ms)
 
+  -- a map that is replaced changes the number of dirty ways by its own alone
   pub count-set : (ms : List Entered) (i : ℕ) (x d : Entered) → i < length ms
       → dirty_count (flat n (slice_set ms i x)) + dirty_count (shown n (get_or ms i d).entries)
       ≡ dirty_count (flat n ms) + dirty_count (shown n x.entries)
@@ -68,6 +72,7 @@ module _ (n : ℕ) where
       dirty_count-append (shown n m.entries) (flat n ms) in let c =
       count-set ms i x d (omega arith) in omega arith
 
+  -- each map may hold as many blocks as a set has ways
   pub cap-at : (ms : List Entered) (i k : ℕ) (d : Entered) → map cap_of ms ≡ replicate k n
       → i < length ms → (get_or ms i d).cap ≡ n
   cap-at [] i k d h l = absurd (omega arith)
@@ -100,6 +105,7 @@ take-empty zero k l = refl
 take-empty (suc n) zero l = absurd (omega arith)
 take-empty (suc n) (suc k) l = ap (λ l. empty_way ∷ l) (take-empty n k (omega arith))
 
+-- emptied maps show empty ways
 pub flat-emptied : (n : ℕ) (ms : List Entered)
     → flat n (map emptied ms) ≡ replicate (length ms * n) empty_way
 flat-emptied n [] = ap (λ k. replicate k empty_way) (zero-is n) where
@@ -122,13 +128,16 @@ dirty-flat_cons n m ms fits =
     (filter is_dirty_way (flat n ms))
     ∙ ap (λ l. l ++ map first_of (filter is_dirty_way (flat n ms))) (dirty-shown n n m.entries fits)
 
+-- and may hold as many blocks as before
 pub caps-emptied : (ms : List Entered) → map cap_of (map emptied ms) ≡ map cap_of ms
 caps-emptied [] = refl
 caps-emptied (m ∷ ms) = ap (λ l. m.cap ∷ l) (caps-emptied ms)
 
+-- a map with no block, which may hold n
 abbrev pub empty_map : ℕ → Entered
 empty_map n = lru_cache [] n
 
+-- new maps may hold n blocks each
 pub caps-none : (n k : ℕ) → map cap_of (replicate k (empty_map n)) ≡ replicate k n
 caps-none n zero = refl
 caps-none n (suc k) = ap (λ l. n ∷ l) (caps-none n k)
@@ -137,6 +146,7 @@ emptied-none : (n k : ℕ) → map emptied (replicate k (empty_map n)) ≡ repli
 emptied-none n zero = refl
 emptied-none n (suc k) = ap (λ l. empty_map n ∷ l) (emptied-none n k)
 
+-- and show empty ways
 pub flat-none : (n k : ℕ) → flat n (replicate k (empty_map n)) ≡ replicate (k * n) empty_way
 flat-none n k = ap (flat n) (sym (emptied-none n k)) ∙ flat-emptied n (replicate k (empty_map n))
     ∙ ap (λ j. replicate (j * n) empty_way) (length-replicate k (empty_map n))

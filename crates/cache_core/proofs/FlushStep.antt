@@ -14,6 +14,7 @@ use Rattle.cache_core.specs.Standing.{rules_from}
 use Rattle.cache_core.proofs.Lawful.{IsSane, sane_of}
 use Rattle.cache_core.proofs.Flushed.{flushed-is}
 
+-- the dirty ways' first bytes, sorted and without repetitions, are those of the dirty blocks
 pub flush-list : (g : Geometry) (p : Policy) (h : History) (xs : List Way)
     → length xs ≡ sets_of g * assoc_of g
     → ((t : ℕ) → t < (rules_from g p).sets → row (assoc_of g) t xs ≡ row_of (rules_from g p) h t)

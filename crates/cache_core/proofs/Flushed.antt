@@ -87,6 +87,7 @@ any-dirty z (x ∷ xs) = (elim (is_dirty_way x) as (λ t.
       | false ↦ any-dirty z xs
     ])
 
+-- what a filter leaves was there, and passes
 pub has-filter_both : (p : ℕ → Bool) (xs : List ℕ) (b : ℕ) → has (filter p xs) b ≡ true
     → (has xs b ≡ true) × (p b ≡ true)
 has-filter_both p [] b h = cc
@@ -102,6 +103,7 @@ has-filter_both p (x ∷ xs) b h =
       further : (has xs b ≡ true) × (p b ≡ true) → (has (x ∷ xs) b ≡ true) × (p b ≡ true)
       further r = (or_right (eqb x b) (has xs b) r.0, r.1)
 
+-- what was there and passes is left
 pub filter-has : (p : ℕ → Bool) (xs : List ℕ) (b : ℕ) → has xs b ≡ true → p b ≡ true
     → has (filter p xs) b ≡ true
 filter-has p xs b h e = has-filter p b e xs ∙ h

@@ -27,6 +27,7 @@ module _ (r : Rules) (h : History) where
   unfolding row_of
   held-row_of s = held-shown r.ways r.ways (ranked r s (renewals r h))
 
+-- a cache that stands for a history holds the residents of each set, in order
 pub holds-residents : (c : Cache) (h : History) → StandsFor c h → HoldsResidents c h
 unfolding held_in rules_of
 holds-residents c h st = record {

@@ -6,6 +6,7 @@ use Rattle.cache_core.specs.Residents.{renews, renewals}
 use Rattle.cache_core.specs.Kinds.{known_blocks}
 use Rattle.cache_core.proofs.Reuse.{has}
 
+-- a block that was renewed is known
 pub renewals-known : (r : Rules) (h : History) (b : ℕ) → has (renewals r h) b ≡ true
     → has (known_blocks r h) b ≡ true
 unfolding renewals known_blocks

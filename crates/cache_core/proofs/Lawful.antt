@@ -18,6 +18,7 @@ passed : {F : Type 0} (t : Bool) (fault : F) (rest : Option F) → cond t (Some 
 passed true fault rest h = cc
 passed false fault rest h = (refl, h)
 
+-- the rules of a lawful geometry
 pub record IsLawful (size bsize assoc : ℕ) : Type 0 where
   pub size_power : is_power_of_two size ≡ true
   pub size_high : size ≤ 2 ^ 24
@@ -28,6 +29,7 @@ pub record IsLawful (size bsize assoc : ℕ) : Type 0 where
   pub assoc_power : is_power_of_two assoc ≡ true
   pub assoc_fits : assoc ≤ size / bsize
 
+-- a geometry that is not refused keeps them
 pub lawful_is : (size bsize assoc : ℕ) → refusal_of size bsize assoc ≡ None
     → IsLawful size bsize assoc
 unfolding refusal_of
@@ -57,6 +59,7 @@ pub power_of_zeros : (n : ℕ) → n < 2 ^ 64 → is_power_of_two n ≡ true
     → n ≡ 2 ^ count_trailing_zeros 64 n
 power_of_zeros n h p = power_is 64 n h (eqb-true (ones n) 1 p)
 
+-- a number of 64 bits that is not 0 has fewer than 64 trailing zeros
 pub zeros-lt : (n : ℕ) → 0 < n → n < 2 ^ 64 → count_trailing_zeros 64 n < 64
 zeros-lt n p h = (bit_at-trailing_zeros w64 n p h).0
 
@@ -106,6 +109,7 @@ pub record IsSane (size bsize assoc : ℕ) : Type 0 where
   pub blocks_pos : 0 < size / bsize
   pub blocks_high : size / bsize ≤ 2 ^ 24
 
+-- a geometry that is not refused has them
 pub sane : (size bsize assoc : ℕ) → refusal_of size bsize assoc ≡ None → IsSane size bsize assoc
 sane size bsize assoc h =
     let law = lawful_is size bsize assoc h in
@@ -124,6 +128,7 @@ sane size bsize assoc h =
       blocks_high = omega arith;
     }
 
+-- and so each geometry has them
 pub sane_of : (g : Geometry) → IsSane (size_of g) (bsize_of g) (assoc_of g)
 unfolding size_of bsize_of assoc_of
 sane_of g = sane g.size g.bsize g.assoc g.lawful

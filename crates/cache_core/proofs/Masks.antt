@@ -44,6 +44,7 @@ module _ (size bsize assoc : ℕ) (ok : refusal_of size bsize assoc ≡ None) wh
         set_fits size bsize assoc law in let a = set_is in let b = size_is in absurd (omega arith)
   ]
 
+  -- their exponent is below 64
   pub shift_fits : k < 64
   shift_fits = elim (cases_lt k 64) [
     | inl lt ↦ lt
@@ -58,6 +59,7 @@ module _ (size bsize assoc : ℕ) (ok : refusal_of size bsize assoc ≡ None) wh
       ∙ ap (λ n. 2 ^ (zeros size - k) * 2 ^ k / n) set_is
       ∙ mul-div_cancel (2 ^ (zeros size - k)) (pow_pos k)
 
+  -- to mask a block by the number of sets less one is to take its remainder by that number
   pub masked : (b : ℕ) → bit_and b (size / (bsize * assoc) - 1) ≡ b % (size / (bsize * assoc))
   masked b = ap (λ n. bit_and b (n - 1)) sets_is ∙ and_mask b (zeros size - k)
       ∙ ap (λ n. b % n) (sym sets_is)
@@ -69,6 +71,7 @@ module _ (size bsize assoc : ℕ) (ok : refusal_of size bsize assoc ≡ None) wh
       size_is ∙ ap (λ e. 2 ^ e) sum ∙ pow-add 2 (zeros size - k) k
       ∙ ap (λ n. n * 2 ^ k) (sym sets_is) ∙ ap (λ n. size / (bsize * assoc) * n) (sym set_is)
 
+  -- where there is one set, it has as many ways as the cache has blocks
   pub one_set : size / (bsize * assoc) ≡ 1 → assoc ≡ size / bsize
   one_set e =
       let all : size ≡ 1 * (bsize * assoc) = whole ∙ ap (λ n. n * (bsize * assoc)) e in

@@ -16,6 +16,7 @@ ranked-none : (r : Rules) (s : ℕ) → ranked r s [] ≡ []
 ranked-none r s = (elim r.fifo as (λ t. cond {A = List ℕ} t [] [] ≡ [])
     [ true ↦ refl | false ↦ refl ])
 
+-- where nothing was renewed, a set has no residents
 pub ways_of-none : (r : Rules) (s : ℕ) → ways_of r s [] ≡ []
 ways_of-none r s = ap (take r.ways) (ranked-none r s) ∙ take_none r.ways
 
@@ -27,6 +28,7 @@ module _ (r : Rules) (h : History) (none : renewals r h ≡ []) where
       ∙ ap (λ l. take r.ways (map (way_at r h) l ++ replicate r.ways empty_way)) (ranked-none r s)
       ∙ take-replicate r.ways r.ways empty_way (omega arith)
 
+  -- and its row is empty
   pub rows-none : (t : ℕ) → t < r.sets
       → row r.ways t (replicate (r.sets * r.ways) empty_way) ≡ row_of r h t
   rows-none t below =
@@ -35,10 +37,12 @@ module _ (r : Rules) (h : History) (none : renewals r h ≡ []) where
       ∙ take-replicate r.ways (r.sets * r.ways - t * r.ways) empty_way (omega arith)
       ∙ sym (row_of-none t)
 
+-- nothing was renewed at the start
 pub renewals-start : (r : Rules) → renewals r [] ≡ []
 unfolding renewals
 renewals-start r = refl
 
+-- nor since a flush
 pub renewals-flush : (r : Rules) (h : History) → renewals r (flush ∷ h) ≡ []
 unfolding renewals
 renewals-flush r h = refl

@@ -36,6 +36,7 @@ module _ (r : Rules) (one : IsOneLruSet r) where
   never h x = kinds (list_any (λ b. b == block_of r x) (known_blocks r h))
       (hits (shadow_of r) (renewals (shadow_of r) h) x) (hits r (renewals r h) x) (hits-same h x)
 
+  -- no miss is a conflict
   pub no-conflict : (h : History) (x : Access) → (outcome_of r h x).kind ≡ Some Conflict → ⊥
   no-conflict h x e = let no : false ≡ true = sym (never h x) ∙ ap (is_kind Conflict) e in cc
 
@@ -51,6 +52,7 @@ module _ (r : Rules) (one : IsOneLruSet r) where
       ∙ (elim (test x) as (λ t. one_if (t && false) + conflicts test h ≡ 0)
       [ true ↦ omega arith | false ↦ omega arith ])
 
+  -- and none is counted
   pub none-counted : (h : History) → (counts_of r h).conflict ≡ none_by_class
   unfolding counts_of
   none-counted h =

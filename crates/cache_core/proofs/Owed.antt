@@ -12,46 +12,13 @@ use Rattle.cache_core.specs.Dirty.{is_written, is_dirty, dirty_blocks}
 use Rattle.cache_core.specs.Parts.{dirty_victim, outcome_of, part_count}
 use Rattle.cache_core.specs.Order.{ranked}
 use Rattle.cache_core.specs.Laws.{AccessesPay, FlushesPay, Rises}
-use Rattle.cache_core.proofs.Reuse.{has, has-take, has-filter}
-use Rattle.cache_core.proofs.Shift.{without, IsOnce}
+use Rattle.cache_core.proofs.Reuse.{has, has-take}
+use Rattle.cache_core.proofs.Shift.{IsOnce}
 use Rattle.cache_core.proofs.Ascending.{not-itself, rises-rising, has-rising}
 use Rattle.cache_core.proofs.Flushed.{has-filter_both, filter-has}
 use Rattle.cache_core.proofs.Turns.{renewals-yes, renewals-no, block-fifo}
 use Rattle.cache_core.proofs.Victim.{resident-marked, elsewhere, front-is, later-is, lru-same}
-
--- numbers that stand once, all in another list, are at most as many as that list has
-length-filter_le : (p : ℕ → Bool) (ys : List ℕ) → length (filter p ys) ≤ length ys
-length-filter_le p [] = omega arith
-length-filter_le p (y ∷ ys) = (elim (p y) as (λ t.
-    length (cond t (y ∷ filter p ys) (filter p ys)) ≤ length (y ∷ ys)) [
-      | true ↦ let le = length-filter_le p ys in omega arith
-      | false ↦ let le = length-filter_le p ys in omega arith
-    ])
-
-length-without : (x : ℕ) (ys : List ℕ) → has ys x ≡ true → length (without x ys) + 1 ≤ length ys
-length-without x [] h = cc
-length-without x (y ∷ ys) h = (elim (eqb y x) as (λ t. (t || has ys x) ≡ true
-    → length (cond (not t) (y ∷ without x ys) (without x ys)) + 1 ≤ length (y ∷ ys)) [
-      | true ↦ λ g. let le = length-filter_le (λ n. not (eqb n x)) ys in omega arith
-      | false ↦ λ g. let le = length-without x ys g in omega arith
-    ]) h
-
-pub as_many : (xs ys : List ℕ) → IsOnce xs → ((z : ℕ) → has xs z ≡ true → has ys z ≡ true)
-    → length xs ≤ length ys
-as_many [] ys once inside = omega arith
-as_many (x ∷ xs) ys once inside =
-    let le = length-without x ys (inside x (or_left (eqb x x) (has xs x) (eq-eqb x x refl))) in
-    let rest = as_many xs (without x ys) once.1 (λ z h.
-    has-filter (λ n. not (eqb n x)) z (ap not (apart z h)) ys
-    ∙ inside z (or_right (eqb x z) (has xs z) h)) in
-    omega arith
-  where
-    apart : (z : ℕ) → has xs z ≡ true → eqb z x ≡ false
-    apart z h = (elim (eqb z x) as (λ t. eqb z x ≡ t → t ≡ false) [
-      | true ↦ λ e. absurd (false≢true (sym once.0
-          ∙ subst (λ v. has xs v ≡ true) (eqb-true z x e) h))
-      | false ↦ λ e. refl
-    ]) refl
+use Rattle.cache_core.proofs.Members.{as_many}
 
 rises-once : (xs : List ℕ) → Rises xs → IsOnce xs
 rises-once [] r = tt
@@ -84,12 +51,14 @@ module _ (r : Rules) (h : History) where
   dirty-from y a b c = and_from (r.write_back && is_resident r (renewals r h) y) (is_written r h y)
       (and_from r.write_back (is_resident r (renewals r h) y) a b) c
 
+  -- the list of dirty blocks has each dirty block
   pub dirty-has : (y : ℕ) → is_dirty r h y ≡ true → has (dirty_blocks r h) y ≡ true
   unfolding dirty_blocks
   dirty-has y d = has-rising (filter (is_dirty r h) (renewals r h)) y
       ∙ filter-has (is_dirty r h) (renewals r h) y
       (resident-marked r (renewals r h) y (dirty-parts y d).1) d
 
+  -- and no other
   pub has-dirty : (y : ℕ) → has (dirty_blocks r h) y ≡ true → is_dirty r h y ≡ true
   unfolding dirty_blocks
   has-dirty y g = (has-filter_both (is_dirty r h) (renewals r h) y
@@ -290,9 +259,11 @@ module _ (r : Rules) (h : History) (x : Access) where
   unfolding outcome_of
   pays = pays-made
 
+-- an access sends and leaves dirty at most one block more than was dirty, or two where it writes
 pub accesses_pay : AccessesPay
 accesses_pay r h x = pays r h x
 
+-- after a flush nothing is dirty
 pub flushes_pay : FlushesPay
 unfolding dirty_blocks renewals
 flushes_pay r h = refl

@@ -19,6 +19,7 @@ one-le : (w : Way) → one w ≤ 1
 one-le w = (elim (is_dirty_way w) as (λ t. cond t 1 0 ≤ 1)
     [ true ↦ omega arith | false ↦ omega arith ])
 
+-- the dirty ways of two rows are those of the one and those of the other
 pub dirty_count-append : (xs ys : List Way)
     → dirty_count (xs ++ ys) ≡ dirty_count xs + dirty_count ys
 dirty_count-append [] ys = omega arith
@@ -69,6 +70,7 @@ module _ (xs : List Way) where
   abbrev IsPaid : List Way → Option ℕ → Type 0
   IsPaid ys o = dirty_count ys + cond (is_some o) 1 0 ≤ dirty_count xs + 1
 
+  -- equal rows and equal blocks are paid alike
   pub paid-by : (ys zs : List Way) (o u : Option ℕ) → ys ≡ zs → o ≡ u → IsPaid zs u → IsPaid ys o
   paid-by ys zs o u e f h = subst (λ l. IsPaid l o) (sym e) (subst (λ v. IsPaid zs v) (sym f) h)
 
@@ -87,6 +89,7 @@ module _ (xs : List Way) where
       paid-by _ xs _ None (next-miss fifo wb a w first xs
       ∙ cond-false (not w || a) _ _ e) (out-none wb a w first xs e) (omega arith)
 
+  -- an access to a row leaves dirty, and pushes out, at most one block more than was dirty
   pub paid-row : (fifo wb a w : Bool) (first : ℕ) (seen : Option Way)
       → IsPaid (next_row wb a first w xs seen fifo) (pushed_out wb a first w xs seen)
   paid-row fifo wb a w first None = on-miss fifo wb a w first (not w || a) refl
@@ -96,6 +99,7 @@ module _ (xs : List Way) where
       (next-hit fifo wb a w first xs v) (out-hit wb a w first xs v)
       (on-hit fifo (wb && w) (holds_block first) (held_way first (wb && (w || v.dirty))) xs)
 
+-- so it is for all ways, where it is so for the part of them that was replaced
 pub paid-mid : (a k n : ℕ) (xs ys : List Way)
     → dirty_count ys + n ≤ dirty_count (take k (drop a xs)) + 1
     → dirty_count (put_mid a k xs ys) + n ≤ dirty_count xs + 1
@@ -110,6 +114,7 @@ paid-mid a k n xs ys h =
     ∙ ap dirty_count (take-append-drop k (drop a xs)) in
     omega arith
 
+-- the list of the dirty ways is as long as their number
 pub dirty_count-filter : (xs : List Way)
     → length (map first_of (filter is_dirty_way xs)) ≡ dirty_count xs
 dirty_count-filter [] = refl
@@ -120,10 +125,12 @@ dirty_count-filter (x ∷ xs) = (elim (is_dirty_way x) as (λ t.
       | false ↦ let e = dirty_count-filter xs in omega arith
     ])
 
+-- empty ways are not dirty
 pub dirty_count-replicate : (n : ℕ) → dirty_count (replicate n empty_way) ≡ 0
 dirty_count-replicate zero = refl
 dirty_count-replicate (suc n) = let e = dirty_count-replicate n in omega arith
 
+-- no more ways are dirty than there are
 pub dirty_count-le : (xs : List Way) → dirty_count xs ≤ length xs
 dirty_count-le [] = omega arith
 dirty_count-le (x ∷ xs) = let one = one-le x in let rest = dirty_count-le xs in omega arith

@@ -25,10 +25,12 @@ go k n (suc d) z h e again =
     let r : n / 2 ≡ 0 = none_set k (n / 2) (half k n h) (omega arith) in
     omega arith
 
+-- 0 has no digit set
 pub ones_zero : ones 0 ≡ 0
 unfolding ones
 ones_zero = refl
 
+-- a number with one digit set is 2 to the number of its trailing zeros
 pub power_is : (k n : ℕ) → n < 2 ^ k → ones n ≡ 1 → n ≡ 2 ^ count_trailing_zeros k n
 unfolding count_trailing_zeros
 power_is zero n h e = let s = ones_step n in let z : n ≡ 0 = omega arith in let e' : ones 0 ≡ 1 =

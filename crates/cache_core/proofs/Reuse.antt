@@ -17,6 +17,7 @@ module _ (p : ℕ → Bool) (b : ℕ) (passes : p b ≡ true) where
   at_b : (y : ℕ) → eqb y b ≡ true → p y ≡ true
   at_b y e = subst (λ z. p z ≡ true) (sym (eqb-true y b e)) passes
 
+  -- a filter that b passes keeps b
   pub has-filter : (ys : List ℕ) → has (filter p ys) b ≡ has ys b
   has-filter [] = refl
   has-filter (y ∷ ys) = (elim (p y) as (λ t. p y ≡ t → has (filter p (y ∷ ys)) b ≡ has (y ∷ ys) b) [
@@ -43,6 +44,7 @@ module _ (p : ℕ → Bool) (b : ℕ) (passes : p b ≡ true) where
 other : (m b : ℕ) → eqb m b ≡ false → not (eqb b m) ≡ true
 other m b e = grind (arith, nat_tests)
 
+-- a list without its repetitions has the same members
 pub has-distinct : (ms : List ℕ) (b : ℕ) → has (distinct ms) b ≡ has ms b
 has-distinct [] b = refl
 has-distinct (m ∷ ms) b = (elim (eqb m b) as (λ t. eqb m b ≡ t
@@ -65,6 +67,7 @@ before-distinct (m ∷ ms) b = (elim (eqb m b) as (λ t. eqb m b ≡ t
 ltb-suc : (a b : ℕ) → ltb (suc a) (suc b) ≡ ltb a b
 ltb-suc a b = grind (arith, nat_tests)
 
+-- b is among the first n just where it is there, and fewer than n stand in front of it
 pub has-take : (n : ℕ) (ms : List ℕ) (b : ℕ)
     → has (take n ms) b ≡ (has ms b && ltb (length (before b ms)) n)
 has-take zero ms b = sym (and_right (has ms b) (ltb (length (before b ms)) 0)

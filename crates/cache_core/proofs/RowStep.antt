@@ -10,17 +10,19 @@ use Rattle.cache_core.specs.History.{Rules, History, access, block_of, is_write}
 use Rattle.cache_core.specs.Residents.{hits, uses, renewals}
 use Rattle.cache_core.specs.Dirty.{is_written}
 use Rattle.cache_core.specs.Row.{holds_block, shifted, changed, dirtied, next_row, way_at, row_of}
-use Rattle.cache_core.proofs.Turns.{find-row_of, is_written-used, row_of-unused, row_of-lru}
-use Rattle.cache_core.proofs.Turns.{row_of-load, row_of-fifo_hit}
+use Rattle.cache_core.proofs.RowTurns.{find-row_of, is_written-used, row_of-unused, row_of-lru}
+use Rattle.cache_core.proofs.RowTurns.{row_of-load, row_of-fifo_hit}
 
 changed-same : {X : Type 0} (p : X → Bool) (xs : List X) → changed p (λ w. w) xs ≡ xs
 changed-same p [] = refl
 changed-same p (x ∷ xs) = (elim (p x) as (λ t. cond t (x ∷ xs) (x ∷ changed p (λ w. w) xs) ≡ x ∷ xs)
     [ true ↦ refl | false ↦ ap (λ l. x ∷ l) (changed-same p xs) ])
 
+-- a way that holds the block with this first byte, dirty or not
 abbrev pub held_way : ℕ → Bool → Way
 held_way b d = record { first = b; held = true; dirty = d }
 
+-- the row after an access that hits
 pub next-hit : (fifo wb a w : Bool) (b : ℕ) (row : List Way) (v : Way)
     → next_row wb a b w row (Some v) fifo
     ≡ cond fifo (cond (wb && w) (changed (holds_block b) dirtied row) row)
@@ -34,6 +36,7 @@ next-hit false wb true false b row v = refl
 next-hit false wb false true b row v = refl
 next-hit false wb false false b row v = refl
 
+-- the row after an access that misses
 pub next-miss : (fifo wb a w : Bool) (b : ℕ) (row : List Way)
     → next_row wb a b w row None fifo
     ≡ cond (not w || a) (shifted (holds_block b) (held_way b (wb && w)) row) row
@@ -77,9 +80,11 @@ module _ (r : Rules) (pos : 0 < r.block_size) (h : History) (x : Access) where
   abbrev row : List Way
   row = row_of r h s
 
+  -- an access that hits uses the cache
   pub uses-hit : hits r ms x ≡ true → uses r ms x ≡ true
   uses-hit e = or_right (not w || r.allocate) (hits r ms x) e
 
+  -- one that misses uses it unless it is a write without allocation
   pub uses-miss : hits r ms x ≡ false → uses r ms x ≡ (not w || r.allocate)
   uses-miss e = ap (λ t. not w || r.allocate || t) e ∙ or-false (not w || r.allocate)
 

@@ -16,6 +16,7 @@ module _ {X : Type 0} (n s t : ℕ) (xs ys : List X) (apart : s ≢ t)
   above : t < s → (t + 1) * n ≤ s * n
   above h = mul-le-mul_right n (omega arith)
 
+  -- the other rows are as before
   pub row-put_mid_other : row n s (put_mid (t * n) (t * n + n - t * n) xs ys) ≡ row n s xs
   row-put_mid_other = elim (cases_order s t) [
     | inl same ↦ absurd (apart same)

@@ -17,12 +17,14 @@ use Rattle.cache_core.proofs.Turns.{renewals-yes, renewals-no, ranked-lru}
 use Rattle.cache_core.proofs.Shift.{without, without-absent, IsOnce, IsOnce-take, IsOnce-distinct}
 use Rattle.cache_core.proofs.Shift.{has-take_absent}
 
+-- the test for equality is the same both ways round
 pub eqb-comm : (a b : ℕ) → eqb a b ≡ eqb b a
 eqb-comm a b = (elim (eqb a b) as (λ t. eqb a b ≡ t → t ≡ eqb b a) [
   | true ↦ λ e. sym (eq-eqb b a (sym (eqb-true a b e)))
   | false ↦ λ e. sym (ne_eqb b a (λ same. eqb-false a b e (sym same)))
 ]) refl
 
+-- an entry of the shadow, which marks nothing
 abbrev pub pair : ℕ → ℕ × Unit {0}
 pair b = (b, tt)
 
@@ -177,6 +179,7 @@ module _ (r : Rules) (h : History) (x : Access) (m : ℕ) (size : r.blocks ≡ s
   hit-there = subst (λ z. has (ways_of s z ms) b ≡ is_resident s ms b) (mod_one b)
       (has-ways_of s ms b)
 
+  -- the shadow has the block just where the access hits in the fully associative cache
   pub in_shadow-is : is_some (lookup (nat_eq b) (shown h)) ≡ hits s ms x
   in_shadow-is = is_some-lookup b (ways_of s 0 ms) ∙ hit-there
 
@@ -206,6 +209,7 @@ module _ (r : Rules) (h : History) (x : Access) (m : ℕ) (size : r.blocks ≡ s
         | false ↦ λ e. sym (ap (ranked s 0) (renewals-no s h x e))
       ]) refl
 
+  -- after the access, the shadow has that cache's residents
   pub shadow-step : after_see b (not (is_write x) || r.allocate) r.blocks (shown h)
       ≡ shown (access x ∷ h)
   unfolding load

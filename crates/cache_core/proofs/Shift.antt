@@ -18,6 +18,7 @@ abbrev pub IsOnce : List ℕ → Type 0
 IsOnce [] = Unit {0}
 IsOnce (m ∷ ms) = (has ms m ≡ false) × IsOnce ms
 
+-- a list without b is the same list without b taken out
 pub without-absent : (ms : List ℕ) (b : ℕ) → has ms b ≡ false → without b ms ≡ ms
 without-absent [] b h = refl
 without-absent (m ∷ ms) b h = (elim (eqb m b) as (λ t. eqb m b ≡ t → without b (m ∷ ms) ≡ m ∷ ms) [
@@ -26,6 +27,7 @@ without-absent (m ∷ ms) b h = (elim (eqb m b) as (λ t. eqb m b ≡ t → with
 ]) refl
 
 module _ {X : Type 0} (p : X → Bool) where
+  -- where none of the first n passes, a pass puts c first and drops the last
   pub shifted-none : (n : ℕ) (xs : List X) (c : X) → list_any p (take n xs) ≡ false → n ≤ length xs
       → shifted p c (take n xs) ≡ take n (c ∷ xs)
   shifted-none zero xs c h l = refl
@@ -38,6 +40,7 @@ module _ {X : Type 0} (p : X → Bool) where
             (shifted-none n xs x (sym (rw e refl) ∙ h) (omega arith)))
       ]) refl
 
+  -- and the last leaves
   pub leaving-none : (n : ℕ) (xs : List X) (c : X) → list_any p (take n xs) ≡ false → n ≤ length xs
       → leaving p c (take n xs) ≡ get_or (c ∷ xs) n c
   leaving-none zero xs c h l = refl
@@ -50,6 +53,7 @@ module _ {X : Type 0} (p : X → Bool) where
             ∙ get_or_default (x ∷ xs) n x c (omega arith))
       ]) refl
 
+  -- where none passes, nothing is changed
   pub changed-none : (g : X → X) (xs : List X) → list_any p xs ≡ false → changed p g xs ≡ xs
   changed-none g [] h = refl
   changed-none g (x ∷ xs) h = (elim (p x) as (λ t. p x ≡ t → changed p g (x ∷ xs) ≡ x ∷ xs) [
@@ -59,6 +63,7 @@ module _ {X : Type 0} (p : X → Bool) where
 
 -- a row holds a way for each of some blocks, and then empty ones, cut at a length
 module _ {X : Type 0} (f : ℕ → X) (empty : X) (k : ℕ) where
+  -- a way for each of these blocks, and then k empty ones
   abbrev pub padded : List ℕ → List X
   padded ms = map f ms ++ replicate k empty
 
@@ -83,6 +88,7 @@ module _ {X : Type 0} (f : ℕ → X) (empty : X) (k : ℕ) where
     find-replicate (suc n) zero = refl
     find-replicate (suc n) (suc j) = rw none (find-replicate n j)
 
+    -- a search finds b's way just where b is among the first
     pub find-padded : (n : ℕ) (ms : List ℕ)
         → find p (take n (padded ms)) ≡ cond (has (take n ms) b) (Some (f b)) None
     find-padded zero ms = refl
@@ -126,6 +132,7 @@ module _ {X : Type 0} (f : ℕ → X) (empty : X) (k : ℕ) where
       abbrev padded' : List ℕ → List X
       padded' ms = map f' ms ++ replicate k empty
 
+      -- two makers of ways that agree but for b agree on a list without b
       pub map-without : (ms : List ℕ) → map f' (without b ms) ≡ map f (without b ms)
       map-without [] = refl
       map-without (m ∷ ms) = (elim (eqb m b) as (λ t. eqb m b ≡ t
@@ -162,6 +169,7 @@ module _ {X : Type 0} (f : ℕ → X) (empty : X) (k : ℕ) where
                 (ap (λ l. f m ∷ l) (changed-padded g same n ms o.1))
           ]) refl
 
+-- a filter that b does not pass takes b out
 pub has-filter_not : (p : ℕ → Bool) (b : ℕ) → p b ≡ false → (ys : List ℕ)
     → has (filter p ys) b ≡ false
 has-filter_not p b fails [] = refl
@@ -184,6 +192,7 @@ has-filter_absent p b (y ∷ ys) h = let parts = or_parts (eqb y b) (has ys b) h
       | false ↦ λ e. rw e (has-filter_absent p b ys parts.1)
     ]) refl
 
+-- what is not in a list is not among its first
 pub has-take_absent : (n : ℕ) (b : ℕ) (ys : List ℕ) → has ys b ≡ false → has (take n ys) b ≡ false
 has-take_absent n b ys h = has-take n ys b ∙ and_left (has ys b) (ltb (length (before b ys)) n) h
 
@@ -194,11 +203,13 @@ IsOnce-filter p (y ∷ ys) o = (elim (p y) as (λ t. p y ≡ t → IsOnce (filte
   | false ↦ λ e. rw e (IsOnce-filter p ys o.1)
 ]) refl
 
+-- where no number stands twice, none does among the first
 pub IsOnce-take : (n : ℕ) (ys : List ℕ) → IsOnce ys → IsOnce (take n ys)
 IsOnce-take zero ys o = tt
 IsOnce-take (suc n) [] o = tt
 IsOnce-take (suc n) (y ∷ ys) o = (has-take_absent n y ys o.0, IsOnce-take n ys o.1)
 
+-- in a list without its repetitions no number stands twice
 pub IsOnce-distinct : (ys : List ℕ) → IsOnce (distinct ys)
 IsOnce-distinct [] = tt
 IsOnce-distinct (y ∷ ys) = (
@@ -207,6 +218,7 @@ IsOnce-distinct (y ∷ ys) = (
   IsOnce-filter (λ n. not (eqb n y)) (distinct ys) (IsOnce-distinct ys),
 )
 
+-- the first n behind a front are the same if the list was cut at n before
 pub take-cons_take : {X : Type 0} (n : ℕ) (c : X) (xs : List X)
     → take n (c ∷ take n xs) ≡ take n (c ∷ xs)
 take-cons_take zero c xs = refl

@@ -15,11 +15,13 @@ use Rattle.cache_core.specs.Counts.{tally, counts_of, flushes_in, flushed_back}
 use Rattle.cache_core.specs.Row.{holds_block, leaving, dirty_block, next_row, pushed_out, row}
 use Rattle.cache_core.specs.Row.{outcome_made, way_at, row_of}
 use Rattle.cache_core.specs.Counting.{with_access, with_flush}
-use Rattle.cache_core.proofs.Turns.{block-fifo, block-lru, unused-block, hit-block, find-row_of}
-use Rattle.cache_core.proofs.Turns.{row_of-other}
+use Rattle.cache_core.proofs.Turns.{block-fifo, block-lru}
+use Rattle.cache_core.proofs.RowTurns.{unused-block, hit-block, find-row_of, row_of-other}
 use Rattle.cache_core.proofs.RowStep.{held_way, row_of-next, uses-hit, uses-miss}
-use Rattle.cache_core.proofs.Victim.{unmarked, lru-hit, out-is}
+use Rattle.cache_core.proofs.PushedOut.{out-is}
+use Rattle.cache_core.proofs.Victim.{unmarked, lru-hit}
 
+-- a hit pushes nothing out
 pub out-hit : (wb a w : Bool) (first : ℕ) (row : List Way) (v : Way)
     → pushed_out wb a first w row (Some v) ≡ None
 out-hit wb true true first row v = refl
@@ -27,6 +29,7 @@ out-hit wb true false first row v = refl
 out-hit wb false true first row v = refl
 out-hit wb false false first row v = refl
 
+-- a load pushes out the block that leaves, if it is dirty
 pub out-miss : (wb a w : Bool) (first : ℕ) (row : List Way) → (not w || a) ≡ true
     → pushed_out wb a first w row None
     ≡ dirty_block (leaving (holds_block first) (held_way first (wb && w)) row)
@@ -35,6 +38,7 @@ out-miss wb true false first row h = refl
 out-miss wb false true first row h = cc
 out-miss wb false false first row h = refl
 
+-- a write that passes by pushes nothing out
 pub out-none : (wb a w : Bool) (first : ℕ) (row : List Way) → (not w || a) ≡ false
     → pushed_out wb a first w row None ≡ None
 out-none wb true true first row h = cc
@@ -43,16 +47,19 @@ out-none wb false true first row h = refl
 out-none wb false false first row h = cc
 
 module _ (r : Rules) (h : History) (x : Access) where
+  -- an outcome hits where the definitions say that the access hits
   pub outcome_of-hit : (outcome_of r h x).hit ≡ hits r (renewals r h) x
   unfolding outcome_of
   outcome_of-hit = refl
 
+  -- the counts with one outcome more are those after the access
   pub counts-step : with_access x (outcome_of r h x) (counts_of r h) ≡ counts_of r (access x ∷ h)
   unfolding counts_of tally flushes_in flushed_back
   counts-step = ap (λ n. record (counts_of r (access x ∷ h)) { written_back = n })
       (sym (add_assoc (one_if (is_some (outcome_of r h x).back))
       (tally (λ g y. is_some (outcome_of r g y).back) h) (flushed_back r h)))
 
+-- with one flush more, those after the flush
 pub flush-counts : (r : Rules) (h : History) (n : ℕ) → n ≡ length (dirty_blocks r h)
     → with_flush n (counts_of r h) ≡ counts_of r (flush ∷ h)
 unfolding counts_of tally flushes_in flushed_back
@@ -96,6 +103,7 @@ module _ (r : Rules) (pos : 0 < r.block_size) (m : ℕ) (size : r.ways ≡ suc m
   seen-is : seen ≡ cond (hits r ms x) (Some (way_at r h b)) None
   seen-is = find-row_of r pos h b
 
+  -- the set's row has the block just where the access hits
   pub hit-is : is_some seen ≡ hits r ms x
   hit-is = ap is_some seen-is ∙ (elim (hits r ms x) as (λ t.
       is_some (cond t (Some (way_at r h b)) None) ≡ t) [ true ↦ refl | false ↦ refl ])
@@ -150,6 +158,8 @@ module _ (r : Rules) (pos : 0 < r.block_size) (m : ℕ) (size : r.ways ≡ suc m
       (list_any (λ t. nat_eq t b) (known_blocks r h))
       (hits (shadow_of r) (renewals (shadow_of r) h) x)) back-is
 
+  -- where the row of its set took the step and the others stayed, the rows are those after the
+  -- access
   pub rows-step : (xs ys : List Way) → ((t : ℕ) → t < r.sets → row r.ways t xs ≡ row_of r h t)
       → row r.ways s ys ≡ next_row r.write_back r.allocate first w (row r.ways s xs)
       (find (holds_block first) (row r.ways s xs)) r.fifo

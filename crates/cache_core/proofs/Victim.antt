@@ -1,89 +1,25 @@
 -- The block that leaves is the last of a full row.
-use Rattle.std.proofs.Common.{◌≡◌, ℕ, zero, suc, ◌*◌, ◌-◌, ◌%◌, ◌<◌, ◌≤◌, Bool, true, false, cond}
-use Rattle.std.proofs.Common.{not, ◌&&◌, ◌||◌, eqb, ltb, List, [], ◌∷◌, ◌++◌, length, take, map}
-use Rattle.std.proofs.Common.{replicate, get_or, Some, None, inl, inr, refl, sym, ap, subst, ◌∙◌}
-use Rattle.std.proofs.Common.{add-one, arith}
-use Rattle.std.specs.List.{find, list_any}
-use Rattle.std.proofs.lemmas.Bool.{eqb-true, eq-eqb, false≢true, or_parts, or_from, or_left}
-use Rattle.std.proofs.lemmas.Bool.{or_right, true_from_ne_false, false_from_ne_true, cond-true}
-use Rattle.std.proofs.lemmas.Bool.{and_parts, and_right, ltb-true, cases_lt}
-use Rattle.std.proofs.lemmas.List.{take_more, take_all, take-take, length-map, get_or-append_right}
-use Rattle.std.proofs.lemmas.List.{get_or_append_left, get_or-map, get_or-replicate}
+use Rattle.std.proofs.Common.{◌≡◌, ℕ, zero, suc, ◌-◌, ◌%◌, ◌<◌, ◌≤◌, Bool, true, false, not, ◌&&◌}
+use Rattle.std.proofs.Common.{◌||◌, eqb, ltb, List, [], ◌∷◌, ◌++◌, length, take, get_or, Some, None}
+use Rattle.std.proofs.Common.{inl, inr, refl, sym, ap, subst, ◌∙◌, add-one, arith}
+use Rattle.std.proofs.lemmas.Bool.{eqb-true, eq-eqb, false≢true, or_parts, or_left, or_right}
+use Rattle.std.proofs.lemmas.Bool.{true_from_ne_false, false_from_ne_true, cond-true, and_parts}
+use Rattle.std.proofs.lemmas.Bool.{and_right, ltb-true, cases_lt}
+use Rattle.std.proofs.lemmas.List.{take_more, take_all, take-take}
 use Rattle.cache_core.specs.declared.access.Access.{Access}
-use Rattle.cache_core.specs.declared.ways.Way.{Way}
 use Rattle.cache_core.specs.History.{Rules, History, access, block_of}
 use Rattle.cache_core.specs.Residents.{leaves, renews, before, hits, uses, renewals, is_resident}
 use Rattle.cache_core.specs.Residents.{reuse_distance, victim}
-use Rattle.cache_core.specs.Dirty.{is_written, is_dirty}
-use Rattle.cache_core.specs.Parts.{dirty_victim}
 use Rattle.cache_core.specs.Order.{ranked}
-use Rattle.cache_core.specs.Row.{holds_block, empty_way, leaving, dirty_block, way_at, row_of}
-use Rattle.cache_core.proofs.Reuse.{has, has-take, has-ways_of, has-filter}
-use Rattle.cache_core.proofs.Shift.{without, IsOnce, has-take_absent, padded, any-padded}
-use Rattle.cache_core.proofs.Shift.{leaving-none}
+use Rattle.cache_core.proofs.Reuse.{has, has-take, has-ways_of}
+use Rattle.cache_core.proofs.Shift.{without, IsOnce, has-take_absent}
 use Rattle.cache_core.proofs.Shadow.{eqb-comm, take-without_there, take-without_absent}
 use Rattle.cache_core.proofs.Turns.{renewals-yes, renewals-no, block-fifo, block-lru, ranked-fifo}
 use Rattle.cache_core.proofs.Turns.{ranked-lru, ranked-other, IsOnce-ranked, IsOnce-ways_of, absent}
-use Rattle.cache_core.proofs.Turns.{at_block, room}
+use Rattle.cache_core.proofs.Members.{find-one, find-nothing, and-not, has-append, has-moved}
+use Rattle.cache_core.proofs.Members.{last-new, only-last, none-last}
 
--- a search for one number
-find-one : (test : ℕ → Bool) (v : ℕ) → ((y : ℕ) → test y ≡ eqb v y) → (ms : List ℕ)
-    → find test ms ≡ cond (has ms v) (Some v) None
-find-one test v same [] = refl
-find-one test v same (m ∷ ms) =
-    (elim (eqb m v) as (λ t. eqb m v ≡ t
-    → find test (m ∷ ms) ≡ cond (has (m ∷ ms) v) (Some v) None) [
-      | true ↦ λ e. rw (same m, eqb-comm v m, e) (ap (λ z. Some z) (eqb-true m v e))
-      | false ↦ λ e. rw (same m, eqb-comm v m, e) (find-one test v same ms)
-    ]) refl
-
-find-nothing : (test : ℕ → Bool) → ((y : ℕ) → test y ≡ false) → (ms : List ℕ) → find test ms ≡ None
-find-nothing test none [] = refl
-find-nothing test none (m ∷ ms) = rw (none m) (find-nothing test none ms)
-
-and-not : (t : Bool) → (t && not t) ≡ false
-and-not true = refl
-and-not false = refl
-
-has-append : (xs ys : List ℕ) (b : ℕ) → has (xs ++ ys) b ≡ (has xs b || has ys b)
-has-append [] ys b = refl
-has-append (x ∷ xs) ys b = (elim (eqb x b) as (λ t. (t || has (xs ++ ys) b)
-    ≡ (t || has xs b || has ys b)) [ true ↦ refl | false ↦ has-append xs ys b ])
-
--- b in front and taken out behind it: the same members
-has-moved : (b y : ℕ) (ys : List ℕ) → has ys b ≡ true → has (b ∷ without b ys) y ≡ has ys y
-has-moved b y ys h = (elim (eqb b y) as (λ t. eqb b y ≡ t
-    → (t || has (without b ys) y) ≡ has ys y) [
-      | true ↦ λ e. sym (subst (λ z. has ys z ≡ true) (eqb-true b y e) h)
-      | false ↦ λ e. has-filter (λ n. not (eqb n b)) y (ap not (eqb-comm y b ∙ e)) ys
-    ]) refl
-
--- the last of a list in which no number stands twice
-last-new : (xs : List ℕ) (v : ℕ) → IsOnce (xs ++ v ∷ []) → has xs v ≡ false
-last-new [] v o = refl
-last-new (x ∷ xs) v o = or_from (eqb x v) (has xs v) (eqb-comm x v
-    ∙ (or_parts (eqb v x) false (or_parts (has xs x) (has (v ∷ []) x)
-    (sym (has-append xs (v ∷ []) x) ∙ o.0)).1).0) (last-new xs v o.1)
-
-only-last : (p q c : Bool) → (q ≡ true → (p ≡ false) × (c ≡ false))
-    → ((p || (q || false)) && not (c || p)) ≡ q
-only-last true true c h = absurd (false≢true (sym (h refl).0))
-only-last false true true h = absurd (false≢true (sym (h refl).1))
-only-last false true false h = refl
-only-last true false true h = refl
-only-last true false false h = refl
-only-last false false true h = refl
-only-last false false false h = refl
-
-none-last : (p c : Bool) → (p && not (c || p)) ≡ false
-none-last true true = refl
-none-last true false = refl
-none-last false c = refl
-
-mid-true : (wb t w : Bool) → t ≡ true → (wb && t && w) ≡ (wb && w)
-mid-true wb t w e = ap (λ z. wb && z && w) e
-    ∙ (elim wb as (λ q. (q && true && w) ≡ (q && w)) [ true ↦ refl | false ↦ refl ])
-
+-- a resident block was renewed
 pub resident-marked : (r : Rules) (ms : List ℕ) (y : ℕ) → is_resident r ms y ≡ true
     → has ms y ≡ true
 unfolding is_resident
@@ -120,6 +56,7 @@ module _ (r : Rules) (h : History) (x : Access) where
   idle-stays e y = ap (λ l. is_resident r ms y && not (is_resident r l y)) (renewals-no r h x e)
       ∙ and-not (is_resident r ms y)
 
+  -- where the access renews nothing, no block leaves
   pub unmarked : renews r ms x ≡ false → victim r h x ≡ None
   unmarked e = victim-none (idle-stays e)
 
@@ -130,6 +67,8 @@ module _ (r : Rules) (h : History) (x : Access) where
       ∙ ap (λ l. has (take r.ways l) y) (ranked-other r (y % r.sets) b ms e) ∙ has-ways_of r ms y
 
   module _ (m : ℕ) (size : r.ways ≡ suc m) where
+    -- a block of this set is resident before the access just where it is among the first of the
+    -- order
     pub front-is : (y : ℕ) → eqb s (y % r.sets) ≡ true
         → is_resident r ms y ≡ has (take (suc m) ranks) y
     front-is y e = sym (has-ways_of r ms y)
@@ -148,6 +87,7 @@ module _ (r : Rules) (h : History) (x : Access) where
       front-hit : has (take (suc m) ranks) b ≡ true
       front-hit = sym (front-is b (eq-eqb s s refl)) ∙ hit
 
+      -- the residents of the set stay
       pub lru-same : (y : ℕ) → eqb s (y % r.sets) ≡ true
           → is_resident r (b ∷ ms) y ≡ is_resident r ms y
       lru-same y e = after-is y e (without b ranks) (ranked-lru r b ms f)
@@ -168,12 +108,14 @@ module _ (r : Rules) (h : History) (x : Access) where
       hit-stays e y = ap (λ l. is_resident r ms y && not (is_resident r l y)) (renewals-yes r h x e)
           ∙ stays y
 
+      -- so no block leaves
       pub lru-hit : uses r ms x ≡ true → victim r h x ≡ None
       lru-hit u = victim-none (hit-stays (block-lru r ms x true f u))
 
     -- a load
     module _ (miss : hits r ms x ≡ false) (yes : renews r ms x ≡ true) where
-      front-b : has (take (suc m) ranks) b ≡ false
+      -- it stands in no way of its set
+      pub front-b : has (take (suc m) ranks) b ≡ false
       front-b = sym (front-is b (eq-eqb s s refl)) ∙ miss
 
       shorter : take m (take (suc m) ranks) ≡ take m ranks
@@ -194,6 +136,7 @@ module _ (r : Rules) (h : History) (x : Access) where
             )
           ]) refl
 
+      -- after it, b is resident, and so are the first of the order, one less than the set has ways
       pub later-is : (y : ℕ) → eqb s (y % r.sets) ≡ true
           → is_resident r (b ∷ ms) y ≡ (eqb b y || has (take m ranks) y)
       later-is y e = after-is y e behind.0 behind.1 ∙ ap (λ l. eqb b y || has l y) behind.2
@@ -222,7 +165,8 @@ module _ (r : Rules) (h : History) (x : Access) where
           (take_all (suc m) ranks (omega arith) ∙ sym (take_all m ranks le))
           ∙ none-last (has (take m ranks) y) (eqb b y))
 
-      load-room : length ranks ≤ m → victim r h x ≡ None
+      -- then none leaves
+      pub load-room : length ranks ≤ m → victim r h x ≡ None
       load-room le = victim-none (room-stays le)
 
       module _ (full : m < length ranks) where
@@ -248,7 +192,8 @@ module _ (r : Rules) (h : History) (x : Access) where
         last-set = true_from_ne_false (eqb (last % r.sets) s) (λ e.
             false≢true (sym (absent r s last ms e) ∙ last-ranked))
 
-        last-resident : is_resident r ms last ≡ true
+        -- the row is full, and its last block is resident
+        pub last-resident : is_resident r ms last ≡ true
         last-resident = front-is last (eqb-comm s (last % r.sets) ∙ last-set) ∙ last-front
 
         last-marked : has ms last ≡ true
@@ -276,7 +221,8 @@ module _ (r : Rules) (h : History) (x : Access) where
               subst (λ z. eqb b z ≡ false) same not-b,
             )))
 
-        load-full : victim r h x ≡ Some last
+        -- then that one leaves
+        pub load-full : victim r h x ≡ Some last
         load-full = victim-one last full-leaves last-marked
 
       -- a load makes one block leave at most
@@ -286,47 +232,6 @@ module _ (r : Rules) (h : History) (x : Access) where
             ∙ eqb-true _ z (sym (full-leaves full z) ∙ q)
         | inr le ↦ absurd (false≢true (sym (room-stays le y) ∙ p))
       ]
-
-      -- what the code pushes out is the victim, if it was dirty
-      module _ (pos : 0 < r.block_size) (c : Way) where
-        abbrev first : ℕ
-        first = b * r.block_size
-
-        abbrev shown : List Way
-        shown = padded (way_at r h) empty_way r.ways ranks
-
-        none_here : list_any (holds_block first) (take r.ways shown) ≡ false
-        none_here = any-padded (way_at r h) empty_way r.ways (holds_block first) b
-            (at_block r pos h b) refl r.ways ranks ∙ ap (λ n. has (take n ranks) b) size ∙ front-b
-
-        leaving-is : leaving (holds_block first) c (row_of r h s) ≡ get_or shown m c
-        unfolding row_of
-        leaving-is = leaving-none (holds_block first) r.ways shown c none_here (room r pos h x)
-            ∙ ap (λ n. get_or (c ∷ shown) n c) size
-
-        out-full : m < length ranks → dirty_block (leaving (holds_block first) c (row_of r h s))
-            ≡ dirty_victim r h (victim r h x)
-        unfolding is_dirty
-        out-full full = ap dirty_block (leaving-is
-            ∙ get_or_append_left (map (way_at r h) ranks) (replicate r.ways empty_way) c m
-            (omega (arith, length-map ranks (way_at r h)))
-            ∙ get_or-map (way_at r h) ranks m 0 c full)
-            ∙ ap (λ t. cond t (Some (get_or ranks m 0 * r.block_size)) None)
-            (sym (mid-true r.write_back (is_resident r ms (get_or ranks m 0))
-            (is_written r h (get_or ranks m 0)) (last-resident full)))
-            ∙ sym (ap (dirty_victim r h) (load-full full))
-
-        out-room : length ranks ≤ m → dirty_block (leaving (holds_block first) c (row_of r h s))
-            ≡ dirty_victim r h (victim r h x)
-        out-room le = ap dirty_block (leaving-is
-            ∙ get_or-append_right (map (way_at r h) ranks) (replicate r.ways empty_way)
-            (length ranks) m c (length-map ranks (way_at r h)) le
-            ∙ get_or-replicate r.ways (m - length ranks) empty_way c (omega arith))
-            ∙ sym (ap (dirty_victim r h) (load-room le))
-
-        pub out-is : dirty_block (leaving (holds_block first) c (row_of r h s))
-            ≡ dirty_victim r h (victim r h x)
-        out-is = elim (cases_lt m (length ranks)) [ inl l ↦ out-full l | inr l ↦ out-room l ]
 
   no_way : r.ways ≡ 0 → (y : ℕ) → is_resident r ms y ≡ true → ⊥
   unfolding is_resident
@@ -349,5 +254,6 @@ module _ (r : Rules) (h : History) (x : Access) where
     ]) refl
   ]) refl
 
+  -- at most one block leaves
   pub only-one : (y z : ℕ) → leaves r h x y ≡ true → leaves r h x z ≡ true → y ≡ z
   only-one y z p q = only-one_by r.ways refl y z p q

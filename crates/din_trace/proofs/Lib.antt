@@ -12,4 +12,5 @@ pub mod Calls
 pub mod WritesLemmas
 pub mod Tables
 pub mod Plains
+pub mod Passed
 pub mod Told

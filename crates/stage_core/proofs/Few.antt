@@ -66,6 +66,7 @@ abbrev weights : List Event → ℕ
 weights [] = 0
 weights (e ∷ es) = weight e + weights es
 
+-- a label asks a side for one access or flush at most
 pub few-asked : (s : Side) (l : Label) (a : ℕ) → length (asked_by s l a) ≤ 1
 few-asked side.I label.Read a = omega arith
 few-asked side.I label.Write a = omega arith
@@ -86,6 +87,7 @@ few-weights label.Instr a = omega arith
 few-weights label.Misc a = omega arith
 few-weights label.Flush a = omega arith
 
+-- so a side has at most as many accesses and flushes as there are events
 pub few-history : (s : Side) (es : List DinRecord) → length (history s es) ≤ length es
 few-history s [] = omega arith
 few-history s (e ∷ es) =
@@ -170,6 +172,7 @@ module _ (accesses : AccessesPay) (flushes : FlushesPay) where
   unfolding dirty_blocks renewals
   nothing-owed r = refl
 
+  -- the second level sees at most two requests for each event
   pub few-seen : SecondLevelSeesFew
   few-seen c es =
       omega (
@@ -207,5 +210,6 @@ few-along s before (x ∷ xs) =
       length-append (events_at s before x) (along (events_at s) (before ++ x ∷ []) xs),
     )
 
+-- a selection makes at most two events of each record
 pub few-events : SelectionsMakeFew
 few-events s records = few-along s [] records

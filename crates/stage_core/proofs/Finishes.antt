@@ -62,6 +62,7 @@ no-finish-answered parts s before p (e ∷ asks) =
     (no-finish-numbered p 1 _ (parts s (history s before) e))
     (no-finish-answered parts s before p asks)
 
+-- the stream of each ring has one Finish, and ends with it
 pub finish-ends : FinishEndsEachStream
 finish-ends parts s es = (
   record { before = map (λ e. turn_of e.label) es; last = refl; only = no-last-turns es },

@@ -94,5 +94,6 @@ module _ (parts : Parts) where
   law before [] = refl
   law before (e ∷ es) = one e.label e.addr before es (law (before ++ e ∷ []) es)
 
+-- the merge's rule takes just what the second level is to see, and uses the streams up
 pub merged-streams : MergeTakesWhatIsSeen
 merged-streams parts es = law parts [] es

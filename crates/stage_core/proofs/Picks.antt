@@ -9,6 +9,7 @@ use Rattle.stage_core.specs.declared.selection.Picked.{Picked}
 use Rattle.stage_core.specs.declared.selection.Selection.{Selection}
 use Rattle.stage_core.proofs.Place.{over-more}
 
+-- one record more adds the event and the flush that the selection makes of it
 pub events-more : (s : Selection) (before : List DinRecord) (next : DinRecord) (p : Picked)
     (flushes : List DinRecord) → flushes ≡ one_if p.flush inserted_flush
     → p ≡ picked s (count_by is_reference (before ++ next ∷ [])) next

@@ -1,7 +1,7 @@
 -- The merge's rule as a list of pops: each of the ring that is wanted when it comes.
 use Rattle.std.proofs.Common.{◌≡◌, ℕ, zero, suc, ◌+◌, ◌<◌, List, [], ◌∷◌, ◌++◌, length, refl, sym}
 use Rattle.std.proofs.Common.{ap, ◌∙◌, append_assoc, arith, subst}
-use Rattle.stage_core.specs.Pushes.{for_side}
+use Rattle.stage_core.specs.Network.Pushes.{for_side}
 use Rattle.stage_core.specs.Merging.{Merged, merged, all_used, up_to_end, stops, Stand, AtOrder}
 use Rattle.stage_core.specs.Merging.{AtI, AtD, AtBoth, LastI, LastD, AtEnd, wanted, after_turn}
 use Rattle.stage_core.specs.Merging.{after_message, what_in}
@@ -27,6 +27,7 @@ continue LastI o i d = up_to_end i (stops LastI o [] d)
 continue LastD o i d = up_to_end d (stops LastD o i []) (λ d'. stops AtEnd o i d')
 continue AtEnd o i d = stops AtEnd o i d
 
+-- the same answer of the rule, with these taken first
 abbrev pub with_whats : List What → Merged → Merged
 with_whats ws m = record m { taken = ws ++ m.taken }
 
@@ -110,30 +111,36 @@ pub data Pop : Type 0 where
   Turned : Turn → Pop
   From : Side → FromStage → Pop
 
+-- the ring of a side
 abbrev pub want_of : Side → Want
 want_of side.I = want.I
 want_of side.D = want.D
 
+-- the turns that were popped
 abbrev pub turns_of : List Pop → List Turn
 turns_of [] = []
 turns_of (Turned t ∷ ps) = t ∷ turns_of ps
 turns_of (From s m ∷ ps) = turns_of ps
 
+-- the messages that were popped from a side
 abbrev pub from_of : Side → List Pop → List FromStage
 from_of s [] = []
 from_of s (Turned t ∷ ps) = from_of s ps
 from_of s (From r m ∷ ps) = for_side s r m ++ from_of s ps
 
+-- what the popped messages brought
 abbrev pub whats_of : List Pop → List What
 whats_of [] = []
 whats_of (Turned t ∷ ps) = whats_of ps
 whats_of (From s m ∷ ps) = what_in m ++ whats_of ps
 
+-- where the merge stands after these pops
 abbrev pub stand_after : Stand → List Pop → Stand
 stand_after at [] = at
 stand_after at (Turned t ∷ ps) = stand_after (after_turn t) ps
 stand_after at (From s m ∷ ps) = stand_after (after_message at m) ps
 
+-- each pop is of the ring that is wanted when it comes
 abbrev pub Lawful : Stand → List Pop → Type 0
 Lawful at [] = Unit {0}
 Lawful at (Turned t ∷ ps) = (wanted at ≡ want.Order) × Lawful (after_turn t) ps
@@ -250,11 +257,13 @@ Lawful-more [] at p h l = l
 Lawful-more (Turned t ∷ ps) at p h l = (h.0, Lawful-more ps (after_turn t) p h.1 l)
 Lawful-more (From s m ∷ ps) at p h l = (h.0, Lawful-more ps (after_message at m) p h.1 l)
 
+-- the turns of two lists of pops are those of the first, and then those of the second
 pub turns_of-append : (ps qs : List Pop) → turns_of (ps ++ qs) ≡ turns_of ps ++ turns_of qs
 turns_of-append [] qs = refl
 turns_of-append (Turned t ∷ ps) qs = ap (λ x. t ∷ x) (turns_of-append ps qs)
 turns_of-append (From s m ∷ ps) qs = turns_of-append ps qs
 
+-- so are a side's messages
 pub from_of-append : (s : Side) (ps qs : List Pop)
     → from_of s (ps ++ qs) ≡ from_of s ps ++ from_of s qs
 from_of-append s [] qs = refl
@@ -262,12 +271,14 @@ from_of-append s (Turned t ∷ ps) qs = from_of-append s ps qs
 from_of-append s (From r m ∷ ps) qs = ap (λ x. for_side s r m ++ x) (from_of-append s ps qs)
     ∙ sym (append_assoc (for_side s r m) _ _)
 
+-- so is what they brought
 pub whats_of-append : (ps qs : List Pop) → whats_of (ps ++ qs) ≡ whats_of ps ++ whats_of qs
 whats_of-append [] qs = refl
 whats_of-append (Turned t ∷ ps) qs = whats_of-append ps qs
 whats_of-append (From s m ∷ ps) qs = ap (λ x. what_in m ++ x) (whats_of-append ps qs)
     ∙ sym (append_assoc (what_in m) _ _)
 
+-- where the merge stands after two lists of pops is where the second leads from the first
 pub stand_after-append : (ps qs : List Pop) (at : Stand)
     → stand_after at (ps ++ qs) ≡ stand_after (stand_after at ps) qs
 stand_after-append [] qs at = refl

@@ -29,10 +29,12 @@ asked-more f xs x =
     ∙ ap (λ l. flat_map f xs ++ l) (append-nil (f x)))
     ∙ reverse-append (flat_map f xs) (f x)
 
+-- one message more adds what it asks for to what a stage was asked
 pub taken_in-more : (ms : List ToStage) (m : ToStage)
     → taken_in (ms ++ m ∷ []) ≡ newest_first (asked_in m) ++ taken_in ms
 taken_in-more ms m = asked-more asked_in ms m
 
+-- one event more adds what it asks for to a side's history
 pub history-more : (s : Side) (es : List DinRecord) (e : DinRecord)
     → history s (es ++ e ∷ []) ≡ newest_first (asked s e) ++ history s es
 history-more s es e = asked-more (asked s) es e

@@ -110,6 +110,7 @@ module _ (parts : Parts) (s : Side) where
       ∙ sym (append_assoc (answered parts s before e)
       (along (answered parts s) (before ++ e ∷ []) es) (from_stage.Finish ∷ []))
 
+-- what a stage answers to its whole stream is the whole stream to the merge
 pub replies-to_side : StagesAnswerTheirStreams
 replies-to_side parts s es = replies-along parts s [] es
 

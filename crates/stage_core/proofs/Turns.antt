@@ -36,6 +36,7 @@ reply-turn parts s before at (to_stage.Ref place c a) wants = numbered-turn at p
 reply-turn parts s before at (to_stage.Flush place) wants = numbered-turn at place 1 _ _ wants
 reply-turn parts s before at to_stage.Finish wants = record { wanted = (wants, tt); after = refl }
 
+-- the same of a message that an option holds
 pub option-turn : (parts : Parts) (s : Side) (before : List ToStage) (at : Stand) (m : ToStage)
     {o : Option ToStage} {ms : List FromStage} → o ≡ Some m → ms ≡ reply parts s before m
     → WantsAnswers at (option_to_list o) → IsTurn at ms

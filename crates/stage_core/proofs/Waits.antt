@@ -1,118 +1,31 @@
--- Threads that wait are never stuck: to the merge, what is held in an outbox is as if it waited in
--- the ring.
-use Rattle.std.proofs.Common.{◌≡◌, ℕ, ◌<◌, ◌⊎◌, inl, inr, Bool, true, false, List, [], ◌∷◌}
-use Rattle.std.proofs.Common.{◌++◌, map, length, refl, sym, ap, ◌∙◌, append_assoc, append-nil}
-use Rattle.std.proofs.Common.{arith}
-use Rattle.std.proofs.Common.{length-append, ◌≢◌}
-use Rattle.std.proofs.lemmas.List.{nil_from_length, append_cancel_right}
+-- Threads that wait are never stuck.
+use Rattle.std.proofs.Common.{◌≡◌, ℕ, ◌<◌, ◌⊎◌, inl, inr, Bool, true, false, List, [], ◌∷◌, ◌++◌}
+use Rattle.std.proofs.Common.{length, refl, sym, ap, ◌∙◌, arith, length-append}
+use Rattle.std.proofs.lemmas.List.{nil_from_length}
 use Rattle.din_trace.specs.declared.record.DinRecord.{DinRecord}
-use Rattle.stage_core.specs.Places.{over, one_if}
 use Rattle.stage_core.specs.Seen.{Parts}
-use Rattle.stage_core.specs.Streams.{turn_of, told, replies}
-use Rattle.stage_core.specs.Pushes.{Push, pushes, pushes_at, ending, turns_in, sent_to}
+use Rattle.stage_core.specs.Network.Pushes.{turns_in}
 use Rattle.stage_core.specs.Merging.{wanted}
-use Rattle.stage_core.specs.Rings.{carried}
-use Rattle.stage_core.specs.Network.{Network, Lane, lane, finish_taken, Consistent, IsFinished}
+use Rattle.stage_core.specs.Network.{Lane, lane, finish_taken, Consistent, IsFinished}
 use Rattle.stage_core.specs.Waiting.{Sender, HasPosted, HasAnswered, HasMerged, HasPublished}
 use Rattle.stage_core.specs.Waiting.{splitter_holds, Threads, RingsCarry, NoRoom, NothingFor}
 use Rattle.stage_core.specs.Waiting.{SplitterWaits, StageWaits, MergeWaits, SplitterEnded}
 use Rattle.stage_core.specs.Waiting.{StageEnded, MergeEnded, NoneGoesOn, AllEnded}
-use Rattle.stage_core.specs.NetworkLaws.{WaitingThreadsHaveEnded, EndedThreadsHaveSeen}
+use Rattle.stage_core.specs.Laws.{WaitingThreadsHaveEnded, EndedThreadsHaveSeen}
 use Rattle.stage_core.specs.declared.message.Side.{Side}
 use Rattle.stage_core.specs.declared.message.Side.TheVariants as side
 use Rattle.stage_core.specs.declared.message.Want.{Want}
 use Rattle.stage_core.specs.declared.message.Want.TheVariants as want
 use Rattle.stage_core.specs.declared.message.Turn.{Turn}
 use Rattle.stage_core.specs.declared.message.Turn.TheVariants as turn
-use Rattle.stage_core.specs.declared.message.ToStage.{ToStage}
-use Rattle.stage_core.specs.declared.message.ToStage.TheVariants as to_stage
 use Rattle.stage_core.proofs.Pops.{want_of}
-use Rattle.stage_core.proofs.Ends.{visits, known}
-use Rattle.stage_core.proofs.Positions.{pending}
-use Rattle.stage_core.proofs.Blocked.{SplitterBlocked}
-use Rattle.stage_core.proofs.StreamCounts.{turns_in-append, sent_to-append, turns_in-pushes}
-use Rattle.stage_core.proofs.StreamCounts.{sent_to-pushes}
-use Rattle.stage_core.proofs.NeverStuck.{merge-count, stage-count, split-count, awaits, not-order}
-use Rattle.stage_core.proofs.NeverStuck.{all-popped, ended}
-use Rattle.stage_core.proofs.Schedules.{given-done}
-
--- the pushes of the end, and what of them is still to come
-abbrev begun : Bool → List Push
-begun true = ending
-begun false = []
-
-abbrev left : Bool → List Push
-left true = []
-left false = ending
-
--- the threads as a network, each of whose rings has what its sender holds too
-abbrev lane_of : Side → Threads → Lane
-lane_of s n = record {
-  to = record {
-    popped = (n.stage s).received;
-    waiting = n.to s ++ (n.splitter.to s).held;
-  };
-  outbox = (n.stage s).unposted;
-  from = record {
-    popped = n.merge.from s;
-    waiting = n.from s ++ (n.stage s).from.held;
-  };
-}
-
-abbrev pub network : Threads → Network
-network n = record {
-  still = left n.splitter.closed;
-  order = record {
-    popped = n.merge.turns;
-    waiting = n.order ++ n.splitter.order.held;
-  };
-  i = lane_of side.I n;
-  d = lane_of side.D n;
-  at = n.merge.at;
-  given = n.merge.given;
-}
-
-lane-of : (n : Threads) (s : Side) → lane s (network n) ≡ lane_of s n
-lane-of n side.I = refl
-lane-of n side.D = refl
-
-pushed-front : (b : Bool) (es : List DinRecord)
-    → (over pushes_at es ++ begun b) ++ left b ≡ pushes es
-pushed-front true es = append-nil (pushes es)
-pushed-front false es = ap (λ ps. ps ++ ending) (append-nil (over pushes_at es))
-
-turns-pushed : (b : Bool) (es : List DinRecord) → turns_in (over pushes_at es ++ begun b)
-    ≡ map (λ e. turn_of e.label) es ++ one_if b turn.Finish
-turns-pushed true es = turns_in-pushes es
-turns-pushed false es =
-    let ps : List Push = over pushes_at es in
-    let ts : List Turn = map (λ e. turn_of e.label) es in
-    ap turns_in (append-nil ps)
-    ∙ append_cancel_right (turns_in ps) ts (turn.Finish ∷ [])
-    (sym (turns_in-append ps ending) ∙ turns_in-pushes es)
-    ∙ sym (append-nil ts)
-
-ending-to : (s : Side) → sent_to s ending ≡ to_stage.Finish ∷ []
-ending-to side.I = refl
-ending-to side.D = refl
-
-sent-pushed : (b : Bool) (s : Side) (es : List DinRecord)
-    → sent_to s (over pushes_at es ++ begun b) ≡ over (told s) es ++ one_if b to_stage.Finish
-sent-pushed true s es = sent_to-pushes s es
-sent-pushed false s es =
-    let ps : List Push = over pushes_at es in
-    let ms : List ToStage = over (told s) es in
-    ap (sent_to s) (append-nil ps)
-    ∙ append_cancel_right (sent_to s ps) ms (to_stage.Finish ∷ [])
-    (ap (λ l. sent_to s ps ++ l) (sym (ending-to s)) ∙ sym (sent_to-append s ps ending)
-    ∙ sent_to-pushes s es)
-    ∙ sym (append-nil ms)
-
--- each of the four has done what its streams and its rule ask for
-pub record AreRight (parts : Parts) (n : Threads) : Type 0 where
-  pub posted : HasPosted n.splitter
-  pub answered : (s : Side) → HasAnswered parts s (n.stage s)
-  pub merged : HasMerged n.merge
+use Rattle.stage_core.proofs.network.Ends.{visits, known}
+use Rattle.stage_core.proofs.network.Positions.{pending}
+use Rattle.stage_core.proofs.network.Blocked.{SplitterBlocked}
+use Rattle.stage_core.proofs.network.StateCounts.{merge-count, stage-count, split-count}
+use Rattle.stage_core.proofs.network.NeverStuck.{awaits, not-order, all-popped, ended}
+use Rattle.stage_core.proofs.network.Schedules.{given-done}
+use Rattle.stage_core.proofs.Threads.{left, network, lane-of, AreRight, consistent}
 
 splitter-right : (capacity : ℕ) (n : Threads)
     → SplitterWaits capacity n ⊎ SplitterEnded n.splitter → HasPosted n.splitter
@@ -129,27 +42,6 @@ stage-right parts capacity s n (inr x) = x.answered
 merge-right : (n : Threads) → MergeWaits n ⊎ MergeEnded n.merge → HasMerged n.merge
 merge-right n (inl x) = x.0
 merge-right n (inr x) = x.0
-
--- such a network is consistent
-pub consistent : (parts : Parts) (n : Threads) → RingsCarry n → AreRight parts n
-    → Consistent parts n.splitter.events (network n)
-consistent parts n h r =
-    let es : List DinRecord = n.splitter.events in
-    let b : Bool = n.splitter.closed in
-    record {
-      pushed = over pushes_at es ++ begun b;
-      front = pushed-front b es;
-      turns = sym h.order ∙ r.posted.order ∙ sym (turns-pushed b es);
-      to_side = λ s.
-          ap (λ (l : Lane). carried l.to) (lane-of n s) ∙ sym (h.to s) ∙ r.posted.to s
-          ∙ sym (sent-pushed b s es);
-      from_side = λ s.
-          ap (λ (l : Lane). carried l.from ++ l.outbox) (lane-of n s)
-          ∙ ap (λ l. l ++ (n.stage s).unposted) (sym (h.from s))
-          ∙ r.answered s
-          ∙ ap (λ (l : Lane). replies parts s l.to.popped) (sym (lane-of n s));
-      merge = r.merged;
-    }
 
 -- between two events nothing is pending
 pending-left : (s : Side) (b : Bool) → pending s (left b) ≡ 0
@@ -319,9 +211,11 @@ module _ (parts : Parts) (capacity : ℕ) (pos : 0 < capacity) (n : Threads)
     | inr x ↦ all-ended x.1
   ]
 
+-- threads of which each waits in vain or has ended have all ended
 pub waiting_ended : WaitingThreadsHaveEnded
 waiting_ended parts capacity n pos h g = none_goes_on parts capacity pos n h g
 
+-- where all have ended, the second level was given just what it is to see
 pub ended_seen : EndedThreadsHaveSeen
 ended_seen parts n h e =
     let k = consistent parts n h record {

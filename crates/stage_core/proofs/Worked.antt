@@ -65,12 +65,14 @@ ran-more {s = s} {new = new} {es = es} e place o ran at routed side ready stands
   ready = ready;
 }
 
+-- one event more adds I's parts and then D's to what the second level sees
 pub seen-more : (parts : Parts) (es : List DinRecord) (e : DinRecord)
     → seen parts (es ++ e ∷ []) ≡ seen parts es
     ++ (sent_up parts side.I es e ++ sent_up parts side.D es e)
 seen-more parts es e = over-more (λ before f. sent_up parts side.I before f
     ++ sent_up parts side.D before f) es e
 
+-- the second level's history is as long as the list of what it was given
 pub length-second_history : (ws : List What) → length (second_history ws) ≡ length ws
 length-second_history ws = length-reverse (map read_as ws) ∙ length-map ws read_as
 
@@ -91,6 +93,7 @@ room-above few c es e short =
       length-append es (e ∷ []),
     )
 
+-- a second level that stands for a list has served as much as the list holds
 pub served-whats : {u : L2Stage} {ws : List What} → SecondStandsFor u ws
     → served_of (second_cache u) ≡ length ws
 served-whats {ws = ws} st = st.cache.served ∙ length-second_history ws
@@ -98,6 +101,7 @@ served-whats {ws = ws} st = st.cache.served ∙ length-second_history ws
 abbrev pub the_hierarchy : Rules → Rules → Rules → Hierarchy
 the_hierarchy i d u = record { i = i; d = d; u = u }
 
+-- three equal rules make the same hierarchy
 pub same-rules : {i d u i' d' u' : Rules} → i' ≡ i → d' ≡ d → u' ≡ u
     → the_hierarchy i' d' u' ≡ the_hierarchy i d u
 same-rules {i = i} {d = d} {u = u} {i' = i'} {d' = d'} {u' = u'} ei ed eu =

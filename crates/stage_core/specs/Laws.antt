@@ -1,10 +1,11 @@
 -- Laws over the definitions.
-use Rattle.std.specs.Prelude.{◌≡◌, ◌*◌, ◌≤◌, List, length}
+use Rattle.std.specs.Prelude.{◌≡◌, ℕ, ◌*◌, ◌<◌, ◌≤◌, List, length}
 use Rattle.din_trace.specs.declared.record.DinRecord.{DinRecord}
 use Rattle.stage_core.specs.Events.{events}
 use Rattle.stage_core.specs.Seen.{Parts, Hierarchy, parts_in, seen, second_history}
 use Rattle.stage_core.specs.Streams.{order, to_side, from_side, replies}
 use Rattle.stage_core.specs.Merging.{merged, all_used, AtEnd}
+use Rattle.stage_core.specs.Waiting.{Threads, RingsCarry, NoneGoesOn, AllEnded}
 use Rattle.stage_core.specs.declared.message.Side.{Side}
 use Rattle.stage_core.specs.declared.message.Side.TheVariants as side
 use Rattle.stage_core.specs.declared.selection.Selection.{Selection}
@@ -30,3 +31,16 @@ SecondLevelSeesFew = (c : Hierarchy) (es : List DinRecord) →
 abbrev pub SelectionsMakeFew : Type 0
 SelectionsMakeFew = (s : Selection) (records : List DinRecord)
     → length (events s records) ≤ 2 * length records
+
+-- threads of which each waits in vain or has ended have all ended, if each ring holds a message or
+-- more
+abbrev pub WaitingThreadsHaveEnded : Type 0
+WaitingThreadsHaveEnded =
+    (parts : Parts) (capacity : ℕ) (n : Threads) → 0 < capacity → RingsCarry n →
+    NoneGoesOn parts capacity n → AllEnded parts n
+
+-- and where all have ended, the second level was given just what it is to see
+abbrev pub EndedThreadsHaveSeen : Type 0
+EndedThreadsHaveSeen =
+    (parts : Parts) (n : Threads) → RingsCarry n → AllEnded parts n →
+    n.merge.given ≡ seen parts n.splitter.events

@@ -1,4 +1,10 @@
 -- The network: five rings and four machines, of which one makes one push or one pop at a time.
+pub mod Rings
+pub mod Pushes
+pub mod Laws
+pub mod Lanes
+pub mod Cores
+pub mod Choices
 use Rattle.std.specs.Prelude.{◌≡◌, ℕ, ◌+◌, Bool, true, List, [], ◌∷◌, ◌++◌, length, filter, Option}
 use Rattle.std.specs.Prelude.{Some, None, is_some, option_and_then, if◌then◌else◌}
 use Rattle.std.specs.Option.{option_map}
@@ -8,8 +14,8 @@ use Rattle.stage_core.specs.Seen.{Parts}
 use Rattle.stage_core.specs.Streams.{order, to_side, from_side, is_finish, reply, replies}
 use Rattle.stage_core.specs.Merging.{Stand, AtOrder, wanted, after_turn, after_message, what_in}
 use Rattle.stage_core.specs.Merging.{merged, all_used}
-use Rattle.stage_core.specs.Rings.{Ring, carried, empty_ring, push, pop, ring_events}
-use Rattle.stage_core.specs.Pushes.{Push, Order, To, pushes, turns_in, sent_to}
+use Rattle.stage_core.specs.Network.Rings.{Ring, carried, empty_ring, push, pop, ring_events}
+use Rattle.stage_core.specs.Network.Pushes.{Push, Order, To, pushes, turns_in, sent_to}
 use Rattle.stage_core.specs.declared.message.Side.{Side}
 use Rattle.stage_core.specs.declared.message.Side.TheVariants as side
 use Rattle.stage_core.specs.declared.message.What.{What}

@@ -8,22 +8,20 @@
 //! what holds of the definitions themselves.
 //!
 //! `network` moves them one push or one pop at a time through rings of a given capacity, as the
-//! threads of a pipeline do, in whatever order its caller chooses, and `schedule` makes a whole run
-//! of it.
+//! threads of a pipeline do, in whatever order its caller chooses. No program uses it.
 //!
 //! Proved of every trace, selection and lawful configuration: what each machine puts out is a
 //! function of the list that it took in (`specs/Streams`); the merge takes the two sides' messages
 //! by place, I's before D's, whichever is there first (`specs/Merging`); and a run answers the
 //! counts that the definitions give over the whole event list (`specs/Seen`), or want of memory. No
 //! order of events is stuck, however small the rings are, and all have the same end
-//! (`specs/Network`, `specs/NetworkLaws`). Nor do threads that keep outboxes ever all wait in vain,
-//! if each waits only where it may (`specs/Waiting`).
+//! (`specs/Network`, `specs/Network/Laws`). Nor do threads that keep outboxes ever all wait in
+//! vain, if each waits only where it may (`specs/Waiting`, `specs/Laws`).
 #![tactic(auto)]
 
 mod config;
 mod l1_stage;
 mod l2_stage;
-mod lane;
 mod laws;
 mod memory;
 mod merge;
@@ -31,9 +29,6 @@ mod message;
 mod network;
 mod outbox;
 mod plain;
-mod pushes;
-mod ring;
-mod schedule;
 mod selection;
 mod splitter;
 #[cfg(test)]
@@ -44,17 +39,17 @@ pub use config::{CacheName, CacheSpec, Config, ConfigFault};
 pub use l1_stage::L1Stage;
 pub use l2_stage::L2Stage;
 pub use laws::{
-    complete_schedules_are_as_long, events_keep_consistency, finish_ends_each_stream,
-    merge_takes_what_is_seen, no_schedule_is_stuck, rings_carry_beginnings,
-    rings_hold_their_capacity, second_level_is_given_few, second_level_sees_few,
-    selections_make_few, stages_answer_their_streams, waiting_threads_have_ended,
+    finish_ends_each_stream, merge_takes_what_is_seen, second_level_sees_few, selections_make_few,
+    stages_answer_their_streams, waiting_threads_have_ended,
 };
 pub use memory::NoMemory;
 pub use merge::Merge;
 pub use message::{FromStage, Routed, Side, ToStage, Turn, Want, What};
-pub use network::Core;
+pub use network::{
+    Core, complete_schedules_are_as_long, drive, events_keep_consistency, no_schedule_is_stuck,
+    rings_carry_beginnings, rings_hold_their_capacity, second_level_is_given_few,
+};
 pub use plain::run_plain;
-pub use schedule::drive;
 pub use selection::{Picked, Selection, Selector};
 pub use splitter::Splitter;
 pub use totals::Totals;

@@ -1,23 +1,34 @@
-//! The network of the stages as one machine of single pushes and pops.
+//! The network of the stages as one machine of single pushes and pops. No program uses it: it
+//! serves the proofs and the tests.
+//!
+//! [`Core`] is the network and `machines` makes each machine's next event. Its parts are `ring`,
+//! `lane` (a first-level stage between two rings) and `pushes` (what the splitter pushes).
+//! `schedule` makes a whole run, and `laws` has what holds of every schedule.
 
-ghost use Rattle.std.specs.Prelude.{◌≡◌, ◌<◌, ◌++◌, OnOk, List, option_to_list};
-ghost use Rattle.cache_core.specs.Standing.{rules_of, served_of};
-ghost use Rattle.stage_core.specs.Standing.{SecondStandsFor, second_cache};
-ghost use Rattle.stage_core.specs.declared.message.What.{What};
+mod lane;
+mod laws;
+mod machines;
+mod pushes;
+mod ring;
+mod schedule;
 
 use crate::config::Config;
 use crate::l2_stage::L2Stage;
-use crate::lane::Lane;
-use crate::laws::{second_level_sees_few, selections_make_few};
+use crate::laws::selections_make_few;
 use crate::memory::NoMemory;
 use crate::merge::Merge;
-use crate::message::{Side, Turn, Want, What};
-use crate::pushes::{Push, push_to, pushes_of};
-use crate::ring::Ring;
+use crate::message::{Side, Turn};
+use crate::network::lane::Lane;
+use crate::network::pushes::{Push, pushes_of};
+use crate::network::ring::Ring;
 use crate::selection::{Selection, events_of};
 use crate::totals::Totals;
-use cache_core::MAX_EVENTS;
 use din_trace::{DinRecord, MAX_LIMIT};
+pub use laws::{
+    complete_schedules_are_as_long, events_keep_consistency, no_schedule_is_stuck,
+    rings_carry_beginnings, rings_hold_their_capacity, second_level_is_given_few,
+};
+pub use schedule::drive;
 use std::alloc::Global;
 use std::marker::Model;
 
@@ -48,7 +59,7 @@ pub struct Core {
 
 impl Model for Core {
     ghost use Rattle.std.specs.Prelude.{◌≡◌, false};
-    ghost use Rattle.stage_core.specs.Cores.{CoreState, core_of, Sound};
+    ghost use Rattle.stage_core.specs.Network.Cores.{CoreState, core_of, Sound};
 
     ghost Value = { CoreState };
 
@@ -57,32 +68,16 @@ impl Model for Core {
     ghost invariant = { λ c. c.failed ≡ false → Sound c };
 }
 
-// The second level serves what a message brought, if it brought anything.
-fn serve(u: &mut L2Stage, what: Option<What>) -> Result<(), NoMemory>
-    requires { served_of (second_cache u.old) < MAX_EVENTS }
-    ensures stands { OnOk result ((before : List What) → SecondStandsFor u.old before →
-        SecondStandsFor u.new (before ++ option_to_list what)) }
-    ensures rules { rules_of (second_cache u.new) ≡ rules_of (second_cache u.old) }
-{
-    match what {
-        Some(what) => u.on(what),
-        None => Ok(()),
-    }
-}
-
 impl Core {
-    ghost use Rattle.std.specs.Prelude.{◌≡◌, ◌<◌, ◌≤◌, ◌↔◌, Some, IsTrue, IsSome, IfOk, OnOk};
-    ghost use Rattle.std.specs.Prelude.{OnErr, true, false, length, filter, slice_get};
+    ghost use Rattle.std.specs.Prelude.{◌≡◌, ◌<◌, ◌≤◌, ◌↔◌, Some, IsTrue, IfOk, OnOk, OnErr, true};
+    ghost use Rattle.std.specs.Prelude.{false, length, filter, slice_get};
     ghost use Rattle.stage_core.specs.Events.{IsBounded, events};
     ghost use Rattle.stage_core.specs.Seen.{totals};
-    ghost use Rattle.stage_core.specs.Merging.{wanted};
     ghost use Rattle.stage_core.specs.Config.{hierarchy_of};
-    ghost use Rattle.stage_core.specs.Network.{IsFinished, Splitter, Stage, Merging};
-    ghost use Rattle.stage_core.specs.Cores.{started, next_in, can_in, enabled_in, IsChosen};
-    ghost use Rattle.stage_core.specs.Cores.{MakesEvent, IsSameRun, IsConsistent, IsOver};
+    ghost use Rattle.stage_core.specs.Network.{IsFinished};
+    ghost use Rattle.stage_core.specs.Network.Cores.{started, can_in, enabled_in, IsChosen};
+    ghost use Rattle.stage_core.specs.Network.Cores.{MakesEvent, IsSameRun, IsConsistent, IsOver};
     ghost use Rattle.stage_core.specs.declared.network.Machine.{Machine};
-    ghost use Rattle.stage_core.specs.declared.message.Side.TheVariants as side;
-    ghost use Rattle.stage_core.specs.declared.message.Want.TheVariants as want;
 
     /// The network at its start, for the selected part of a trace.
     pub fn new(
@@ -114,174 +109,6 @@ impl Core {
             u: L2Stage::new(alloc, u_geometry, u_policy)?,
             failed: false,
         })
-    }
-
-    // Whether the splitter's next event is possible.
-    fn can_split(&self) -> bool
-        requires { self.now.failed ≡ false }
-        ensures { result ≡ can_in self.now Splitter }
-    {
-        let capacity = self.config.ring();
-        match self.pushes.get(self.pushed) {
-            None => false,
-            Some(Push::Order(_)) => self.order.waiting() < capacity,
-            Some(Push::To(Side::I, _)) => self.i.to.waiting() < capacity,
-            Some(Push::To(Side::D, _)) => self.d.to.waiting() < capacity,
-        }
-    }
-
-    // Whether the merge's next event is possible.
-    fn can_merge(&self) -> bool
-        ensures { result ≡ can_in self.now Merging }
-    {
-        match self.merge.wants() {
-            Want::Order => self.order.waiting() > 0,
-            Want::I => self.i.from.waiting() > 0,
-            Want::D => self.d.from.waiting() > 0,
-            Want::Nothing => false,
-        }
-    }
-
-    // Whether a machine's next event is possible.
-    fn can(&self, machine: Machine) -> bool
-        requires { self.now.failed ≡ false }
-        ensures { result ≡ can_in self.now machine }
-    {
-        match machine {
-            Machine::Splitter => self.can_split(),
-            Machine::Stage(Side::I) => self.i.can_step(self.config.ring()),
-            Machine::Stage(Side::D) => self.d.can_step(self.config.ring()),
-            Machine::Merging => self.can_merge(),
-        }
-    }
-
-    // Makes the splitter's next event.
-    fn split(&mut self) -> Result<(), NoMemory>
-        requires works { self.old.failed ≡ false }
-        requires possible { IsSome (next_in self.old Splitter) }
-        ensures made { OnOk result (MakesEvent Splitter self.old self.new) }
-        ensures refused { OnErr result (self.new.failed ≡ true) }
-        ensures run { IsSameRun self.old self.new }
-    {
-        let push = self.pushes[self.pushed];
-        self.pushed += 1;
-        let sent = push_to(push, &mut self.order, &mut self.i.to, &mut self.d.to);
-        self.failed = sent.is_err();
-        sent
-    }
-
-    // Makes the next event of the stage I.
-    fn step_i(&mut self) -> Result<(), NoMemory>
-        requires works { self.old.failed ≡ false }
-        requires possible { IsSome (next_in self.old (Stage side.I)) }
-        ensures made { OnOk result (MakesEvent (Stage side.I) self.old self.new) }
-        ensures refused { OnErr result (self.new.failed ≡ true) }
-        ensures run { IsSameRun self.old self.new }
-    {
-        let made = self.i.step(self.config.ring());
-        self.failed = made.is_err();
-        made
-    }
-
-    // Makes the next event of the stage D.
-    fn step_d(&mut self) -> Result<(), NoMemory>
-        requires works { self.old.failed ≡ false }
-        requires possible { IsSome (next_in self.old (Stage side.D)) }
-        ensures made { OnOk result (MakesEvent (Stage side.D) self.old self.new) }
-        ensures refused { OnErr result (self.new.failed ≡ true) }
-        ensures run { IsSameRun self.old self.new }
-    {
-        let made = self.d.step(self.config.ring());
-        self.failed = made.is_err();
-        made
-    }
-
-    // The merge takes a turn.
-    fn take_turn(&mut self)
-        requires works { self.old.failed ≡ false }
-        requires wants { wanted self.old.network.at ≡ want.Order }
-        requires waits { 0 < length self.old.network.order.waiting }
-        ensures made { MakesEvent Merging self.old self.new }
-        ensures run { IsSameRun self.old self.new }
-    {
-        let turn = self.order.pop();
-        self.merge.turn(turn);
-    }
-
-    // The merge takes a message from I.
-    fn take_i(&mut self) -> Result<(), NoMemory>
-        requires works { self.old.failed ≡ false }
-        requires wants { wanted self.old.network.at ≡ want.I }
-        requires waits { 0 < length self.old.network.i.from.waiting }
-        ensures made { OnOk result (MakesEvent Merging self.old self.new) }
-        ensures refused { OnErr result (self.new.failed ≡ true) }
-        ensures run { IsSameRun self.old self.new }
-    {
-        second_level_sees_few();
-        let message = self.i.from.pop();
-        let what = self.merge.take(message);
-        let served = serve(&mut self.u, what);
-        self.failed = served.is_err();
-        served
-    }
-
-    // The merge takes a message from D.
-    fn take_d(&mut self) -> Result<(), NoMemory>
-        requires works { self.old.failed ≡ false }
-        requires wants { wanted self.old.network.at ≡ want.D }
-        requires waits { 0 < length self.old.network.d.from.waiting }
-        ensures made { OnOk result (MakesEvent Merging self.old self.new) }
-        ensures refused { OnErr result (self.new.failed ≡ true) }
-        ensures run { IsSameRun self.old self.new }
-    {
-        second_level_sees_few();
-        let message = self.d.from.pop();
-        let what = self.merge.take(message);
-        let served = serve(&mut self.u, what);
-        self.failed = served.is_err();
-        served
-    }
-
-    // Makes the merge's next event.
-    fn merge_step(&mut self) -> Result<(), NoMemory>
-        requires works { self.old.failed ≡ false }
-        requires possible { IsSome (next_in self.old Merging) }
-        ensures made { OnOk result (MakesEvent Merging self.old self.new) }
-        ensures refused { OnErr result (self.new.failed ≡ true) }
-        ensures run { IsSameRun self.old self.new }
-    {
-        match self.wants() {
-            Want::Order => {
-                self.take_turn();
-                Ok(())
-            }
-            Want::I => self.take_i(),
-            Want::D => self.take_d(),
-            Want::Nothing => Ok(()),
-        }
-    }
-
-    // Whose message the merge takes next.
-    fn wants(&self) -> Want
-        ensures { result ≡ wanted self.now.network.at }
-    {
-        self.merge.wants()
-    }
-
-    // Makes a machine's next event.
-    fn make(&mut self, machine: Machine) -> Result<(), NoMemory>
-        requires works { self.old.failed ≡ false }
-        requires possible { IsSome (next_in self.old machine) }
-        ensures made { OnOk result (MakesEvent machine self.old self.new) }
-        ensures refused { OnErr result (self.new.failed ≡ true) }
-        ensures run { IsSameRun self.old self.new }
-    {
-        match machine {
-            Machine::Splitter => self.split(),
-            Machine::Stage(Side::I) => self.step_i(),
-            Machine::Stage(Side::D) => self.step_d(),
-            Machine::Merging => self.merge_step(),
-        }
     }
 
     // The machine number nth of those among these whose next event is possible.

@@ -2,7 +2,9 @@
 
 mod memory;
 mod network;
+mod seen;
 mod selections;
+mod stages;
 mod streams;
 mod totals;
 mod worked;

@@ -6,8 +6,7 @@ use super::worked::{
     flushed, flushed_totals, put_in_totals, sweep, sweep_totals, victim, victim_totals,
 };
 use super::{config_of, data, selection};
-use crate::network::Core;
-use crate::schedule::drive;
+use crate::network::{Core, drive};
 use crate::totals::Totals;
 use din_trace::DinRecord;
 use std::alloc::Global;

@@ -1,15 +1,13 @@
 //! What the machines send, one by one.
 
-use super::selections::events_of;
-use super::{config, data, flush, instr, read, write};
+use super::stages::{answer, done, fetch, part, reference};
+use super::{config, data, flush, read, write};
 use crate::config::{CacheSpec, Config};
 use crate::l1_stage::L1Stage;
-use crate::l2_stage::L2Stage;
 use crate::merge::Merge;
 use crate::message::{FromStage, Routed, Side, ToStage, Turn, Want, What};
-use crate::selection::Selection;
 use crate::splitter::Splitter;
-use cache_core::{Class, Counts, MAX_EVENTS, PerClass, Policy};
+use cache_core::Class;
 use din_trace::{DinRecord, MAX_LIMIT};
 use std::alloc::Global;
 use std::process::Abort;
@@ -17,42 +15,12 @@ use std::test::Fail;
 
 // What the five rings carry.
 #[derive(Drop)]
-struct Streams {
+pub(super) struct Streams {
     order: Vec<Turn>,
     to_i: Vec<ToStage>,
     to_d: Vec<ToStage>,
     from_i: Vec<FromStage>,
     from_d: Vec<FromStage>,
-}
-
-// A refusal has left a stage failed, and does so for good.
-fn stays_failed(rt: &impl Abort, stage: &mut L1Stage, message: ToStage) {
-    assert!(rt; stage.failed());
-    assert!(rt; stage.ready());
-    assert!(rt; stage.served() < MAX_EVENTS);
-    assert_eq!(rt; stage.outbox_next(), None);
-    assert!(rt; stage.on(message).is_err());
-}
-
-// A stage takes a message in and sends all that this brings. A refusal leaves it failed for good.
-fn answer(
-    rt: &impl Abort,
-    stage: &mut L1Stage,
-    message: ToStage,
-    sent: &mut Vec<FromStage>,
-) -> Result<(), Fail> {
-    assert!(rt; stage.ready());
-    assert!(rt; stage.served() < MAX_EVENTS);
-    if let Err(refusal) = stage.on(message) {
-        stays_failed(rt, stage, message);
-        return Err(refusal)?;
-    }
-    for _ in 0..10 {
-        if let Some(next) = stage.outbox_next() {
-            sent.push(next)?;
-        }
-    }
-    Ok(())
 }
 
 impl Streams {
@@ -109,7 +77,8 @@ impl Streams {
     }
 }
 
-fn streams_of(
+// What the rings carry for these events, with this data cache.
+pub(super) fn streams_of(
     rt: &impl Abort,
     alloc: Global,
     d: CacheSpec,
@@ -165,7 +134,7 @@ fn merged(rt: &impl Abort, alloc: Global, streams: &Streams) -> Result<Vec<What>
 }
 
 // The merge takes just this from the streams.
-fn is_merged(
+pub(super) fn is_merged(
     rt: &impl Abort,
     alloc: Global,
     streams: &Streams,
@@ -174,22 +143,6 @@ fn is_merged(
     let taken = merged(rt, alloc, streams)?;
     assert_eq!(rt; taken.as_slice(), wanted);
     Ok(())
-}
-
-fn part(place: u64, part: u32, what: What) -> FromStage {
-    FromStage::Part { place, part, what }
-}
-
-fn done(place: u64, parts: u32) -> FromStage {
-    FromStage::Done { place, parts }
-}
-
-fn fetch(addr: u64) -> What {
-    What::Fetch(Class::Read, addr)
-}
-
-fn reference(place: u64, class: Class, addr: u64) -> ToStage {
-    ToStage::Ref { place, class, addr }
 }
 
 // The splitter has sent just this.
@@ -287,121 +240,4 @@ fn streams_of_a_flush(rt: HostRuntime) -> Result<(), Fail> {
         What::FlushAll,
     ];
     is_merged(&rt, alloc, &streams, &wanted)
-}
-
-// The second level sees just this of these events.
-fn is_seen(
-    rt: &impl Abort,
-    alloc: Global,
-    policy: Policy,
-    events: &[DinRecord],
-    wanted: &[What],
-) -> Result<(), Fail> {
-    let streams = streams_of(rt, alloc, CacheSpec { policy, ..data() }, events)?;
-    is_merged(rt, alloc, &streams, wanted)
-}
-
-// Fetches carry the first byte of the block, the highest address's too.
-#[test]
-fn a_fetch_is_of_the_whole_block(rt: HostRuntime) -> Result<(), Fail> {
-    let usual = data().policy;
-    let events = [read(0x1f), write(0xffff_ffff)];
-    let wanted = [fetch(0x1c), fetch(0xffff_fffc)];
-    is_seen(&rt, rt.alloc(), usual, &events, &wanted)?;
-    let wanted = [fetch(0xffff_ffff_ffff_fffc)];
-    is_seen(&rt, rt.alloc(), usual, &[read(u64::MAX)], &wanted)
-}
-
-#[test]
-fn the_second_level_sees_parts_in_order(rt: HostRuntime) -> Result<(), Fail> {
-    let alloc = rt.alloc();
-    let usual = data().policy;
-    let through = Policy {
-        wback: false,
-        ..usual
-    };
-    let wanted = [fetch(0), What::Through(2), What::Through(2)];
-    is_seen(&rt, alloc, through, &[write(2), write(2)], &wanted)?;
-    let around = Policy {
-        walloc: false,
-        ..usual
-    };
-    let wanted = [What::Through(0), fetch(0)];
-    is_seen(&rt, alloc, around, &[write(0), read(0)], &wanted)?;
-    let selection = Selection {
-        skip: 0,
-        max: 0,
-        every: 2,
-    };
-    let events = events_of(&rt, alloc, selection, &[write(0), read(8), read(16)])?;
-    let wanted = [fetch(0), fetch(8), What::Back(0), What::FlushAll, fetch(16)];
-    is_seen(&rt, alloc, usual, &events, &wanted)
-}
-
-// Answers a reference, and then the end.
-fn finishes(rt: &impl Abort, stage: &mut L1Stage, sent: &mut Vec<FromStage>) -> Result<(), Fail> {
-    answer(rt, stage, reference(1, Class::Write, 0), sent)?;
-    assert!(rt; !stage.finished());
-    answer(rt, stage, ToStage::Finish, sent)?;
-    assert!(rt; stage.finished());
-    Ok(())
-}
-
-fn finishes_new(rt: &impl Abort, alloc: Global, sent: &mut Vec<FromStage>) -> Result<(), Fail> {
-    let (geometry, policy) = config(data())?.d();
-    let mut stage = L1Stage::new(alloc, Side::D, geometry, policy)?;
-    finishes(rt, &mut stage, sent)
-}
-
-#[test]
-fn a_stage_sends_finish_last(rt: HostRuntime) -> Result<(), Fail> {
-    let mut sent = Vec::new(rt.alloc());
-    finishes_new(&rt, rt.alloc(), &mut sent)?;
-    let wanted = [part(1, 1, fetch(0)), done(1, 1), FromStage::Finish];
-    assert_eq!(rt; sent.as_slice(), wanted.as_slice());
-    Ok(())
-}
-
-// Serves three parts. A refusal leaves the second level failed.
-fn serves(rt: &impl Abort, stage: &mut L2Stage) -> Result<(), Fail> {
-    for what in [fetch(0), What::Back(4), What::FlushAll] {
-        assert!(rt; stage.served() < MAX_EVENTS);
-        if let Err(refusal) = stage.on(what) {
-            assert!(rt; stage.failed());
-            assert!(rt; stage.on(what).is_err());
-            return Err(refusal)?;
-        }
-    }
-    assert_eq!(rt; stage.served(), 3);
-    Ok(())
-}
-
-// What a new second level counts then.
-fn served(rt: &impl Abort, alloc: Global) -> Result<Counts, Fail> {
-    let (geometry, policy) = config(data())?.u();
-    let mut stage = L2Stage::new(alloc, geometry, policy)?;
-    serves(rt, &mut stage)?;
-    Ok(stage.counts())
-}
-
-#[test]
-fn the_second_level_serves_each_part(rt: HostRuntime) -> Result<(), Fail> {
-    let counts = served(&rt, rt.alloc())?;
-    let reads = PerClass {
-        read: 1,
-        ..PerClass::default()
-    };
-    assert_eq!(rt; counts.fetches, PerClass { write: 1, ..reads });
-    assert_eq!(rt; counts.misses, reads);
-    assert_eq!(rt; counts.compulsory, counts.misses);
-    assert_eq!(rt;
-        (
-            counts.loaded,
-            counts.written_back,
-            counts.sent_on,
-            counts.flushes
-        ),
-        (1, 1, 0, 1)
-    );
-    Ok(())
 }

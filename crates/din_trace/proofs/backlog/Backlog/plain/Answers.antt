@@ -3,7 +3,7 @@ use Rattle.std.proofs.lemmas.List.{drop-take, drop-drop}
 use Rattle.din_trace.specs.Standing as words
 use Rattle.din_trace.specs.Backlog.{held}
 use Rattle.din_trace.proofs.Backlogs.{reading-left, left-reading}
-use Rattle.din_trace.proofs.Plains.{after-plain}
+use Rattle.din_trace.proofs.Passed.{after-plain}
 use Rattle.din_trace.proofs.backlog.Backlog.plain.Goals as goal
 
 pub returns-else-count-self-clause-answer : goal.returns-else-count-self-clause-answer

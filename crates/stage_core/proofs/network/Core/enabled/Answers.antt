@@ -1,9 +1,10 @@
 use Rattle.std.proofs.Common.{length, ap, sym, subst, ◌∙◌}
 use Rattle.stage_core.specs.Config.{ring_of}
 use Rattle.stage_core.specs.Network.{IsFinished}
-use Rattle.stage_core.specs.Cores.{CoreState, Sound, enabled_in, core_of, network_of, parts_for}
-use Rattle.stage_core.proofs.Enabled.{none_finished}
-use Rattle.stage_core.proofs.Steps.{working}
+use Rattle.stage_core.specs.Network.Cores.{CoreState, Sound, enabled_in, core_of, network_of}
+use Rattle.stage_core.specs.Network.Cores.{parts_for}
+use Rattle.stage_core.proofs.network.Enabled.{none_finished}
+use Rattle.stage_core.proofs.network.Steps.{working}
 use Rattle.stage_core.proofs.network.Core.enabled.Goals as goal
 
 pub returns-else-self-clause-goes_on : goal.returns-else-self-clause-goes_on

@@ -1,8 +1,8 @@
 use Rattle.std.proofs.Common.{◌≡◌, false, length, ap, sym, ◌∙◌, eq-eqb, eqb-true}
 use Rattle.stage_core.specs.Config.{ring_of}
-use Rattle.stage_core.specs.Cores.{CoreState, parts_for}
-use Rattle.stage_core.proofs.Enabled.{finished-none}
-use Rattle.stage_core.proofs.Steps.{working}
+use Rattle.stage_core.specs.Network.Cores.{CoreState, parts_for}
+use Rattle.stage_core.proofs.network.Enabled.{finished-none}
+use Rattle.stage_core.proofs.network.Steps.{working}
 use Rattle.stage_core.proofs.network.Core.finished.Goals as goal
 
 pub returns-then-not-self : goal.returns-then-not-self

@@ -2,8 +2,8 @@ use Rattle.std.proofs.Common.{◌≡◌, length, ap, arith, refl, ◌∙◌}
 use Rattle.cache_core.specs.Standing.{rules_from}
 use Rattle.cache_core.specs.declared.geometry.Geometry.{Geometry}
 use Rattle.cache_core.specs.declared.policy.Policy.{Policy}
-use Rattle.stage_core.specs.Pushes.{pushes}
-use Rattle.stage_core.proofs.Start.{same-rules-took, some-room, sound-start}
+use Rattle.stage_core.specs.Network.Pushes.{pushes}
+use Rattle.stage_core.proofs.network.Start.{same-rules-took, some-room, sound-start}
 use Rattle.stage_core.proofs.network.Core.new.Goals as goal
 
 same-rules : {g g' : Geometry} {p p' : Policy} → g ≡ g' → p ≡ p'

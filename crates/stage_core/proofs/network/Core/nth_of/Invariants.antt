@@ -1,5 +1,5 @@
 use Rattle.std.proofs.Common.{◌≡◌, ◌<◌, length, filter, drop, slice_get}
-use Rattle.stage_core.specs.Cores.{can_in}
+use Rattle.stage_core.specs.Network.Cores.{can_in}
 use Rattle.stage_core.proofs.network.Core.nth_of.Given as goal
 
 abbrev pub invariant-loop-machine : goal.invariant-loop-machine

@@ -1,9 +1,9 @@
 use Rattle.std.proofs.Common.{refl, IsSome, sym, ap, subst, ◌∙◌}
 use Rattle.stage_core.specs.Network.{Splitter}
-use Rattle.stage_core.specs.Pushes.{IsPushed}
-use Rattle.stage_core.specs.Cores.{CoreState, Sound, next_in}
-use Rattle.stage_core.proofs.Steps.{Steps, makes-event, on_ok_by}
-use Rattle.stage_core.proofs.SplitSteps.{with_push, split-steps}
+use Rattle.stage_core.specs.Network.Pushes.{IsPushed}
+use Rattle.stage_core.specs.Network.Cores.{CoreState, Sound, next_in}
+use Rattle.stage_core.proofs.network.Steps.{Steps, makes-event, on_ok_by}
+use Rattle.stage_core.proofs.network.SplitSteps.{with_push, split-steps}
 use Rattle.stage_core.proofs.network.Core.split.Goals as goal
 
 sound : (c : goal.After-self-2-1) → Sound c.self.inside

@@ -1,6 +1,6 @@
 use Rattle.stage_core.specs.Config.{ring_of}
-use Rattle.stage_core.specs.Cores.{parts_for}
-use Rattle.stage_core.proofs.Enabled.{enabled-some}
+use Rattle.stage_core.specs.Network.Cores.{parts_for}
+use Rattle.stage_core.proofs.network.Enabled.{enabled-some}
 use Rattle.stage_core.proofs.network.Core.step.Goals as goal
 
 pub make-requires-clause-possible : goal.make-requires-clause-possible

@@ -1,8 +1,8 @@
 use Rattle.std.proofs.Common.{ap, sym, ◌∙◌}
-use Rattle.stage_core.specs.Lanes.{stage_next}
-use Rattle.stage_core.specs.Cores.{CoreState}
-use Rattle.stage_core.proofs.Steps.{room-below, on_ok_by}
-use Rattle.stage_core.proofs.StageSteps.{step_i-steps}
+use Rattle.stage_core.specs.Network.Lanes.{stage_next}
+use Rattle.stage_core.specs.Network.Cores.{CoreState}
+use Rattle.stage_core.proofs.network.Steps.{room-below, on_ok_by}
+use Rattle.stage_core.proofs.network.StageSteps.{step_i-steps}
 use Rattle.stage_core.proofs.network.Core.step_i.Goals as goal
 
 pub step-made-requires-clause-room : goal.step-made-requires-clause-room

@@ -2,10 +2,10 @@ use Rattle.std.proofs.Common.{◌++◌, List, option_to_list, ap, refl, subst, �
 use Rattle.stage_core.specs.Network.{Merging}
 use Rattle.stage_core.specs.Merging.{wanted}
 use Rattle.stage_core.specs.Standing.{SecondStandsFor}
-use Rattle.stage_core.specs.Cores.{CoreState, Sound, network_of}
+use Rattle.stage_core.specs.Network.Cores.{CoreState, Sound, network_of}
 use Rattle.stage_core.specs.declared.message.What.{What}
-use Rattle.stage_core.proofs.Steps.{Steps, room-above, makes-event, on_ok_by}
-use Rattle.stage_core.proofs.MergeSteps.{with_from_d, take_d-steps}
+use Rattle.stage_core.proofs.network.Steps.{Steps, room-above, makes-event, on_ok_by}
+use Rattle.stage_core.proofs.network.MergeSteps.{with_from_d, take_d-steps}
 use Rattle.stage_core.proofs.network.Core.take_d.Goals as goal
 
 steps : (c : goal.After-self-1)

@@ -1,9 +1,9 @@
 use Rattle.std.proofs.Common.{◌≡◌, false, ap, sym, ◌∙◌}
 use Rattle.stage_core.specs.Network.{Merging}
 use Rattle.stage_core.specs.Merging.{wanted}
-use Rattle.stage_core.specs.Cores.{CoreState, next_in}
-use Rattle.stage_core.proofs.Steps.{Steps}
-use Rattle.stage_core.proofs.MergeSteps.{with_turn, turn-steps}
+use Rattle.stage_core.specs.Network.Cores.{CoreState, next_in}
+use Rattle.stage_core.proofs.network.Steps.{Steps}
+use Rattle.stage_core.proofs.network.MergeSteps.{with_turn, turn-steps}
 use Rattle.stage_core.proofs.network.Core.take_turn.Goals as goal
 use Rattle.stage_core.proofs.network.Core.take_turn.Goals.{After-turn}
 

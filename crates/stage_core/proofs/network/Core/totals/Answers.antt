@@ -6,11 +6,11 @@ use Rattle.stage_core.specs.Seen.{Hierarchy, Parts, second_history, totals}
 use Rattle.stage_core.specs.Streams.{taken_in}
 use Rattle.stage_core.specs.Config.{hierarchy_of}
 use Rattle.stage_core.specs.Network.{IsFinished, Network}
-use Rattle.stage_core.specs.Cores.{CoreState, Sound, network_of, parts_for}
+use Rattle.stage_core.specs.Network.Cores.{CoreState, Sound, network_of, parts_for}
 use Rattle.stage_core.specs.declared.message.Side.TheVariants as side
 use Rattle.stage_core.specs.declared.message.What.{What}
 use Rattle.stage_core.proofs.Told.{taken_in-to_side}
-use Rattle.stage_core.proofs.Schedules.{given-done, to-done}
+use Rattle.stage_core.proofs.network.Schedules.{given-done, to-done}
 use Rattle.stage_core.proofs.network.Core.totals.Goals as goal
 
 pub returns : goal.returns

@@ -1,6 +1,0 @@
-use Rattle.stage_core.proofs.Schedules.{order-prefix, to-prefix, from-prefix}
-use Rattle.stage_core.proofs.laws.rings_carry_beginnings.Goals as goal
-
-pub returns : goal.returns
-returns c = λ parts es n k.
-    ((_, order-prefix parts es n k), λ s. (_, to-prefix parts es n k s), from-prefix parts es n k)

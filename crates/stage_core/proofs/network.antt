@@ -1,0 +1,21 @@
+-- The lemmas of the network.
+pub mod Sums
+pub mod OnePop
+pub mod Ends
+pub mod Positions
+pub mod StreamCounts
+pub mod Blocked
+pub mod StateCounts
+pub mod NeverStuck
+pub mod Kept
+pub mod Schedules
+pub mod Chosen
+pub mod Held
+pub mod Given
+pub mod Enabled
+pub mod Bounds
+pub mod Steps
+pub mod SplitSteps
+pub mod StageSteps
+pub mod MergeSteps
+pub mod Start

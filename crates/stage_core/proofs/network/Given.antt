@@ -1,0 +1,83 @@
+-- In every state the second level was given no more than it is to see in all.
+use Rattle.std.proofs.Common.{◌≡◌, ℕ, ◌+◌, ◌≤◌, List, [], ◌∷◌, length, refl, sym, ap, ◌∙◌}
+use Rattle.std.proofs.Common.{append-nil, arith, length-append}
+use Rattle.stage_core.specs.Seen.{Parts, seen}
+use Rattle.stage_core.specs.Streams.{order, from_side}
+use Rattle.stage_core.specs.Merging.{Stand, AtOrder, AtEnd, merged, all_used, what_in}
+use Rattle.stage_core.specs.Network.{Network, Consistent}
+use Rattle.stage_core.specs.Network.Rings.{carried}
+use Rattle.din_trace.specs.declared.record.DinRecord.{DinRecord}
+use Rattle.stage_core.specs.declared.message.Side.TheVariants as side
+use Rattle.stage_core.specs.declared.message.What.{What}
+use Rattle.stage_core.specs.declared.message.Turn.{Turn}
+use Rattle.stage_core.specs.declared.message.FromStage.{FromStage}
+use Rattle.stage_core.specs.declared.message.FromStage.TheVariants as from_stage
+use Rattle.stage_core.proofs.network.Sums.{total, total-append}
+use Rattle.stage_core.proofs.Pops.{Pop, Turned, From, Log, from_of, whats_of}
+use Rattle.stage_core.proofs.network.OnePop.{used_log}
+use Rattle.stage_core.proofs.Merged.{merged-streams}
+use Rattle.stage_core.proofs.network.Schedules.{from-prefix}
+
+-- does a message bring a part?
+abbrev pub part_in : FromStage → ℕ
+part_in (from_stage.Part p n w) = 1
+part_in (from_stage.Done p n) = 0
+part_in from_stage.Finish = 0
+
+what-count : (m : FromStage) → length (what_in m) ≡ part_in m
+what-count (from_stage.Part p n w) = refl
+what-count (from_stage.Done p n) = refl
+what-count from_stage.Finish = refl
+
+whats-count : (ps : List Pop) → length (whats_of ps)
+    ≡ total part_in (from_of side.I ps) + total part_in (from_of side.D ps)
+whats-count [] = refl
+whats-count (Turned t ∷ ps) = whats-count ps
+whats-count (From side.I m ∷ ps) = omega (
+  arith,
+  whats-count ps,
+  what-count m,
+  length-append (what_in m) (whats_of ps),
+)
+whats-count (From side.D m ∷ ps) = omega (
+  arith,
+  whats-count ps,
+  what-count m,
+  length-append (what_in m) (whats_of ps),
+)
+
+-- the rule takes as many parts as the messages bring that it pops
+pub merged-count : (o : List Turn) (i d : List FromStage) (ws : List What) (at : Stand)
+    → merged o i d ≡ all_used ws at → length ws ≡ total part_in i + total part_in d
+merged-count o i d ws at e =
+    let l : Log AtOrder o i d (all_used ws at) = used_log e in
+    let ei : from_of side.I l.pops ≡ i = sym (append-nil _) ∙ l.from_i in
+    let ed : from_of side.D l.pops ≡ d = sym (append-nil _) ∙ l.from_d in
+    omega (
+      arith,
+      whats-count l.pops,
+      ap (total part_in) ei,
+      ap (total part_in) ed,
+      ap length l.taken,
+    )
+
+-- the second level was given no more than it is to see in all
+pub given-few : (parts : Parts) (es : List DinRecord) (n : Network) → Consistent parts es n
+    → length n.given ≤ length (seen parts es)
+given-few parts es n k =
+    let now = merged-count n.order.popped n.i.from.popped n.d.from.popped n.given n.at k.merge in
+    let all = merged-count (order es) (from_side parts side.I es) (from_side parts side.D es)
+    (seen parts es) AtEnd (merged-streams parts es) in
+    let fi = from-prefix parts es n k side.I in
+    let fd = from-prefix parts es n k side.D in
+    omega (
+      arith,
+      now,
+      all,
+      ap (total part_in) fi.1,
+      ap (total part_in) fd.1,
+      total-append part_in (carried n.i.from) fi.0,
+      total-append part_in n.i.from.popped n.i.from.waiting,
+      total-append part_in (carried n.d.from) fd.0,
+      total-append part_in n.d.from.popped n.d.from.waiting,
+    )

@@ -1,0 +1,74 @@
+-- An event of a core: a sound core, and the network's next state.
+use Rattle.std.proofs.Common.{◌≡◌, suc, ◌^◌, ◌<◌, Bool, false, cond, [], Some, filter, Result, Ok}
+use Rattle.std.proofs.Common.{Err, OnOk, is_err, sym, ap, ◌∙◌, arith}
+use Rattle.cache_core.specs.Standing.{served_of}
+use Rattle.stage_core.specs.Config.{hierarchy_of, ring_of}
+use Rattle.stage_core.specs.Standing.{cache_of, second_cache}
+use Rattle.stage_core.specs.Network.{Machine, Consistent, machines, enabled, events_made}
+use Rattle.stage_core.specs.Laws.{SecondLevelSeesFew}
+use Rattle.stage_core.specs.Network.Cores.{IsConsistent, can_in, enabled_in, CoreState, MakesEvent}
+use Rattle.stage_core.specs.Network.Cores.{Sound, core_of, network_of, next_in, parts_for}
+use Rattle.stage_core.specs.declared.message.Side.TheVariants as side
+use Rattle.stage_core.specs.declared.network.Core.TheInside.{Inside}
+use Rattle.stage_core.proofs.network.Kept.{keeps-next}
+use Rattle.stage_core.proofs.network.Bounds.{few-given, few-taken_in}
+use Rattle.stage_core.proofs.network.Schedules.{next-events}
+use Rattle.stage_core.proofs.Worked.{served-whats}
+
+-- this event leads to a sound core
+pub record Steps (m : Machine) (old new : Inside) : Type 0 where
+  pub sound : Sound new
+  pub event : next_in (core_of old) m ≡ Some (network_of new)
+
+-- so the core made the machine's next event, if the call was not refused
+pub makes-event : {T E P : Type 0} {m : Machine} {old : CoreState} {c : Inside}
+    (new : Bool → Inside) (r : Result T E) (refused : Bool) → refused ≡ is_err r → core_of c ≡ old
+    → ((f : Bool) → (new f).failed ≡ f) → (P → Steps m c (new refused)) → OnOk r P
+    → OnOk r (MakesEvent m old (core_of (new refused)))
+makes-event {m} {old} {c} new (Ok x) refused same view failed steps p =
+    let s = steps p in
+    record {
+      event = ap (λ (v : CoreState). next_in v m) (sym view) ∙ s.event;
+      works = failed refused ∙ same;
+    }
+makes-event new (Err x) refused same view failed steps p = p
+
+-- what holds of an answer that is no refusal, by the flag that says so
+pub on_ok_by : {T E P : Type 0} (r : Result T E) (refused : Bool) → refused ≡ is_err r
+    → refused ≡ false → OnOk r P → P
+on_ok_by (Ok x) refused same ok p = p
+on_ok_by (Err x) refused same ok p = absurd (cc)
+
+-- a stage and the second level have room
+pub room-below : (c : Inside) → Sound c → (served_of (cache_of c.i.stage) < 2 ^ 44)
+    × (served_of (cache_of c.d.stage) < 2 ^ 44)
+room-below c s =
+    let few = few-taken_in (parts_for c.config) c.events.items (network_of c) s.consistent in (
+      omega (arith, s.caches.i.stands.cache.served, few side.I, s.runnable.short),
+      omega (arith, s.caches.d.stands.cache.served, few side.D, s.runnable.short),
+    )
+
+-- the second level has room for one more
+pub room-above : SecondLevelSeesFew → (c : Inside) → Sound c
+    → served_of (second_cache c.u) < 2 ^ 44
+room-above few c s =
+    omega (
+      arith,
+      served-whats s.caches.u,
+      few-given few (hierarchy_of c.config) c.events.items (network_of c) s.consistent,
+      s.runnable.short,
+    )
+
+-- before a refusal, the enabled machines are the network's
+pub working : (v : CoreState) → v.failed ≡ false
+    → enabled_in v ≡ enabled (parts_for v.config) (ring_of v.config) v.network
+working v ok = ap (λ b. cond b [] (filter (can_in v) machines)) ok
+
+-- the core's event keeps it consistent, and is one event
+pub driven : {v w : CoreState} → IsConsistent v → (m : Machine) → MakesEvent m v w
+    → Consistent (parts_for v.config) v.events w.network
+    × (events_made w.network ≡ suc (events_made v.network))
+driven {v} {w} k m made = (
+  keeps-next (parts_for v.config) v.events v.network k (ring_of v.config) m w.network made.event,
+  next-events (parts_for v.config) (ring_of v.config) m v.network w.network made.event,
+)

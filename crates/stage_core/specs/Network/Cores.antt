@@ -1,0 +1,112 @@
+-- A core as a state of the network, with what it simulates.
+use Rattle.std.specs.Prelude.{◌≡◌, ℕ, ◌<◌, ◌≤◌, ◌*◌, ◌^◌, Bool, false, List, [], drop, length}
+use Rattle.std.specs.Prelude.{Option, Some, filter, slice_get, if◌then◌else◌}
+use Rattle.cache_core.specs.Standing.{rules_of}
+use Rattle.din_trace.specs.declared.record.DinRecord.{DinRecord}
+use Rattle.stage_core.specs.Seen.{Parts, Hierarchy, parts_in}
+use Rattle.stage_core.specs.Merging.{merged}
+use Rattle.stage_core.specs.Config.{hierarchy_of, ring_of}
+use Rattle.stage_core.specs.Standing.{SecondStandsFor, second_cache}
+use Rattle.stage_core.specs.Network.{Network, Machine, Consistent, IsFinished, next, can, start}
+use Rattle.stage_core.specs.Network.{machines}
+use Rattle.stage_core.specs.Network.Lanes.{lane_of, TookIn}
+use Rattle.stage_core.specs.declared.config.Config.{Config}
+use Rattle.stage_core.specs.declared.message.Side.TheVariants as side
+use Rattle.stage_core.specs.declared.message.What.{What}
+use Rattle.stage_core.specs.declared.message.ToStage.{ToStage}
+use Rattle.stage_core.specs.declared.l1_stage.L1Stage.{L1Stage}
+use Rattle.stage_core.specs.declared.l2_stage.L2Stage.{L2Stage}
+use Rattle.stage_core.specs.declared.network.Core.TheInside.{Inside}
+
+-- the configuration, the event list, the state of the network, and whether memory was refused
+pub record CoreState : Type 0 where
+  pub config : Config
+  pub events : List DinRecord
+  pub network : Network
+  pub failed : Bool
+
+-- at the start
+abbrev pub started : Config → List DinRecord → CoreState
+started config events =
+    record { config = config; events = events; network = start events; failed = false }
+
+-- what its first level sends
+abbrev pub parts_for : Config → Parts
+parts_for config = parts_in (hierarchy_of config)
+
+-- the network after the next event of a machine, where that is possible
+abbrev pub next_in : CoreState → Machine → Option Network
+next_in c m = next (parts_for c.config) (ring_of c.config) m c.network
+
+-- is it possible?
+abbrev pub can_in : CoreState → Machine → Bool
+can_in c = can (parts_for c.config) (ring_of c.config) c.network
+
+-- the machines whose next event is possible, in their order: none after a refusal
+abbrev pub enabled_in : CoreState → List Machine
+enabled_in c = if c.failed then [] else filter (can_in c) machines
+
+-- the state is one that the definitions allow
+abbrev pub IsConsistent : CoreState → Type 0
+IsConsistent c = Consistent (parts_for c.config) c.events c.network
+
+-- the next event of this machine was made
+pub record MakesEvent (m : Machine) (old new : CoreState) : Type 0 where
+  pub event : next_in old m ≡ Some new.network
+  pub works : new.failed ≡ false
+
+-- the configuration and the event list are as before
+pub record IsSameRun (old new : CoreState) : Type 0 where
+  pub config : new.config ≡ old.config
+  pub events : new.events ≡ old.events
+
+-- the machine number nth of those that can, from 0
+abbrev pub IsChosen : ℕ → CoreState → Machine → Type 0
+IsChosen nth c m = slice_get (enabled_in c) nth ≡ Some m
+
+-- the run is over: memory was never refused, and no machine has a next event
+pub record IsOver (c : CoreState) : Type 0 where
+  pub works : c.failed ≡ false
+  pub finished : IsFinished c.network
+
+-- its fields as a state of the network: what the second level was given is what the merge's rule
+-- takes from the lists that were popped
+abbrev pub network_of : Inside → Network
+network_of c = record {
+  still = drop c.pushed c.pushes.items;
+  order = c.order;
+  i = lane_of c.i;
+  d = lane_of c.d;
+  at = c.merge;
+  given = (merged c.order.popped c.i.from.popped c.d.from.popped).taken;
+}
+
+-- what clauses see of it
+abbrev pub core_of : Inside → CoreState
+core_of c = record {
+  config = c.config;
+  events = c.events.items;
+  network = network_of c;
+  failed = c.failed;
+}
+
+-- the caches, of these rules, stand for what they were given
+pub record CachesStand (h : Hierarchy) (stage_i stage_d : L1Stage) (second : L2Stage)
+    (to_i to_d : List ToStage) (given : List What) : Type 0 where
+  pub i : TookIn h.i side.I stage_i to_i
+  pub d : TookIn h.d side.D stage_d to_d
+  pub u : SecondStandsFor second given
+  pub u_rules : rules_of (second_cache second) ≡ h.u
+
+-- the event list is short, and each ring holds a message or more
+pub record IsRunnable (config : Config) (events : List DinRecord) : Type 0 where
+  pub short : length events ≤ 2 * 2 ^ 40
+  pub room : 0 < ring_of config
+
+-- what its fields keep while memory was not refused
+pub record Sound (c : Inside) : Type 0 where
+  pub consistent : Consistent (parts_for c.config) c.events.items (network_of c)
+  pub caches : CachesStand (hierarchy_of c.config) c.i.stage c.d.stage c.u
+      c.i.to.popped c.d.to.popped (network_of c).given
+  pub pushed : c.pushed ≤ length c.pushes.items
+  pub runnable : IsRunnable c.config c.events.items

@@ -1,0 +1,27 @@
+-- A lane of the code as a lane of the network.
+use Rattle.std.specs.Prelude.{◌≡◌, ℕ, List, Option}
+use Rattle.cache_core.specs.History.{Rules}
+use Rattle.cache_core.specs.Standing.{rules_of}
+use Rattle.stage_core.specs.Seen.{parts_of}
+use Rattle.stage_core.specs.Standing.{StageStandsFor, cache_of, side_of, outbox_of}
+use Rattle.stage_core.specs.Network.{Lane, stage}
+use Rattle.stage_core.specs.declared.message.Side.{Side}
+use Rattle.stage_core.specs.declared.message.ToStage.{ToStage}
+use Rattle.stage_core.specs.declared.l1_stage.L1Stage.{L1Stage}
+use Rattle.stage_core.specs.declared.network.lane.Lane as code
+
+-- its two rings and its stage's outbox
+abbrev pub lane_of : code.Lane → Lane
+lane_of l = record { to = l.to; outbox = outbox_of l.stage; from = l.from }
+
+-- the lane after its stage's next event
+abbrev pub stage_next : ℕ → code.Lane → Option Lane
+stage_next capacity l =
+    stage (parts_of (rules_of (cache_of l.stage))) capacity (side_of l.stage)
+    (outbox_of l.stage) (lane_of l)
+
+-- a stage of this side, with a cache of these rules, took in these messages
+pub record TookIn (rules : Rules) (s : Side) (stage : L1Stage) (ms : List ToStage) : Type 0 where
+  pub same_rules : rules_of (cache_of stage) ≡ rules
+  pub same_side : side_of stage ≡ s
+  pub stands : StageStandsFor stage ms

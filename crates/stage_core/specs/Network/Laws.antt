@@ -1,0 +1,95 @@
+-- Laws over the network, whatever the first level sends and however small the rings are.
+use Rattle.std.specs.Prelude.{◌≡◌, ℕ, ◌*◌, ◌<◌, ◌≤◌, List, ◌++◌, length, Some, None}
+use Rattle.din_trace.specs.declared.record.DinRecord.{DinRecord}
+use Rattle.stage_core.specs.Seen.{Parts, seen}
+use Rattle.stage_core.specs.Streams.{order, to_side, from_side}
+use Rattle.stage_core.specs.Network.Rings.{carried}
+use Rattle.stage_core.specs.Network.{Network, Machine, Consistent, IsFinished, lane, next, run}
+use Rattle.stage_core.specs.Network.{start, events_made, messages}
+use Rattle.stage_core.specs.declared.message.Side.{Side}
+
+-- the start is consistent
+abbrev pub StartIsConsistent : Type 0
+StartIsConsistent = (parts : Parts) (es : List DinRecord) → Consistent parts es (start es)
+
+-- each event of each machine leads from a consistent state to a consistent state
+abbrev pub EventsKeepConsistency : Type 0
+EventsKeepConsistency =
+    (parts : Parts) (es : List DinRecord) (capacity : ℕ) (m : Machine) (old new : Network) →
+    Consistent parts es old → next parts capacity m old ≡ Some new → Consistent parts es new
+
+-- so do whole schedules from the start
+abbrev pub SchedulesKeepConsistency : Type 0
+SchedulesKeepConsistency =
+    (parts : Parts) (es : List DinRecord) (capacity : ℕ) (ms : List Machine) (n : Network) →
+    run parts capacity ms (start es) ≡ Some n → Consistent parts es n
+
+-- a consistent state in which no machine's next event is possible is finished, if each ring holds a
+-- message or more
+abbrev pub ConsistentStatesGoOn : Type 0
+ConsistentStatesGoOn =
+    (parts : Parts) (es : List DinRecord) (capacity : ℕ) (n : Network) →
+    0 < capacity → Consistent parts es n →
+    ((m : Machine) → next parts capacity m n ≡ None) → IsFinished n
+
+-- so is a state that some schedule leads to from the start
+abbrev pub NoScheduleIsStuck : Type 0
+NoScheduleIsStuck =
+    (parts : Parts) (es : List DinRecord) (capacity : ℕ) (ms : List Machine) (n : Network) →
+    0 < capacity → run parts capacity ms (start es) ≡ Some n →
+    ((m : Machine) → next parts capacity m n ≡ None) → IsFinished n
+
+-- no more messages wait in a ring than it holds
+pub record IsWithin (capacity : ℕ) (n : Network) : Type 0 where
+  pub order : length n.order.waiting ≤ capacity
+  pub to : (s : Side) → length (lane s n).to.waiting ≤ capacity
+  pub from : (s : Side) → length (lane s n).from.waiting ≤ capacity
+
+-- so it is in every state that a schedule leads to from the start
+abbrev pub RingsHoldTheirCapacity : Type 0
+RingsHoldTheirCapacity =
+    (parts : Parts) (es : List DinRecord) (capacity : ℕ) (ms : List Machine) (n : Network) →
+    run parts capacity ms (start es) ≡ Some n → IsWithin capacity n
+
+-- these stand at the beginning of those
+abbrev pub IsBeginning : {A : Type 0} → List A → List A → Type 0
+IsBeginning {A} xs ys = (rest : List A) × (xs ++ rest ≡ ys)
+
+-- what each ring has carried is the beginning of its stream
+abbrev pub RingsCarryBeginnings : Type 0
+RingsCarryBeginnings =
+    (parts : Parts) (es : List DinRecord) (n : Network) → Consistent parts es n →
+    IsBeginning (carried n.order) (order es)
+    × ((s : Side) → IsBeginning (carried (lane s n).to) (to_side s es))
+    × ((s : Side) → IsBeginning (carried (lane s n).from) (from_side parts s es))
+
+-- the second level was given no more than it is to see in all
+abbrev pub SecondLevelIsGivenFew : Type 0
+SecondLevelIsGivenFew =
+    (parts : Parts) (es : List DinRecord) (n : Network) → Consistent parts es n →
+    length n.given ≤ length (seen parts es)
+
+-- where all have finished it was given just that
+abbrev pub FinishedMeansSeen : Type 0
+FinishedMeansSeen =
+    (parts : Parts) (es : List DinRecord) (n : Network) → Consistent parts es n →
+    IsFinished n → n.given ≡ seen parts es
+
+-- no consistent state has made more events than a push and a pop for each message
+abbrev pub EventsAreBounded : Type 0
+EventsAreBounded =
+    (parts : Parts) (es : List DinRecord) (n : Network) → Consistent parts es n →
+    events_made n ≤ 2 * messages parts es
+
+-- where all have finished it has made just these
+abbrev pub FinishedMeansAllEvents : Type 0
+FinishedMeansAllEvents =
+    (parts : Parts) (es : List DinRecord) (n : Network) → Consistent parts es n →
+    IsFinished n → events_made n ≡ 2 * messages parts es
+
+-- so every schedule that ends where all have finished has two events for each message
+abbrev pub CompleteSchedulesAreAsLong : Type 0
+CompleteSchedulesAreAsLong =
+    (parts : Parts) (es : List DinRecord) (capacity : ℕ) (ms : List Machine) (n : Network) →
+    run parts capacity ms (start es) ≡ Some n → IsFinished n →
+    length ms ≡ 2 * messages parts es

@@ -1,0 +1,61 @@
+-- What the splitter pushes for an event list: each message with its ring.
+use Rattle.std.specs.Prelude.{◌≡◌, List, [], ◌∷◌, ◌++◌, map, option_to_list}
+use Rattle.din_trace.specs.declared.record.DinRecord.{DinRecord}
+use Rattle.stage_core.specs.Places.{over}
+use Rattle.stage_core.specs.Network.Rings.{Ring, with_message}
+use Rattle.stage_core.specs.Streams.{turn_of, told}
+use Rattle.stage_core.specs.declared.message.Side.{Side}
+use Rattle.stage_core.specs.declared.message.Side.TheVariants as side
+use Rattle.stage_core.specs.declared.message.Turn.{Turn}
+use Rattle.stage_core.specs.declared.message.Turn.TheVariants as turn
+use Rattle.stage_core.specs.declared.message.ToStage.{ToStage}
+use Rattle.stage_core.specs.declared.message.ToStage.TheVariants as to_stage
+use Rattle.stage_core.specs.declared.message.Routed.{Routed}
+pub use Rattle.stage_core.specs.declared.network.pushes.Push.{Push}
+pub use Rattle.stage_core.specs.declared.network.pushes.Push.TheVariants.{Order, To}
+
+-- a turn, then I's message, then D's
+abbrev pub in_order : Turn → List ToStage → List ToStage → List Push
+in_order t is ds = Order t ∷ (map (To side.I) is ++ map (To side.D) ds)
+
+-- the pushes of the event e, which stands after the events before
+abbrev pub pushes_at : List DinRecord → DinRecord → List Push
+pushes_at before e = in_order (turn_of e.label) (told side.I before e) (told side.D before e)
+
+-- the pushes of the end
+abbrev pub ending : List Push
+ending = in_order turn.Finish (to_stage.Finish ∷ []) (to_stage.Finish ∷ [])
+
+-- all that the splitter pushes
+abbrev pub pushes : List DinRecord → List Push
+pushes events = over pushes_at events ++ ending
+
+-- the pushes of what the splitter made of an event, or of the end
+abbrev pub pushes_in : Routed → List Push
+pushes_in r = in_order r.turn (option_to_list r.i) (option_to_list r.d)
+
+-- those of the order ring
+abbrev pub turns_in : List Push → List Turn
+turns_in [] = []
+turns_in (Order t ∷ ps) = t ∷ turns_in ps
+turns_in (To s m ∷ ps) = turns_in ps
+
+-- the item of the second side, where that is the first
+abbrev pub for_side : {A : Type 0} → Side → Side → A → List A
+for_side side.I side.I x = x ∷ []
+for_side side.I side.D x = []
+for_side side.D side.I x = []
+for_side side.D side.D x = x ∷ []
+
+-- those of the ring to a side
+abbrev pub sent_to : Side → List Push → List ToStage
+sent_to s [] = []
+sent_to s (Order t ∷ ps) = sent_to s ps
+sent_to s (To r m ∷ ps) = for_side s r m ++ sent_to s ps
+
+-- a push goes into its ring, and the other two rings are as before
+abbrev pub IsPushed : Push → Ring Turn → Ring ToStage → Ring ToStage → Ring Turn → Ring ToStage →
+    Ring ToStage → Type 0
+IsPushed (Order t) o i d o' i' d' = (o' ≡ with_message t o) × (i' ≡ i) × (d' ≡ d)
+IsPushed (To side.I m) o i d o' i' d' = (o' ≡ o) × (i' ≡ with_message m i) × (d' ≡ d)
+IsPushed (To side.D m) o i d o' i' d' = (o' ≡ o) × (i' ≡ i) × (d' ≡ with_message m d)
