@@ -15,6 +15,7 @@ use Rattle.std.proofs.lemmas.Map.Keys.{sorted_from_strictly_increasing, IsStrict
 use Rattle.cache_core.specs.Dirty.{place, rising}
 use Rattle.cache_core.specs.Laws.{IsBelow, Rises}
 use Rattle.cache_core.proofs.Reuse.{has}
+use Rattle.cache_core.proofs.Cases.{by_cases}
 
 -- two tests that hold together are one
 pub same_test : (a b : Bool) → (a ≡ true → b ≡ true) → (b ≡ true → a ≡ true) → a ≡ b
@@ -59,14 +60,13 @@ same-rising (x ∷ xs) (y ∷ ys) a b same =
       ]
     ] in
     let tails : (z : ℕ) → has xs z ≡ has ys z = λ z.
-    (elim (eqb x z) as (λ t. eqb x z ≡ t → has xs z ≡ has ys z) [
-      | true ↦ λ e. let here : x ≡ z = eqb-true x z e in
-          subst (λ v. has xs v ≡ false) here (not-itself x xs a.0)
-          ∙ sym (subst (λ v. has ys v ≡ false) (sym head ∙ here) (not-itself y ys b.0))
-      | false ↦ λ e. let whole : (eqb x z || has xs z) ≡ (eqb y z || has ys z) = same z in
-          let other : eqb y z ≡ false = subst (λ v. eqb v z ≡ false) head e in
-          sym (ap (λ t. t || has xs z) e) ∙ whole ∙ ap (λ t. t || has ys z) other
-    ]) refl in
+    by_cases (eqb x z)
+    (λ e. let here : x ≡ z = eqb-true x z e in
+    subst (λ v. has xs v ≡ false) here (not-itself x xs a.0)
+    ∙ sym (subst (λ v. has ys v ≡ false) (sym head ∙ here) (not-itself y ys b.0)))
+    (λ e. let whole : (eqb x z || has xs z) ≡ (eqb y z || has ys z) = same z in
+    let other : eqb y z ≡ false = subst (λ v. eqb v z ≡ false) head e in
+    sym (ap (λ t. t || has xs z) e) ∙ whole ∙ ap (λ t. t || has ys z) other) in
     ap (λ v. v ∷ xs) head ∙ ap (λ l. y ∷ l) (same-rising xs ys a.1 b.1 tails)
 
 -- the definition's list rises

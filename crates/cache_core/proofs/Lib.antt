@@ -2,6 +2,7 @@ pub mod AccessStep
 pub mod Again
 pub mod Ascending
 pub mod CacheFacts
+pub mod Cases
 pub mod Flat
 pub mod FlushStep
 pub mod Flushed

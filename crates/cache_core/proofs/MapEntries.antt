@@ -1,5 +1,5 @@
 -- The entries of a map, shown as a row: what a search finds, and what a change makes of them.
-use Rattle.std.proofs.Common.{◌≡◌, ℕ, zero, suc, ◌-◌, ◌≤◌, Bool, true, false, cond, eqb, nat_eq}
+use Rattle.std.proofs.Common.{◌≡◌, ℕ, zero, suc, ◌≤◌, Bool, true, false, cond, eqb, nat_eq}
 use Rattle.std.proofs.Common.{List, [], ◌∷◌, ◌++◌, length, take, map, replicate, slice_get, Option}
 use Rattle.std.proofs.Common.{Some, None, is_some, refl, sym, ap, ◌∙◌, arith}
 use Rattle.std.specs.List.{find, list_any}
@@ -13,6 +13,7 @@ use Rattle.cache_core.specs.Row.{dirty_block}
 use Rattle.cache_core.specs.Mapped.{way_of, dirty_entry}
 use Rattle.cache_core.proofs.Shift.{shifted-none, changed-none}
 use Rattle.cache_core.proofs.Shadow.{eqb-comm}
+use Rattle.cache_core.proofs.Cases.{by_cases}
 
 -- a set's blocks in order, each with its dirty mark
 abbrev pub Entries : Type 0
@@ -44,11 +45,9 @@ module _ (b k : ℕ) where
   find-shown n [] l = find-empty n k
   find-shown zero (e ∷ es) l = absurd (omega arith)
   find-shown (suc n) (e ∷ es) l =
-      (elim (eqb e.0 b) as (λ t. eqb e.0 b ≡ t
-      → find p (take (suc n) (padded (e ∷ es))) ≡ option_map way_of (lookup_entry test (e ∷ es))) [
-        | true ↦ λ q. rw (eqb-comm b e.0, q) refl
-        | false ↦ λ q. rw (eqb-comm b e.0, q) (find-shown n es (omega arith))
-      ]) refl
+      by_cases (eqb e.0 b)
+      (λ q. rw (eqb-comm b e.0, q) refl)
+      (λ q. rw (eqb-comm b e.0, q) (find-shown n es (omega arith)))
 
   -- a pass that brings b to the front shows the entries without b behind it
   pub shifted-shown : (n : ℕ) (es : Entries) (c : Way) → n ≤ k
@@ -58,13 +57,10 @@ module _ (b k : ℕ) where
       shifted-none p (suc n) (replicate k empty_way) c (any-empty (suc n) k)
       (omega (arith, length-replicate k empty_way))
   shifted-shown (suc n) (e ∷ es) c l =
-      (elim (eqb e.0 b) as (λ t. eqb e.0 b ≡ t
-      → shifted p c (take (suc n) (padded (e ∷ es)))
-      ≡ take (suc n) (c ∷ padded (remove_entry test (e ∷ es)))) [
-        | true ↦ λ q. rw (eqb-comm b e.0, q) refl
-        | false ↦ λ q. rw (eqb-comm b e.0, q)
-            (ap (λ l. c ∷ l) (shifted-shown n es (way_of e) (omega arith)))
-      ]) refl
+      by_cases (eqb e.0 b)
+      (λ q. rw (eqb-comm b e.0, q) refl)
+      (λ q. rw (eqb-comm b e.0, q)
+      (ap (λ l. c ∷ l) (shifted-shown n es (way_of e) (omega arith))))
 
   -- a pass that marks b's way shows the entries with b marked
   pub changed-shown : (n : ℕ) (es : Entries)
@@ -73,12 +69,9 @@ module _ (b k : ℕ) where
   changed-shown (suc n) [] = changed-none p dirtied (take (suc n) (replicate k empty_way))
       (any-empty (suc n) k)
   changed-shown (suc n) (e ∷ es) =
-      (elim (eqb e.0 b) as (λ t. eqb e.0 b ≡ t
-      → changed p dirtied (take (suc n) (padded (e ∷ es)))
-      ≡ take (suc n) (padded (set_value test (e ∷ es) true))) [
-        | true ↦ λ q. rw (eqb-comm b e.0, q) refl
-        | false ↦ λ q. rw (eqb-comm b e.0, q) (ap (λ l. way_of e ∷ l) (changed-shown n es))
-      ]) refl
+      by_cases (eqb e.0 b)
+      (λ q. rw (eqb-comm b e.0, q) refl)
+      (λ q. rw (eqb-comm b e.0, q) (ap (λ l. way_of e ∷ l) (changed-shown n es)))
 
   abbrev dirty_of : Option (ℕ × Bool) → Option ℕ
   dirty_of o = option_map_or dirty_entry o None
@@ -94,13 +87,10 @@ module _ (b k : ℕ) where
       → dirty_block (leaving p c (take (suc n) (padded es))) ≡ dirty_of (slice_get es n)
   leaving-shown n [] c l h = ap dirty_block (leaving-empty n k c l)
   leaving-shown n (e ∷ es) c l h =
-      (elim (eqb e.0 b) as (λ t. eqb e.0 b ≡ t
-      → dirty_block (leaving p c (take (suc n) (padded (e ∷ es))))
-      ≡ dirty_of (slice_get (e ∷ es) n)) [
-        | true ↦ λ q. let h' : Some e ≡ None = sym (rw (eqb-comm b e.0, q) refl) ∙ h in cc
-        | false ↦ λ q. let h' : lookup_entry test es ≡ None = sym (rw (eqb-comm b e.0, q) refl)
-            ∙ h in rw q (further n l (λ m g. leaving-shown m es (way_of e) g h'))
-      ]) refl where
+      by_cases (eqb e.0 b)
+      (λ q. let h' : Some e ≡ None = sym (rw (eqb-comm b e.0, q) refl) ∙ h in cc)
+      (λ q. let h' : lookup_entry test es ≡ None = sym (rw (eqb-comm b e.0, q) refl)
+      ∙ h in rw q (further n l (λ m g. leaving-shown m es (way_of e) g h'))) where
         further : (n : ℕ) → suc n ≤ k → ((m : ℕ) → suc m ≤ k
             → dirty_block (leaving p (way_of e) (take (suc m) (padded es)))
             ≡ dirty_of (slice_get es m))
@@ -112,33 +102,28 @@ module _ (b k : ℕ) where
   -- to remove a block that is not there changes nothing
   pub removed-absent : (es : Entries) → lookup_entry test es ≡ None → remove_entry test es ≡ es
   removed-absent [] h = refl
-  removed-absent (e ∷ es) h = (elim (eqb e.0 b) as (λ t. eqb e.0 b ≡ t
-      → remove_entry test (e ∷ es) ≡ e ∷ es) [
-        | true ↦ λ q. let h' : Some e ≡ None = sym (rw (eqb-comm b e.0, q) refl) ∙ h in cc
-        | false ↦ λ q. let h' : lookup_entry test es ≡ None = sym (rw (eqb-comm b e.0, q) refl)
-            ∙ h in rw (eqb-comm b e.0, q) (ap (λ l. e ∷ l) (removed-absent es h'))
-      ]) refl
+  removed-absent (e ∷ es) h = by_cases (eqb e.0 b)
+      (λ q. let h' : Some e ≡ None = sym (rw (eqb-comm b e.0, q) refl) ∙ h in cc)
+      (λ q. let h' : lookup_entry test es ≡ None = sym (rw (eqb-comm b e.0, q) refl)
+      ∙ h in rw (eqb-comm b e.0, q) (ap (λ l. e ∷ l) (removed-absent es h')))
 
   -- nor does to mark it
   pub set-absent : (v : Bool) (es : Entries) → lookup_entry test es ≡ None
       → set_value test es v ≡ es
   set-absent v [] h = refl
-  set-absent v (e ∷ es) h = (elim (eqb e.0 b) as (λ t. eqb e.0 b ≡ t
-      → set_value test (e ∷ es) v ≡ e ∷ es) [
-        | true ↦ λ q. let h' : Some e ≡ None = sym (rw (eqb-comm b e.0, q) refl) ∙ h in cc
-        | false ↦ λ q. let h' : lookup_entry test es ≡ None = sym (rw (eqb-comm b e.0, q) refl)
-            ∙ h in rw (eqb-comm b e.0, q) (ap (λ l. e ∷ l) (set-absent v es h'))
-      ]) refl
+  set-absent v (e ∷ es) h = by_cases (eqb e.0 b)
+      (λ q. let h' : Some e ≡ None = sym (rw (eqb-comm b e.0, q) refl) ∙ h in cc)
+      (λ q. let h' : lookup_entry test es ≡ None = sym (rw (eqb-comm b e.0, q) refl)
+      ∙ h in rw (eqb-comm b e.0, q) (ap (λ l. e ∷ l) (set-absent v es h')))
 
   -- an entry that was found is of the block that was looked up
   pub found-first : (es : Entries) (e : ℕ × Bool) → lookup_entry test es ≡ Some e → e.0 ≡ b
   found-first [] e h = cc
-  found-first (f ∷ es) e h = (elim (eqb f.0 b) as (λ t. eqb f.0 b ≡ t → e.0 ≡ b) [
-    | true ↦ λ q. let h' : Some f ≡ Some e = sym (rw (eqb-comm b f.0, q) refl)
-        ∙ h in let same : f ≡ e = cc in sym (ap (λ z. z.0) same) ∙ eqb-true f.0 b q
-    | false ↦ λ q. let h' : lookup_entry test es ≡ Some e = sym (rw (eqb-comm b f.0, q) refl)
-        ∙ h in found-first es e h'
-  ]) refl
+  found-first (f ∷ es) e h = by_cases (eqb f.0 b)
+      (λ q. let h' : Some f ≡ Some e = sym (rw (eqb-comm b f.0, q) refl)
+      ∙ h in let same : f ≡ e = cc in sym (ap (λ z. z.0) same) ∙ eqb-true f.0 b q)
+      (λ q. let h' : lookup_entry test es ≡ Some e = sym (rw (eqb-comm b f.0, q) refl)
+      ∙ h in found-first es e h')
 
   -- a block has a mark just where it has an entry
   pub lookup-is : (es : Entries) → is_some (lookup test es) ≡ is_some (lookup_entry test es)

@@ -1,6 +1,6 @@
 -- Members of lists of numbers: one that is searched, moved to the front, or the last; and how many
 -- there are.
-use Rattle.std.proofs.Common.{◌≡◌, ℕ, ◌-◌, Bool, true, false, cond, not, ◌&&◌, ◌||◌, eqb, List, []}
+use Rattle.std.proofs.Common.{◌≡◌, ℕ, Bool, true, false, cond, not, ◌&&◌, ◌||◌, eqb, List, []}
 use Rattle.std.proofs.Common.{◌∷◌, ◌++◌, Some, None, refl, sym, ap, subst, ◌∙◌, ◌≡◌, ℕ, ◌+◌, ◌≤◌}
 use Rattle.std.proofs.Common.{Bool, true, false, cond, not, ◌&&◌, ◌||◌, eqb, List, [], ◌∷◌, length}
 use Rattle.std.proofs.Common.{filter, Some, None, refl, sym, ap, subst, ◌∙◌, arith}
@@ -10,17 +10,16 @@ use Rattle.std.proofs.lemmas.Bool.{false≢true, or_left, or_right}
 use Rattle.cache_core.proofs.Reuse.{has, has-filter, has, has-filter}
 use Rattle.cache_core.proofs.Shift.{without, IsOnce, without, IsOnce}
 use Rattle.cache_core.proofs.Shadow.{eqb-comm}
+use Rattle.cache_core.proofs.Cases.{by_cases}
 
 -- a search for one number
 pub find-one : (test : ℕ → Bool) (v : ℕ) → ((y : ℕ) → test y ≡ eqb v y) → (ms : List ℕ)
     → find test ms ≡ cond (has ms v) (Some v) None
 find-one test v same [] = refl
 find-one test v same (m ∷ ms) =
-    (elim (eqb m v) as (λ t. eqb m v ≡ t
-    → find test (m ∷ ms) ≡ cond (has (m ∷ ms) v) (Some v) None) [
-      | true ↦ λ e. rw (same m, eqb-comm v m, e) (ap (λ z. Some z) (eqb-true m v e))
-      | false ↦ λ e. rw (same m, eqb-comm v m, e) (find-one test v same ms)
-    ]) refl
+    by_cases (eqb m v)
+    (λ e. rw (same m, eqb-comm v m, e) (ap (λ z. Some z) (eqb-true m v e)))
+    (λ e. rw (same m, eqb-comm v m, e) (find-one test v same ms))
 
 -- a search that no number passes finds none
 pub find-nothing : (test : ℕ → Bool) → ((y : ℕ) → test y ≡ false) → (ms : List ℕ)

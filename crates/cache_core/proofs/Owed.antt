@@ -19,6 +19,7 @@ use Rattle.cache_core.proofs.Flushed.{has-filter_both, filter-has}
 use Rattle.cache_core.proofs.Turns.{renewals-yes, renewals-no, block-fifo}
 use Rattle.cache_core.proofs.Victim.{resident-marked, elsewhere, front-is, later-is, lru-same}
 use Rattle.cache_core.proofs.Members.{as_many}
+use Rattle.cache_core.proofs.Cases.{by_cases}
 
 rises-once : (xs : List ℕ) → Rises xs → IsOnce xs
 rises-once [] r = tt
@@ -88,21 +89,18 @@ module _ (r : Rules) (h : History) (x : Access) where
   in-front : (m : ℕ) → r.ways ≡ suc m → renews r ms x ≡ true → (y : ℕ) → eqb b y ≡ false
       → is_resident r (b ∷ ms) y ≡ true → is_resident r ms y ≡ true
   in-front m size yes' y other res =
-      (elim (eqb s (y % r.sets)) as (λ t. eqb s (y % r.sets) ≡ t → is_resident r ms y ≡ true) [
-        | false ↦ λ e. sym (elsewhere r h x y e) ∙ res
-        | true ↦ λ e. (elim (hits r ms x) as (λ t. hits r ms x ≡ t → is_resident r ms y ≡ true) [
-          | false ↦ λ miss. front-is r h x m size y e
-              ∙ take-mono m y (ranked r s ms)
-              (sym (ap (λ t. t || has (take m (ranked r s ms)) y) other)
-              ∙ sym (later-is r h x m size miss yes' y e) ∙ res)
-          | true ↦ λ hit. (elim r.fifo as (λ t. r.fifo ≡ t → is_resident r ms y ≡ true) [
-            | true ↦ λ f. absurd (false≢true
-                (sym (block-fifo r ms x false f
-                (and_right (uses r ms x) (not (hits r ms x)) (ap not hit))) ∙ yes'))
-            | false ↦ λ f. sym (lru-same r h x m size f hit y e) ∙ res
-          ]) refl
-        ]) refl
-      ]) refl
+      by_cases (eqb s (y % r.sets))
+      (λ e. by_cases (hits r ms x)
+      (λ hit. by_cases r.fifo
+      (λ f. absurd (false≢true
+      (sym (block-fifo r ms x false f
+      (and_right (uses r ms x) (not (hits r ms x)) (ap not hit))) ∙ yes')))
+      (λ f. sym (lru-same r h x m size f hit y e) ∙ res))
+      (λ miss. front-is r h x m size y e
+      ∙ take-mono m y (ranked r s ms)
+      (sym (ap (λ t. t || has (take m (ranked r s ms)) y) other)
+      ∙ sym (later-is r h x m size miss yes' y e) ∙ res)))
+      (λ e. sym (elsewhere r h x y e) ∙ res)
 
   no-ways : (ms' : List ℕ) (y : ℕ) → r.ways ≡ 0 → is_resident r ms' y ≡ true → ⊥
   unfolding is_resident
@@ -113,12 +111,11 @@ module _ (r : Rules) (h : History) (x : Access) where
       → is_resident r (renewals r h') y ≡ true → is_resident r ms y ≡ true
   others-by zero e y other res = absurd (no-ways (renewals r h') y e res)
   others-by (suc m) e y other res =
-      (elim (renews r ms x) as (λ t. renews r ms x ≡ t → is_resident r ms y ≡ true) [
-        | true ↦ λ g. in-front m e g y other
-            (sym (ap (λ l. is_resident r l y) (renewals-yes r h x g))
-            ∙ res)
-        | false ↦ λ g. sym (ap (λ l. is_resident r l y) (renewals-no r h x g)) ∙ res
-      ]) refl
+      by_cases (renews r ms x)
+      (λ g. in-front m e g y other
+      (sym (ap (λ l. is_resident r l y) (renewals-yes r h x g))
+      ∙ res))
+      (λ g. sym (ap (λ l. is_resident r l y) (renewals-no r h x g)) ∙ res)
 
   others : (y : ℕ) → eqb b y ≡ false → is_resident r (renewals r h') y ≡ true
       → is_resident r ms y ≡ true
@@ -152,18 +149,17 @@ module _ (r : Rules) (h : History) (x : Access) where
   stays-inside : (y : ℕ) → has after y ≡ true → has owing y ≡ true
   stays-inside y g =
       let p = dirty-parts r h' y (has-dirty r h' y g) in
-      (elim (eqb b y) as (λ t. eqb b y ≡ t → has owing y ≡ true) [
-        | false ↦ λ e. inside y (dirty-from r h y p.0 (others y e p.1) (sym (written-other y e)
-            ∙ p.2))
-        | true ↦ λ e. (elim w as (λ t. w ≡ t
-            → has (cond t (b ∷ dirty_blocks r h) (dirty_blocks r h)) y ≡ true) [
-              | true ↦ λ q. or_left (eqb b y) (has (dirty_blocks r h) y) e
-              | false ↦ λ q. let same : b ≡ y = eqb-true b y e in
-                  let k = written-here q (subst (λ z. is_written r h' z ≡ true) (sym same) p.2) in
-                  subst (λ z. has (dirty_blocks r h) z ≡ true) same
-                  (dirty-has r h b (dirty-from r h b p.0 k.0 k.1))
-            ]) refl
-      ]) refl
+      by_cases (eqb b y)
+      (λ e. (elim w as (λ t. w ≡ t
+      → has (cond t (b ∷ dirty_blocks r h) (dirty_blocks r h)) y ≡ true) [
+        | true ↦ λ q. or_left (eqb b y) (has (dirty_blocks r h) y) e
+        | false ↦ λ q. let same : b ≡ y = eqb-true b y e in
+            let k = written-here q (subst (λ z. is_written r h' z ≡ true) (sym same) p.2) in
+            subst (λ z. has (dirty_blocks r h) z ≡ true) same
+            (dirty-has r h b (dirty-from r h b p.0 k.0 k.1))
+      ]) refl)
+      (λ e. inside y (dirty-from r h y p.0 (others y e p.1) (sym (written-other y e)
+      ∙ p.2)))
 
   owing-length : length owing ≡ length (dirty_blocks r h) + cond w 1 0
   owing-length = (elim w as (λ t. length (cond t (b ∷ dirty_blocks r h) (dirty_blocks r h))
@@ -245,14 +241,12 @@ module _ (r : Rules) (h : History) (x : Access) where
   pays-made =
       let both = sent r.write_back (uses r ms x) (hits r ms x) w in
       let owed = owing-length in
-      (elim r.write_back as (λ t. r.write_back ≡ t
-      → counted + length after ≤ length (dirty_blocks r h) + (1 + cond w 1 0)) [
-        | true ↦ λ e. let q : ◌≡◌ {A = ℕ} (cond r.write_back 0 (cond w 1 0)) 0 =
-            ap (λ t. cond t 0 (cond w 1 0)) e in let k = backs in omega arith
-        | false ↦ λ e. let q : ◌≡◌ {A = ℕ} (cond r.write_back 0 (cond w 1 0)) (cond w 1 0) =
-            ap (λ t. cond t 0 (cond w 1 0)) e in let k = none-after e in let n =
-            none-back e (victim r h x) in omega arith
-      ]) refl
+      by_cases r.write_back
+      (λ e. let q : ◌≡◌ {A = ℕ} (cond r.write_back 0 (cond w 1 0)) 0 =
+      ap (λ t. cond t 0 (cond w 1 0)) e in let k = backs in omega arith)
+      (λ e. let q : ◌≡◌ {A = ℕ} (cond r.write_back 0 (cond w 1 0)) (cond w 1 0) =
+      ap (λ t. cond t 0 (cond w 1 0)) e in let k = none-after e in let n =
+      none-back e (victim r h x) in omega arith)
 
   pub pays : part_count (outcome_of r h x) + length after ≤ length (dirty_blocks r h)
       + (1 + cond w 1 0)

@@ -8,6 +8,7 @@ use Rattle.std.proofs.lemmas.Bool.Decides.{nat_tests}
 use Rattle.cache_core.specs.History.{Rules}
 use Rattle.cache_core.specs.Residents.{distinct, before, in_set, is_resident, reuse_distance}
 use Rattle.cache_core.specs.Order.{ways_of}
+use Rattle.cache_core.proofs.Cases.{by_cases}
 
 -- whether b is in the list
 abbrev pub has : List ℕ → ℕ → Bool
@@ -20,26 +21,17 @@ module _ (p : ℕ → Bool) (b : ℕ) (passes : p b ≡ true) where
   -- a filter that b passes keeps b
   pub has-filter : (ys : List ℕ) → has (filter p ys) b ≡ has ys b
   has-filter [] = refl
-  has-filter (y ∷ ys) = (elim (p y) as (λ t. p y ≡ t → has (filter p (y ∷ ys)) b ≡ has (y ∷ ys) b) [
-    | true ↦ λ e. rw (e, has-filter ys)
-    | false ↦ λ e. (elim (eqb y b) as (λ t. eqb y b ≡ t
-        → has (filter p (y ∷ ys)) b ≡ has (y ∷ ys) b) [
-          | true ↦ λ f. let g = at_b y f in cc
-          | false ↦ λ f. rw (e, f) (has-filter ys)
-        ]) refl
-  ]) refl
+  has-filter (y ∷ ys) = by_cases (p y)
+      (λ e. rw (e, has-filter ys))
+      (λ e. by_cases (eqb y b) (λ f. let g = at_b y f in cc) (λ f. rw (e, f) (has-filter ys)))
 
   pub before-filter : (ys : List ℕ) → before b (filter p ys) ≡ filter p (before b ys)
   before-filter [] = refl
-  before-filter (y ∷ ys) = (elim (eqb y b) as (λ t. eqb y b ≡ t
-      → before b (filter p (y ∷ ys)) ≡ filter p (before b (y ∷ ys))) [
-        | true ↦ λ f. rw (at_b y f, f)
-        | false ↦ λ f. (elim (p y) as (λ t. p y ≡ t
-            → before b (filter p (y ∷ ys)) ≡ filter p (before b (y ∷ ys))) [
-              | true ↦ λ e. rw (e, f, e) (ap (λ l. y ∷ l) (before-filter ys))
-              | false ↦ λ e. rw (e, f, e) (before-filter ys)
-            ]) refl
-      ]) refl
+  before-filter (y ∷ ys) = by_cases (eqb y b)
+      (λ f. rw (at_b y f, f))
+      (λ f. by_cases (p y)
+      (λ e. rw (e, f, e) (ap (λ l. y ∷ l) (before-filter ys)))
+      (λ e. rw (e, f, e) (before-filter ys)))
 
 other : (m b : ℕ) → eqb m b ≡ false → not (eqb b m) ≡ true
 other m b e = grind (arith, nat_tests)
@@ -47,22 +39,18 @@ other m b e = grind (arith, nat_tests)
 -- a list without its repetitions has the same members
 pub has-distinct : (ms : List ℕ) (b : ℕ) → has (distinct ms) b ≡ has ms b
 has-distinct [] b = refl
-has-distinct (m ∷ ms) b = (elim (eqb m b) as (λ t. eqb m b ≡ t
-    → has (distinct (m ∷ ms)) b ≡ has (m ∷ ms) b) [
-      | true ↦ λ e. rw e
-      | false ↦ λ e. rw e (has-filter (λ n. not (eqb n m)) b (other m b e) (distinct ms)
-          ∙ has-distinct ms b)
-    ]) refl
+has-distinct (m ∷ ms) b = by_cases (eqb m b)
+    (λ e. rw e)
+    (λ e. rw e (has-filter (λ n. not (eqb n m)) b (other m b e) (distinct ms)
+    ∙ has-distinct ms b))
 
 pub before-distinct : (ms : List ℕ) (b : ℕ) → before b (distinct ms) ≡ distinct (before b ms)
 before-distinct [] b = refl
-before-distinct (m ∷ ms) b = (elim (eqb m b) as (λ t. eqb m b ≡ t
-    → before b (distinct (m ∷ ms)) ≡ distinct (before b (m ∷ ms))) [
-      | true ↦ λ e. rw e
-      | false ↦ λ e. rw e (ap (λ l. m ∷ l)
-          (before-filter (λ n. not (eqb n m)) b (other m b e) (distinct ms)
-          ∙ ap (filter (λ n. not (eqb n m))) (before-distinct ms b)))
-    ]) refl
+before-distinct (m ∷ ms) b = by_cases (eqb m b)
+    (λ e. rw e)
+    (λ e. rw e (ap (λ l. m ∷ l)
+    (before-filter (λ n. not (eqb n m)) b (other m b e) (distinct ms)
+    ∙ ap (filter (λ n. not (eqb n m))) (before-distinct ms b))))
 
 ltb-suc : (a b : ℕ) → ltb (suc a) (suc b) ≡ ltb a b
 ltb-suc a b = grind (arith, nat_tests)
@@ -73,13 +61,10 @@ pub has-take : (n : ℕ) (ms : List ℕ) (b : ℕ)
 has-take zero ms b = sym (and_right (has ms b) (ltb (length (before b ms)) 0)
     (le-ltb (length (before b ms)) 0 (omega arith)))
 has-take (suc n) [] b = refl
-has-take (suc n) (m ∷ ms) b = (elim (eqb m b) as (λ t. eqb m b ≡ t
-    → has (take (suc n) (m ∷ ms)) b
-    ≡ (has (m ∷ ms) b && ltb (length (before b (m ∷ ms))) (suc n))) [
-      | true ↦ λ e. rw e (sym (lt-ltb 0 (suc n) (omega arith)))
-      | false ↦ λ e. rw e (has-take n ms b
-          ∙ ap (λ t. has ms b && t) (sym (ltb-suc (length (before b ms)) n)))
-    ]) refl
+has-take (suc n) (m ∷ ms) b = by_cases (eqb m b)
+    (λ e. rw e (sym (lt-ltb 0 (suc n) (omega arith))))
+    (λ e. rw e (has-take n ms b
+    ∙ ap (λ t. has ms b && t) (sym (ltb-suc (length (before b ms)) n))))
 
 module _ (r : Rules) where
   pub has-in_set : (ms : List ℕ) (b : ℕ) → has (in_set r (b % r.sets) ms) b ≡ has ms b
@@ -89,11 +74,9 @@ module _ (r : Rules) where
   -- the law: they are the residents by reuse distance
   pub has-ways_of : (ms : List ℕ) (b : ℕ) → has (ways_of r (b % r.sets) ms) b ≡ is_resident r ms b
   unfolding is_resident reuse_distance
-  has-ways_of ms b = (elim r.fifo as (λ t. r.fifo ≡ t
-      → has (ways_of r (b % r.sets) ms) b ≡ is_resident r ms b) [
-        | true ↦ λ e. rw e (has-take r.ways (in_set r (b % r.sets) ms) b
-            ∙ ap (λ t. t && ltb (length (before b (in_set r (b % r.sets) ms))) r.ways)
-            (has-in_set ms b))
-        | false ↦ λ e. rw e (has-take r.ways (distinct (in_set r (b % r.sets) ms)) b
-            ∙ rw (has-distinct, has-in_set, before-distinct) refl)
-      ]) refl
+  has-ways_of ms b = by_cases r.fifo
+      (λ e. rw e (has-take r.ways (in_set r (b % r.sets) ms) b
+      ∙ ap (λ t. t && ltb (length (before b (in_set r (b % r.sets) ms))) r.ways)
+      (has-in_set ms b)))
+      (λ e. rw e (has-take r.ways (distinct (in_set r (b % r.sets) ms)) b
+      ∙ rw (has-distinct, has-in_set, before-distinct) refl))

@@ -12,6 +12,7 @@ use Rattle.cache_core.specs.Dirty.{is_written}
 use Rattle.cache_core.specs.Row.{holds_block, shifted, changed, dirtied, next_row, way_at, row_of}
 use Rattle.cache_core.proofs.RowTurns.{find-row_of, is_written-used, row_of-unused, row_of-lru}
 use Rattle.cache_core.proofs.RowTurns.{row_of-load, row_of-fifo_hit}
+use Rattle.cache_core.proofs.Cases.{by_cases}
 
 changed-same : {X : Type 0} (p : X → Bool) (xs : List X) → changed p (λ w. w) xs ≡ xs
 changed-same p [] = refl
@@ -135,12 +136,10 @@ module _ (r : Rules) (pos : 0 < r.block_size) (h : History) (x : Access) where
 
   loaded : hits r ms x ≡ false → uses r ms x ≡ true
       → row_of r h' s ≡ shifted (holds_block first) (way_at r h' b) row
-  loaded e u = (elim r.fifo as (λ t. r.fifo ≡ t
-      → row_of r h' s ≡ shifted (holds_block first) (way_at r h' b) row) [
-        | true ↦ λ f. row_of-load r pos h x f
-            (and_from (uses r ms x) (not (hits r ms x)) u (ap not e))
-        | false ↦ λ f. row_of-lru r pos h x f u
-      ]) refl
+  loaded e u = by_cases r.fifo
+      (λ f. row_of-load r pos h x f
+      (and_from (uses r ms x) (not (hits r ms x)) u (ap not e)))
+      (λ f. row_of-lru r pos h x f u)
 
   on-miss : hits r ms x ≡ false → row_of r h' s ≡ next
   on-miss e = (elim (not w || r.allocate) as (λ t. (not w || r.allocate) ≡ t
@@ -155,5 +154,4 @@ module _ (r : Rules) (pos : 0 < r.block_size) (h : History) (x : Access) where
 
   -- the row after the access is what one step makes of the row before it
   pub row_of-next : row_of r h' s ≡ next
-  row_of-next = (elim (hits r ms x) as (λ t. hits r ms x ≡ t
-      → row_of r h' s ≡ next) [ true ↦ on-hit | false ↦ on-miss ]) refl
+  row_of-next = by_cases (hits r ms x) (on-hit) (on-miss)

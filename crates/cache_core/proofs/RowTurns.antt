@@ -21,6 +21,7 @@ use Rattle.cache_core.proofs.Shift.{take-cons_take}
 use Rattle.cache_core.proofs.Turns.{ranked-other, ranked-fifo, ranked-lru, IsOnce-ranked, absent}
 use Rattle.cache_core.proofs.Turns.{block-fifo, block-lru, renewals-yes, renewals-no, fresh}
 use Rattle.cache_core.proofs.Turns.{IsOnce-ways_of}
+use Rattle.cache_core.proofs.Cases.{by_cases}
 
 -- blocks are told apart by their first bytes
 eqb-times : (n y b : ℕ) → 0 < n → eqb (y * n) (b * n) ≡ eqb y b
@@ -95,11 +96,9 @@ module _ (r : Rules) (pos : 0 < r.block_size) (h : History) where
 
     ranked-elsewhere : (s : ℕ) → eqb (b % r.sets) s ≡ false
         → ranked r s (renewals r h') ≡ ranked r s ms
-    ranked-elsewhere s e = (elim (renews r ms x) as (λ t. renews r ms x ≡ t
-        → ranked r s (renewals r h') ≡ ranked r s ms) [
-          | true ↦ λ g. rw (renewals-yes r h x g) (ranked-other r s b ms e)
-          | false ↦ λ g. rw (renewals-no r h x g) refl
-        ]) refl
+    ranked-elsewhere s e = by_cases (renews r ms x)
+        (λ g. rw (renewals-yes r h x g) (ranked-other r s b ms e))
+        (λ g. rw (renewals-no r h x g) refl)
 
     -- the rows of the other sets stay
     pub row_of-other : (s : ℕ) → eqb (b % r.sets) s ≡ false → row_of r h' s ≡ row_of r h s
@@ -121,10 +120,9 @@ module _ (r : Rules) (pos : 0 < r.block_size) (h : History) where
 
     -- an access that does not use the cache renews nothing
     pub unused-block : uses r ms x ≡ false → renews r ms x ≡ false
-    unused-block u = (elim r.fifo as (λ t. r.fifo ≡ t → renews r ms x ≡ false) [
-      | true ↦ λ f. block-fifo r ms x false f (and_left (uses r ms x) (not (hits r ms x)) u)
-      | false ↦ λ f. block-lru r ms x false f u
-    ]) refl
+    unused-block u = by_cases r.fifo
+        (λ f. block-fifo r ms x false f (and_left (uses r ms x) (not (hits r ms x)) u))
+        (λ f. block-lru r ms x false f u)
 
     -- nothing is used: the row stays
     pub row_of-unused : uses r ms x ≡ false → row_of r h' s ≡ row_of r h s

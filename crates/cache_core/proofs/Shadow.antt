@@ -16,6 +16,7 @@ use Rattle.cache_core.proofs.Reuse.{has, has-ways_of}
 use Rattle.cache_core.proofs.Turns.{renewals-yes, renewals-no, ranked-lru}
 use Rattle.cache_core.proofs.Shift.{without, without-absent, IsOnce, IsOnce-take, IsOnce-distinct}
 use Rattle.cache_core.proofs.Shift.{has-take_absent}
+use Rattle.cache_core.proofs.Cases.{by_cases}
 
 -- the test for equality is the same both ways round
 pub eqb-comm : (a b : ℕ) → eqb a b ≡ eqb b a
@@ -32,30 +33,24 @@ module _ (b : ℕ) where
   entry-found : (ys : List ℕ) → lookup_entry (nat_eq b) (map pair ys)
       ≡ cond (has ys b) (Some (pair b)) None
   entry-found [] = refl
-  entry-found (y ∷ ys) = (elim (eqb y b) as (λ t. eqb y b ≡ t
-      → lookup_entry (nat_eq b) (map pair (y ∷ ys)) ≡ cond (has (y ∷ ys) b) (Some (pair b)) None) [
-        | true ↦ λ e. rw (eqb-comm b y, e) (ap (λ z. Some (pair z)) (eqb-true y b e))
-        | false ↦ λ e. rw (eqb-comm b y, e) (entry-found ys)
-      ]) refl
+  entry-found (y ∷ ys) = by_cases (eqb y b)
+      (λ e. rw (eqb-comm b y, e) (ap (λ z. Some (pair z)) (eqb-true y b e)))
+      (λ e. rw (eqb-comm b y, e) (entry-found ys))
 
   pub is_some-lookup : (ys : List ℕ) → is_some (lookup (nat_eq b) (map pair ys)) ≡ has ys b
   is_some-lookup [] = refl
-  is_some-lookup (y ∷ ys) = (elim (eqb y b) as (λ t. eqb y b ≡ t
-      → is_some (lookup (nat_eq b) (map pair (y ∷ ys))) ≡ has (y ∷ ys) b) [
-        | true ↦ λ e. rw (eqb-comm b y, e) refl
-        | false ↦ λ e. rw (eqb-comm b y, e) (is_some-lookup ys)
-      ]) refl
+  is_some-lookup (y ∷ ys) = by_cases (eqb y b)
+      (λ e. rw (eqb-comm b y, e) refl)
+      (λ e. rw (eqb-comm b y, e) (is_some-lookup ys))
 
   removed : (ys : List ℕ) → IsOnce ys
       → remove_entry (nat_eq b) (map pair ys) ≡ map pair (without b ys)
   removed [] o = refl
-  removed (y ∷ ys) o = (elim (eqb y b) as (λ t. eqb y b ≡ t
-      → remove_entry (nat_eq b) (map pair (y ∷ ys)) ≡ map pair (without b (y ∷ ys))) [
-        | true ↦ λ e. rw (eqb-comm b y, e)
-            (ap (map pair) (sym (without-absent ys b
-            (subst (λ z. has ys z ≡ false) (eqb-true y b e) o.0))))
-        | false ↦ λ e. rw (eqb-comm b y, e) (ap (λ l. pair y ∷ l) (removed ys o.1))
-      ]) refl
+  removed (y ∷ ys) o = by_cases (eqb y b)
+      (λ e. rw (eqb-comm b y, e)
+      (ap (map pair) (sym (without-absent ys b
+      (subst (λ z. has ys z ≡ false) (eqb-true y b e) o.0)))))
+      (λ e. rw (eqb-comm b y, e) (ap (λ l. pair y ∷ l) (removed ys o.1)))
 
   promoted-there : (ys : List ℕ) → IsOnce ys → has ys b ≡ true
       → promoted (nat_eq b) (map pair ys) ≡ map pair (b ∷ without b ys)
@@ -81,14 +76,12 @@ module _ (b : ℕ) where
       → without b (take (suc m) ys) ≡ take m (without b ys)
   take-without_there m [] o h = cc
   take-without_there m (y ∷ ys) o h =
-      (elim (eqb y b) as (λ t. eqb y b ≡ t
-      → without b (take (suc m) (y ∷ ys)) ≡ take m (without b (y ∷ ys))) [
-        | true ↦ λ e. let none : has ys b ≡ false =
-            subst (λ z. has ys z ≡ false) (eqb-true y b e) o.0 in
-            rw e (without-absent (take m ys) b (has-take_absent m b ys none)
-            ∙ ap (take m) (sym (without-absent ys b none)))
-        | false ↦ λ e. rw e (further (λ k g. take-without_there k ys o.1 g) m (sym (rw e refl) ∙ h))
-      ]) refl where
+      by_cases (eqb y b)
+      (λ e. let none : has ys b ≡ false =
+      subst (λ z. has ys z ≡ false) (eqb-true y b e) o.0 in
+      rw e (without-absent (take m ys) b (has-take_absent m b ys none)
+      ∙ ap (take m) (sym (without-absent ys b none))))
+      (λ e. rw e (further (λ k g. take-without_there k ys o.1 g) m (sym (rw e refl) ∙ h))) where
         further : ((k : ℕ) → has (take (suc k) ys) b ≡ true
             → without b (take (suc k) ys) ≡ take k (without b ys)) → (k : ℕ)
             → has (take k ys) b ≡ true

@@ -8,6 +8,7 @@ use Rattle.std.proofs.lemmas.Bool.{eqb-true, eq-eqb, false≢true, or_parts, and
 use Rattle.cache_core.specs.Residents.{distinct, before}
 use Rattle.cache_core.specs.Row.{shifted, leaving, changed}
 use Rattle.cache_core.proofs.Reuse.{has, has-take}
+use Rattle.cache_core.proofs.Cases.{by_cases}
 
 -- the list without b
 abbrev pub without : ℕ → List ℕ → List ℕ
@@ -21,10 +22,9 @@ IsOnce (m ∷ ms) = (has ms m ≡ false) × IsOnce ms
 -- a list without b is the same list without b taken out
 pub without-absent : (ms : List ℕ) (b : ℕ) → has ms b ≡ false → without b ms ≡ ms
 without-absent [] b h = refl
-without-absent (m ∷ ms) b h = (elim (eqb m b) as (λ t. eqb m b ≡ t → without b (m ∷ ms) ≡ m ∷ ms) [
-  | true ↦ λ e. absurd (false≢true (sym h ∙ rw e refl))
-  | false ↦ λ e. rw e (ap (λ l. m ∷ l) (without-absent ms b (sym (rw e refl) ∙ h)))
-]) refl
+without-absent (m ∷ ms) b h = by_cases (eqb m b)
+    (λ e. absurd (false≢true (sym h ∙ rw e refl)))
+    (λ e. rw e (ap (λ l. m ∷ l) (without-absent ms b (sym (rw e refl) ∙ h))))
 
 module _ {X : Type 0} (p : X → Bool) where
   -- where none of the first n passes, a pass puts c first and drops the last
@@ -33,12 +33,10 @@ module _ {X : Type 0} (p : X → Bool) where
   shifted-none zero xs c h l = refl
   shifted-none (suc n) [] c h l = absurd (omega arith)
   shifted-none (suc n) (x ∷ xs) c h l =
-      (elim (p x) as (λ t. p x ≡ t → shifted p c (take (suc n) (x ∷ xs))
-      ≡ take (suc n) (c ∷ x ∷ xs)) [
-        | true ↦ λ e. absurd (false≢true (sym h ∙ rw e refl))
-        | false ↦ λ e. rw e (ap (λ l. c ∷ l)
-            (shifted-none n xs x (sym (rw e refl) ∙ h) (omega arith)))
-      ]) refl
+      by_cases (p x)
+      (λ e. absurd (false≢true (sym h ∙ rw e refl)))
+      (λ e. rw e (ap (λ l. c ∷ l)
+      (shifted-none n xs x (sym (rw e refl) ∙ h) (omega arith))))
 
   -- and the last leaves
   pub leaving-none : (n : ℕ) (xs : List X) (c : X) → list_any p (take n xs) ≡ false → n ≤ length xs
@@ -46,20 +44,17 @@ module _ {X : Type 0} (p : X → Bool) where
   leaving-none zero xs c h l = refl
   leaving-none (suc n) [] c h l = absurd (omega arith)
   leaving-none (suc n) (x ∷ xs) c h l =
-      (elim (p x) as (λ t. p x ≡ t → leaving p c (take (suc n) (x ∷ xs))
-      ≡ get_or (c ∷ x ∷ xs) (suc n) c) [
-        | true ↦ λ e. absurd (false≢true (sym h ∙ rw e refl))
-        | false ↦ λ e. rw e (leaving-none n xs x (sym (rw e refl) ∙ h) (omega arith)
-            ∙ get_or_default (x ∷ xs) n x c (omega arith))
-      ]) refl
+      by_cases (p x)
+      (λ e. absurd (false≢true (sym h ∙ rw e refl)))
+      (λ e. rw e (leaving-none n xs x (sym (rw e refl) ∙ h) (omega arith)
+      ∙ get_or_default (x ∷ xs) n x c (omega arith)))
 
   -- where none passes, nothing is changed
   pub changed-none : (g : X → X) (xs : List X) → list_any p xs ≡ false → changed p g xs ≡ xs
   changed-none g [] h = refl
-  changed-none g (x ∷ xs) h = (elim (p x) as (λ t. p x ≡ t → changed p g (x ∷ xs) ≡ x ∷ xs) [
-    | true ↦ λ e. absurd (false≢true (sym h ∙ rw e refl))
-    | false ↦ λ e. rw e (ap (λ l. x ∷ l) (changed-none g xs (sym (rw e refl) ∙ h)))
-  ]) refl
+  changed-none g (x ∷ xs) h = by_cases (p x)
+      (λ e. absurd (false≢true (sym h ∙ rw e refl)))
+      (λ e. rw e (ap (λ l. x ∷ l) (changed-none g xs (sym (rw e refl) ∙ h))))
 
 -- a row holds a way for each of some blocks, and then empty ones, cut at a length
 module _ {X : Type 0} (f : ℕ → X) (empty : X) (k : ℕ) where
@@ -94,12 +89,9 @@ module _ {X : Type 0} (f : ℕ → X) (empty : X) (k : ℕ) where
     find-padded zero ms = refl
     find-padded (suc n) [] = find-replicate (suc n) k
     find-padded (suc n) (m ∷ ms) =
-        (elim (eqb m b) as (λ t. eqb m b ≡ t
-        → find p (take (suc n) (padded (m ∷ ms)))
-        ≡ cond (has (take (suc n) (m ∷ ms)) b) (Some (f b)) None) [
-          | true ↦ λ e. rw (at m, e) (ap (λ y. Some (f y)) (eqb-true m b e))
-          | false ↦ λ e. rw (at m, e) (find-padded n ms)
-        ]) refl
+        by_cases (eqb m b)
+        (λ e. rw (at m, e) (ap (λ y. Some (f y)) (eqb-true m b e)))
+        (λ e. rw (at m, e) (find-padded n ms))
 
     -- a pass that brings b to the front
     pub shifted-padded : (n : ℕ) (ms : List ℕ) (c : X) → n ≤ k → IsOnce ms
@@ -109,24 +101,20 @@ module _ {X : Type 0} (f : ℕ → X) (empty : X) (k : ℕ) where
         shifted-none p (suc n) (replicate k empty) c (any-take-replicate (suc n) k)
         (omega (arith, length-replicate k empty))
     shifted-padded (suc n) (m ∷ ms) c l o =
-        (elim (eqb m b) as (λ t. eqb m b ≡ t
-        → shifted p c (take (suc n) (padded (m ∷ ms)))
-        ≡ take (suc n) (c ∷ padded (without b (m ∷ ms)))) [
-          | true ↦ λ e. rw (at m, e) (ap (λ l. c ∷ take n (padded l))
-              (sym (without-absent ms b (subst (λ z. has ms z ≡ false) (eqb-true m b e) o.0))))
-          | false ↦ λ e. rw (at m, e) (ap (λ l. c ∷ l)
-              (shifted-padded n ms (f m) (omega arith) o.1))
-        ]) refl
+        by_cases (eqb m b)
+        (λ e. rw (at m, e) (ap (λ l. c ∷ take n (padded l))
+        (sym (without-absent ms b (subst (λ z. has ms z ≡ false) (eqb-true m b e) o.0)))))
+        (λ e. rw (at m, e) (ap (λ l. c ∷ l)
+        (shifted-padded n ms (f m) (omega arith) o.1)))
 
     pub leaving-hit : (n : ℕ) (ms : List ℕ) (c : X) → has (take n ms) b ≡ true
         → leaving p c (take n (padded ms)) ≡ f b
     leaving-hit zero ms c h = cc
     leaving-hit (suc n) [] c h = cc
     leaving-hit (suc n) (m ∷ ms) c h =
-        (elim (eqb m b) as (λ t. eqb m b ≡ t → leaving p c (take (suc n) (padded (m ∷ ms))) ≡ f b) [
-          | true ↦ λ e. rw (at m, e) (ap f (eqb-true m b e))
-          | false ↦ λ e. rw (at m, e) (leaving-hit n ms (f m) (sym (rw e refl) ∙ h))
-        ]) refl
+        by_cases (eqb m b)
+        (λ e. rw (at m, e) (ap f (eqb-true m b e)))
+        (λ e. rw (at m, e) (leaving-hit n ms (f m) (sym (rw e refl) ∙ h)))
 
     module _ (f' : ℕ → X) (agree : (y : ℕ) → eqb y b ≡ false → f' y ≡ f y) where
       abbrev padded' : List ℕ → List X
@@ -135,11 +123,9 @@ module _ {X : Type 0} (f : ℕ → X) (empty : X) (k : ℕ) where
       -- two makers of ways that agree but for b agree on a list without b
       pub map-without : (ms : List ℕ) → map f' (without b ms) ≡ map f (without b ms)
       map-without [] = refl
-      map-without (m ∷ ms) = (elim (eqb m b) as (λ t. eqb m b ≡ t
-          → map f' (without b (m ∷ ms)) ≡ map f (without b (m ∷ ms))) [
-            | true ↦ λ e. rw e (map-without ms)
-            | false ↦ λ e. rw (e, agree m e, map-without ms)
-          ]) refl
+      map-without (m ∷ ms) = by_cases (eqb m b)
+          (λ e. rw e (map-without ms))
+          (λ e. rw (e, agree m e, map-without ms))
 
       -- the row looks the same where b is not among the first
       pub padded-agree : (n : ℕ) (ms : List ℕ) → has (take n ms) b ≡ false
@@ -147,12 +133,10 @@ module _ {X : Type 0} (f : ℕ → X) (empty : X) (k : ℕ) where
       padded-agree zero ms h = refl
       padded-agree (suc n) [] h = refl
       padded-agree (suc n) (m ∷ ms) h =
-          (elim (eqb m b) as (λ t. eqb m b ≡ t
-          → take (suc n) (padded' (m ∷ ms)) ≡ take (suc n) (padded (m ∷ ms))) [
-            | true ↦ λ e. absurd (false≢true (sym h ∙ rw e refl))
-            | false ↦ λ e. rw (agree m e) (ap (λ l. f m ∷ l)
-                (padded-agree n ms (sym (rw e refl) ∙ h)))
-          ]) refl
+          by_cases (eqb m b)
+          (λ e. absurd (false≢true (sym h ∙ rw e refl)))
+          (λ e. rw (agree m e) (ap (λ l. f m ∷ l)
+          (padded-agree n ms (sym (rw e refl) ∙ h))))
 
       -- a pass that changes b where it stands
       pub changed-padded : (g : X → X) → f' b ≡ g (f b) → (n : ℕ) (ms : List ℕ) → IsOnce (take n ms)
@@ -161,36 +145,31 @@ module _ {X : Type 0} (f : ℕ → X) (empty : X) (k : ℕ) where
       changed-padded g same (suc n) [] o =
           changed-none p g (take (suc n) (replicate k empty)) (any-take-replicate (suc n) k)
       changed-padded g same (suc n) (m ∷ ms) o =
-          (elim (eqb m b) as (λ t. eqb m b ≡ t
-          → changed p g (take (suc n) (padded (m ∷ ms))) ≡ take (suc n) (padded' (m ∷ ms))) [
-            | true ↦ λ e. rw (at m, e) (let mb : m ≡ b = eqb-true m b e in
-                rw (padded-agree n ms (subst (λ z. has (take n ms) z ≡ false) mb o.0), mb, same))
-            | false ↦ λ e. rw (at m, e, agree m e)
-                (ap (λ l. f m ∷ l) (changed-padded g same n ms o.1))
-          ]) refl
+          by_cases (eqb m b)
+          (λ e. rw (at m, e) (let mb : m ≡ b = eqb-true m b e in
+          rw (padded-agree n ms (subst (λ z. has (take n ms) z ≡ false) mb o.0), mb, same)))
+          (λ e. rw (at m, e, agree m e)
+          (ap (λ l. f m ∷ l) (changed-padded g same n ms o.1)))
 
 -- a filter that b does not pass takes b out
 pub has-filter_not : (p : ℕ → Bool) (b : ℕ) → p b ≡ false → (ys : List ℕ)
     → has (filter p ys) b ≡ false
 has-filter_not p b fails [] = refl
 has-filter_not p b fails (y ∷ ys) =
-    (elim (p y) as (λ t. p y ≡ t → has (filter p (y ∷ ys)) b ≡ false) [
-      | true ↦ λ e. (elim (eqb y b) as (λ t. eqb y b ≡ t → has (filter p (y ∷ ys)) b ≡ false) [
-        | true ↦ λ f. absurd (false≢true (sym fails ∙ subst (λ z. p z ≡ true) (eqb-true y b f) e))
-        | false ↦ λ f. rw (e, f) (has-filter_not p b fails ys)
-      ]) refl
-      | false ↦ λ e. rw e (has-filter_not p b fails ys)
-    ]) refl
+    by_cases (p y)
+    (λ e. by_cases (eqb y b)
+    (λ f. absurd (false≢true (sym fails ∙ subst (λ z. p z ≡ true) (eqb-true y b f) e)))
+    (λ f. rw (e, f) (has-filter_not p b fails ys)))
+    (λ e. rw e (has-filter_not p b fails ys))
 
 -- what is absent stays absent in a filter and a front
 pub has-filter_absent : (p : ℕ → Bool) (b : ℕ) (ys : List ℕ) → has ys b ≡ false
     → has (filter p ys) b ≡ false
 has-filter_absent p b [] h = refl
 has-filter_absent p b (y ∷ ys) h = let parts = or_parts (eqb y b) (has ys b) h in
-    (elim (p y) as (λ t. p y ≡ t → has (filter p (y ∷ ys)) b ≡ false) [
-      | true ↦ λ e. rw (e, parts.0) (has-filter_absent p b ys parts.1)
-      | false ↦ λ e. rw e (has-filter_absent p b ys parts.1)
-    ]) refl
+    by_cases (p y)
+    (λ e. rw (e, parts.0) (has-filter_absent p b ys parts.1))
+    (λ e. rw e (has-filter_absent p b ys parts.1))
 
 -- what is not in a list is not among its first
 pub has-take_absent : (n : ℕ) (b : ℕ) (ys : List ℕ) → has ys b ≡ false → has (take n ys) b ≡ false
@@ -198,10 +177,9 @@ has-take_absent n b ys h = has-take n ys b ∙ and_left (has ys b) (ltb (length 
 
 pub IsOnce-filter : (p : ℕ → Bool) (ys : List ℕ) → IsOnce ys → IsOnce (filter p ys)
 IsOnce-filter p [] o = tt
-IsOnce-filter p (y ∷ ys) o = (elim (p y) as (λ t. p y ≡ t → IsOnce (filter p (y ∷ ys))) [
-  | true ↦ λ e. rw e (has-filter_absent p y ys o.0, IsOnce-filter p ys o.1)
-  | false ↦ λ e. rw e (IsOnce-filter p ys o.1)
-]) refl
+IsOnce-filter p (y ∷ ys) o = by_cases (p y)
+    (λ e. rw e (has-filter_absent p y ys o.0, IsOnce-filter p ys o.1))
+    (λ e. rw e (IsOnce-filter p ys o.1))
 
 -- where no number stands twice, none does among the first
 pub IsOnce-take : (n : ℕ) (ys : List ℕ) → IsOnce ys → IsOnce (take n ys)

@@ -20,6 +20,7 @@ use Rattle.cache_core.proofs.RowTurns.{unused-block, hit-block, find-row_of, row
 use Rattle.cache_core.proofs.RowStep.{held_way, row_of-next, uses-hit, uses-miss}
 use Rattle.cache_core.proofs.PushedOut.{out-is}
 use Rattle.cache_core.proofs.Victim.{unmarked, lru-hit}
+use Rattle.cache_core.proofs.Cases.{by_cases}
 
 -- a hit pushes nothing out
 pub out-hit : (wb a w : Bool) (first : ℕ) (row : List Way) (v : Way)
@@ -109,16 +110,14 @@ module _ (r : Rules) (pos : 0 < r.block_size) (m : ℕ) (size : r.ways ≡ suc m
       is_some (cond t (Some (way_at r h b)) None) ≡ t) [ true ↦ refl | false ↦ refl ])
 
   victim-hit : hits r ms x ≡ true → victim r h x ≡ None
-  victim-hit e = (elim r.fifo as (λ t. r.fifo ≡ t → victim r h x ≡ None) [
-    | true ↦ λ f. unmarked r h x (hit-block r pos h x f e)
-    | false ↦ λ f. lru-hit r h x m size f e (uses-hit r pos h x e)
-  ]) refl
+  victim-hit e = by_cases r.fifo
+      (λ f. unmarked r h x (hit-block r pos h x f e))
+      (λ f. lru-hit r h x m size f e (uses-hit r pos h x e))
 
   load-block : hits r ms x ≡ false → uses r ms x ≡ true → renews r ms x ≡ true
-  load-block e u = (elim r.fifo as (λ t. r.fifo ≡ t → renews r ms x ≡ true) [
-    | true ↦ λ f. block-fifo r ms x true f (and_from (uses r ms x) (not (hits r ms x)) u (ap not e))
-    | false ↦ λ f. block-lru r ms x true f u
-  ]) refl
+  load-block e u = by_cases r.fifo
+      (λ f. block-fifo r ms x true f (and_from (uses r ms x) (not (hits r ms x)) u (ap not e)))
+      (λ f. block-lru r ms x true f u)
 
   back-miss : hits r ms x ≡ false
       → pushed_out r.write_back r.allocate first w here None ≡ dirty_victim r h (victim r h x)
@@ -134,15 +133,13 @@ module _ (r : Rules) (pos : 0 < r.block_size) (m : ℕ) (size : r.ways ≡ suc m
 
   pub back-is : pushed_out r.write_back r.allocate first w here seen
       ≡ dirty_victim r h (victim r h x)
-  back-is = (elim (hits r ms x) as (λ t. hits r ms x ≡ t
-      → pushed_out r.write_back r.allocate first w here seen ≡ dirty_victim r h (victim r h x)) [
-        | true ↦ λ e. ap (pushed_out r.write_back r.allocate first w here) (seen-is
-            ∙ cond-true (hits r ms x) (Some (way_at r h b)) None e)
-            ∙ out-hit r.write_back r.allocate w first here (way_at r h b)
-            ∙ sym (ap (dirty_victim r h) (victim-hit e))
-        | false ↦ λ e. ap (pushed_out r.write_back r.allocate first w here) (seen-is
-            ∙ cond-false (hits r ms x) (Some (way_at r h b)) None e) ∙ back-miss e
-      ]) refl
+  back-is = by_cases (hits r ms x)
+      (λ e. ap (pushed_out r.write_back r.allocate first w here) (seen-is
+      ∙ cond-true (hits r ms x) (Some (way_at r h b)) None e)
+      ∙ out-hit r.write_back r.allocate w first here (way_at r h b)
+      ∙ sym (ap (dirty_victim r h) (victim-hit e)))
+      (λ e. ap (pushed_out r.write_back r.allocate first w here) (seen-is
+      ∙ cond-false (hits r ms x) (Some (way_at r h b)) None e) ∙ back-miss e)
 
   -- the answer, by the parts that the code has
   pub outcome-is : outcome_made r.write_back r.allocate w (is_some seen)
@@ -166,11 +163,10 @@ module _ (r : Rules) (pos : 0 < r.block_size) (m : ℕ) (size : r.ways ≡ suc m
       → ((t : ℕ) → t ≢ s → row r.ways t ys ≡ row r.ways t xs) → s < r.sets → (t : ℕ) → t < r.sets
       → row r.ways t ys ≡ row_of r h' t
   rows-step xs ys were now others inside t below =
-      (elim (eqb s t) as (λ q. eqb s t ≡ q → row r.ways t ys ≡ row_of r h' t) [
-        | true ↦ λ e. subst (λ z. row r.ways z ys ≡ row_of r h' z) (eqb-true s t e) (now
-            ∙ ap (λ l. next_row r.write_back r.allocate first w l (find (holds_block first) l)
-            r.fifo)
-            (were s inside) ∙ sym (row_of-next r pos h x))
-        | false ↦ λ e. others t (λ same. eqb-false s t e (sym same)) ∙ were t below
-            ∙ sym (row_of-other r pos h x t e)
-      ]) refl
+      by_cases (eqb s t)
+      (λ e. subst (λ z. row r.ways z ys ≡ row_of r h' z) (eqb-true s t e) (now
+      ∙ ap (λ l. next_row r.write_back r.allocate first w l (find (holds_block first) l)
+      r.fifo)
+      (were s inside) ∙ sym (row_of-next r pos h x)))
+      (λ e. others t (λ same. eqb-false s t e (sym same)) ∙ were t below
+      ∙ sym (row_of-other r pos h x t e))

@@ -10,6 +10,7 @@ use Rattle.cache_core.specs.Order.{ranked, ways_of}
 use Rattle.cache_core.proofs.Reuse.{has, has-distinct, has-ways_of}
 use Rattle.cache_core.proofs.Shift.{without, IsOnce, IsOnce-take, IsOnce-distinct, has-filter_not}
 use Rattle.cache_core.proofs.Shift.{has-take_absent}
+use Rattle.cache_core.proofs.Cases.{by_cases}
 
 IsOnce-cons_take : (n b : ℕ) (ys : List ℕ) → has (take n ys) b ≡ false → IsOnce (take n ys)
     → IsOnce (take n (b ∷ ys))
@@ -43,10 +44,7 @@ module _ (r : Rules) where
   -- a block of another set does not stand in it
   pub absent : (s b : ℕ) (ms : List ℕ) → eqb (b % r.sets) s ≡ false → has (ranked r s ms) b ≡ false
   absent s b ms e = let none = has-filter_not (λ m. eqb (m % r.sets) s) b e ms in
-      (elim r.fifo as (λ t. r.fifo ≡ t → has (ranked r s ms) b ≡ false) [
-        | true ↦ λ f. rw f none
-        | false ↦ λ f. rw f (has-distinct (in_set r s ms) b ∙ none)
-      ]) refl
+      by_cases r.fifo (λ f. rw f none) (λ f. rw f (has-distinct (in_set r s ms) b ∙ none))
 
   -- (not by `rw`, which would rewrite the field inside every `renewals r`)
   pub block-fifo : (ms : List ℕ) (x : Access) (t : Bool) → r.fifo ≡ true → loads r ms x ≡ t
@@ -79,32 +77,26 @@ module _ (r : Rules) where
   -- no block stands twice among the ways of a set
   once-access : (h : History) (x : Access) (s : ℕ) → IsOnce (ways_of r s (renewals r h))
       → r.fifo ≡ true → IsOnce (ways_of r s (renewals r (access x ∷ h)))
-  once-access h x s o f = (elim (loads r (renewals r h) x) as (λ t. loads r (renewals r h) x ≡ t
-      → IsOnce (ways_of r s (renewals r (access x ∷ h)))) [
-        | false ↦ λ e. rw (renewals-no h x (block-fifo (renewals r h) x false f e)) o
-        | true ↦ λ e. rw (renewals-yes h x (block-fifo (renewals r h) x true f e))
-            ((elim (eqb (block_of r x % r.sets) s) as (λ t. eqb (block_of r x % r.sets) s ≡ t
-            → IsOnce (ways_of r s (block_of r x ∷ renewals r h))) [
-              | false ↦ λ g. rw (ranked-other s (block_of r x) (renewals r h) g) o
-              | true ↦ λ g. let same : block_of r x % r.sets ≡ s =
-                  eqb-true (block_of r x % r.sets) s g in
-                  subst (λ z. IsOnce (take r.ways (ranked r z (block_of r x ∷ renewals r h)))) same
-                  (rw (ranked-fifo (block_of r x) (renewals r h) f)
-                  (IsOnce-cons_take r.ways (block_of r x)
-                  (ranked r (block_of r x % r.sets) (renewals r h))
-                  (fresh h (block_of r x) (not-true (hits r (renewals r h) x)
-                  (and_parts (uses r (renewals r h) x) (not (hits r (renewals r h) x)) e).1))
-                  (subst (λ z. IsOnce (ways_of r z (renewals r h))) (sym same) o)))
-            ]) refl)
-      ]) refl
+  once-access h x s o f = by_cases (loads r (renewals r h) x)
+      (λ e. rw (renewals-yes h x (block-fifo (renewals r h) x true f e))
+      (by_cases (eqb (block_of r x % r.sets) s)
+      (λ g. let same : block_of r x % r.sets ≡ s =
+      eqb-true (block_of r x % r.sets) s g in
+      subst (λ z. IsOnce (take r.ways (ranked r z (block_of r x ∷ renewals r h)))) same
+      (rw (ranked-fifo (block_of r x) (renewals r h) f)
+      (IsOnce-cons_take r.ways (block_of r x)
+      (ranked r (block_of r x % r.sets) (renewals r h))
+      (fresh h (block_of r x) (not-true (hits r (renewals r h) x)
+      (and_parts (uses r (renewals r h) x) (not (hits r (renewals r h) x)) e).1))
+      (subst (λ z. IsOnce (ways_of r z (renewals r h))) (sym same) o))))
+      (λ g. rw (ranked-other s (block_of r x) (renewals r h) g) o)))
+      (λ e. rw (renewals-no h x (block-fifo (renewals r h) x false f e)) o)
 
   once-none : (s : ℕ) → IsOnce (ways_of r s [])
-  once-none s = (elim r.fifo as (λ t. r.fifo ≡ t
-      → IsOnce (ways_of r s [])) [
-        | true ↦ λ f. rw f (IsOnce-take r.ways [] tt)
-        | false ↦ λ f.
-            rw f (IsOnce-take r.ways [] tt)
-      ]) refl
+  once-none s = by_cases r.fifo
+      (λ f. rw f (IsOnce-take r.ways [] tt))
+      (λ f.
+      rw f (IsOnce-take r.ways [] tt))
 
   once-fifo : r.fifo ≡ true → (h : History) (s : ℕ) → IsOnce (ways_of r s (renewals r h))
   unfolding renewals
@@ -114,7 +106,6 @@ module _ (r : Rules) where
 
   -- no resident of a set stands twice
   pub IsOnce-ways_of : (h : History) (s : ℕ) → IsOnce (ways_of r s (renewals r h))
-  IsOnce-ways_of h s = (elim r.fifo as (λ t. r.fifo ≡ t → IsOnce (ways_of r s (renewals r h))) [
-    | true ↦ λ f. once-fifo f h s
-    | false ↦ λ f. IsOnce-take r.ways (ranked r s (renewals r h)) (IsOnce-ranked f s (renewals r h))
-  ]) refl
+  IsOnce-ways_of h s = by_cases r.fifo
+      (λ f. once-fifo f h s)
+      (λ f. IsOnce-take r.ways (ranked r s (renewals r h)) (IsOnce-ranked f s (renewals r h)))

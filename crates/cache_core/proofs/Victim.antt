@@ -1,5 +1,5 @@
 -- The block that leaves is the last of a full row.
-use Rattle.std.proofs.Common.{◌≡◌, ℕ, zero, suc, ◌-◌, ◌%◌, ◌<◌, ◌≤◌, Bool, true, false, not, ◌&&◌}
+use Rattle.std.proofs.Common.{◌≡◌, ℕ, zero, suc, ◌%◌, ◌<◌, ◌≤◌, Bool, true, false, not, ◌&&◌}
 use Rattle.std.proofs.Common.{◌||◌, eqb, ltb, List, [], ◌∷◌, ◌++◌, length, take, get_or, Some, None}
 use Rattle.std.proofs.Common.{inl, inr, refl, sym, ap, subst, ◌∙◌, add-one, arith}
 use Rattle.std.proofs.lemmas.Bool.{eqb-true, eq-eqb, false≢true, or_parts, or_left, or_right}
@@ -18,6 +18,7 @@ use Rattle.cache_core.proofs.Turns.{renewals-yes, renewals-no, block-fifo, block
 use Rattle.cache_core.proofs.Turns.{ranked-lru, ranked-other, IsOnce-ranked, IsOnce-ways_of, absent}
 use Rattle.cache_core.proofs.Members.{find-one, find-nothing, and-not, has-append, has-moved}
 use Rattle.cache_core.proofs.Members.{last-new, only-last, none-last}
+use Rattle.cache_core.proofs.Cases.{by_cases}
 
 -- a resident block was renewed
 pub resident-marked : (r : Rules) (ms : List ℕ) (y : ℕ) → is_resident r ms y ≡ true
@@ -96,13 +97,11 @@ module _ (r : Rules) (h : History) (x : Access) where
           ∙ has-moved b y (take (suc m) ranks) front-hit ∙ sym (front-is y e)
 
       stays : (y : ℕ) → (is_resident r ms y && not (is_resident r (b ∷ ms) y)) ≡ false
-      stays y = (elim (eqb s (y % r.sets)) as (λ t. eqb s (y % r.sets) ≡ t
-          → (is_resident r ms y && not (is_resident r (b ∷ ms) y)) ≡ false) [
-            | true ↦ λ e. ap (λ t. is_resident r ms y && not t) (lru-same y e)
-                ∙ and-not (is_resident r ms y)
-            | false ↦ λ e. ap (λ t. is_resident r ms y && not t) (elsewhere y e)
-                ∙ and-not (is_resident r ms y)
-          ]) refl
+      stays y = by_cases (eqb s (y % r.sets))
+          (λ e. ap (λ t. is_resident r ms y && not t) (lru-same y e)
+          ∙ and-not (is_resident r ms y))
+          (λ e. ap (λ t. is_resident r ms y && not t) (elsewhere y e)
+          ∙ and-not (is_resident r ms y))
 
       hit-stays : renews r ms x ≡ true → (y : ℕ) → leaves r h x y ≡ false
       hit-stays e y = ap (λ l. is_resident r ms y && not (is_resident r l y)) (renewals-yes r h x e)
@@ -126,15 +125,13 @@ module _ (r : Rules) (h : History) (x : Access) where
           (has-take_absent m b (take (suc m) ranks) front-b)
 
       behind : (after : List ℕ) × (ranked r s (b ∷ ms) ≡ b ∷ after) × (take m after ≡ take m ranks)
-      behind = (elim r.fifo as (λ t. r.fifo ≡ t
-          → (after : List ℕ) × (ranked r s (b ∷ ms) ≡ b ∷ after) × (take m after ≡ take m ranks)) [
-            | true ↦ λ f. (ranks, ranked-fifo r b ms f, refl)
-            | false ↦ λ f. (
-              without b ranks,
-              ranked-lru r b ms f,
-              take-without_absent b m ranks less-b,
-            )
-          ]) refl
+      behind = by_cases r.fifo
+          (λ f. (ranks, ranked-fifo r b ms f, refl))
+          (λ f. (
+            without b ranks,
+            ranked-lru r b ms f,
+            take-without_absent b m ranks less-b,
+          ))
 
       -- after it, b is resident, and so are the first of the order, one less than the set has ways
       pub later-is : (y : ℕ) → eqb s (y % r.sets) ≡ true
@@ -155,8 +152,7 @@ module _ (r : Rules) (h : History) (x : Access) where
 
       by_set : (y : ℕ) (t : Bool) → (eqb s (y % r.sets) ≡ false → leaves r h x y ≡ t)
           → (eqb s (y % r.sets) ≡ true → leaves r h x y ≡ t) → leaves r h x y ≡ t
-      by_set y t no' yes' = (elim (eqb s (y % r.sets)) as (λ q. eqb s (y % r.sets) ≡ q
-          → leaves r h x y ≡ t) [ true ↦ yes' | false ↦ no' ]) refl
+      by_set y t no' yes' = by_cases (eqb s (y % r.sets)) (yes') (no')
 
       -- the row has room
       room-stays : length ranks ≤ m → (y : ℕ) → leaves r h x y ≡ false
@@ -241,18 +237,15 @@ module _ (r : Rules) (h : History) (x : Access) where
   only-one_by : (n : ℕ) → r.ways ≡ n → (y z : ℕ) → leaves r h x y ≡ true → leaves r h x z ≡ true
       → y ≡ z
   only-one_by zero e y z p q = absurd (no_way e y (and_parts (is_resident r ms y) _ p).0)
-  only-one_by (suc m) e y z p q = (elim (renews r ms x) as (λ t. renews r ms x ≡ t → y ≡ z) [
-    | false ↦ λ idle. absurd (false≢true (sym (idle-stays idle y) ∙ p))
-    | true ↦ λ yes'. (elim (hits r ms x) as (λ t. hits r ms x ≡ t → y ≡ z) [
-      | false ↦ λ miss. load-one m e miss yes' y z p q
-      | true ↦ λ hit. (elim r.fifo as (λ t. r.fifo ≡ t → y ≡ z) [
-        | true ↦ λ f. absurd (false≢true
-            (sym (block-fifo r ms x false f
-            (and_right (uses r ms x) (not (hits r ms x)) (ap not hit))) ∙ yes'))
-        | false ↦ λ f. absurd (false≢true (sym (hit-stays m e f hit yes' y) ∙ p))
-      ]) refl
-    ]) refl
-  ]) refl
+  only-one_by (suc m) e y z p q = by_cases (renews r ms x)
+      (λ yes'. by_cases (hits r ms x)
+      (λ hit. by_cases r.fifo
+      (λ f. absurd (false≢true
+      (sym (block-fifo r ms x false f
+      (and_right (uses r ms x) (not (hits r ms x)) (ap not hit))) ∙ yes')))
+      (λ f. absurd (false≢true (sym (hit-stays m e f hit yes' y) ∙ p))))
+      (λ miss. load-one m e miss yes' y z p q))
+      (λ idle. absurd (false≢true (sym (idle-stays idle y) ∙ p)))
 
   -- at most one block leaves
   pub only-one : (y z : ℕ) → leaves r h x y ≡ true → leaves r h x z ≡ true → y ≡ z

@@ -1,5 +1,5 @@
 -- Laws over the definitions.
-use Rattle.std.specs.Prelude.{◌≡◌, ◌≢◌, ℕ, ◌+◌, ◌^◌, ◌%◌, ◌<◌, ◌≤◌, ◌==◌}
+use Rattle.std.specs.Prelude.{◌≡◌, ◌≢◌, ℕ, ◌+◌, ◌%◌, ◌<◌, ◌≤◌, ◌==◌}
 use Rattle.std.specs.Prelude.{true, false, List, [], ◌∷◌}
 use Rattle.std.specs.Prelude.{length, Some}
 use Rattle.std.specs.List.{list_any}
