@@ -11,7 +11,7 @@ use Rattle.cache_core.specs.declared.geometry.Geometry.{Geometry}
 use Rattle.cache_core.specs.declared.ways.Way.{Way}
 use Rattle.cache_core.specs.History.{Rules, History, access, block_of, is_write}
 use Rattle.cache_core.specs.Residents.{hits, renewals}
-use Rattle.cache_core.specs.Kinds.{known_blocks, shadow_of}
+use Rattle.cache_core.specs.Kinds.{referenced_blocks, shadow_of}
 use Rattle.cache_core.specs.Parts.{outcome_of}
 use Rattle.cache_core.specs.Geometry.{size_of, bsize_of, assoc_of}
 use Rattle.cache_core.specs.Order.{ways_of}
@@ -20,9 +20,9 @@ use Rattle.cache_core.specs.Row.{holds_block, next_row, pushed_out, row, outcome
 use Rattle.cache_core.specs.Standing.{rules_from}
 use Rattle.cache_core.proofs.Lawful.{IsSane, sane_of}
 use Rattle.lru.specs.LruCache.{lru_cache, promoted, put_entries}
-use Rattle.cache_core.proofs.Shadow.{pair, in_shadow-is, after_see, shadow-step}
-use Rattle.cache_core.proofs.Again.{known-stays}
-use Rattle.cache_core.proofs.Known.{renewals-known}
+use Rattle.cache_core.proofs.Shadow.{pair, in_shadow-is, after_classify, shadow-step}
+use Rattle.cache_core.proofs.Again.{referenced-stays}
+use Rattle.cache_core.proofs.Referenced.{renewals-referenced}
 use Rattle.cache_core.proofs.Victim.{resident-marked}
 use Rattle.cache_core.proofs.Steps.{outcome-is, hit-is as row-hit, rows-step}
 
@@ -40,8 +40,8 @@ module _ (g : Geometry) (p : Policy) (h : History) (x : Access) where
   abbrev s : ℕ
   s = b % r.sets
 
-  abbrev first : ℕ
-  first = b * bsize_of g
+  abbrev block_addr : ℕ
+  block_addr = b * bsize_of g
 
   abbrev shown : History → List (ℕ × Unit {0})
   shown k = map pair (ways_of (shadow_of r) 0 (renewals (shadow_of r) k))
@@ -55,61 +55,66 @@ module _ (g : Geometry) (p : Policy) (h : History) (x : Access) where
   inside : s < r.sets
   inside = mod-lt b facts.sets_pos
 
-  size : r.ways ≡ suc (pred (assoc_of g))
+  size : r.assoc ≡ suc (pred (assoc_of g))
   size = suc_pred (assoc_of g) facts.assoc_pos
 
   abbrev found : List Way → Option Way
-  found xs = find (holds_block first) (row (assoc_of g) s xs)
+  found xs = find (holds_block block_addr) (row (assoc_of g) s xs)
 
   -- a block that hits was accessed before
-  was-known : hits r (renewals r h) x ≡ true → list_any (λ t. nat_eq t b) (known_blocks r h) ≡ true
-  was-known e = renewals-known r h b (resident-marked r (renewals r h) b e)
+  was-referenced : hits r (renewals r h) x ≡ true
+      → list_any (λ t. nat_eq t b) (referenced_blocks r h) ≡ true
+  was-referenced e = renewals-referenced r h b (resident-marked r (renewals r h) b e)
 
-  or-known : (hit known : Bool) → (hit ≡ true → known ≡ true) → (hit || known) ≡ known
-  or-known true known e = sym (e refl)
-  or-known false known e = refl
+  or-referenced : (hit referenced : Bool) → (hit ≡ true → referenced ≡ true)
+      → (hit || referenced) ≡ referenced
+  or-referenced true referenced e = sym (e refl)
+  or-referenced false referenced e = refl
 
   module _ (xs : List Way) (rows : (t : ℕ) → t < r.sets
       → row (assoc_of g) t xs ≡ row_of r h t) where
     -- what the set's row, the known blocks and the shadow give is the outcome of the definitions
-    pub answers : (hit known in_shadow : Bool) (back : Option ℕ) (entries : List (ℕ × Unit {0}))
+    pub answers : (hit referenced in_shadow : Bool) (back : Option ℕ)
+        (entries : List (ℕ × Unit {0}))
         → hit ≡ is_some (found xs) → back
-        ≡ pushed_out p.wback p.walloc first (is_write x) (row (assoc_of g) s xs) (found xs)
-        → known ≡ (hit || list_any (λ t. nat_eq t b) (known_blocks r h))
+        ≡ pushed_out p.wback p.walloc block_addr (is_write x) (row (assoc_of g) s xs) (found xs)
+        → referenced ≡ (hit || list_any (λ t. nat_eq t b) (referenced_blocks r h))
         → in_shadow ≡ is_some (lookup (nat_eq b) entries) → entries ≡ shown h
-        → outcome_made p.wback p.walloc (is_write x) hit back known in_shadow ≡ outcome_of r h x
-    answers hit known in_shadow back entries hit-is back-is known-is shadow-is entries-is =
+        → outcome_made p.wback p.walloc (is_write x) hit back referenced in_shadow
+        ≡ outcome_of r h x
+    answers hit referenced in_shadow back entries hit-is back-is referenced-is shadow-is
+        entries-is =
         let here = rows s inside in
-        let e1 : hit ≡ is_some (find (holds_block first) (row_of r h s)) = hit-is
-        ∙ ap (λ l. is_some (find (holds_block first) l)) here in
-        let e2 : back ≡ pushed_out p.wback p.walloc first (is_write x) (row_of r h s)
-        (find (holds_block first) (row_of r h s)) = back-is
-        ∙ ap (λ l. pushed_out p.wback p.walloc first (is_write x) l
-        (find (holds_block first) l)) here in
+        let e1 : hit ≡ is_some (find (holds_block block_addr) (row_of r h s)) = hit-is
+        ∙ ap (λ l. is_some (find (holds_block block_addr) l)) here in
+        let e2 : back ≡ pushed_out p.wback p.walloc block_addr (is_write x) (row_of r h s)
+        (find (holds_block block_addr) (row_of r h s)) = back-is
+        ∙ ap (λ l. pushed_out p.wback p.walloc block_addr (is_write x) l
+        (find (holds_block block_addr) l)) here in
         let e4 : hit ≡ hits r (renewals r h) x = e1 ∙ row-hit r pos (pred (assoc_of g)) size h x in
-        let e5 : known ≡ list_any (λ t. nat_eq t b) (known_blocks r h) = known-is
-        ∙ or-known hit _ (λ q. was-known (sym e4 ∙ q)) in
+        let e5 : referenced ≡ list_any (λ t. nat_eq t b) (referenced_blocks r h) = referenced-is
+        ∙ or-referenced hit _ (λ q. was-referenced (sym e4 ∙ q)) in
         let e3 : in_shadow ≡ hits (shadow_of r) (renewals (shadow_of r) h) x = shadow-is
         ∙ ap (λ l. is_some (lookup (nat_eq b) l)) entries-is
         ∙ in_shadow-is r h x (pred r.blocks) (suc_pred r.blocks facts.blocks_pos) in
-        ap (λ t. outcome_made p.wback p.walloc (is_write x) t back known in_shadow) e1
+        ap (λ t. outcome_made p.wback p.walloc (is_write x) t back referenced in_shadow) e1
         ∙ ap (λ t. outcome_made p.wback p.walloc (is_write x)
-        (is_some (find (holds_block first) (row_of r h s))) t known in_shadow) e2
+        (is_some (find (holds_block block_addr) (row_of r h s))) t referenced in_shadow) e2
         ∙ ap (λ t. outcome_made p.wback p.walloc (is_write x)
-        (is_some (find (holds_block first) (row_of r h s)))
-        (pushed_out p.wback p.walloc first (is_write x) (row_of r h s)
-        (find (holds_block first) (row_of r h s))) t in_shadow) e5
+        (is_some (find (holds_block block_addr) (row_of r h s)))
+        (pushed_out p.wback p.walloc block_addr (is_write x) (row_of r h s)
+        (find (holds_block block_addr) (row_of r h s))) t in_shadow) e5
         ∙ ap (λ t. outcome_made p.wback p.walloc (is_write x)
-        (is_some (find (holds_block first) (row_of r h s)))
-        (pushed_out p.wback p.walloc first (is_write x) (row_of r h s)
-        (find (holds_block first) (row_of r h s)))
-        (list_any (λ t. nat_eq t b) (known_blocks r h)) t) e3
+        (is_some (find (holds_block block_addr) (row_of r h s)))
+        (pushed_out p.wback p.walloc block_addr (is_write x) (row_of r h s)
+        (find (holds_block block_addr) (row_of r h s)))
+        (list_any (λ t. nat_eq t b) (referenced_blocks r h)) t) e3
         ∙ outcome-is r pos (pred (assoc_of g)) size h x
 
     -- where the row of its set took the step and the others stayed, the rows are those after the
     -- access
     pub rows-after : (ys : List Way)
-        → row (assoc_of g) s ys ≡ next_row p.wback p.walloc first (is_write x)
+        → row (assoc_of g) s ys ≡ next_row p.wback p.walloc block_addr (is_write x)
         (row (assoc_of g) s xs) (found xs) (is_fifo p)
         → ((t : ℕ) → t ≢ s → row (assoc_of g) t ys ≡ row (assoc_of g) t xs)
         → (t : ℕ) → t < r.sets → row (assoc_of g) t ys ≡ row_of r (access x ∷ h) t
@@ -128,17 +133,18 @@ module _ (g : Geometry) (p : Policy) (h : History) (x : Access) where
       ∙ ap (λ t. cond (not t && load)
       (put_entries nat_eq (lru_cache (promoted (nat_eq b) old) cap) b tt)
       (promoted (nat_eq b) old)) in-is
-      ∙ ap (λ t. after_see b t cap old) load-is
-      ∙ ap (λ n. after_see b (not (is_write x) || p.walloc) n old) cap-is
-      ∙ ap (after_see b (not (is_write x) || p.walloc) r.blocks) old-is
+      ∙ ap (λ t. after_classify b t cap old) load-is
+      ∙ ap (λ n. after_classify b (not (is_write x) || p.walloc) n old) cap-is
+      ∙ ap (after_classify b (not (is_write x) || p.walloc) r.blocks) old-is
       ∙ shadow-step r h x (pred r.blocks) (suc_pred r.blocks facts.blocks_pos)
 
   -- so are the known blocks
-  pub known-after : (hit : Bool) (had : ℕ → Bool) → hit ≡ hits r (renewals r h) x
-      → ((q : ℕ) → had q ≡ list_any (λ t. nat_eq t q) (known_blocks r h)) → (q : ℕ)
+  pub referenced-after : (hit : Bool) (had : ℕ → Bool) → hit ≡ hits r (renewals r h) x
+      → ((q : ℕ) → had q ≡ list_any (λ t. nat_eq t q) (referenced_blocks r h)) → (q : ℕ)
       → (not hit && nat_eq b q || had q)
-      ≡ list_any (λ t. nat_eq t q) (known_blocks r (access x ∷ h))
-  unfolding known_blocks
-  known-after true had hit-is was q = known-stays had b q (was b ∙ was-known (sym hit-is))
+      ≡ list_any (λ t. nat_eq t q) (referenced_blocks r (access x ∷ h))
+  unfolding referenced_blocks
+  referenced-after true had hit-is was q = referenced-stays had b q
+      (was b ∙ was-referenced (sym hit-is))
       ∙ ap (λ t. nat_eq b q || t) (was q)
-  known-after false had hit-is was q = ap (λ t. nat_eq b q || t) (was q)
+  referenced-after false had hit-is was q = ap (λ t. nat_eq b q || t) (was q)

@@ -32,11 +32,13 @@ first-stays (e ∷ es) b h = let same : e ≡ (b, tt) = cc in let at : nat_eq b 
     ap (λ z. nat_eq b z.0) same ∙ self b in rw at refl
 
 -- a known block adds nothing
-pub known-stays : (known : ℕ → Bool) (b q : ℕ) → known b ≡ true → known q ≡ (eqb b q || known q)
-known-stays known b q h = (elim (eqb b q) as (λ t. eqb b q ≡ t → known q ≡ (t || known q)) [
-  | true ↦ λ e. subst (λ z. known z ≡ true) (eqb-true b q e) h
-  | false ↦ λ e. refl
-]) refl
+pub referenced-stays : (referenced : ℕ → Bool) (b q : ℕ) → referenced b ≡ true
+    → referenced q ≡ (eqb b q || referenced q)
+referenced-stays referenced b q h =
+    (elim (eqb b q) as (λ t. eqb b q ≡ t → referenced q ≡ (t || referenced q)) [
+      | true ↦ λ e. subst (λ z. referenced z ≡ true) (eqb-true b q e) h
+      | false ↦ λ e. refl
+    ]) refl
 
 -- a block that is there stands first after its use
 pub promoted-first : (es : Shown) (b : ℕ) → is_some (lookup (nat_eq b) es) ≡ true

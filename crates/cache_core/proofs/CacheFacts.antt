@@ -94,22 +94,22 @@ AddUp-with_one x a b c m whole p q s h g = in_total _ _ _ _
     g.write)
     (one_class p.misc q.misc s.misc whole.misc _ _ _ _ (one_kind a b c m (is_misc x) h) g.misc)
 
-kinds-made : (wb a w hit known in_shadow : Bool) (back : Option ℕ)
-    → let o = outcome_made wb a w hit back known in_shadow in
+kinds-made : (wb a w hit referenced in_shadow : Bool) (back : Option ℕ)
+    → let o = outcome_made wb a w hit back referenced in_shadow in
     one_if (is_kind Compulsory o.kind) + one_if (is_kind Capacity o.kind)
     + one_if (is_kind Conflict o.kind) ≡ one_if (not o.hit)
-kinds-made wb a w true known in_shadow back = refl
+kinds-made wb a w true referenced in_shadow back = refl
 kinds-made wb a w false true true back = refl
 kinds-made wb a w false true false back = refl
 kinds-made wb a w false false in_shadow back = refl
 
 -- after an access the kinds of miss still add up to the misses
-pub KindsAddUp-with_access : (x : Access) (wb a w hit known in_shadow : Bool) (back : Option ℕ)
+pub KindsAddUp-with_access : (x : Access) (wb a w hit referenced in_shadow : Bool) (back : Option ℕ)
     (c : Counts) → KindsAddUp c → KindsAddUp
-    (with_access x (outcome_made wb a w hit back known in_shadow) c)
-KindsAddUp-with_access x wb a w hit known in_shadow back c h =
+    (with_access x (outcome_made wb a w hit back referenced in_shadow) c)
+KindsAddUp-with_access x wb a w hit referenced in_shadow back c h =
     AddUp-with_one x _ _ _ _ c.misses c.compulsory c.capacity c.conflict
-    (kinds-made wb a w hit known in_shadow back) h
+    (kinds-made wb a w hit referenced in_shadow back) h
 
 none-within : IsWithin none_by_class 0
 none-within = record {

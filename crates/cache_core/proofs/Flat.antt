@@ -12,9 +12,9 @@ use Rattle.std.proofs.lemmas.Bool.{eqb-true, and_parts}
 use Rattle.cache_core.specs.declared.sets.Sets.{Sets}
 use Rattle.cache_core.specs.declared.sets.Sets.TheVariants.{Rows, Maps}
 use Rattle.cache_core.specs.Sets.{ways_in, has_shape}
-use Rattle.cache_core.specs.Row.{row, dirty_count, empty_way, is_dirty_way, first_of}
+use Rattle.cache_core.specs.Row.{row, dirty_count, empty_way, is_dirty_way, block_addr_of}
 use Rattle.cache_core.specs.Mapped.{way_of, shown, Entered, cap_of, emptied, flat, dirty_keys_of}
-use Rattle.cache_core.proofs.Paid.{dirty_count-append}
+use Rattle.cache_core.proofs.Charged.{dirty_count-append}
 
 module _ (n : ℕ) where
   shown-long : (es : List (ℕ × Bool)) → length (shown n es) ≡ n
@@ -87,12 +87,12 @@ none-dirty (suc n) zero = refl
 none-dirty (suc n) (suc k) = none-dirty n k
 
 pub dirty-shown : (n k : ℕ) (es : List (ℕ × Bool)) → length es ≤ n
-    → map first_of (filter is_dirty_way (take n (map way_of es ++ replicate k empty_way)))
+    → map block_addr_of (filter is_dirty_way (take n (map way_of es ++ replicate k empty_way)))
     ≡ map (λ e. e.0) (filter (λ e. e.1) es)
-dirty-shown n k [] l = ap (map first_of) (none-dirty n k)
+dirty-shown n k [] l = ap (map block_addr_of) (none-dirty n k)
 dirty-shown zero k (e ∷ es) l = absurd (omega arith)
 dirty-shown (suc n) k (e ∷ es) l =
-    (elim e.1 as (λ t. map first_of
+    (elim e.1 as (λ t. map block_addr_of
     (cond t (way_of e ∷ filter is_dirty_way (take n (map way_of es ++ replicate k empty_way)))
     (filter is_dirty_way (take n (map way_of es ++ replicate k empty_way))))
     ≡ map (λ e. e.0) (cond t (e ∷ filter (λ e. e.1) es) (filter (λ e. e.1) es))) [
@@ -120,13 +120,14 @@ flat-emptied n (m ∷ ms) = ap (λ l. l ++ flat n (map emptied ms)) (take-empty 
 
 -- the dirty blocks of a set and of those after it, where it holds no more blocks than it has ways
 pub dirty-flat_cons : (n : ℕ) (m : Entered) (ms : List Entered) → length m.entries ≤ n
-    → map first_of (filter is_dirty_way (flat n (m ∷ ms)))
-    ≡ dirty_keys_of m ++ map first_of (filter is_dirty_way (flat n ms))
+    → map block_addr_of (filter is_dirty_way (flat n (m ∷ ms)))
+    ≡ dirty_keys_of m ++ map block_addr_of (filter is_dirty_way (flat n ms))
 dirty-flat_cons n m ms fits =
-    ap (map first_of) (filter-append is_dirty_way (shown n m.entries) (flat n ms))
-    ∙ map-append first_of (filter is_dirty_way (shown n m.entries))
+    ap (map block_addr_of) (filter-append is_dirty_way (shown n m.entries) (flat n ms))
+    ∙ map-append block_addr_of (filter is_dirty_way (shown n m.entries))
     (filter is_dirty_way (flat n ms))
-    ∙ ap (λ l. l ++ map first_of (filter is_dirty_way (flat n ms))) (dirty-shown n n m.entries fits)
+    ∙ ap (λ l. l ++ map block_addr_of (filter is_dirty_way (flat n ms)))
+    (dirty-shown n n m.entries fits)
 
 -- and may hold as many blocks as before
 pub caps-emptied : (ms : List Entered) → map cap_of (map emptied ms) ≡ map cap_of ms

@@ -9,7 +9,7 @@ use Rattle.cache_core.specs.declared.ways.Way.{Way}
 use Rattle.cache_core.specs.History.{History}
 use Rattle.cache_core.specs.Dirty.{dirty_blocks}
 use Rattle.cache_core.specs.Geometry.{size_of, bsize_of, assoc_of, sets_of}
-use Rattle.cache_core.specs.Row.{row, is_dirty_way, first_of, row_of}
+use Rattle.cache_core.specs.Row.{row, is_dirty_way, block_addr_of, row_of}
 use Rattle.cache_core.specs.Standing.{rules_from}
 use Rattle.cache_core.proofs.Lawful.{IsSane, sane_of}
 use Rattle.cache_core.proofs.Flushed.{flushed-is}
@@ -18,7 +18,7 @@ use Rattle.cache_core.proofs.Flushed.{flushed-is}
 pub flush-list : (g : Geometry) (p : Policy) (h : History) (xs : List Way)
     → length xs ≡ sets_of g * assoc_of g
     → ((t : ℕ) → t < (rules_from g p).sets → row (assoc_of g) t xs ≡ row_of (rules_from g p) h t)
-    → (v : List ℕ) → (ys : List ℕ) × IsPermutation (map first_of (filter is_dirty_way xs)) ys
+    → (v : List ℕ) → (ys : List ℕ) × IsPermutation (map block_addr_of (filter is_dirty_way xs)) ys
     × IsSorted nat_cmp ys × (v ≡ dedup nat_eq ys)
     → v ≡ map (λ b. b * bsize_of g) (dirty_blocks (rules_from g p) h)
 flush-list g p h xs long rows v f =

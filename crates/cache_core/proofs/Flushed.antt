@@ -14,7 +14,7 @@ use Rattle.cache_core.specs.History.{Rules, History}
 use Rattle.cache_core.specs.Residents.{renewals, is_resident}
 use Rattle.cache_core.specs.Dirty.{is_written, is_dirty, dirty_blocks}
 use Rattle.cache_core.specs.Order.{ranked}
-use Rattle.cache_core.specs.Row.{empty_way, row, is_dirty_way, first_of, way_at, row_of}
+use Rattle.cache_core.specs.Row.{empty_way, row, is_dirty_way, block_addr_of, way_at, row_of}
 use Rattle.cache_core.proofs.Reuse.{has, has-ways_of, has-take, has-filter}
 use Rattle.cache_core.proofs.Turns.{absent}
 use Rattle.cache_core.proofs.Victim.{resident-marked}
@@ -23,7 +23,7 @@ use Rattle.cache_core.proofs.Ascending.{rises-times, has-permutation, has-dedup,
 
 -- whether some dirty way has this first byte
 abbrev holds_dirty : ℕ → Way → Bool
-holds_dirty z w = is_dirty_way w && eqb w.first z
+holds_dirty z w = is_dirty_way w && eqb w.block_addr z
 
 row-first : {X : Type 0} (n : ℕ) (xs : List X) → take n xs ≡ row n 0 xs
 row-first n xs = let none : 0 ≡ 0 * n = omega arith in ap (λ j. take n (drop j xs)) none
@@ -78,12 +78,12 @@ module _ {X : Type 0} (q : X → Bool) where
   ]
 
 any-dirty : (z : ℕ) (xs : List Way)
-    → has (map first_of (filter is_dirty_way xs)) z ≡ list_any (holds_dirty z) xs
+    → has (map block_addr_of (filter is_dirty_way xs)) z ≡ list_any (holds_dirty z) xs
 any-dirty z [] = refl
 any-dirty z (x ∷ xs) = (elim (is_dirty_way x) as (λ t.
-    has (map first_of (cond t (x ∷ filter is_dirty_way xs) (filter is_dirty_way xs))) z
-    ≡ ((t && eqb x.first z) || list_any (holds_dirty z) xs)) [
-      | true ↦ ap (λ t. eqb x.first z || t) (any-dirty z xs)
+    has (map block_addr_of (cond t (x ∷ filter is_dirty_way xs) (filter is_dirty_way xs))) z
+    ≡ ((t && eqb x.block_addr z) || list_any (holds_dirty z) xs)) [
+      | true ↦ ap (λ t. eqb x.block_addr z || t) (any-dirty z xs)
       | false ↦ any-dirty z xs
     ])
 
@@ -154,73 +154,74 @@ module _ (f : ℕ → Way) (k : ℕ) (q : Way → Bool) (none : q empty_way ≡ 
         (shown-any n ms b t e)
   ]
 
-module _ (r : Rules) (pos : 0 < r.block_size) (setful : 0 < r.sets) (h : History) (xs : List Way)
-    (long : length xs ≡ r.sets * r.ways) (rows : (t : ℕ) → t < r.sets
-    → row r.ways t xs ≡ row_of r h t) where
+module _ (r : Rules) (pos : 0 < r.bsize) (setful : 0 < r.sets) (h : History) (xs : List Way)
+    (long : length xs ≡ r.sets * r.assoc) (rows : (t : ℕ) → t < r.sets
+    → row r.assoc t xs ≡ row_of r h t) where
   abbrev ms : List ℕ
   ms = renewals r h
 
   abbrev wanted : List ℕ
-  wanted = map (λ b. b * r.block_size) (dirty_blocks r h)
+  wanted = map (λ b. b * r.bsize) (dirty_blocks r h)
 
-  abbrev firsts : List ℕ
-  firsts = map first_of (filter is_dirty_way xs)
+  abbrev block_addrs : List ℕ
+  block_addrs = map block_addr_of (filter is_dirty_way xs)
 
   in-set : (t b : ℕ) → has (ranked r t ms) b ≡ true → b % r.sets ≡ t
   in-set t b g = eqb-true (b % r.sets) t
       (true_from_ne_false (eqb (b % r.sets) t) (λ e. false≢true (sym (absent r t b ms e) ∙ g)))
 
-  wanted-has : (b : ℕ) → is_dirty r h b ≡ true → has wanted (b * r.block_size) ≡ true
+  wanted-has : (b : ℕ) → is_dirty r h b ≡ true → has wanted (b * r.bsize) ≡ true
   unfolding dirty_blocks is_dirty
   wanted-has b d =
       let res : is_resident r ms b ≡ true =
-      (and_parts r.write_back (is_resident r ms b)
-      (and_parts (r.write_back && is_resident r ms b) (is_written r h b) d).0).1 in
-      has-times r.block_size b (dirty_blocks r h) (has-rising (filter (is_dirty r h) ms) b
+      (and_parts r.wback (is_resident r ms b)
+      (and_parts (r.wback && is_resident r ms b) (is_written r h b) d).0).1 in
+      has-times r.bsize b (dirty_blocks r h) (has-rising (filter (is_dirty r h) ms) b
       ∙ filter-has (is_dirty r h) ms b (resident-marked r ms b res) d)
 
-  here-wanted : (z : ℕ) → has firsts z ≡ true → has wanted z ≡ true
+  here-wanted : (z : ℕ) → has block_addrs z ≡ true → has wanted z ≡ true
   unfolding is_dirty row_of
   here-wanted z g =
-      let one = row-any (holds_dirty z) r.ways r.sets xs long (sym (any-dirty z xs) ∙ g) in
+      let one = row-any (holds_dirty z) r.assoc r.sets xs long (sym (any-dirty z xs) ∙ g) in
       let shown : list_any (holds_dirty z) (row_of r h one.0) ≡ true =
       subst (λ l. list_any (holds_dirty z) l ≡ true) (rows one.0 one.1) one.2 in
-      let b = any-shown (way_at r h) r.ways (holds_dirty z) refl r.ways (ranked r one.0 ms) shown in
-      let parts = and_parts (r.write_back && is_written r h b.0) (eqb (b.0 * r.block_size) z) b.2 in
-      let marked = and_parts r.write_back (is_written r h b.0) parts.0 in
+      let b = any-shown (way_at r h) r.assoc (holds_dirty z) refl r.assoc (ranked r one.0 ms)
+      shown in
+      let parts = and_parts (r.wback && is_written r h b.0) (eqb (b.0 * r.bsize) z) b.2 in
+      let marked = and_parts r.wback (is_written r h b.0) parts.0 in
       let there : has (ranked r one.0 ms) b.0 ≡ true =
-      (and_parts (has (ranked r one.0 ms) b.0) _ (sym (has-take r.ways (ranked r one.0 ms) b.0)
+      (and_parts (has (ranked r one.0 ms) b.0) _ (sym (has-take r.assoc (ranked r one.0 ms) b.0)
       ∙ b.1)).0 in
       let res : is_resident r ms b.0 ≡ true = sym (has-ways_of r ms b.0)
-      ∙ ap (λ t. has (take r.ways (ranked r t ms)) b.0) (in-set one.0 b.0 there) ∙ b.1 in
-      subst (λ v. has wanted v ≡ true) (eqb-true (b.0 * r.block_size) z parts.1)
-      (wanted-has b.0 (and_from (r.write_back && is_resident r ms b.0) (is_written r h b.0)
-      (and_from r.write_back (is_resident r ms b.0) marked.0 res) marked.1))
+      ∙ ap (λ t. has (take r.assoc (ranked r t ms)) b.0) (in-set one.0 b.0 there) ∙ b.1 in
+      subst (λ v. has wanted v ≡ true) (eqb-true (b.0 * r.bsize) z parts.1)
+      (wanted-has b.0 (and_from (r.wback && is_resident r ms b.0) (is_written r h b.0)
+      (and_from r.wback (is_resident r ms b.0) marked.0 res) marked.1))
 
-  wanted-here : (z : ℕ) → has wanted z ≡ true → has firsts z ≡ true
+  wanted-here : (z : ℕ) → has wanted z ≡ true → has block_addrs z ≡ true
   unfolding dirty_blocks is_dirty row_of
   wanted-here z g =
-      let b = times-has r.block_size z (dirty_blocks r h) g in
+      let b = times-has r.bsize z (dirty_blocks r h) g in
       let both = has-filter_both (is_dirty r h) ms b.0
       (sym (has-rising (filter (is_dirty r h) ms) b.0) ∙ b.1) in
-      let parts = and_parts (r.write_back && is_resident r ms b.0) (is_written r h b.0) both.1 in
-      let inner = and_parts r.write_back (is_resident r ms b.0) parts.0 in
+      let parts = and_parts (r.wback && is_resident r ms b.0) (is_written r h b.0) both.1 in
+      let inner = and_parts r.wback (is_resident r ms b.0) parts.0 in
       let t = b.0 % r.sets in
       let shown : list_any (holds_dirty z) (row_of r h t) ≡ true =
-      shown-any (way_at r h) r.ways (holds_dirty z) refl r.ways (ranked r t ms) b.0
+      shown-any (way_at r h) r.assoc (holds_dirty z) refl r.assoc (ranked r t ms) b.0
       (has-ways_of r ms b.0 ∙ inner.1)
-      (and_from (r.write_back && is_written r h b.0) (eqb (b.0 * r.block_size) z)
-      (and_from r.write_back (is_written r h b.0) inner.0 parts.1)
-      (eq-eqb (b.0 * r.block_size) z b.2)) in
-      any-dirty z xs ∙ any-row (holds_dirty z) r.ways t xs
+      (and_from (r.wback && is_written r h b.0) (eqb (b.0 * r.bsize) z)
+      (and_from r.wback (is_written r h b.0) inner.0 parts.1)
+      (eq-eqb (b.0 * r.bsize) z b.2)) in
+      any-dirty z xs ∙ any-row (holds_dirty z) r.assoc t xs
       (subst (λ l. list_any (holds_dirty z) l ≡ true) (sym (rows t (mod-lt b.0 setful))) shown)
 
   -- sorted and without repetitions, the dirty ways' first bytes are those of the dirty blocks,
   -- rising
-  pub flushed-is : (ys : List ℕ) → IsPermutation firsts ys → IsSorted nat_cmp ys
+  pub flushed-is : (ys : List ℕ) → IsPermutation block_addrs ys → IsSorted nat_cmp ys
       → dedup eqb ys ≡ wanted
   unfolding dirty_blocks
   flushed-is ys p s = same-rising (dedup eqb ys) wanted (rises-dedup ys s)
-      (rises-times r.block_size (dirty_blocks r h) pos (rises-rising (filter (is_dirty r h) ms)))
-      (λ z. has-dedup ys z ∙ has-permutation firsts ys z p
-      ∙ same_test (has firsts z) (has wanted z) (here-wanted z) (wanted-here z))
+      (rises-times r.bsize (dirty_blocks r h) pos (rises-rising (filter (is_dirty r h) ms)))
+      (λ z. has-dedup ys z ∙ has-permutation block_addrs ys z p
+      ∙ same_test (has block_addrs z) (has wanted z) (here-wanted z) (wanted-here z))

@@ -7,7 +7,7 @@ pub mod Flat
 pub mod FlushStep
 pub mod Flushed
 pub mod Held
-pub mod Known
+pub mod Referenced
 pub mod Lawful
 pub mod MapEntries
 pub mod MapStep
@@ -16,7 +16,7 @@ pub mod Members
 pub mod Nothing
 pub mod OneSet
 pub mod Owed
-pub mod Paid
+pub mod Charged
 pub mod PassSteps
 pub mod PowerOfTwo
 pub mod PushedOut

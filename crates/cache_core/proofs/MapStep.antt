@@ -12,7 +12,7 @@ use Rattle.cache_core.specs.declared.ways.Way.{Way}
 use Rattle.cache_core.specs.Row.{holds_block, shifted, leaving, changed, dirtied, empty_way}
 use Rattle.cache_core.specs.Row.{dirty_block, next_row, pushed_out}
 use Rattle.cache_core.specs.Mapped.{way_of, shown, used_entries, touched_entries, dirty_entry}
-use Rattle.cache_core.proofs.RowStep.{held_way, next-hit, next-miss}
+use Rattle.cache_core.proofs.RowStep.{valid_way, next-hit, next-miss}
 use Rattle.cache_core.proofs.Steps.{out-hit, out-miss, out-none}
 use Rattle.cache_core.proofs.MapEntries.{Entries, find-shown, shifted-shown, changed-shown}
 use Rattle.cache_core.proofs.MapEntries.{leaving-shown, removed-absent, set-absent, found-first}
@@ -93,15 +93,15 @@ module _ (fifo wb a w : Bool) (b n : ℕ) (es : Entries) (fits : length es ≤ n
   on-hit e q = (elim fifo as (λ t.
       shown n (cond t (cond (wb && w) (set_value (nat_eq b) es true) es) (used_entries b wb w es))
       ≡ cond t (cond (wb && w) (changed (holds_block b) dirtied row) row)
-      (shifted (holds_block b) (held_way b (wb && (w || e.1))) row)) [
+      (shifted (holds_block b) (valid_way b (wb && (w || e.1))) row)) [
         | true ↦ (elim (wb && w) as (λ t. shown n (cond t (set_value (nat_eq b) es true) es)
             ≡ cond t (changed (holds_block b) dirtied row) row)
             [ true ↦ sym (changed-shown b n n es) | false ↦ refl ])
         | false ↦ ap (λ o. shown n (used b wb w es o)) q
-            ∙ ap (λ z. take n (held_way z (wb && (w || e.1))
+            ∙ ap (λ z. take n (valid_way z (wb && (w || e.1))
             ∷ map way_of (remove_entry (nat_eq b) es)
             ++ replicate n empty_way)) (found-first b zero es e q)
-            ∙ sym (shifted-shown b n n es (held_way b (wb && (w || e.1))) (omega arith))
+            ∙ sym (shifted-shown b n n es (valid_way b (wb && (w || e.1))) (omega arith))
       ]) ∙ sym (next-hit fifo wb a w b row (way_of e))
 
   -- after a hit, the map shows the row after the access
@@ -166,11 +166,11 @@ module _ (fifo wb a w : Bool) (b n : ℕ) (es : Entries) (fits : length es ≤ n
           ≡ next_row wb a b w row seen fifo
       load-row = ap (shown n) (put-is (wb && w) ∙ ap (λ k. (b, wb && w) ∷ take k es) one_less)
           ∙ subst (λ k. take k (map way_of ((b, wb && w) ∷ take m es) ++ replicate n empty_way)
-          ≡ take k (held_way b (wb && w) ∷ map way_of es ++ replicate n empty_way)) (sym size)
-          (ap (λ l. held_way b (wb && w) ∷ l) (take-shown b zero m es (replicate n empty_way)))
-          ∙ ap (λ fs. take n (held_way b (wb && w) ∷ map way_of fs ++ replicate n empty_way))
+          ≡ take k (valid_way b (wb && w) ∷ map way_of es ++ replicate n empty_way)) (sym size)
+          (ap (λ l. valid_way b (wb && w) ∷ l) (take-shown b zero m es (replicate n empty_way)))
+          ∙ ap (λ fs. take n (valid_way b (wb && w) ∷ map way_of fs ++ replicate n empty_way))
           (sym (removed-absent b zero es none))
-          ∙ sym (shifted-shown b n n es (held_way b (wb && w)) (omega arith))
+          ∙ sym (shifted-shown b n n es (valid_way b (wb && w)) (omega arith))
           ∙ sym (ap (λ s. next_row wb a b w row s fifo) unseen ∙ next-miss fifo wb a w b row
           ∙ cond-true (not w || a) _ _ l)
 
@@ -182,10 +182,10 @@ module _ (fifo wb a w : Bool) (b n : ℕ) (es : Entries) (fits : length es ≤ n
           (lookup-none b zero es none)
           ∙ ap (λ k. option_map_or dirty_entry (slice_get es k) None) one_less
           ∙ sym (ap (pushed_out wb a b w row) unseen ∙ out-miss wb a w b row l
-          ∙ subst (λ k. dirty_block (leaving (holds_block b) (held_way b (wb && w))
+          ∙ subst (λ k. dirty_block (leaving (holds_block b) (valid_way b (wb && w))
           (take k (map way_of es ++ replicate n empty_way)))
           ≡ option_map_or dirty_entry (slice_get es m) None) (sym size)
-          (leaving-shown b n m es (held_way b (wb && w)) (omega arith) none))
+          (leaving-shown b n m es (valid_way b (wb && w)) (omega arith) none))
 
 -- a number above 0 is the next after the one before it
 pub suc_pred : (n : ℕ) → 0 < n → n ≡ suc (n - 1)

@@ -18,23 +18,23 @@ ranked-none r s = (elim r.fifo as (λ t. cond {A = List ℕ} t [] [] ≡ [])
 
 -- where nothing was renewed, a set has no residents
 pub ways_of-none : (r : Rules) (s : ℕ) → ways_of r s [] ≡ []
-ways_of-none r s = ap (take r.ways) (ranked-none r s) ∙ take_none r.ways
+ways_of-none r s = ap (take r.assoc) (ranked-none r s) ∙ take_none r.assoc
 
 module _ (r : Rules) (h : History) (none : renewals r h ≡ []) where
-  row_of-none : (s : ℕ) → row_of r h s ≡ replicate r.ways empty_way
+  row_of-none : (s : ℕ) → row_of r h s ≡ replicate r.assoc empty_way
   unfolding row_of
-  row_of-none s = ap (λ l. take r.ways
-      (map (way_at r h) (ranked r s l) ++ replicate r.ways empty_way)) none
-      ∙ ap (λ l. take r.ways (map (way_at r h) l ++ replicate r.ways empty_way)) (ranked-none r s)
-      ∙ take-replicate r.ways r.ways empty_way (omega arith)
+  row_of-none s = ap (λ l. take r.assoc
+      (map (way_at r h) (ranked r s l) ++ replicate r.assoc empty_way)) none
+      ∙ ap (λ l. take r.assoc (map (way_at r h) l ++ replicate r.assoc empty_way)) (ranked-none r s)
+      ∙ take-replicate r.assoc r.assoc empty_way (omega arith)
 
   -- and its row is empty
   pub rows-none : (t : ℕ) → t < r.sets
-      → row r.ways t (replicate (r.sets * r.ways) empty_way) ≡ row_of r h t
+      → row r.assoc t (replicate (r.sets * r.assoc) empty_way) ≡ row_of r h t
   rows-none t below =
-      let fits : (t + 1) * r.ways ≤ r.sets * r.ways = mul-le-mul_right r.ways (omega arith) in
-      ap (take r.ways) (drop-replicate (t * r.ways) (r.sets * r.ways) empty_way)
-      ∙ take-replicate r.ways (r.sets * r.ways - t * r.ways) empty_way (omega arith)
+      let fits : (t + 1) * r.assoc ≤ r.sets * r.assoc = mul-le-mul_right r.assoc (omega arith) in
+      ap (take r.assoc) (drop-replicate (t * r.assoc) (r.sets * r.assoc) empty_way)
+      ∙ take-replicate r.assoc (r.sets * r.assoc - t * r.assoc) empty_way (omega arith)
       ∙ sym (row_of-none t)
 
 -- nothing was renewed at the start

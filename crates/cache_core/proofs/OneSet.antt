@@ -7,7 +7,7 @@ use Rattle.cache_core.specs.declared.access.MissKind.TheVariants.{Compulsory, Ca
 use Rattle.cache_core.specs.History.{Rules, History, access, flush, block_of, is_instr, is_read}
 use Rattle.cache_core.specs.History.{is_write, is_misc}
 use Rattle.cache_core.specs.Residents.{hits, renewals}
-use Rattle.cache_core.specs.Kinds.{known_blocks, shadow_of, kind_of_miss, is_kind}
+use Rattle.cache_core.specs.Kinds.{referenced_blocks, shadow_of, kind_of_miss, is_kind}
 use Rattle.cache_core.specs.Parts.{one_if, outcome_of}
 use Rattle.cache_core.specs.Counts.{tally, none_by_class, counts_of}
 use Rattle.cache_core.specs.Laws.{IsOneLruSet}
@@ -15,25 +15,25 @@ use Rattle.cache_core.specs.Laws.{IsOneLruSet}
 module _ (r : Rules) (one : IsOneLruSet r) where
   shadow-same : shadow_of r ≡ r
   shadow-same =
-      ap (λ k. record r { sets = k; ways = r.blocks; fifo = false }) (sym one.one_set)
-      ∙ ap (λ k. record r { ways = k; fifo = false }) (sym one.all_blocks)
+      ap (λ k. record r { sets = k; assoc = r.blocks; fifo = false }) (sym one.one_set)
+      ∙ ap (λ k. record r { assoc = k; fifo = false }) (sym one.all_blocks)
       ∙ ap (λ k. record r { fifo = k }) (sym one.lru)
 
   hits-same : (h : History) (x : Access)
       → hits (shadow_of r) (renewals (shadow_of r) h) x ≡ hits r (renewals r h) x
   hits-same h x = ap (λ q. hits q (renewals q h) x) shadow-same
 
-  kinds : (known in_shadow hit : Bool) → in_shadow ≡ hit
+  kinds : (referenced in_shadow hit : Bool) → in_shadow ≡ hit
       → is_kind Conflict (cond hit None
-      (Some (cond known (cond in_shadow Conflict Capacity) Compulsory))) ≡ false
-  kinds known in_shadow true e = refl
+      (Some (cond referenced (cond in_shadow Conflict Capacity) Compulsory))) ≡ false
+  kinds referenced in_shadow true e = refl
   kinds true true false e = cc
   kinds true false false e = refl
   kinds false in_shadow false e = refl
 
   never : (h : History) (x : Access) → is_kind Conflict (outcome_of r h x).kind ≡ false
   unfolding outcome_of kind_of_miss
-  never h x = kinds (list_any (λ b. b == block_of r x) (known_blocks r h))
+  never h x = kinds (list_any (λ b. b == block_of r x) (referenced_blocks r h))
       (hits (shadow_of r) (renewals (shadow_of r) h) x) (hits r (renewals r h) x) (hits-same h x)
 
   -- no miss is a conflict

@@ -1,4 +1,4 @@
--- Each block that is written back was paid for by a write.
+-- Each block that is written back is charged to a write.
 use Rattle.std.proofs.Common.{◌≡◌, ℕ, zero, suc, ◌+◌, ◌*◌, ◌%◌, ◌≤◌, Bool, true, false, cond, not}
 use Rattle.std.proofs.Common.{◌&&◌, ◌||◌, eqb, ltb, List, [], ◌∷◌, length, take, filter, Option}
 use Rattle.std.proofs.Common.{Some, None, is_some, inl, inr, refl, sym, ap, subst, ◌∙◌, arith}
@@ -11,7 +11,7 @@ use Rattle.cache_core.specs.Residents.{hits, uses, renews, renewals, is_resident
 use Rattle.cache_core.specs.Dirty.{is_written, is_dirty, dirty_blocks}
 use Rattle.cache_core.specs.Parts.{dirty_victim, outcome_of, part_count}
 use Rattle.cache_core.specs.Order.{ranked}
-use Rattle.cache_core.specs.Laws.{AccessesPay, FlushesPay, Rises}
+use Rattle.cache_core.specs.Laws.{WriteBacksAreCharged, FlushesLeaveNoneDirty, Rises}
 use Rattle.cache_core.proofs.Reuse.{has, has-take}
 use Rattle.cache_core.proofs.Shift.{IsOnce}
 use Rattle.cache_core.proofs.Ascending.{not-itself, rises-rising, has-rising}
@@ -40,17 +40,17 @@ find-passes p (x ∷ xs) v e = (elim (p x) as (λ t. p x ≡ t → cond t (Some 
 
 module _ (r : Rules) (h : History) where
   dirty-parts : (y : ℕ) → is_dirty r h y ≡ true
-      → (r.write_back ≡ true) × (is_resident r (renewals r h) y ≡ true) × (is_written r h y ≡ true)
+      → (r.wback ≡ true) × (is_resident r (renewals r h) y ≡ true) × (is_written r h y ≡ true)
   unfolding is_dirty
-  dirty-parts y d = let p = and_parts (r.write_back && is_resident r (renewals r h) y)
-      (is_written r h y) d in let q = and_parts r.write_back (is_resident r (renewals r h) y) p.0 in
+  dirty-parts y d = let p = and_parts (r.wback && is_resident r (renewals r h) y)
+      (is_written r h y) d in let q = and_parts r.wback (is_resident r (renewals r h) y) p.0 in
       (q.0, q.1, p.1)
 
-  dirty-from : (y : ℕ) → r.write_back ≡ true → is_resident r (renewals r h) y ≡ true
+  dirty-from : (y : ℕ) → r.wback ≡ true → is_resident r (renewals r h) y ≡ true
       → is_written r h y ≡ true → is_dirty r h y ≡ true
   unfolding is_dirty
-  dirty-from y a b c = and_from (r.write_back && is_resident r (renewals r h) y) (is_written r h y)
-      (and_from r.write_back (is_resident r (renewals r h) y) a b) c
+  dirty-from y a b c = and_from (r.wback && is_resident r (renewals r h) y) (is_written r h y)
+      (and_from r.wback (is_resident r (renewals r h) y) a b) c
 
   -- the list of dirty blocks has each dirty block
   pub dirty-has : (y : ℕ) → is_dirty r h y ≡ true → has (dirty_blocks r h) y ≡ true
@@ -86,7 +86,7 @@ module _ (r : Rules) (h : History) (x : Access) where
   w = is_write x
 
   -- an access makes no other block resident
-  in-front : (m : ℕ) → r.ways ≡ suc m → renews r ms x ≡ true → (y : ℕ) → eqb b y ≡ false
+  in-front : (m : ℕ) → r.assoc ≡ suc m → renews r ms x ≡ true → (y : ℕ) → eqb b y ≡ false
       → is_resident r (b ∷ ms) y ≡ true → is_resident r ms y ≡ true
   in-front m size yes' y other res =
       by_cases (eqb s (y % r.sets))
@@ -102,12 +102,12 @@ module _ (r : Rules) (h : History) (x : Access) where
       ∙ sym (later-is r h x m size miss yes' y e) ∙ res)))
       (λ e. sym (elsewhere r h x y e) ∙ res)
 
-  no-ways : (ms' : List ℕ) (y : ℕ) → r.ways ≡ 0 → is_resident r ms' y ≡ true → ⊥
+  no-ways : (ms' : List ℕ) (y : ℕ) → r.assoc ≡ 0 → is_resident r ms' y ≡ true → ⊥
   unfolding is_resident
-  no-ways ms' y e res = let lt = ltb-true _ r.ways (and_parts (has ms' y) (ltb _ r.ways) res).1 in
+  no-ways ms' y e res = let lt = ltb-true _ r.assoc (and_parts (has ms' y) (ltb _ r.assoc) res).1 in
       absurd (omega arith)
 
-  others-by : (n : ℕ) → r.ways ≡ n → (y : ℕ) → eqb b y ≡ false
+  others-by : (n : ℕ) → r.assoc ≡ n → (y : ℕ) → eqb b y ≡ false
       → is_resident r (renewals r h') y ≡ true → is_resident r ms y ≡ true
   others-by zero e y other res = absurd (no-ways (renewals r h') y e res)
   others-by (suc m) e y other res =
@@ -119,7 +119,7 @@ module _ (r : Rules) (h : History) (x : Access) where
 
   others : (y : ℕ) → eqb b y ≡ false → is_resident r (renewals r h') y ≡ true
       → is_resident r ms y ≡ true
-  others y other res = others-by r.ways refl y other res
+  others y other res = others-by r.assoc refl y other res
 
   written-other : (y : ℕ) → eqb b y ≡ false → is_written r h' y ≡ is_written r h y
   unfolding is_written
@@ -131,7 +131,7 @@ module _ (r : Rules) (h : History) (x : Access) where
   written-here e g = and_parts (hits r ms x) (is_written r h b)
       (sym (ap (λ t. cond (t && uses r ms x) (w || (hits r ms x && is_written r h b))
       (is_written r h b)) (eq-eqb b b refl)
-      ∙ ap (λ t. cond (true && (not t || r.allocate || hits r ms x))
+      ∙ ap (λ t. cond (true && (not t || r.walloc || hits r ms x))
       (t || (hits r ms x && is_written r h b)) (is_written r h b)) e) ∙ g)
 
   abbrev after : List ℕ
@@ -184,7 +184,7 @@ module _ (r : Rules) (h : History) (x : Access) where
       → cond (is_some (dirty_victim r h o)) 1 0 + length after ≤ length owing
   backs-by None e = let k = kept in omega arith
   backs-by (Some v) e = (elim (is_dirty r h v) as (λ t. is_dirty r h v ≡ t
-      → cond (is_some (cond t (Some (v * r.block_size)) None)) 1 0 + length after ≤ length owing) [
+      → cond (is_some (cond t (Some (v * r.bsize)) None)) 1 0 + length after ≤ length owing) [
         | true ↦ λ d. let le = as_many (v ∷ after) owing (victim-gone v e, once r h') (λ z g.
             elim (or_cases (eqb v z) (has after z) g) [
               | inl q ↦ subst (λ k. has owing k ≡ true) (eqb-true v z q) (inside v d)
@@ -197,17 +197,17 @@ module _ (r : Rules) (h : History) (x : Access) where
   backs = backs-by (victim r h x) refl
 
   -- under write through nothing is dirty
-  clean : r.write_back ≡ false → (g : History) (v : ℕ) → is_dirty r g v ≡ true → ⊥
+  clean : r.wback ≡ false → (g : History) (v : ℕ) → is_dirty r g v ≡ true → ⊥
   clean e g v d = false≢true (sym e ∙ (dirty-parts r g v d).0)
 
-  none-after : r.write_back ≡ false → length after ≤ 0
+  none-after : r.wback ≡ false → length after ≤ 0
   none-after e = as_many after [] (once r h') (λ z g. absurd (clean e h' z (has-dirty r h' z g)))
 
-  none-back : r.write_back ≡ false → (o : Option ℕ)
+  none-back : r.wback ≡ false → (o : Option ℕ)
       → ◌≡◌ {A = ℕ} (cond (is_some (dirty_victim r h o)) 1 0) 0
   none-back e None = refl
   none-back e (Some v) = (elim (is_dirty r h v) as (λ t. is_dirty r h v ≡ t
-      → ◌≡◌ {A = ℕ} (cond (is_some (cond t (Some (v * r.block_size)) None)) 1 0) 0) [
+      → ◌≡◌ {A = ℕ} (cond (is_some (cond t (Some (v * r.bsize)) None)) 1 0) 0) [
         | true ↦ λ d. absurd (clean e h v d)
         | false ↦ λ d. refl
       ]) refl
@@ -235,16 +235,16 @@ module _ (r : Rules) (h : History) (x : Access) where
   abbrev counted : ℕ
   counted = cond (is_some (dirty_victim r h (victim r h x))) 1 0
       + cond (uses r ms x && not (hits r ms x)) 1 0
-      + cond (w && (not r.write_back || not (uses r ms x))) 1 0
+      + cond (w && (not r.wback || not (uses r ms x))) 1 0
 
   pays-made : counted + length after ≤ length (dirty_blocks r h) + (1 + cond w 1 0)
   pays-made =
-      let both = sent r.write_back (uses r ms x) (hits r ms x) w in
+      let both = sent r.wback (uses r ms x) (hits r ms x) w in
       let owed = owing-length in
-      by_cases r.write_back
-      (λ e. let q : ◌≡◌ {A = ℕ} (cond r.write_back 0 (cond w 1 0)) 0 =
+      by_cases r.wback
+      (λ e. let q : ◌≡◌ {A = ℕ} (cond r.wback 0 (cond w 1 0)) 0 =
       ap (λ t. cond t 0 (cond w 1 0)) e in let k = backs in omega arith)
-      (λ e. let q : ◌≡◌ {A = ℕ} (cond r.write_back 0 (cond w 1 0)) (cond w 1 0) =
+      (λ e. let q : ◌≡◌ {A = ℕ} (cond r.wback 0 (cond w 1 0)) (cond w 1 0) =
       ap (λ t. cond t 0 (cond w 1 0)) e in let k = none-after e in let n =
       none-back e (victim r h x) in omega arith)
 
@@ -254,10 +254,10 @@ module _ (r : Rules) (h : History) (x : Access) where
   pays = pays-made
 
 -- an access sends and leaves dirty at most one block more than was dirty, or two where it writes
-pub accesses_pay : AccessesPay
-accesses_pay r h x = pays r h x
+pub write_backs_charged : WriteBacksAreCharged
+write_backs_charged r h x = pays r h x
 
 -- after a flush nothing is dirty
-pub flushes_pay : FlushesPay
+pub flushes_leave_none_dirty : FlushesLeaveNoneDirty
 unfolding dirty_blocks renewals
-flushes_pay r h = refl
+flushes_leave_none_dirty r h = refl

@@ -75,8 +75,8 @@ module _ (r : Rules) where
   pub has-ways_of : (ms : List ℕ) (b : ℕ) → has (ways_of r (b % r.sets) ms) b ≡ is_resident r ms b
   unfolding is_resident reuse_distance
   has-ways_of ms b = by_cases r.fifo
-      (λ e. rw e (has-take r.ways (in_set r (b % r.sets) ms) b
-      ∙ ap (λ t. t && ltb (length (before b (in_set r (b % r.sets) ms))) r.ways)
+      (λ e. rw e (has-take r.assoc (in_set r (b % r.sets) ms) b
+      ∙ ap (λ t. t && ltb (length (before b (in_set r (b % r.sets) ms))) r.assoc)
       (has-in_set ms b)))
-      (λ e. rw e (has-take r.ways (distinct (in_set r (b % r.sets) ms)) b
+      (λ e. rw e (has-take r.assoc (distinct (in_set r (b % r.sets) ms)) b
       ∙ rw (has-distinct, has-in_set, before-distinct) refl))

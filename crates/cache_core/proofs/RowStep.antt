@@ -20,14 +20,14 @@ changed-same p (x ∷ xs) = (elim (p x) as (λ t. cond t (x ∷ xs) (x ∷ chang
     [ true ↦ refl | false ↦ ap (λ l. x ∷ l) (changed-same p xs) ])
 
 -- a way that holds the block with this first byte, dirty or not
-abbrev pub held_way : ℕ → Bool → Way
-held_way b d = record { first = b; held = true; dirty = d }
+abbrev pub valid_way : ℕ → Bool → Way
+valid_way b d = record { block_addr = b; valid = true; dirty = d }
 
 -- the row after an access that hits
 pub next-hit : (fifo wb a w : Bool) (b : ℕ) (row : List Way) (v : Way)
     → next_row wb a b w row (Some v) fifo
     ≡ cond fifo (cond (wb && w) (changed (holds_block b) dirtied row) row)
-    (shifted (holds_block b) (held_way b (wb && (w || v.dirty))) row)
+    (shifted (holds_block b) (valid_way b (wb && (w || v.dirty))) row)
 next-hit true wb true true b row v = refl
 next-hit true wb true false b row v = refl
 next-hit true wb false true b row v = refl
@@ -40,7 +40,7 @@ next-hit false wb false false b row v = refl
 -- the row after an access that misses
 pub next-miss : (fifo wb a w : Bool) (b : ℕ) (row : List Way)
     → next_row wb a b w row None fifo
-    ≡ cond (not w || a) (shifted (holds_block b) (held_way b (wb && w)) row) row
+    ≡ cond (not w || a) (shifted (holds_block b) (valid_way b (wb && w)) row) row
 next-miss true wb true true b row = refl
 next-miss true wb true false b row = refl
 next-miss true wb false true b row = refl
@@ -59,9 +59,9 @@ dirty-kept false w d e = refl
 dirty-kept true true d e = cc
 dirty-kept true false d e = refl
 
-module _ (r : Rules) (pos : 0 < r.block_size) (h : History) (x : Access) where
-  abbrev first : ℕ
-  first = block_of r x * r.block_size
+module _ (r : Rules) (pos : 0 < r.bsize) (h : History) (x : Access) where
+  abbrev block_addr : ℕ
+  block_addr = block_of r x * r.bsize
 
   abbrev b : ℕ
   b = block_of r x
@@ -83,74 +83,75 @@ module _ (r : Rules) (pos : 0 < r.block_size) (h : History) (x : Access) where
 
   -- an access that hits uses the cache
   pub uses-hit : hits r ms x ≡ true → uses r ms x ≡ true
-  uses-hit e = or_right (not w || r.allocate) (hits r ms x) e
+  uses-hit e = or_right (not w || r.walloc) (hits r ms x) e
 
   -- one that misses uses it unless it is a write without allocation
-  pub uses-miss : hits r ms x ≡ false → uses r ms x ≡ (not w || r.allocate)
-  uses-miss e = ap (λ t. not w || r.allocate || t) e ∙ or-false (not w || r.allocate)
+  pub uses-miss : hits r ms x ≡ false → uses r ms x ≡ (not w || r.walloc)
+  uses-miss e = ap (λ t. not w || r.walloc || t) e ∙ or-false (not w || r.walloc)
 
   -- the block's mark after a use
   way-used : uses r ms x ≡ true → way_at r h' b
-      ≡ held_way first (r.write_back && (w || (hits r ms x && is_written r h b)))
-  way-used u = ap (λ t. held_way first (r.write_back && t)) (is_written-used r pos h x u)
+      ≡ valid_way block_addr (r.wback && (w || (hits r ms x && is_written r h b)))
+  way-used u = ap (λ t. valid_way block_addr (r.wback && t)) (is_written-used r pos h x u)
 
   way-hit : hits r ms x ≡ true → way_at r h' b
-      ≡ held_way first (r.write_back && (w || (true && is_written r h b)))
+      ≡ valid_way block_addr (r.wback && (w || (true && is_written r h b)))
   way-hit e = way-used (uses-hit e)
-      ∙ ap (λ t. held_way first (r.write_back && (w || (t && is_written r h b)))) e
+      ∙ ap (λ t. valid_way block_addr (r.wback && (w || (t && is_written r h b)))) e
 
   way-miss : hits r ms x ≡ false → uses r ms x ≡ true
-      → way_at r h' b ≡ held_way first (r.write_back && w)
+      → way_at r h' b ≡ valid_way block_addr (r.wback && w)
   way-miss e u = way-used u ∙ ap (λ t.
-      held_way first (r.write_back && (w || (t && is_written r h b)))) e
-      ∙ ap (λ t. held_way first (r.write_back && t)) (or-false w)
+      valid_way block_addr (r.wback && (w || (t && is_written r h b)))) e
+      ∙ ap (λ t. valid_way block_addr (r.wback && t)) (or-false w)
 
   abbrev next : List Way
-  next = next_row r.write_back r.allocate first w row (find (holds_block first) row) r.fifo
+  next = next_row r.wback r.walloc block_addr w row (find (holds_block block_addr) row) r.fifo
 
   fifo-hit : r.fifo ≡ true → hits r ms x ≡ true
-      → row_of r h' s ≡ cond (r.write_back && w) (changed (holds_block first) dirtied row) row
-  fifo-hit f e = (elim (r.write_back && w) as (λ t. (r.write_back && w) ≡ t
-      → row_of r h' s ≡ cond t (changed (holds_block first) dirtied row) row) [
+      → row_of r h' s ≡ cond (r.wback && w) (changed (holds_block block_addr) dirtied row) row
+  fifo-hit f e = (elim (r.wback && w) as (λ t. (r.wback && w) ≡ t
+      → row_of r h' s ≡ cond t (changed (holds_block block_addr) dirtied row) row) [
         | true ↦ λ k. row_of-fifo_hit r pos h x f e dirtied (way-hit e
-            ∙ ap (held_way first) (and_from r.write_back (w || (true && is_written r h b))
-            (and_parts r.write_back w k).0
-            (or_left w (true && is_written r h b) (and_parts r.write_back w k).1)))
+            ∙ ap (valid_way block_addr) (and_from r.wback (w || (true && is_written r h b))
+            (and_parts r.wback w k).0
+            (or_left w (true && is_written r h b) (and_parts r.wback w k).1)))
         | false ↦ λ k. row_of-fifo_hit r pos h x f e (λ v. v) (way-hit e
-            ∙ ap (held_way first) (dirty-kept r.write_back w (is_written r h b) k))
-            ∙ changed-same (holds_block first) row
+            ∙ ap (valid_way block_addr) (dirty-kept r.wback w (is_written r h b) k))
+            ∙ changed-same (holds_block block_addr) row
       ]) refl
 
   on-hit : hits r ms x ≡ true → row_of r h' s ≡ next
   on-hit e = (elim r.fifo as (λ t. r.fifo ≡ t
-      → row_of r h' s ≡ cond t (cond (r.write_back && w) (changed (holds_block first) dirtied row)
-      row) (shifted (holds_block first)
-      (held_way first (r.write_back && (w || (way_at r h b).dirty))) row)) [
+      → row_of r h' s ≡ cond t (cond (r.wback && w) (changed (holds_block block_addr) dirtied row)
+      row) (shifted (holds_block block_addr)
+      (valid_way block_addr (r.wback && (w || (way_at r h b).dirty))) row)) [
         | true ↦ λ f. fifo-hit f e
         | false ↦ λ f. row_of-lru r pos h x f (uses-hit e)
-            ∙ ap (λ v. shifted (holds_block first) v row) (way-hit e
-            ∙ ap (held_way first) (dirty-hit r.write_back w (is_written r h b)))
-      ]) refl ∙ sym (ap (λ o. next_row r.write_back r.allocate first w row o r.fifo)
+            ∙ ap (λ v. shifted (holds_block block_addr) v row) (way-hit e
+            ∙ ap (valid_way block_addr) (dirty-hit r.wback w (is_written r h b)))
+      ]) refl ∙ sym (ap (λ o. next_row r.wback r.walloc block_addr w row o r.fifo)
       (find-row_of r pos h b ∙ cond-true (hits r ms x) (Some (way_at r h b)) None e)
-      ∙ next-hit r.fifo r.write_back r.allocate w first row (way_at r h b))
+      ∙ next-hit r.fifo r.wback r.walloc w block_addr row (way_at r h b))
 
   loaded : hits r ms x ≡ false → uses r ms x ≡ true
-      → row_of r h' s ≡ shifted (holds_block first) (way_at r h' b) row
+      → row_of r h' s ≡ shifted (holds_block block_addr) (way_at r h' b) row
   loaded e u = by_cases r.fifo
       (λ f. row_of-load r pos h x f
       (and_from (uses r ms x) (not (hits r ms x)) u (ap not e)))
       (λ f. row_of-lru r pos h x f u)
 
   on-miss : hits r ms x ≡ false → row_of r h' s ≡ next
-  on-miss e = (elim (not w || r.allocate) as (λ t. (not w || r.allocate) ≡ t
-      → row_of r h' s ≡ cond t (shifted (holds_block first) (held_way first (r.write_back && w))
+  on-miss e = (elim (not w || r.walloc) as (λ t. (not w || r.walloc) ≡ t
+      → row_of r h' s
+      ≡ cond t (shifted (holds_block block_addr) (valid_way block_addr (r.wback && w))
       row) row) [
         | true ↦ λ u. let used = uses-miss e ∙ u in loaded e used
-            ∙ ap (λ v. shifted (holds_block first) v row) (way-miss e used)
+            ∙ ap (λ v. shifted (holds_block block_addr) v row) (way-miss e used)
         | false ↦ λ u. row_of-unused r pos h x (uses-miss e ∙ u)
-      ]) refl ∙ sym (ap (λ o. next_row r.write_back r.allocate first w row o r.fifo)
+      ]) refl ∙ sym (ap (λ o. next_row r.wback r.walloc block_addr w row o r.fifo)
       (find-row_of r pos h b ∙ cond-false (hits r ms x) (Some (way_at r h b)) None e)
-      ∙ next-miss r.fifo r.write_back r.allocate w first row)
+      ∙ next-miss r.fifo r.wback r.walloc w block_addr row)
 
   -- the row after the access is what one step makes of the row before it
   pub row_of-next : row_of r h' s ≡ next

@@ -32,9 +32,9 @@ eqb-times n y b pos = (elim (eqb y b) as (λ t. eqb y b ≡ t → eqb (y * n) (b
 ]) refl
 
 -- the way of y holds b's block just where y is b
-pub at_block : (r : Rules) → 0 < r.block_size → (h : History) (b y : ℕ)
-    → holds_block (b * r.block_size) (way_at r h y) ≡ eqb y b
-at_block r pos h b y = eqb-times r.block_size y b pos
+pub at_block : (r : Rules) → 0 < r.bsize → (h : History) (b y : ℕ)
+    → holds_block (b * r.bsize) (way_at r h y) ≡ eqb y b
+at_block r pos h b y = eqb-times r.bsize y b pos
 
 eqb-flip : (a b : ℕ) → eqb a b ≡ false → eqb b a ≡ false
 eqb-flip a b e = ne_eqb b a (λ same. eqb-false a b e (sym same))
@@ -43,13 +43,13 @@ map-same : {X : Type 0} (f g : ℕ → X) → ((y : ℕ) → f y ≡ g y) → (y
 map-same f g e [] = refl
 map-same f g e (y ∷ ys) = rw (e y, map-same f g e ys)
 
-module _ (r : Rules) (pos : 0 < r.block_size) (h : History) where
+module _ (r : Rules) (pos : 0 < r.bsize) (h : History) where
   -- the row holds b just where b is resident
-  pub find-row_of : (b : ℕ) → find (holds_block (b * r.block_size)) (row_of r h (b % r.sets))
+  pub find-row_of : (b : ℕ) → find (holds_block (b * r.bsize)) (row_of r h (b % r.sets))
       ≡ cond (is_resident r (renewals r h) b) (Some (way_at r h b)) None
   unfolding row_of
-  find-row_of b = find-padded (way_at r h) empty_way r.ways (holds_block (b * r.block_size)) b
-      (at_block r pos h b) refl r.ways (ranked r (b % r.sets) (renewals r h))
+  find-row_of b = find-padded (way_at r h) empty_way r.assoc (holds_block (b * r.bsize)) b
+      (at_block r pos h b) refl r.assoc (ranked r (b % r.sets) (renewals r h))
       ∙ ap (λ t. cond t (Some (way_at r h b)) None) (has-ways_of r (renewals r h) b)
 
   module _ (x : Access) where
@@ -61,10 +61,10 @@ module _ (r : Rules) (pos : 0 < r.block_size) (h : History) where
 
     way_at-other : (y : ℕ) → eqb y (block_of r x) ≡ false → way_at r (access x ∷ h) y ≡ way_at r h y
     way_at-other y e = ap (λ t. record {
-      first = y * r.block_size;
-      held = true;
+      block_addr = y * r.bsize;
+      valid = true;
       dirty =
-          r.write_back && t;
+          r.wback && t;
     }) (is_written-other y e)
 
     -- after a use the block is written if the access writes, or if it hits what was written
@@ -89,7 +89,7 @@ module _ (r : Rules) (pos : 0 < r.block_size) (h : History) where
     ms = renewals r h
 
     row_is : (g : History) (s : ℕ)
-        → row_of r g s ≡ take r.ways (padded (way_at r g) empty_way r.ways
+        → row_of r g s ≡ take r.assoc (padded (way_at r g) empty_way r.assoc
         (ranked r s (renewals r g)))
     unfolding row_of
     row_is g s = refl
@@ -103,9 +103,9 @@ module _ (r : Rules) (pos : 0 < r.block_size) (h : History) where
     -- the rows of the other sets stay
     pub row_of-other : (s : ℕ) → eqb (b % r.sets) s ≡ false → row_of r h' s ≡ row_of r h s
     row_of-other s e = rw (row_is h' s, row_is h s, ranked-elsewhere s e)
-        (padded-agree (way_at r h) empty_way r.ways (holds_block (b * r.block_size)) b
-        (at_block r pos h b) refl (way_at r h') way_at-other r.ways (ranked r s ms)
-        (has-take_absent r.ways b (ranked r s ms) (absent r s b ms e)))
+        (padded-agree (way_at r h) empty_way r.assoc (holds_block (b * r.bsize)) b
+        (at_block r pos h b) refl (way_at r h') way_at-other r.assoc (ranked r s ms)
+        (has-take_absent r.assoc b (ranked r s ms) (absent r s b ms e)))
 
     abbrev s : ℕ
     s = b % r.sets
@@ -113,9 +113,9 @@ module _ (r : Rules) (pos : 0 < r.block_size) (h : History) where
     not-marked : renews r ms x ≡ false → ((y : ℕ) → is_written r h' y ≡ is_written r h y)
         → row_of r h' s ≡ row_of r h s
     not-marked none same = rw (row_is h' s, row_is h s, renewals-no r h x none)
-        (ap (λ l. take r.ways (l ++ replicate r.ways empty_way))
+        (ap (λ l. take r.assoc (l ++ replicate r.assoc empty_way))
         (map-same (way_at r h') (way_at r h) (λ y.
-        ap (λ t. record { first = y * r.block_size; held = true; dirty = r.write_back && t })
+        ap (λ t. record { block_addr = y * r.bsize; valid = true; dirty = r.wback && t })
         (same y)) (ranked r s ms)))
 
     -- an access that does not use the cache renews nothing
@@ -130,56 +130,56 @@ module _ (r : Rules) (pos : 0 < r.block_size) (h : History) where
 
     -- a use under LRU
     pub row_of-lru : r.fifo ≡ false → uses r ms x ≡ true
-        → row_of r h' s ≡ shifted (holds_block (b * r.block_size)) (way_at r h' b) (row_of r h s)
+        → row_of r h' s ≡ shifted (holds_block (b * r.bsize)) (way_at r h' b) (row_of r h s)
     row_of-lru f u = rw (
       row_is h' s,
       row_is h s,
       renewals-yes r h x (block-lru r ms x true f u),
       ranked-lru r b ms f,
     )
-        (ap (λ l. take r.ways (way_at r h' b ∷ (l ++ replicate r.ways empty_way)))
-        (map-without (way_at r h) empty_way r.ways (holds_block (b * r.block_size)) b
+        (ap (λ l. take r.assoc (way_at r h' b ∷ (l ++ replicate r.assoc empty_way)))
+        (map-without (way_at r h) empty_way r.assoc (holds_block (b * r.bsize)) b
         (at_block r pos h b) refl (way_at r h') way_at-other (ranked r s ms))
-        ∙ sym (shifted-padded (way_at r h) empty_way r.ways (holds_block (b * r.block_size)) b
-        (at_block r pos h b) refl r.ways (ranked r s ms) (way_at r h' b) (omega arith)
+        ∙ sym (shifted-padded (way_at r h) empty_way r.assoc (holds_block (b * r.bsize)) b
+        (at_block r pos h b) refl r.assoc (ranked r s ms) (way_at r h' b) (omega arith)
         (IsOnce-ranked r f s ms)))
 
     pub missed : loads r ms x ≡ true → hits r ms x ≡ false
     missed l = not-true (hits r ms x) (and_parts (uses r ms x) (not (hits r ms x)) l).1
 
-    new_here : loads r ms x ≡ true → has (take r.ways (ranked r s ms)) b ≡ false
+    new_here : loads r ms x ≡ true → has (take r.assoc (ranked r s ms)) b ≡ false
     new_here l = fresh r h b (missed l)
 
     -- the row, with its empty ways, is at least as long as the set has ways
-    pub room : r.ways ≤ length (padded (way_at r h) empty_way r.ways (ranked r s ms))
+    pub room : r.assoc ≤ length (padded (way_at r h) empty_way r.assoc (ranked r s ms))
     room = omega (
       arith,
       length-append (map (way_at r h) (ranked r s ms))
-          (replicate r.ways empty_way),
-      length-replicate r.ways empty_way,
+          (replicate r.assoc empty_way),
+      length-replicate r.assoc empty_way,
     )
 
     -- a load
     pub row_of-load : r.fifo ≡ true → loads r ms x ≡ true
-        → row_of r h' s ≡ shifted (holds_block (b * r.block_size)) (way_at r h' b) (row_of r h s)
+        → row_of r h' s ≡ shifted (holds_block (b * r.bsize)) (way_at r h' b) (row_of r h s)
     row_of-load f l = rw (
       row_is h' s,
       row_is h s,
       renewals-yes r h x (block-fifo r ms x true f l),
       ranked-fifo r b ms f,
     )
-        (sym (take-cons_take r.ways (way_at r h' b)
-        (map (way_at r h') (ranked r s ms) ++ replicate r.ways empty_way))
-        ∙ ap (λ row. take r.ways (way_at r h' b ∷ row))
-        (padded-agree (way_at r h) empty_way r.ways (holds_block (b * r.block_size)) b
-        (at_block r pos h b) refl (way_at r h') way_at-other r.ways (ranked r s ms)
+        (sym (take-cons_take r.assoc (way_at r h' b)
+        (map (way_at r h') (ranked r s ms) ++ replicate r.assoc empty_way))
+        ∙ ap (λ row. take r.assoc (way_at r h' b ∷ row))
+        (padded-agree (way_at r h) empty_way r.assoc (holds_block (b * r.bsize)) b
+        (at_block r pos h b) refl (way_at r h') way_at-other r.assoc (ranked r s ms)
         (new_here l))
-        ∙ take-cons_take r.ways (way_at r h' b)
-        (padded (way_at r h) empty_way r.ways (ranked r s ms))
-        ∙ sym (shifted-none (holds_block (b * r.block_size)) r.ways
-        (padded (way_at r h) empty_way r.ways (ranked r s ms)) (way_at r h' b)
-        (any-padded (way_at r h) empty_way r.ways (holds_block (b * r.block_size)) b
-        (at_block r pos h b) refl r.ways (ranked r s ms) ∙ new_here l) room))
+        ∙ take-cons_take r.assoc (way_at r h' b)
+        (padded (way_at r h) empty_way r.assoc (ranked r s ms))
+        ∙ sym (shifted-none (holds_block (b * r.bsize)) r.assoc
+        (padded (way_at r h) empty_way r.assoc (ranked r s ms)) (way_at r h' b)
+        (any-padded (way_at r h) empty_way r.assoc (holds_block (b * r.bsize)) b
+        (at_block r pos h b) refl r.assoc (ranked r s ms) ∙ new_here l) room))
 
     -- a hit under FIFO
     pub hit-block : r.fifo ≡ true → hits r ms x ≡ true → renews r ms x ≡ false
@@ -189,9 +189,9 @@ module _ (r : Rules) (pos : 0 < r.block_size) (h : History) where
     -- a hit under FIFO changes the block's way in its place
     pub row_of-fifo_hit : r.fifo ≡ true → hits r ms x ≡ true → (g : Way → Way)
         → way_at r h' b ≡ g (way_at r h b)
-        → row_of r h' s ≡ changed (holds_block (b * r.block_size)) g (row_of r h s)
+        → row_of r h' s ≡ changed (holds_block (b * r.bsize)) g (row_of r h s)
     row_of-fifo_hit f hit g same =
         rw (row_is h' s, row_is h s, renewals-no r h x (hit-block f hit))
-        (sym (changed-padded (way_at r h) empty_way r.ways (holds_block (b * r.block_size)) b
-        (at_block r pos h b) refl (way_at r h') way_at-other g same r.ways (ranked r s ms)
+        (sym (changed-padded (way_at r h) empty_way r.assoc (holds_block (b * r.bsize)) b
+        (at_block r pos h b) refl (way_at r h') way_at-other g same r.assoc (ranked r s ms)
         (IsOnce-ways_of r h s)))

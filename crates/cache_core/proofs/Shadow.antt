@@ -97,9 +97,9 @@ module _ (b : ℕ) where
   take-without_absent (suc m) (y ∷ ys) h = let parts = or_parts (eqb y b) (has (take m ys) b) h in
       rw parts.0 (ap (λ l. y ∷ l) (take-without_absent m ys parts.1))
 
--- what an access leaves of the first entries of a list, by the clause of `Kinds::see`
-abbrev pub after_see : ℕ → Bool → ℕ → List (ℕ × Unit {0}) → List (ℕ × Unit {0})
-after_see b load cap es =
+-- what an access leaves of the first entries of a list, by the clause of `MissClassifier::classify`
+abbrev pub after_classify : ℕ → Bool → ℕ → List (ℕ × Unit {0}) → List (ℕ × Unit {0})
+after_classify b load cap es =
     let in_shadow = is_some (lookup (nat_eq b) es) in
     cond (not in_shadow && load) (put_entries nat_eq (lru_cache (promoted (nat_eq b) es) cap) b tt)
     (promoted (nat_eq b) es)
@@ -108,18 +108,18 @@ module _ (b m : ℕ) (ys : List ℕ) (once : IsOnce ys) where
   abbrev front : List ℕ
   front = take (suc m) ys
 
-  see-there : (load : Bool) → has front b ≡ true
-      → after_see b load (suc m) (map pair front) ≡ map pair (take (suc m) (b ∷ without b ys))
-  see-there load h =
+  classify-there : (load : Bool) → has front b ≡ true
+      → after_classify b load (suc m) (map pair front) ≡ map pair (take (suc m) (b ∷ without b ys))
+  classify-there load h =
       ap (λ t. cond (not t && load) (put_entries nat_eq
       (lru_cache (promoted (nat_eq b) (map pair front)) (suc m)) b tt)
       (promoted (nat_eq b) (map pair front))) (is_some-lookup b front ∙ h)
       ∙ promoted-there b front (IsOnce-take (suc m) ys once) h
       ∙ ap (λ l. map pair (b ∷ l)) (take-without_there b m ys once h)
 
-  see-load : has front b ≡ false
-      → after_see b true (suc m) (map pair front) ≡ map pair (take (suc m) (b ∷ without b ys))
-  see-load h =
+  classify-load : has front b ≡ false
+      → after_classify b true (suc m) (map pair front) ≡ map pair (take (suc m) (b ∷ without b ys))
+  classify-load h =
       ap (λ t. cond (not t && true) (put_entries nat_eq
       (lru_cache (promoted (nat_eq b) (map pair front)) (suc m)) b tt)
       (promoted (nat_eq b) (map pair front))) (is_some-lookup b front ∙ h)
@@ -132,24 +132,25 @@ module _ (b m : ℕ) (ys : List ℕ) (once : IsOnce ys) where
         shorter : take m front ≡ take m ys
         shorter = take-take m (suc m) ys (omega arith)
 
-  see-pass : has front b ≡ false → after_see b false (suc m) (map pair front) ≡ map pair front
-  see-pass h =
+  classify-pass : has front b ≡ false
+      → after_classify b false (suc m) (map pair front) ≡ map pair front
+  classify-pass h =
       ap (λ t. cond (not t && false)
       (put_entries nat_eq (lru_cache (promoted (nat_eq b) (map pair front)) (suc m)) b tt)
       (promoted (nat_eq b) (map pair front))) (is_some-lookup b front ∙ h)
       ∙ promoted-absent b front h
 
-  see-all : (load : Bool) → after_see b load (suc m) (map pair front)
+  classify-all : (load : Bool) → after_classify b load (suc m) (map pair front)
       ≡ map pair (take (suc m) (cond (load || has front b) (b ∷ without b ys) ys))
-  see-all load = (elim (has front b) as (λ t. has front b ≡ t
-      → after_see b load (suc m) (map pair front)
+  classify-all load = (elim (has front b) as (λ t. has front b ≡ t
+      → after_classify b load (suc m) (map pair front)
       ≡ map pair (take (suc m) (cond (load || t) (b ∷ without b ys) ys))) [
-        | true ↦ λ e. see-there load e
+        | true ↦ λ e. classify-there load e
             ∙ ap (λ t. map pair (take (suc m) (cond t (b ∷ without b ys) ys)))
             (sym (or_right load true refl))
-        | false ↦ λ e. (elim load as (λ l. after_see b l (suc m) (map pair front)
+        | false ↦ λ e. (elim load as (λ l. after_classify b l (suc m) (map pair front)
             ≡ map pair (take (suc m) (cond (l || false) (b ∷ without b ys) ys)))
-            [ true ↦ see-load e | false ↦ see-pass e ])
+            [ true ↦ classify-load e | false ↦ classify-pass e ])
       ]) refl
 
 mod_one : (n : ℕ) → n % 1 ≡ 0
@@ -180,13 +181,13 @@ module _ (r : Rules) (h : History) (x : Access) (m : ℕ) (size : r.blocks ≡ s
   ranks = ranked s 0 ms
 
   load : Bool
-  load = not (is_write x) || r.allocate
+  load = not (is_write x) || r.walloc
 
-  seen : after_see b load r.blocks (shown h)
+  classified : after_classify b load r.blocks (shown h)
       ≡ map pair (take r.blocks (cond (load || has (ways_of s 0 ms) b) (b ∷ without b ranks) ranks))
-  seen = subst (λ n. after_see b load n (map pair (take n ranks))
+  classified = subst (λ n. after_classify b load n (map pair (take n ranks))
       ≡ map pair (take n (cond (load || has (take n ranks) b) (b ∷ without b ranks) ranks)))
-      (sym size) (see-all b m ranks (IsOnce-distinct (in_set s 0 ms)) load)
+      (sym size) (classify-all b m ranks (IsOnce-distinct (in_set s 0 ms)) load)
 
   ranked-used : ranked s 0 (b ∷ ms) ≡ b ∷ without b ranks
   ranked-used = subst (λ z. ranked s z (b ∷ ms) ≡ b ∷ without b (ranked s z ms)) (mod_one b)
@@ -203,7 +204,7 @@ module _ (r : Rules) (h : History) (x : Access) (m : ℕ) (size : r.blocks ≡ s
       ]) refl
 
   -- after the access, the shadow has that cache's residents
-  pub shadow-step : after_see b (not (is_write x) || r.allocate) r.blocks (shown h)
+  pub shadow-step : after_classify b (not (is_write x) || r.walloc) r.blocks (shown h)
       ≡ shown (access x ∷ h)
   unfolding load
-  shadow-step = seen ∙ ap (λ l. map pair (take r.blocks l)) ranks-after
+  shadow-step = classified ∙ ap (λ l. map pair (take r.blocks l)) ranks-after

@@ -9,7 +9,7 @@ use Rattle.cache_core.specs.declared.ways.Way.{Way}
 use Rattle.cache_core.specs.History.{Rules, History, access, flush, block_of, is_write}
 use Rattle.cache_core.specs.Residents.{hits, uses, renews, renewals, victim}
 use Rattle.cache_core.specs.Dirty.{dirty_blocks}
-use Rattle.cache_core.specs.Kinds.{known_blocks, shadow_of, kind_of_miss}
+use Rattle.cache_core.specs.Kinds.{referenced_blocks, shadow_of, kind_of_miss}
 use Rattle.cache_core.specs.Parts.{dirty_victim, outcome_of, one_if}
 use Rattle.cache_core.specs.Counts.{tally, counts_of, flushes_in, flushed_back}
 use Rattle.cache_core.specs.Row.{holds_block, leaving, dirty_block, next_row, pushed_out, row}
@@ -17,35 +17,35 @@ use Rattle.cache_core.specs.Row.{outcome_made, way_at, row_of}
 use Rattle.cache_core.specs.Counting.{with_access, with_flush}
 use Rattle.cache_core.proofs.Turns.{block-fifo, block-lru}
 use Rattle.cache_core.proofs.RowTurns.{unused-block, hit-block, find-row_of, row_of-other}
-use Rattle.cache_core.proofs.RowStep.{held_way, row_of-next, uses-hit, uses-miss}
+use Rattle.cache_core.proofs.RowStep.{valid_way, row_of-next, uses-hit, uses-miss}
 use Rattle.cache_core.proofs.PushedOut.{out-is}
 use Rattle.cache_core.proofs.Victim.{unmarked, lru-hit}
 use Rattle.cache_core.proofs.Cases.{by_cases}
 
 -- a hit pushes nothing out
-pub out-hit : (wb a w : Bool) (first : ℕ) (row : List Way) (v : Way)
-    → pushed_out wb a first w row (Some v) ≡ None
-out-hit wb true true first row v = refl
-out-hit wb true false first row v = refl
-out-hit wb false true first row v = refl
-out-hit wb false false first row v = refl
+pub out-hit : (wb a w : Bool) (block_addr : ℕ) (row : List Way) (v : Way)
+    → pushed_out wb a block_addr w row (Some v) ≡ None
+out-hit wb true true block_addr row v = refl
+out-hit wb true false block_addr row v = refl
+out-hit wb false true block_addr row v = refl
+out-hit wb false false block_addr row v = refl
 
 -- a load pushes out the block that leaves, if it is dirty
-pub out-miss : (wb a w : Bool) (first : ℕ) (row : List Way) → (not w || a) ≡ true
-    → pushed_out wb a first w row None
-    ≡ dirty_block (leaving (holds_block first) (held_way first (wb && w)) row)
-out-miss wb true true first row h = refl
-out-miss wb true false first row h = refl
-out-miss wb false true first row h = cc
-out-miss wb false false first row h = refl
+pub out-miss : (wb a w : Bool) (block_addr : ℕ) (row : List Way) → (not w || a) ≡ true
+    → pushed_out wb a block_addr w row None
+    ≡ dirty_block (leaving (holds_block block_addr) (valid_way block_addr (wb && w)) row)
+out-miss wb true true block_addr row h = refl
+out-miss wb true false block_addr row h = refl
+out-miss wb false true block_addr row h = cc
+out-miss wb false false block_addr row h = refl
 
 -- a write that passes by pushes nothing out
-pub out-none : (wb a w : Bool) (first : ℕ) (row : List Way) → (not w || a) ≡ false
-    → pushed_out wb a first w row None ≡ None
-out-none wb true true first row h = cc
-out-none wb true false first row h = cc
-out-none wb false true first row h = refl
-out-none wb false false first row h = cc
+pub out-none : (wb a w : Bool) (block_addr : ℕ) (row : List Way) → (not w || a) ≡ false
+    → pushed_out wb a block_addr w row None ≡ None
+out-none wb true true block_addr row h = cc
+out-none wb true false block_addr row h = cc
+out-none wb false true block_addr row h = refl
+out-none wb false false block_addr row h = cc
 
 module _ (r : Rules) (h : History) (x : Access) where
   -- an outcome hits where the definitions say that the access hits
@@ -75,7 +75,7 @@ flush-counts r h n e =
       flushes = k;
     }) fl
 
-module _ (r : Rules) (pos : 0 < r.block_size) (m : ℕ) (size : r.ways ≡ suc m) (h : History)
+module _ (r : Rules) (pos : 0 < r.bsize) (m : ℕ) (size : r.assoc ≡ suc m) (h : History)
     (x : Access) where
   abbrev b : ℕ
   b = block_of r x
@@ -89,8 +89,8 @@ module _ (r : Rules) (pos : 0 < r.block_size) (m : ℕ) (size : r.ways ≡ suc m
   abbrev s : ℕ
   s = b % r.sets
 
-  abbrev first : ℕ
-  first = b * r.block_size
+  abbrev block_addr : ℕ
+  block_addr = b * r.bsize
 
   abbrev w : Bool
   w = is_write x
@@ -99,7 +99,7 @@ module _ (r : Rules) (pos : 0 < r.block_size) (m : ℕ) (size : r.ways ≡ suc m
   here = row_of r h s
 
   abbrev seen : Option Way
-  seen = find (holds_block first) here
+  seen = find (holds_block block_addr) here
 
   seen-is : seen ≡ cond (hits r ms x) (Some (way_at r h b)) None
   seen-is = find-row_of r pos h b
@@ -120,52 +120,52 @@ module _ (r : Rules) (pos : 0 < r.block_size) (m : ℕ) (size : r.ways ≡ suc m
       (λ f. block-lru r ms x true f u)
 
   back-miss : hits r ms x ≡ false
-      → pushed_out r.write_back r.allocate first w here None ≡ dirty_victim r h (victim r h x)
-  back-miss e = (elim (not w || r.allocate) as (λ t. (not w || r.allocate) ≡ t
-      → pushed_out r.write_back r.allocate first w here None ≡ dirty_victim r h (victim r h x)) [
-        | true ↦ λ u. out-miss r.write_back r.allocate w first here u
+      → pushed_out r.wback r.walloc block_addr w here None ≡ dirty_victim r h (victim r h x)
+  back-miss e = (elim (not w || r.walloc) as (λ t. (not w || r.walloc) ≡ t
+      → pushed_out r.wback r.walloc block_addr w here None ≡ dirty_victim r h (victim r h x)) [
+        | true ↦ λ u. out-miss r.wback r.walloc w block_addr here u
             ∙ out-is r h x m size e (load-block e (uses-miss r pos h x e ∙ u)) pos
-            (held_way first (r.write_back && w))
-        | false ↦ λ u. out-none r.write_back r.allocate w first here u
+            (valid_way block_addr (r.wback && w))
+        | false ↦ λ u. out-none r.wback r.walloc w block_addr here u
             ∙ sym (ap (dirty_victim r h) (unmarked r h x
             (unused-block r pos h x (uses-miss r pos h x e ∙ u))))
       ]) refl
 
-  pub back-is : pushed_out r.write_back r.allocate first w here seen
+  pub back-is : pushed_out r.wback r.walloc block_addr w here seen
       ≡ dirty_victim r h (victim r h x)
   back-is = by_cases (hits r ms x)
-      (λ e. ap (pushed_out r.write_back r.allocate first w here) (seen-is
+      (λ e. ap (pushed_out r.wback r.walloc block_addr w here) (seen-is
       ∙ cond-true (hits r ms x) (Some (way_at r h b)) None e)
-      ∙ out-hit r.write_back r.allocate w first here (way_at r h b)
+      ∙ out-hit r.wback r.walloc w block_addr here (way_at r h b)
       ∙ sym (ap (dirty_victim r h) (victim-hit e)))
-      (λ e. ap (pushed_out r.write_back r.allocate first w here) (seen-is
+      (λ e. ap (pushed_out r.wback r.walloc block_addr w here) (seen-is
       ∙ cond-false (hits r ms x) (Some (way_at r h b)) None e) ∙ back-miss e)
 
   -- the answer, by the parts that the code has
-  pub outcome-is : outcome_made r.write_back r.allocate w (is_some seen)
-      (pushed_out r.write_back r.allocate first w here seen)
-      (list_any (λ t. nat_eq t b) (known_blocks r h))
+  pub outcome-is : outcome_made r.wback r.walloc w (is_some seen)
+      (pushed_out r.wback r.walloc block_addr w here seen)
+      (list_any (λ t. nat_eq t b) (referenced_blocks r h))
       (hits (shadow_of r) (renewals (shadow_of r) h) x) ≡ outcome_of r h x
   unfolding outcome_of kind_of_miss
-  outcome-is = ap (λ hit. outcome_made r.write_back r.allocate w hit
-      (pushed_out r.write_back r.allocate first w here seen)
-      (list_any (λ t. nat_eq t b) (known_blocks r h))
+  outcome-is = ap (λ hit. outcome_made r.wback r.walloc w hit
+      (pushed_out r.wback r.walloc block_addr w here seen)
+      (list_any (λ t. nat_eq t b) (referenced_blocks r h))
       (hits (shadow_of r) (renewals (shadow_of r) h) x)) hit-is
-      ∙ ap (λ back. outcome_made r.write_back r.allocate w (hits r ms x) back
-      (list_any (λ t. nat_eq t b) (known_blocks r h))
+      ∙ ap (λ back. outcome_made r.wback r.walloc w (hits r ms x) back
+      (list_any (λ t. nat_eq t b) (referenced_blocks r h))
       (hits (shadow_of r) (renewals (shadow_of r) h) x)) back-is
 
   -- where the row of its set took the step and the others stayed, the rows are those after the
   -- access
-  pub rows-step : (xs ys : List Way) → ((t : ℕ) → t < r.sets → row r.ways t xs ≡ row_of r h t)
-      → row r.ways s ys ≡ next_row r.write_back r.allocate first w (row r.ways s xs)
-      (find (holds_block first) (row r.ways s xs)) r.fifo
-      → ((t : ℕ) → t ≢ s → row r.ways t ys ≡ row r.ways t xs) → s < r.sets → (t : ℕ) → t < r.sets
-      → row r.ways t ys ≡ row_of r h' t
+  pub rows-step : (xs ys : List Way) → ((t : ℕ) → t < r.sets → row r.assoc t xs ≡ row_of r h t)
+      → row r.assoc s ys ≡ next_row r.wback r.walloc block_addr w (row r.assoc s xs)
+      (find (holds_block block_addr) (row r.assoc s xs)) r.fifo
+      → ((t : ℕ) → t ≢ s → row r.assoc t ys ≡ row r.assoc t xs) → s < r.sets → (t : ℕ) → t < r.sets
+      → row r.assoc t ys ≡ row_of r h' t
   rows-step xs ys were now others inside t below =
       by_cases (eqb s t)
-      (λ e. subst (λ z. row r.ways z ys ≡ row_of r h' z) (eqb-true s t e) (now
-      ∙ ap (λ l. next_row r.write_back r.allocate first w l (find (holds_block first) l)
+      (λ e. subst (λ z. row r.assoc z ys ≡ row_of r h' z) (eqb-true s t e) (now
+      ∙ ap (λ l. next_row r.wback r.walloc block_addr w l (find (holds_block block_addr) l)
       r.fifo)
       (were s inside) ∙ sym (row_of-next r pos h x)))
       (λ e. others t (λ same. eqb-false s t e (sym same)) ∙ were t below

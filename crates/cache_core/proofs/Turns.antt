@@ -82,9 +82,9 @@ module _ (r : Rules) where
       (by_cases (eqb (block_of r x % r.sets) s)
       (λ g. let same : block_of r x % r.sets ≡ s =
       eqb-true (block_of r x % r.sets) s g in
-      subst (λ z. IsOnce (take r.ways (ranked r z (block_of r x ∷ renewals r h)))) same
+      subst (λ z. IsOnce (take r.assoc (ranked r z (block_of r x ∷ renewals r h)))) same
       (rw (ranked-fifo (block_of r x) (renewals r h) f)
-      (IsOnce-cons_take r.ways (block_of r x)
+      (IsOnce-cons_take r.assoc (block_of r x)
       (ranked r (block_of r x % r.sets) (renewals r h))
       (fresh h (block_of r x) (not-true (hits r (renewals r h) x)
       (and_parts (uses r (renewals r h) x) (not (hits r (renewals r h) x)) e).1))
@@ -94,9 +94,9 @@ module _ (r : Rules) where
 
   once-none : (s : ℕ) → IsOnce (ways_of r s [])
   once-none s = by_cases r.fifo
-      (λ f. rw f (IsOnce-take r.ways [] tt))
+      (λ f. rw f (IsOnce-take r.assoc [] tt))
       (λ f.
-      rw f (IsOnce-take r.ways [] tt))
+      rw f (IsOnce-take r.assoc [] tt))
 
   once-fifo : r.fifo ≡ true → (h : History) (s : ℕ) → IsOnce (ways_of r s (renewals r h))
   unfolding renewals
@@ -108,4 +108,4 @@ module _ (r : Rules) where
   pub IsOnce-ways_of : (h : History) (s : ℕ) → IsOnce (ways_of r s (renewals r h))
   IsOnce-ways_of h s = by_cases r.fifo
       (λ f. once-fifo f h s)
-      (λ f. IsOnce-take r.ways (ranked r s (renewals r h)) (IsOnce-ranked f s (renewals r h)))
+      (λ f. IsOnce-take r.assoc (ranked r s (renewals r h)) (IsOnce-ranked f s (renewals r h)))

@@ -24,7 +24,7 @@ use Rattle.cache_core.proofs.Cases.{by_cases}
 pub resident-marked : (r : Rules) (ms : List ℕ) (y : ℕ) → is_resident r ms y ≡ true
     → has ms y ≡ true
 unfolding is_resident
-resident-marked r ms y h = (and_parts (has ms y) (ltb (reuse_distance r ms y) r.ways) h).0
+resident-marked r ms y h = (and_parts (has ms y) (ltb (reuse_distance r ms y) r.assoc) h).0
 
 module _ (r : Rules) (h : History) (x : Access) where
   abbrev b : ℕ
@@ -65,22 +65,22 @@ module _ (r : Rules) (h : History) (x : Access) where
   pub elsewhere : (y : ℕ) → eqb s (y % r.sets) ≡ false
       → is_resident r (b ∷ ms) y ≡ is_resident r ms y
   elsewhere y e = sym (has-ways_of r (b ∷ ms) y)
-      ∙ ap (λ l. has (take r.ways l) y) (ranked-other r (y % r.sets) b ms e) ∙ has-ways_of r ms y
+      ∙ ap (λ l. has (take r.assoc l) y) (ranked-other r (y % r.sets) b ms e) ∙ has-ways_of r ms y
 
-  module _ (m : ℕ) (size : r.ways ≡ suc m) where
+  module _ (m : ℕ) (size : r.assoc ≡ suc m) where
     -- a block of this set is resident before the access just where it is among the first of the
     -- order
     pub front-is : (y : ℕ) → eqb s (y % r.sets) ≡ true
         → is_resident r ms y ≡ has (take (suc m) ranks) y
     front-is y e = sym (has-ways_of r ms y)
-        ∙ ap (λ z. has (take r.ways (ranked r z ms)) y) (sym (eqb-true s (y % r.sets) e))
+        ∙ ap (λ z. has (take r.assoc (ranked r z ms)) y) (sym (eqb-true s (y % r.sets) e))
         ∙ ap (λ n. has (take n ranks) y) size
 
     after-is : (y : ℕ) → eqb s (y % r.sets) ≡ true → (after : List ℕ)
         → ranked r s (b ∷ ms) ≡ b ∷ after
         → is_resident r (b ∷ ms) y ≡ has (take (suc m) (b ∷ after)) y
     after-is y e after is = sym (has-ways_of r (b ∷ ms) y)
-        ∙ ap (λ z. has (take r.ways (ranked r z (b ∷ ms))) y) (sym (eqb-true s (y % r.sets) e))
+        ∙ ap (λ z. has (take r.assoc (ranked r z (b ∷ ms))) y) (sym (eqb-true s (y % r.sets) e))
         ∙ ap (λ n. has (take n (ranked r s (b ∷ ms))) y) size ∙ ap (λ l. has (take (suc m) l) y) is
 
     -- a hit under LRU
@@ -229,12 +229,12 @@ module _ (r : Rules) (h : History) (x : Access) where
         | inr le ↦ absurd (false≢true (sym (room-stays le y) ∙ p))
       ]
 
-  no_way : r.ways ≡ 0 → (y : ℕ) → is_resident r ms y ≡ true → ⊥
+  no_way : r.assoc ≡ 0 → (y : ℕ) → is_resident r ms y ≡ true → ⊥
   unfolding is_resident
-  no_way e y res = let lt = ltb-true _ r.ways (and_parts (has ms y) (ltb _ r.ways) res).1 in
+  no_way e y res = let lt = ltb-true _ r.assoc (and_parts (has ms y) (ltb _ r.assoc) res).1 in
       absurd (omega arith)
 
-  only-one_by : (n : ℕ) → r.ways ≡ n → (y z : ℕ) → leaves r h x y ≡ true → leaves r h x z ≡ true
+  only-one_by : (n : ℕ) → r.assoc ≡ n → (y z : ℕ) → leaves r h x y ≡ true → leaves r h x z ≡ true
       → y ≡ z
   only-one_by zero e y z p q = absurd (no_way e y (and_parts (is_resident r ms y) _ p).0)
   only-one_by (suc m) e y z p q = by_cases (renews r ms x)
@@ -249,4 +249,4 @@ module _ (r : Rules) (h : History) (x : Access) where
 
   -- at most one block leaves
   pub only-one : (y z : ℕ) → leaves r h x y ≡ true → leaves r h x z ≡ true → y ≡ z
-  only-one y z p q = only-one_by r.ways refl y z p q
+  only-one y z p q = only-one_by r.assoc refl y z p q

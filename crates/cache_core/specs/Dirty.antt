@@ -26,7 +26,7 @@ module _ (r : Rules) where
 
   -- under write back a resident block that was written is dirty
   unfoldable pub is_dirty : History → ℕ → Bool
-  is_dirty h b = r.write_back && is_resident r (renewals r h) b && is_written h b
+  is_dirty h b = r.wback && is_resident r (renewals r h) b && is_written h b
 
   -- the dirty blocks, rising
   unfoldable pub dirty_blocks : History → List ℕ

@@ -24,18 +24,18 @@ write a = access (record { class = Write; addr = a })
 -- sixteen bytes in blocks of four: two sets of two blocks, LRU, write back, write allocation
 abbrev pub data_cache : Rules
 data_cache = record {
-  block_size = 4;
+  bsize = 4;
   sets = 2;
-  ways = 2;
+  assoc = 2;
   blocks = 4;
   fifo = false;
-  write_back = true;
-  allocate = true;
+  wback = true;
+  walloc = true;
 }
 
 -- the same in four sets of one block
 abbrev pub direct_mapped : Rules
-direct_mapped = record data_cache { sets = 4; ways = 1 }
+direct_mapped = record data_cache { sets = 4; assoc = 1 }
 
 -- what the accesses of a trace answer, after a history
 abbrev pub outcomes : Rules → History → List Event → List Outcome
@@ -70,11 +70,11 @@ pub record WorkedExamples : Type 0 where
       ≡ new ∷ new ∷ hit ∷ new ∷ missed Conflict ∷ []
   pub dirty_victim : outcomes data_cache [] (write 0 ∷ read 8 ∷ read 16 ∷ [])
       ≡ new ∷ new ∷ missed_back Compulsory 0 ∷ []
-  pub write_through : outcomes (record data_cache { write_back = false }) []
+  pub write_through : outcomes (record data_cache { wback = false }) []
       (write 2 ∷ write 2 ∷ [])
       ≡ record new { through = true } ∷ record hit { through = true } ∷ []
   -- the shadow has no block of a write that missed without allocation
-  pub no_allocation : outcomes (record data_cache { allocate = false }) [] (write 0 ∷ read 0 ∷ [])
+  pub no_allocation : outcomes (record data_cache { walloc = false }) [] (write 0 ∷ read 0 ∷ [])
       ≡ record new { fetch = false; through = true } ∷ missed Capacity ∷ []
   pub flushed : dirty_blocks data_cache (reverse (write 8 ∷ write 0 ∷ [])) ≡ 0 ∷ 2 ∷ []
   -- the block is known, and the shadow is empty

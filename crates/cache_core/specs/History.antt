@@ -16,21 +16,21 @@ History = List Event
 -- the shape and the policy of a cache
 pub record Rules : Type 0 where
   -- the bytes of a block
-  pub block_size : ℕ
+  pub bsize : ℕ
   pub sets : ℕ
   -- the blocks that a set holds, and those that the whole cache holds
-  pub ways : ℕ
+  pub assoc : ℕ
   pub blocks : ℕ
   -- first in first out, in place of least recently used
   pub fifo : Bool
   -- a write marks its block dirty, in place of being sent on
-  pub write_back : Bool
+  pub wback : Bool
   -- a write that misses brings its block in
-  pub allocate : Bool
+  pub walloc : Bool
 
 -- the number of the block that holds the address
 abbrev pub block_of : Rules → Access → ℕ
-block_of r x = x.addr / r.block_size
+block_of r x = x.addr / r.bsize
 
 -- the access fetches an instruction
 abbrev pub is_instr : Access → Bool

@@ -10,20 +10,20 @@ use Rattle.cache_core.specs.Residents.{hits, renewals}
 
 -- the shadow: one LRU set of as many blocks as the cache has, with the same write allocation
 abbrev pub shadow_of : Rules → Rules
-shadow_of r = record r { sets = 1; ways = r.blocks; fifo = false }
+shadow_of r = record r { sets = 1; assoc = r.blocks; fifo = false }
 
 module _ (r : Rules) where
   -- the blocks of all accesses, those before a flush too
-  unfoldable pub known_blocks : History → List ℕ
-  known_blocks [] = []
-  known_blocks (flush ∷ h) = known_blocks h
-  known_blocks (access x ∷ h) = block_of r x ∷ known_blocks h
+  unfoldable pub referenced_blocks : History → List ℕ
+  referenced_blocks [] = []
+  referenced_blocks (flush ∷ h) = referenced_blocks h
+  referenced_blocks (access x ∷ h) = block_of r x ∷ referenced_blocks h
 
   -- a miss is compulsory at a block that was never accessed, capacity where the shadow misses too,
   -- else conflict
   unfoldable pub kind_of_miss : History → Access → MissKind
   kind_of_miss h x =
-      if list_any (λ b. b == block_of r x) (known_blocks h)
+      if list_any (λ b. b == block_of r x) (referenced_blocks h)
       then (if hits (shadow_of r) (renewals (shadow_of r) h) x then Conflict else Capacity)
       else Compulsory
 

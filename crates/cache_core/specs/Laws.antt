@@ -25,7 +25,7 @@ AtMostOneLeaves = (r : Rules) (h : History) (x : Access) (a b : ℕ) →
 -- one LRU set of all blocks
 pub record IsOneLruSet (r : Rules) : Type 0 where
   pub one_set : r.sets ≡ 1
-  pub all_blocks : r.ways ≡ r.blocks
+  pub all_blocks : r.assoc ≡ r.blocks
   pub lru : r.fifo ≡ false
 
 -- an LRU cache of one set has no conflict miss
@@ -35,14 +35,14 @@ OneLruSetHasNoConflict = (r : Rules) → IsOneLruSet r → (h : History) (x : Ac
 
 -- the parts of an access and the blocks that are dirty after it are at most one more than the
 -- blocks dirty before it, or two more where it writes
-abbrev pub AccessesPay : Type 0
-AccessesPay = (r : Rules) (h : History) (x : Access) →
+abbrev pub WriteBacksAreCharged : Type 0
+WriteBacksAreCharged = (r : Rules) (h : History) (x : Access) →
     part_count (outcome_of r h x) + length (dirty_blocks r (access x ∷ h))
     ≤ length (dirty_blocks r h) + (1 + one_if (is_write x))
 
 -- after a flush nothing is dirty
-abbrev pub FlushesPay : Type 0
-FlushesPay = (r : Rules) (h : History) → dirty_blocks r (flush ∷ h) ≡ []
+abbrev pub FlushesLeaveNoneDirty : Type 0
+FlushesLeaveNoneDirty = (r : Rules) (h : History) → dirty_blocks r (flush ∷ h) ≡ []
 
 -- the number is below all of these
 abbrev pub IsBelow : ℕ → List ℕ → Type 0

@@ -10,7 +10,7 @@ use Rattle.cache_core.specs.Row.{empty_way}
 
 -- the way of a block, by its first byte, and its mark
 abbrev pub way_of : ℕ × Bool → Way
-way_of e = record { first = e.0; held = true; dirty = e.1 }
+way_of e = record { block_addr = e.0; valid = true; dirty = e.1 }
 
 -- n ways that show the entries in order, and then hold nothing
 abbrev pub shown : ℕ → List (ℕ × Bool) → List Way
@@ -18,15 +18,15 @@ shown n es = take n (map way_of es ++ replicate n empty_way)
 
 -- the entries after a use of a block, which goes first if it is there
 abbrev pub used_entries : ℕ → Bool → Bool → List (ℕ × Bool) → List (ℕ × Bool)
-used_entries b write_back write es =
-    option_map_or (λ e. (e.0, write_back && (write || e.1)) ∷ remove_entry (nat_eq b) es)
+used_entries b wback write es =
+    option_map_or (λ e. (e.0, wback && (write || e.1)) ∷ remove_entry (nat_eq b) es)
     (lookup_entry (nat_eq b) es) es
 
 -- the entries after an access to a block, which FIFO leaves where it stands
 abbrev pub touched_entries : ℕ → Bool → Bool → Bool → List (ℕ × Bool) → List (ℕ × Bool)
-touched_entries b write_back write fifo es =
-    if fifo then (if write_back && write then set_value (nat_eq b) es
-    true else es) else used_entries b write_back write es
+touched_entries b wback write fifo es =
+    if fifo then (if wback && write then set_value (nat_eq b) es
+    true else es) else used_entries b wback write es
 
 -- the first byte of an entry's block, if it is dirty
 abbrev pub dirty_entry : ℕ × Bool → Option ℕ

@@ -10,7 +10,7 @@ module _ (r : Rules) where
 
   -- cut at the number of ways
   abbrev pub ways_of : ℕ → List ℕ → List ℕ
-  ways_of s ms = take r.ways (ranked s ms)
+  ways_of s ms = take r.assoc (ranked s ms)
 
   -- so, after a history
   abbrev pub residents_of : History → ℕ → List ℕ

@@ -16,7 +16,7 @@ module _ (r : Rules) where
   -- the first byte of the block that leaves, if it was dirty
   abbrev pub dirty_victim : History → Option ℕ → Option ℕ
   dirty_victim h None = None
-  dirty_victim h (Some b) = if is_dirty r h b then Some (b * r.block_size) else None
+  dirty_victim h (Some b) = if is_dirty r h b then Some (b * r.bsize) else None
 
   -- The parts that go to the next level are, in this order, `back`, `fetch` and `through`: a dirty
   -- victim is written back, a load fetches its block, and a write is sent on under write through
@@ -27,7 +27,7 @@ module _ (r : Rules) where
     kind = (if hits r (renewals r h) x then None else Some (kind_of_miss r h x));
     back = dirty_victim h (victim r h x);
     fetch = loads r (renewals r h) x;
-    through = is_write x && (not r.write_back || not (uses r (renewals r h) x));
+    through = is_write x && (not r.wback || not (uses r (renewals r h) x));
   }
 
 -- how many parts an outcome has

@@ -30,7 +30,7 @@ module _ (r : Rules) where
 
   -- b is resident if it was renewed, less far back than its set has ways
   unfoldable pub is_resident : List ℕ → ℕ → Bool
-  is_resident ms b = list_any (λ m. m == b) ms && nat_lt (reuse_distance ms b) r.ways
+  is_resident ms b = list_any (λ m. m == b) ms && nat_lt (reuse_distance ms b) r.assoc
 
   -- an access hits if its block is resident
   abbrev pub hits : List ℕ → Access → Bool
@@ -38,7 +38,7 @@ module _ (r : Rules) where
 
   -- it uses the cache unless it is a write that misses without allocation
   abbrev pub uses : List ℕ → Access → Bool
-  uses ms x = not (is_write x) || r.allocate || hits ms x
+  uses ms x = not (is_write x) || r.walloc || hits ms x
 
   -- it loads its block if it uses the cache and misses
   abbrev pub loads : List ℕ → Access → Bool

@@ -14,7 +14,7 @@ use Rattle.cache_core.specs.Order.{ranked}
 
 -- the way holds the block with this first byte
 abbrev pub holds_block : ℕ → Way → Bool
-holds_block b w = w.held && w.first == b
+holds_block b w = w.valid && w.block_addr == b
 
 -- the s-th of the rows of n that lie one after another
 abbrev pub row : {X : Type 0} → ℕ → ℕ → List X → List X
@@ -22,27 +22,27 @@ row n s xs = take n (drop (s * n) xs)
 
 -- a way that holds nothing
 abbrev pub empty_way : Way
-empty_way = record { first = 0; held = false; dirty = false }
+empty_way = record { block_addr = 0; valid = false; dirty = false }
 
 -- the way, marked dirty
 abbrev pub dirtied : Way → Way
 dirtied w = record w { dirty = true }
 
 -- the way holds a block
-abbrev pub is_held : Way → Bool
-is_held w = w.held
+abbrev pub is_valid : Way → Bool
+is_valid w = w.valid
 
 -- the way holds a dirty block
 abbrev pub is_dirty_way : Way → Bool
-is_dirty_way w = w.held && w.dirty
+is_dirty_way w = w.valid && w.dirty
 
 -- the first byte of the block of a way
-abbrev pub first_of : Way → ℕ
-first_of w = w.first
+abbrev pub block_addr_of : Way → ℕ
+block_addr_of w = w.block_addr
 
 -- the first byte of the block of a dirty way
 abbrev pub dirty_block : Way → Option ℕ
-dirty_block w = if w.held && w.dirty then Some w.first else None
+dirty_block w = if w.valid && w.dirty then Some w.block_addr else None
 
 -- how many ways are dirty
 abbrev pub dirty_count : List Way → ℕ
@@ -52,17 +52,17 @@ dirty_count (w ∷ ws) = one_if (is_dirty_way w) + dirty_count ws
 module _ (r : Rules) where
   abbrev pub way_at : History → ℕ → Way
   way_at h b = record {
-    first = b * r.block_size;
-    held = true;
+    block_addr = b * r.bsize;
+    valid = true;
     dirty =
-        r.write_back && is_written r h b;
+        r.wback && is_written r h b;
   }
 
   -- the ways of a set after a history: its residents in order, each with its mark, and then empty
   -- ways
   unfoldable pub row_of : History → ℕ → List Way
-  row_of h s = take r.ways (map (way_at h) (ranked r s (renewals r h))
-      ++ replicate r.ways empty_way)
+  row_of h s = take r.assoc (map (way_at h) (ranked r s (renewals r h))
+      ++ replicate r.assoc empty_way)
 
 module _ {X : Type 0} (p : X → Bool) where
   -- c goes first and each way moves one place back, up to the one that passes, or up to the last
@@ -81,24 +81,24 @@ module _ {X : Type 0} (p : X → Bool) where
   changed g (w ∷ ws) = cond (p w) (g w ∷ ws) (w ∷ changed g ws)
 
 -- one access to the row of its set, in which the block was seen or not
-module _ (write_back allocate : Bool) (b : ℕ) (write : Bool) (row : List Way) (seen : Option Way)
+module _ (wback walloc : Bool) (b : ℕ) (write : Bool) (row : List Way) (seen : Option Way)
   where
     abbrev is_used : Bool
-    is_used = not write || allocate || is_some seen
+    is_used = not write || walloc || is_some seen
 
     abbrev front : Way
     front = record {
-      first = b;
-      held = true;
+      block_addr = b;
+      valid = true;
       dirty =
-          write_back && (write || option_map_or (λ w. w.dirty) seen false);
+          wback && (write || option_map_or (λ w. w.dirty) seen false);
     }
 
     abbrev pub next_row : Bool → List Way
     next_row fifo =
         if is_used
         then (if fifo && is_some seen
-        then (if write_back && write then changed (holds_block b) dirtied row else row)
+        then (if wback && write then changed (holds_block b) dirtied row else row)
         else shifted (holds_block b) front row)
         else row
 
@@ -109,11 +109,11 @@ module _ (write_back allocate : Bool) (b : ℕ) (write : Bool) (row : List Way) 
 -- what an access answers: by whether it writes and hits, what its set pushed out, and whether its
 -- block was known and is in the shadow
 abbrev pub outcome_made : Bool → Bool → Bool → Bool → Option ℕ → Bool → Bool → Outcome
-outcome_made write_back allocate write hit back known in_shadow = record {
+outcome_made wback walloc write hit back referenced in_shadow = record {
   hit = hit;
   kind = (if hit then None else Some
-      (if known then (if in_shadow then Conflict else Capacity) else Compulsory));
+      (if referenced then (if in_shadow then Conflict else Capacity) else Compulsory));
   back = back;
-  fetch = (not write || allocate || hit) && not hit;
-  through = write && (not write_back || not (not write || allocate || hit));
+  fetch = (not write || walloc || hit) && not hit;
+  through = write && (not wback || not (not write || walloc || hit));
 }

@@ -8,10 +8,10 @@ use Rattle.cache_core.specs.Policy.{is_fifo}
 use Rattle.cache_core.specs.Row.{holds_block, next_row, pushed_out}
 
 -- the row before and after an access to the block with this first byte, and what was answered
-pub record ServesRow (p : Policy) (first : ℕ) (write : Bool) (old new : List Way)
+pub record ServesRow (p : Policy) (block_addr : ℕ) (write : Bool) (old new : List Way)
     (served : Served) : Type 0 where
-  pub row : new ≡ next_row p.wback p.walloc first write old (find (holds_block first) old)
+  pub row : new ≡ next_row p.wback p.walloc block_addr write old (find (holds_block block_addr) old)
       (is_fifo p)
-  pub hit : served.hit ≡ is_some (find (holds_block first) old)
-  pub back : served.back ≡ pushed_out p.wback p.walloc first write old
-      (find (holds_block first) old)
+  pub hit : served.hit ≡ is_some (find (holds_block block_addr) old)
+  pub back : served.back ≡ pushed_out p.wback p.walloc block_addr write old
+      (find (holds_block block_addr) old)

@@ -10,23 +10,23 @@ use Rattle.cache_core.specs.declared.cache.Cache.{Cache}
 use Rattle.cache_core.specs.History.{Rules, History}
 use Rattle.cache_core.specs.Residents.{renewals, is_resident}
 use Rattle.cache_core.specs.Order.{residents_of}
-use Rattle.cache_core.specs.Kinds.{shadow_of, known_blocks}
+use Rattle.cache_core.specs.Kinds.{shadow_of, referenced_blocks}
 use Rattle.cache_core.specs.Counts.{counts_of}
 use Rattle.cache_core.specs.Geometry.{bsize_of, assoc_of, sets_of, blocks_of}
-use Rattle.cache_core.specs.Row.{row, row_of, is_held, first_of}
+use Rattle.cache_core.specs.Row.{row, row_of, is_valid, block_addr_of}
 use Rattle.cache_core.specs.Sets.{ways_in}
 use Rattle.cache_core.specs.Policy.{is_fifo}
 
 -- the rules of a cache of this shape and policy
 abbrev pub rules_from : Geometry → Policy → Rules
 rules_from g p = record {
-  block_size = bsize_of g;
+  bsize = bsize_of g;
   sets = sets_of g;
-  ways = assoc_of g;
+  assoc = assoc_of g;
   blocks = blocks_of g;
   fifo = is_fifo p;
-  write_back = p.wback;
-  allocate = p.walloc;
+  wback = p.wback;
+  walloc = p.walloc;
 }
 
 -- the rules that a cache follows
@@ -47,7 +47,7 @@ has_failed c = c.failed
 
 -- the first bytes of the blocks that set s holds, in the order of its ways
 unfoldable pub held_in : Cache → ℕ → List ℕ
-held_in c s = map first_of (filter is_held (row (assoc_of c.geometry) s (ways_in c.sets)))
+held_in c s = map block_addr_of (filter is_valid (row (assoc_of c.geometry) s (ways_in c.sets)))
 
 -- a block as an entry of a map without values
 abbrev with_unit : ℕ → ℕ × Unit {0}
@@ -58,18 +58,20 @@ pub record StandsFor (c : Cache) (h : History) : Type 0 where
   pub working : has_failed c ≡ false
   -- each set: its residents by falling last use (FIFO: by falling load), each with its mark
   pub rows : (s : ℕ) → s < (rules_of c).sets →
-      row (rules_of c).ways s (ways_in c.sets) ≡ row_of (rules_of c) h s
+      row (rules_of c).assoc s (ways_in c.sets) ≡ row_of (rules_of c) h s
   -- the shadow: its residents by falling last use
-  pub shadow : c.kinds.shadow.entries ≡ map with_unit (residents_of (shadow_of (rules_of c)) h 0)
-  pub known : (b : ℕ) →
-      contains nat_eq c.kinds.known b ≡ list_any (λ t. nat_eq t b) (known_blocks (rules_of c) h)
+  pub shadow : c.classifier.shadow.entries
+      ≡ map with_unit (residents_of (shadow_of (rules_of c)) h 0)
+  pub referenced : (b : ℕ) →
+      contains nat_eq c.classifier.referenced b
+      ≡ list_any (λ t. nat_eq t b) (referenced_blocks (rules_of c) h)
   pub counts : counts_kept c ≡ counts_of (rules_of c) h
   pub served : served_of c ≡ length h
 
 -- the ways of each set hold its residents and nothing else, in order
 pub record HoldsResidents (c : Cache) (h : History) : Type 0 where
   pub in_order : (s : ℕ) → s < (rules_of c).sets →
-      held_in c s ≡ map (λ b. b * (rules_of c).block_size) (residents_of (rules_of c) h s)
+      held_in c s ≡ map (λ b. b * (rules_of c).bsize) (residents_of (rules_of c) h s)
   -- which are those by reuse distance
   pub residents : (b : ℕ) →
       list_any (λ m. m == b) (residents_of (rules_of c) h (b % (rules_of c).sets))

@@ -13,9 +13,9 @@ ghost use Rattle.cache_core.specs.Sets.{ways_in, has_shape};
 use crate::access::{Access, MissKind, Outcome, writes};
 use crate::counts::{Counts, count_access, count_flush};
 use crate::geometry::Geometry;
-use crate::kinds::{Kinds, Seen};
+use crate::kinds::{MissClassifier, Prior};
 use crate::policy::{Policy, may_load};
-use crate::sets::{Sets, clear_sets, dirty_firsts, empty_sets, serve_set};
+use crate::sets::{Sets, clear_sets, dirty_block_addrs, empty_sets, serve_set};
 use crate::ways::Served;
 use std::alloc::Global;
 
@@ -33,25 +33,25 @@ pub struct Cache {
     geometry: Geometry,
     policy: Policy,
     sets: Sets,
-    kinds: Kinds,
+    classifier: MissClassifier,
     counts: Counts,
     served: u64,
     failed: bool,
     ghost room: { has_shape (sets_of geometry) (assoc_of geometry) sets ≡ true },
-    ghost shadow_room: { kinds.shadow.cap ≡ blocks_of geometry },
+    ghost shadow_room: { classifier.shadow.cap ≡ blocks_of geometry },
     ghost bounded: { AreWithin counts served },
     ghost sums: { AddUp counts.misses counts.compulsory counts.capacity counts.conflict },
-    ghost paid: { counts.written_back + dirty_count (ways_in sets) ≤ served + one_if failed },
+    ghost charged: { counts.written_back + dirty_count (ways_in sets) ≤ served + one_if failed },
 }
 
 /// Why an access missed.
-fn miss_kind(seen: Seen) -> MissKind
-    ensures { result ≡ (if seen.known
-        then (if seen.in_shadow then Conflict else Capacity) else Compulsory) }
+fn miss_kind(prior: Prior) -> MissKind
+    ensures { result ≡ (if prior.referenced
+        then (if prior.in_shadow then Conflict else Capacity) else Compulsory) }
 {
-    if !seen.known {
+    if !prior.referenced {
         MissKind::Compulsory
-    } else if seen.in_shadow {
+    } else if prior.in_shadow {
         MissKind::Conflict
     } else {
         MissKind::Capacity
@@ -59,14 +59,14 @@ fn miss_kind(seen: Seen) -> MissKind
 }
 
 /// What an access answers, from what its set and the history of blocks told.
-fn outcome_from(policy: Policy, write: bool, served: Served, seen: Seen) -> Outcome
+fn outcome_from(policy: Policy, write: bool, served: Served, prior: Prior) -> Outcome
     ensures { result ≡ outcome_made policy.wback policy.walloc write
-        served.hit served.back seen.known seen.in_shadow }
+        served.hit served.back prior.referenced prior.in_shadow }
 {
     let kind = if served.hit {
         None
     } else {
-        Some(miss_kind(seen))
+        Some(miss_kind(prior))
     };
     let uses = served.hit || may_load(write, policy);
     Outcome {
@@ -100,7 +100,7 @@ impl Cache {
         let Ok(sets) = empty_sets(alloc, geometry.sets() as usize, geometry.assoc() as usize) else {
             return Err(NoMemory);
         };
-        let Ok(kinds) = Kinds::new(alloc, geometry.blocks()) else {
+        let Ok(classifier) = MissClassifier::new(alloc, geometry.blocks()) else {
             return Err(NoMemory);
         };
         Ok(Cache {
@@ -108,7 +108,7 @@ impl Cache {
             geometry,
             policy,
             sets,
-            kinds,
+            classifier,
             counts: Counts::default(),
             served: 0,
             failed: false,
@@ -169,24 +169,24 @@ impl Cache {
         let block = self.geometry.block(access.addr);
         let set = self.geometry.set(block);
         let assoc = self.geometry.assoc();
-        let first = self.geometry.first_byte(block);
+        let block_addr = self.geometry.first_byte(block);
         let Ok(served) = serve_set(
             &mut self.sets,
             set as usize,
             assoc as usize,
             self.policy,
-            first,
+            block_addr,
             write,
         ) else {
             self.failed = true;
             return Err(NoMemory);
         };
         let load = may_load(write, self.policy);
-        let Ok(seen) = self.kinds.see(block, load, served.hit) else {
+        let Ok(prior) = self.classifier.classify(block, load, served.hit) else {
             self.failed = true;
             return Err(NoMemory);
         };
-        let outcome = outcome_from(self.policy, write, served, seen);
+        let outcome = outcome_from(self.policy, write, served, prior);
         count_access(&mut self.counts, access, outcome);
         self.served += 1;
         Ok(outcome)
@@ -198,12 +198,12 @@ impl Cache {
         requires { served_of self.old < MAX_EVENTS }
         ensures appends { OnOk result ((h : History) → StandsFor self.old h →
             out.new.items ≡ out.old.items
-            ++ map (λ b. b * (rules_of self.old).block_size)
+            ++ map (λ b. b * (rules_of self.old).bsize)
             (dirty_blocks (rules_of self.old) h)) }
         ensures stands { OnOk result ((h : History) → StandsFor self.old h →
             StandsFor self.new (flushed ∷ h)) }
         // Known without a history too: no more than the cache has ways.
-        ensures few { OnOk result (length out.new.items ≤ length out.old.items + 2 ^ 24) }
+        ensures at_most { OnOk result (length out.new.items ≤ length out.old.items + 2 ^ 24) }
         ensures served { OnOk result (served_of self.new ≡ served_of self.old + 1) }
         ensures works { OnOk result (has_failed self.new ≡ false) }
 
@@ -217,17 +217,17 @@ impl Cache {
         if self.failed() {
             return Err(NoMemory);
         }
-        let Ok(firsts) = dirty_firsts(self.alloc, &self.sets) else {
+        let Ok(block_addrs) = dirty_block_addrs(self.alloc, &self.sets) else {
             self.failed = true;
             return Err(NoMemory);
         };
-        let Ok(()) = out.extend_from_slice(&firsts) else {
+        let Ok(()) = out.extend_from_slice(&block_addrs) else {
             self.failed = true;
             return Err(NoMemory);
         };
-        count_flush(&mut self.counts, firsts.len() as u64);
+        count_flush(&mut self.counts, block_addrs.len() as u64);
         clear_sets(&mut self.sets);
-        self.kinds.forget_shadow();
+        self.classifier.forget_shadow();
         self.served += 1;
         Ok(())
     }

@@ -15,9 +15,9 @@ use std::num::NonZeroUsize;
 
 /// The fully associative shadow, and all blocks that were ever accessed.
 #[derive(Drop)]
-pub(crate) struct Kinds {
+pub(crate) struct MissClassifier {
     shadow: LruCache<u64, ()>,
-    known: HashSet<u64>,
+    referenced: HashSet<u64>,
     /// The block that was used last, if the shadow has it first.
     last: Option<u64>,
     ghost recent: { IsFirst last shadow.entries },
@@ -25,8 +25,8 @@ pub(crate) struct Kinds {
 
 /// What was known of a block before an access.
 #[derive(Clone, Copy, Debug, PartialEq, Eq)]
-pub(crate) struct Seen {
-    pub known: bool,
+pub(crate) struct Prior {
+    pub referenced: bool,
     pub in_shadow: bool,
 }
 
@@ -41,58 +41,58 @@ fn is_last(last: Option<u64>, block: u64) -> bool
 }
 
 /// Notes that a block is accessed, and answers whether it was known before. One that hits was.
-fn meet(known: &mut HashSet<u64>, block: u64, hit: bool) -> Result<bool, AllocError>
-    ensures known { IfOk result (λ was. was ≡ (hit || contains nat_eq known.old block)) }
-    ensures adds { OnOk result ((q : ℕ) → contains nat_eq known.new q
-        ≡ (not hit && block == q || contains nat_eq known.old q)) }
+fn note_block(referenced: &mut HashSet<u64>, block: u64, hit: bool) -> Result<bool, AllocError>
+    ensures referenced { IfOk result (λ was. was ≡ (hit || contains nat_eq referenced.old block)) }
+    ensures adds { OnOk result ((q : ℕ) → contains nat_eq referenced.new q
+        ≡ (not hit && block == q || contains nat_eq referenced.old q)) }
 {
     if hit {
         return Ok(true);
     }
-    let Ok(added) = known.insert(block) else {
+    let Ok(added) = referenced.insert(block) else {
         return Err(AllocError);
     };
     Ok(!added)
 }
 
-impl Kinds {
+impl MissClassifier {
     /// Nothing was accessed.
-    pub fn new(alloc: Global, blocks: u64) -> Result<Kinds, AllocError>
+    pub fn new(alloc: Global, blocks: u64) -> Result<MissClassifier, AllocError>
         requires { 0 < blocks }
-        ensures shadow { IfOk result (λ kinds. kinds.shadow ≡ lru_cache [] blocks) }
-        ensures known { IfOk result (λ kinds. kinds.known.keys ≡ []) }
+        ensures shadow { IfOk result (λ classifier. classifier.shadow ≡ lru_cache [] blocks) }
+        ensures referenced { IfOk result (λ classifier. classifier.referenced.keys ≡ []) }
     {
         let capacity = NonZeroUsize::new(blocks as usize).unwrap();
         let shadow = LruCache::sparse(alloc, capacity)?;
-        Ok(Kinds {
+        Ok(MissClassifier {
             shadow,
-            known: HashSet::new(alloc),
+            referenced: HashSet::new(alloc),
             last: None,
         })
     }
 
     /// Notes an access, which hit the cache or not. The shadow takes the block in if it has it, or
     /// if the access may `load`. A block that is used again at once needs no look-up.
-    pub fn see(&mut self, block: u64, load: bool, hit: bool) -> Result<Seen, AllocError>
-        ensures known { IfOk result (λ seen. seen.known
-            ≡ (hit || contains nat_eq self.old.known block)) }
-        ensures in_shadow { IfOk result (λ seen.
-            seen.in_shadow ≡ is_some (lookup (nat_eq block) self.old.shadow.entries)) }
-        ensures adds { OnOk result ((q : ℕ) → contains nat_eq self.new.known q
-            ≡ (not hit && block == q || contains nat_eq self.old.known q)) }
-        ensures promotes { IfOk result (λ seen. self.new.shadow.entries
-            ≡ (if not seen.in_shadow && load
+    pub fn classify(&mut self, block: u64, load: bool, hit: bool) -> Result<Prior, AllocError>
+        ensures referenced { IfOk result (λ prior. prior.referenced
+            ≡ (hit || contains nat_eq self.old.referenced block)) }
+        ensures in_shadow { IfOk result (λ prior.
+            prior.in_shadow ≡ is_some (lookup (nat_eq block) self.old.shadow.entries)) }
+        ensures adds { OnOk result ((q : ℕ) → contains nat_eq self.new.referenced q
+            ≡ (not hit && block == q || contains nat_eq self.old.referenced q)) }
+        ensures promotes { IfOk result (λ prior. self.new.shadow.entries
+            ≡ (if not prior.in_shadow && load
             then put_entries nat_eq (lru_cache (promoted (nat_eq block) self.old.shadow.entries)
             self.old.shadow.cap) block tt
             else promoted (nat_eq block) self.old.shadow.entries)) }
         ensures capacity { self.new.shadow.cap ≡ self.old.shadow.cap }
     {
-        let Ok(known) = meet(&mut self.known, block, hit) else {
+        let Ok(referenced) = note_block(&mut self.referenced, block, hit) else {
             return Err(AllocError);
         };
         if is_last(self.last, block) {
-            return Ok(Seen {
-                known,
+            return Ok(Prior {
+                referenced,
                 in_shadow: true,
             });
         }
@@ -100,14 +100,14 @@ impl Kinds {
         let in_shadow = self.shadow.promote(&block);
         if in_shadow {
             self.last = Some(block);
-            return Ok(Seen {
-                known,
+            return Ok(Prior {
+                referenced,
                 in_shadow: true,
             });
         }
         if !load {
-            return Ok(Seen {
-                known,
+            return Ok(Prior {
+                referenced,
                 in_shadow: false,
             });
         }
@@ -115,8 +115,8 @@ impl Kinds {
             return Err(AllocError);
         };
         self.last = Some(block);
-        Ok(Seen {
-            known,
+        Ok(Prior {
+            referenced,
             in_shadow: false,
         })
     }
@@ -124,7 +124,7 @@ impl Kinds {
     /// Empties the shadow. What was ever accessed stays known.
     pub fn forget_shadow(&mut self)
         ensures shadow { self.new.shadow ≡ lru_cache [] self.old.shadow.cap }
-        ensures known { self.new.known ≡ self.old.known }
+        ensures referenced { self.new.referenced ≡ self.old.referenced }
     {
         self.last = None;
         self.shadow.clear();

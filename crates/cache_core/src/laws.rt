@@ -2,9 +2,10 @@
 
 ghost use Rattle.std.specs.Prelude.{◌≡◌, ◌^◌};
 ghost use Rattle.cache_core.specs.Examples.{WorkedExamples};
-ghost use Rattle.cache_core.specs.Laws.{AccessesPay, AtMostOneLeaves, FlushesPay};
-ghost use Rattle.cache_core.specs.Laws.{DirtyBlocksAreDirty, DirtyBlocksRise};
-ghost use Rattle.cache_core.specs.Laws.{OneLruSetHasNoConflict, OrderedWaysAreResidents};
+ghost use Rattle.cache_core.specs.Laws.{WriteBacksAreCharged, AtMostOneLeaves};
+ghost use Rattle.cache_core.specs.Laws.{FlushesLeaveNoneDirty, DirtyBlocksAreDirty};
+ghost use Rattle.cache_core.specs.Laws.{DirtyBlocksRise, OneLruSetHasNoConflict};
+ghost use Rattle.cache_core.specs.Laws.{OrderedWaysAreResidents};
 
 use crate::cache::MAX_EVENTS;
 
@@ -25,12 +26,12 @@ pub fn one_lru_set_has_no_conflict()
     ensures { OneLruSetHasNoConflict }
 {}
 
-/// Each block that is written back was paid for by a write of its own. So the parts that a cache
+/// Each block that is written back is charged to a write of its own. So the parts that a cache
 /// sends are at most two for each write and one for each other access, those of its flushes
 /// included.
-pub fn write_backs_are_paid()
-    ensures accesses { AccessesPay }
-    ensures flushes { FlushesPay }
+pub fn write_backs_are_charged()
+    ensures accesses { WriteBacksAreCharged }
+    ensures flushes { FlushesLeaveNoneDirty }
 {}
 
 /// The list of the dirty blocks rises, each once, and has those that are dirty and no other.

@@ -33,6 +33,6 @@ pub use geometry::{Geometry, GeometryFault};
 pub use laws::{
     a_cache_serves_as_many_events, at_most_one_block_leaves, definitions_meet_worked_examples,
     dirty_blocks_are_the_dirty_ones, one_lru_set_has_no_conflict, ordered_ways_are_residents,
-    write_backs_are_paid,
+    write_backs_are_charged,
 };
 pub use policy::{Policy, Repl};

@@ -9,7 +9,7 @@ ghost use Rattle.std.specs.Option.{option_map_or};
 ghost use Rattle.std.specs.NonZero.{non_zero_usize_get};
 ghost use Rattle.cache_core.specs.Parts.{one_if};
 ghost use Rattle.cache_core.specs.Policy.{is_fifo};
-ghost use Rattle.cache_core.specs.Row.{row, empty_way, is_dirty_way, first_of, dirty_count};
+ghost use Rattle.cache_core.specs.Row.{row, empty_way, is_dirty_way, block_addr_of, dirty_count};
 ghost use Rattle.cache_core.specs.Mapped.{shown, used_entries, touched_entries, dirty_entry};
 ghost use Rattle.cache_core.specs.Mapped.{dirty_keys_of, cap_of, emptied, flat};
 ghost use Rattle.cache_core.specs.Serving.{ServesRow};
@@ -29,11 +29,12 @@ fn mark_of(wback: bool, write: bool, dirty: bool) -> bool
 }
 
 /// Uses a block, if it is there.
-fn use_block(map: &mut LruCache<u64, bool>, first: u64, wback: bool, write: bool) -> bool
-    ensures hit { result ≡ is_some (lookup (nat_eq first) map.old.entries) }
-    ensures map { map.new ≡ lru_cache (used_entries first wback write map.old.entries) map.old.cap }
+fn use_block(map: &mut LruCache<u64, bool>, block_addr: u64, wback: bool, write: bool) -> bool
+    ensures hit { result ≡ is_some (lookup (nat_eq block_addr) map.old.entries) }
+    ensures map { map.new
+        ≡ lru_cache (used_entries block_addr wback write map.old.entries) map.old.cap }
 {
-    if let Some(dirty) = map.get_mut(&first) {
+    if let Some(dirty) = map.get_mut(&block_addr) {
         *dirty = mark_of(wback, write, *dirty);
         return true;
     }
@@ -41,11 +42,12 @@ fn use_block(map: &mut LruCache<u64, bool>, first: u64, wback: bool, write: bool
 }
 
 /// Marks a block where it stands, if it is there.
-fn mark_block(map: &mut LruCache<u64, bool>, first: u64) -> bool
-    ensures hit { result ≡ is_some (lookup (nat_eq first) map.old.entries) }
-    ensures map { map.new ≡ lru_cache (set_value (nat_eq first) map.old.entries true) map.old.cap }
+fn mark_block(map: &mut LruCache<u64, bool>, block_addr: u64) -> bool
+    ensures hit { result ≡ is_some (lookup (nat_eq block_addr) map.old.entries) }
+    ensures map { map.new
+        ≡ lru_cache (set_value (nat_eq block_addr) map.old.entries true) map.old.cap }
 {
-    if let Some(dirty) = map.peek_mut(&first) {
+    if let Some(dirty) = map.peek_mut(&block_addr) {
         *dirty = true;
         return true;
     }
@@ -53,20 +55,21 @@ fn mark_block(map: &mut LruCache<u64, bool>, first: u64) -> bool
 }
 
 /// Notes an access to a block, if it is there.
-fn touch(map: &mut LruCache<u64, bool>, policy: Policy, first: u64, write: bool) -> bool
-    ensures hit { result ≡ is_some (lookup (nat_eq first) map.old.entries) }
+fn touch(map: &mut LruCache<u64, bool>, policy: Policy, block_addr: u64, write: bool) -> bool
+    ensures hit { result ≡ is_some (lookup (nat_eq block_addr) map.old.entries) }
     ensures map { map.new ≡ lru_cache
-        (touched_entries first policy.wback write (is_fifo policy) map.old.entries) map.old.cap }
+        (touched_entries block_addr policy.wback write (is_fifo policy) map.old.entries)
+        map.old.cap }
 {
     match policy.repl {
         Repl::Fifo => {
             if policy.wback && write {
-                mark_block(map, first)
+                mark_block(map, block_addr)
             } else {
-                map.contains(&first)
+                map.contains(&block_addr)
             }
         }
-        Repl::Lru => use_block(map, first, policy.wback, write),
+        Repl::Lru => use_block(map, block_addr, policy.wback, write),
     }
 }
 
@@ -75,7 +78,7 @@ fn dirty_left(left: Option<(u64, bool)>) -> Option<u64>
     ensures { result ≡ option_map_or dirty_entry left None }
 {
     match left {
-        Some((first, true)) => Some(first),
+        Some((block_addr, true)) => Some(block_addr),
         _ => None,
     }
 }
@@ -83,16 +86,16 @@ fn dirty_left(left: Option<(u64, bool)>) -> Option<u64>
 /// Loads a block, and answers the dirty block that it pushed out.
 fn load_block(
     map: &mut LruCache<u64, bool>,
-    first: u64,
+    block_addr: u64,
     dirty: bool,
 ) -> Result<Option<u64>, AllocError>
     ensures map { OnOk result (map.new
-        ≡ lru_cache (put_entries nat_eq map.old first dirty) map.old.cap) }
+        ≡ lru_cache (put_entries nat_eq map.old block_addr dirty) map.old.cap) }
     ensures back { IfOk result (λ back.
-        back ≡ option_map_or dirty_entry (displaced nat_eq map.old first dirty) None) }
+        back ≡ option_map_or dirty_entry (displaced nat_eq map.old block_addr dirty) None) }
     ensures keeps { OnErr result (map.new ≡ map.old) }
 {
-    let Ok(left) = map.push(first, dirty) else {
+    let Ok(left) = map.push(block_addr, dirty) else {
         return Err(AllocError);
     };
     Ok(dirty_left(left))
@@ -102,16 +105,16 @@ fn load_block(
 fn serve_map(
     map: &mut LruCache<u64, bool>,
     policy: Policy,
-    first: u64,
+    block_addr: u64,
     write: bool,
 ) -> Result<Served, AllocError>
-    ensures served { IfOk result (λ served. ServesRow policy first write
+    ensures served { IfOk result (λ served. ServesRow policy block_addr write
         (shown map.old.cap map.old.entries) (shown map.old.cap map.new.entries) served) }
     ensures capacity { map.new.cap ≡ map.old.cap }
     ensures keeps { OnErr result (map.new ≡ map.old) }
 {
     let _len = map.len();
-    let hit = touch(map, policy, first, write);
+    let hit = touch(map, policy, block_addr, write);
     if hit {
         return Ok(Served {
             hit: true,
@@ -126,7 +129,7 @@ fn serve_map(
         });
     }
     let dirty = mark_of(policy.wback, write, false);
-    let Ok(back) = load_block(map, first, dirty) else {
+    let Ok(back) = load_block(map, block_addr, dirty) else {
         return Err(AllocError);
     };
     Ok(Served { hit: false, back })
@@ -180,14 +183,14 @@ fn dirty_in_maps(
 ) -> Result<Vec<u64>, AllocError>
     requires { map cap_of sets.now ≡ replicate (length sets.now) assoc }
     ensures { IfOk result (λ v. v.items
-        ≡ map first_of (filter is_dirty_way (flat assoc sets.now))) }
+        ≡ map block_addr_of (filter is_dirty_way (flat assoc sets.now))) }
 {
-    let mut firsts = Vec::new(alloc);
+    let mut block_addrs = Vec::new(alloc);
     for set in sets.iter() {
         let more = dirty_keys(alloc, set)?;
-        firsts.extend_from_slice(&more)?;
+        block_addrs.extend_from_slice(&more)?;
     }
-    Ok(firsts)
+    Ok(block_addrs)
 }
 
 /// Sets of many ways.
@@ -216,17 +219,17 @@ impl Maps {
         &mut self,
         set: usize,
         policy: Policy,
-        first: u64,
+        block_addr: u64,
         write: bool,
     ) -> Result<Served, AllocError>
         requires { set < vec_len self.old.sets }
-        ensures served { IfOk result (λ served. ServesRow policy first write
+        ensures served { IfOk result (λ served. ServesRow policy block_addr write
             (row self.old.assoc set (flat self.old.assoc self.old.sets.items))
             (row self.old.assoc set (flat self.new.assoc self.new.sets.items)) served) }
         ensures others { (s : ℕ) → s ≢ set →
             row self.old.assoc s (flat self.new.assoc self.new.sets.items)
             ≡ row self.old.assoc s (flat self.old.assoc self.old.sets.items) }
-        ensures paid { IfOk result (λ served.
+        ensures charged { IfOk result (λ served.
             dirty_count (flat self.new.assoc self.new.sets.items) + one_if (is_some served.back)
             ≤ dirty_count (flat self.old.assoc self.old.sets.items) + 1) }
         ensures keeps { OnErr result
@@ -234,7 +237,7 @@ impl Maps {
         ensures assoc { self.new.assoc ≡ self.old.assoc }
         ensures sets { vec_len self.new.sets ≡ vec_len self.old.sets }
     {
-        let Ok(served) = serve_map(&mut self.sets[set], policy, first, write) else {
+        let Ok(served) = serve_map(&mut self.sets[set], policy, block_addr, write) else {
             return Err(AllocError);
         };
         Ok(served)
@@ -244,7 +247,7 @@ impl Maps {
     pub fn dirty(&self, alloc: Global) -> Result<Vec<u64>, AllocError>
         ensures { IfOk result (λ v.
             v.items
-            ≡ map first_of (filter is_dirty_way (flat self.now.assoc self.now.sets.items))) }
+            ≡ map block_addr_of (filter is_dirty_way (flat self.now.assoc self.now.sets.items))) }
     {
         dirty_in_maps(alloc, self.assoc, &self.sets)
     }

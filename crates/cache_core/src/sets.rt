@@ -6,13 +6,13 @@ ghost use Rattle.std.specs.List.{dedup};
 ghost use Rattle.std.specs.List.Sorted.{IsPermutation, IsSorted};
 ghost use Rattle.std.specs.Ordering.{nat_cmp};
 ghost use Rattle.cache_core.specs.Parts.{one_if};
-ghost use Rattle.cache_core.specs.Row.{row, dirty_count, empty_way, is_dirty_way, first_of};
+ghost use Rattle.cache_core.specs.Row.{row, dirty_count, empty_way, is_dirty_way, block_addr_of};
 ghost use Rattle.cache_core.specs.Sets.{ways_in, has_shape};
 ghost use Rattle.cache_core.specs.Serving.{ServesRow};
 
 use crate::maps::Maps;
 use crate::policy::Policy;
-use crate::ways::{Served, Way, clear_ways, dirty_ways, empty_ways, serve};
+use crate::ways::{Served, Way, clear_ways, dirty_ways, empty_ways, serve_ways};
 use std::alloc::{AllocError, Global};
 
 /// The most ways that a set has as a row. Measured: up to here the scan of a row is no slower than
@@ -48,15 +48,15 @@ pub(crate) fn serve_set(
     set: usize,
     assoc: usize,
     policy: Policy,
-    first: u64,
+    block_addr: u64,
     write: bool,
 ) -> Result<Served, AllocError>
     requires { (count : ℕ) × (has_shape count assoc sets.old ≡ true) × (set < count) }
-    ensures served { IfOk result (λ served. ServesRow policy first write
+    ensures served { IfOk result (λ served. ServesRow policy block_addr write
         (row assoc set (ways_in sets.old)) (row assoc set (ways_in sets.new)) served) }
     ensures others { (s : ℕ) → s ≢ set →
         row assoc s (ways_in sets.new) ≡ row assoc s (ways_in sets.old) }
-    ensures paid { IfOk result (λ served.
+    ensures charged { IfOk result (λ served.
         dirty_count (ways_in sets.new) + one_if (is_some served.back)
         ≤ dirty_count (ways_in sets.old) + 1) }
     ensures keeps { OnErr result (ways_in sets.new ≡ ways_in sets.old) }
@@ -64,14 +64,15 @@ pub(crate) fn serve_set(
         has_shape count assoc sets.new ≡ true }
 {
     match sets {
-        Sets::Rows(ways) => Ok(serve(ways, set, assoc, policy, first, write)),
-        Sets::Maps(maps) => maps.serve(set, policy, first, write),
+        Sets::Rows(ways) => Ok(serve_ways(ways, set, assoc, policy, block_addr, write)),
+        Sets::Maps(maps) => maps.serve(set, policy, block_addr, write),
     }
 }
 
 /// The first bytes of the dirty blocks, as they lie.
 fn dirty_in(alloc: Global, sets: &Sets) -> Result<Vec<u64>, AllocError>
-    ensures { IfOk result (λ v. v.items ≡ map first_of (filter is_dirty_way (ways_in sets.now))) }
+    ensures { IfOk result
+        (λ v. v.items ≡ map block_addr_of (filter is_dirty_way (ways_in sets.now))) }
 {
     match sets {
         Sets::Rows(ways) => dirty_ways(alloc, ways),
@@ -80,18 +81,18 @@ fn dirty_in(alloc: Global, sets: &Sets) -> Result<Vec<u64>, AllocError>
 }
 
 /// The first bytes of the dirty blocks, rising.
-pub(crate) fn dirty_firsts(alloc: Global, sets: &Sets) -> Result<Vec<u64>, AllocError>
-    ensures firsts { IfOk result (λ v. (ys : List ℕ)
-        × IsPermutation (map first_of (filter is_dirty_way (ways_in sets.now))) ys
+pub(crate) fn dirty_block_addrs(alloc: Global, sets: &Sets) -> Result<Vec<u64>, AllocError>
+    ensures block_addrs { IfOk result (λ v. (ys : List ℕ)
+        × IsPermutation (map block_addr_of (filter is_dirty_way (ways_in sets.now))) ys
         × IsSorted nat_cmp ys
         × (v.items ≡ dedup nat_eq ys)) }
-    ensures few { IfOk result (λ v.
-        vec_len v ≤ length (map first_of (filter is_dirty_way (ways_in sets.now)))) }
+    ensures at_most { IfOk result (λ v.
+        vec_len v ≤ length (map block_addr_of (filter is_dirty_way (ways_in sets.now)))) }
 {
-    let mut firsts = dirty_in(alloc, sets)?;
-    firsts.sort_unstable();
-    firsts.dedup();
-    Ok(firsts)
+    let mut block_addrs = dirty_in(alloc, sets)?;
+    block_addrs.sort_unstable();
+    block_addrs.dedup();
+    Ok(block_addrs)
 }
 
 /// Lets all blocks go.

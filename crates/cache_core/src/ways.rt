@@ -8,7 +8,7 @@ ghost use Rattle.std.specs.List.{find};
 ghost use Rattle.std.specs.Option.{option_map_or};
 ghost use Rattle.cache_core.specs.Parts.{one_if};
 ghost use Rattle.cache_core.specs.Row.{holds_block, shifted, leaving, changed, dirtied, row};
-ghost use Rattle.cache_core.specs.Row.{empty_way, is_dirty_way, first_of, dirty_count};
+ghost use Rattle.cache_core.specs.Row.{empty_way, is_dirty_way, block_addr_of, dirty_count};
 ghost use Rattle.cache_core.specs.Serving.{ServesRow};
 
 use crate::policy::{Policy, Repl};
@@ -17,8 +17,8 @@ use std::alloc::{AllocError, Global};
 /// One way of a set: a block that it holds, by its first byte, or nothing.
 #[derive(Clone, Copy, Debug, PartialEq, Eq)]
 pub(crate) struct Way {
-    pub first: u64,
-    pub held: bool,
+    pub block_addr: u64,
+    pub valid: bool,
     pub dirty: bool,
 }
 
@@ -34,8 +34,8 @@ fn no_way() -> Way
     ensures { result ≡ empty_way }
 {
     Way {
-        first: 0,
-        held: false,
+        block_addr: 0,
+        valid: false,
         dirty: false,
     }
 }
@@ -48,12 +48,12 @@ pub(crate) fn empty_ways(alloc: Global, count: usize) -> Result<Vec<Way>, AllocE
 }
 
 /// The way that holds the block.
-fn find_way(row: &[Way], first: u64) -> Option<Way>
-    ensures { result ≡ find (holds_block first) row.now }
+fn find_way(row: &[Way], block_addr: u64) -> Option<Way>
+    ensures { result ≡ find (holds_block block_addr) row.now }
 {
     row.iter()
         .copied()
-        .find(|way| way.held && way.first == first)
+        .find(|way| way.valid && way.block_addr == block_addr)
 }
 
 fn was_dirty(found: Option<Way>) -> bool
@@ -68,13 +68,13 @@ fn was_dirty(found: Option<Way>) -> bool
 /// Puts `front` first and moves each way one place back, up to the one that holds the block, or up
 /// to the last. The way that leaves is the answer. Out of line, each move is of a whole way.
 #[inline(never)]
-fn bring_front(row: &mut [Way], first: u64, front: Way) -> Way
-    ensures row { row.new ≡ shifted (holds_block first) front row.old }
-    ensures leaves { result ≡ leaving (holds_block first) front row.old }
+fn bring_front(row: &mut [Way], block_addr: u64, front: Way) -> Way
+    ensures row { row.new ≡ shifted (holds_block block_addr) front row.old }
+    ensures leaves { result ≡ leaving (holds_block block_addr) front row.old }
 {
     let mut carried = front;
     for way in row.iter_mut() {
-        let found = way.held && way.first == first;
+        let found = way.valid && way.block_addr == block_addr;
         let here = *way;
         *way = carried;
         if found {
@@ -86,11 +86,11 @@ fn bring_front(row: &mut [Way], first: u64, front: Way) -> Way
 }
 
 /// Marks the block's way.
-fn mark_dirty(row: &mut [Way], first: u64)
-    ensures { row.new ≡ changed (holds_block first) dirtied row.old }
+fn mark_dirty(row: &mut [Way], block_addr: u64)
+    ensures { row.new ≡ changed (holds_block block_addr) dirtied row.old }
 {
     for way in row.iter_mut() {
-        if way.held && way.first == first {
+        if way.valid && way.block_addr == block_addr {
             way.dirty = true;
             return;
         }
@@ -98,8 +98,8 @@ fn mark_dirty(row: &mut [Way], first: u64)
 }
 
 /// One access to the row of its set, if the block stands first in it. A hit there moves nothing.
-fn serve_front(row: &mut [Way], policy: Policy, first: u64, write: bool) -> bool
-    ensures serves { result ≡ true → ServesRow policy first write row.old row.new
+fn serve_front(row: &mut [Way], policy: Policy, block_addr: u64, write: bool) -> bool
+    ensures serves { result ≡ true → ServesRow policy block_addr write row.old row.new
         (record { hit = true; back = None }) }
     ensures keeps { result ≡ false → row.new ≡ row.old }
 {
@@ -107,7 +107,7 @@ fn serve_front(row: &mut [Way], policy: Policy, first: u64, write: bool) -> bool
         return false;
     }
     let front = row[0];
-    if !front.held || front.first != first {
+    if !front.valid || front.block_addr != block_addr {
         return false;
     }
     row[0].dirty = match policy.repl {
@@ -118,31 +118,31 @@ fn serve_front(row: &mut [Way], policy: Policy, first: u64, write: bool) -> bool
 }
 
 /// One access to the row of its set.
-fn serve_row(row: &mut [Way], policy: Policy, first: u64, write: bool) -> Served
-    ensures { ServesRow policy first write row.old row.new result }
+fn serve_row(row: &mut [Way], policy: Policy, block_addr: u64, write: bool) -> Served
+    ensures { ServesRow policy block_addr write row.old row.new result }
 {
-    if serve_front(row, policy, first, write) {
+    if serve_front(row, policy, block_addr, write) {
         return Served {
             hit: true,
             back: None,
         };
     }
-    let found = find_way(row, first);
+    let found = find_way(row, block_addr);
     let dirty = policy.wback && (write || was_dirty(found));
     let used = Way {
-        first,
-        held: true,
+        block_addr,
+        valid: true,
         dirty,
     };
     if let Some(_) = found {
         match policy.repl {
             Repl::Fifo => {
                 if policy.wback && write {
-                    mark_dirty(row, first);
+                    mark_dirty(row, block_addr);
                 }
             }
             Repl::Lru => {
-                let _left = bring_front(row, first, used);
+                let _left = bring_front(row, block_addr, used);
             }
         }
         return Served {
@@ -156,11 +156,11 @@ fn serve_row(row: &mut [Way], policy: Policy, first: u64, write: bool) -> Served
             back: None,
         };
     }
-    let left = bring_front(row, first, used);
+    let left = bring_front(row, block_addr, used);
     Served {
         hit: false,
-        back: if left.held && left.dirty {
-            Some(left.first)
+        back: if left.valid && left.dirty {
+            Some(left.block_addr)
         } else {
             None
         },
@@ -168,32 +168,33 @@ fn serve_row(row: &mut [Way], policy: Policy, first: u64, write: bool) -> Served
 }
 
 /// One access to a set.
-pub(crate) fn serve(
+pub(crate) fn serve_ways(
     ways: &mut [Way],
     set: usize,
     assoc: usize,
     policy: Policy,
-    first: u64,
+    block_addr: u64,
     write: bool,
 ) -> Served
     requires { (set + 1) * assoc ≤ length ways.old }
-    ensures served { ServesRow policy first write
+    ensures served { ServesRow policy block_addr write
         (row assoc set ways.old) (row assoc set ways.new) result }
     ensures others { (s : ℕ) → s ≢ set → row assoc s ways.new ≡ row assoc s ways.old }
-    ensures paid { dirty_count ways.new + one_if (is_some result.back) ≤ dirty_count ways.old + 1 }
+    ensures charged { dirty_count ways.new + one_if (is_some result.back)
+        ≤ dirty_count ways.old + 1 }
 {
     let start = set * assoc;
     let end = start + assoc;
-    serve_row(&mut ways[start..end], policy, first, write)
+    serve_row(&mut ways[start..end], policy, block_addr, write)
 }
 
 /// The first bytes of the dirty blocks, as they lie.
 pub(crate) fn dirty_ways(alloc: Global, ways: &[Way]) -> Result<Vec<u64>, AllocError>
-    ensures { IfOk result (λ v. v.items ≡ map first_of (filter is_dirty_way ways.now)) }
+    ensures { IfOk result (λ v. v.items ≡ map block_addr_of (filter is_dirty_way ways.now)) }
 {
     ways.iter()
-        .filter(|way| way.held && way.dirty)
-        .map(|way| way.first)
+        .filter(|way| way.valid && way.dirty)
+        .map(|way| way.block_addr)
         .collect(alloc)
 }
 

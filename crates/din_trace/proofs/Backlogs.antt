@@ -16,9 +16,9 @@ use Rattle.din_trace.specs.declared.fault.TraceFault.TheVariants.{TooLong, Read}
 use Rattle.din_trace.specs.declared.line_reader.LineReader.{LineReader}
 use Rattle.din_trace.specs.Line.{Form, Blank, Din, Faulty, form}
 use Rattle.din_trace.specs.Line.{ADDRESS_MAX}
-use Rattle.din_trace.specs.Text.{Cut, cut, open_line, last_line, line_result, form_result}
-use Rattle.din_trace.specs.Left.{Left, Script, form_left, lines_left, text_left, first_answer}
-use Rattle.din_trace.specs.Left.{behind_first}
+use Rattle.din_trace.specs.Text.{CutText, cut, open_line, last_line, line_result, form_result}
+use Rattle.din_trace.specs.Remaining.{Remaining, Script, form_left, lines_left, text_left}
+use Rattle.din_trace.specs.Remaining.{first_answer, after_first}
 use Rattle.din_trace.specs.Standing.{Stands}
 use Rattle.din_trace.specs.Backlog.{ReadingLeft, HasLeftIn}
 use Rattle.din_trace.proofs.Cuts.{cut-ended, cut-longer, open_line-open}
@@ -26,14 +26,15 @@ use Rattle.din_trace.proofs.Lefts.{text_left-longer, text_left-line, text_left-p
 use Rattle.din_trace.proofs.Lefts.{text_left-failed, text_left-ended}
 
 -- what the answer of a line reader leaves
-abbrev pub AfterByte : LineReader → List ℕ → ℕ → Script → Left
+abbrev pub AfterByte : LineReader → List ℕ → ℕ → Script → Remaining
     → Result (Option DinRecord) TraceFault → Type 0
 AfterByte reader held limit script l (Ok None) = ReadingLeft reader held limit script l
 AfterByte reader held limit script l (Ok (Some r)) = (first_answer l ≡ Ok (Some r))
-    × ReadingLeft reader held limit script (behind_first l)
+    × ReadingLeft reader held limit script (after_first l)
 AfterByte reader held limit script l (Err f) = l ≡ record { records = []; fault = Some f }
 
-after-line : (reader : LineReader) (held : List ℕ) (limit : ℕ) (script : Script) (l others : Left)
+after-line : (reader : LineReader) (held : List ℕ) (limit : ℕ) (script : Script)
+    (l others : Remaining)
     (f : Form) (number : ℕ) (result : Result (Option DinRecord) TraceFault)
     → l ≡ form_left f number others → result ≡ form_result number f
     → OnOk result (ReadingLeft reader held limit script others)
@@ -60,9 +61,9 @@ ended-left : (reader : LineReader) (text held : List ℕ) (limit number : ℕ) (
     (limit - reader.bytes) script.fails)
 ended-left reader text held limit number script is s =
     let grown = cut-ended text in
-    let at_start : open_line (text ++ 10 ∷ []) ≡ [] = ap (λ (c : Cut). c.rest) grown in
+    let at_start : open_line (text ++ 10 ∷ []) ≡ [] = ap (λ (c : CutText). c.rest) grown in
     let count : length (cut (text ++ 10 ∷ [])).ended ≡ length (cut text).ended + 1 =
-    ap (λ (c : Cut). length c.ended) grown ∙ simp length-append (omega arith) in
+    ap (λ (c : CutText). length c.ended) grown ∙ simp length-append (omega arith) in
     let line : reader.line ≡ number + 1 = omega (arith, s.number, count, is) in (
       text ++ 10 ∷ [],
       s,
@@ -75,14 +76,14 @@ module _ (old new : LineReader) (held : List ℕ) (limit : ℕ)
     ≡ old.bytes + 1) where
   after-other : (byte : ℕ) → byte ≢ 10
       → ((text : List ℕ) → Stands old text → (result ≡ Ok None) × Stands new (text ++ byte ∷ []))
-      → (script : Script) (l : Left) → ReadingLeft old (byte ∷ held) limit script l
+      → (script : Script) (l : Remaining) → ReadingLeft old (byte ∷ held) limit script l
       → AfterByte new held limit script l result
   after-other byte other inside script l (text, s, is) =
       let grown = cut-longer text byte (ne_eqb byte 10 other) in
       let longer : open_line (text ++ byte ∷ []) ≡ open_line text ++ byte ∷ [] =
-      ap (λ (c : Cut). c.rest) grown in
+      ap (λ (c : CutText). c.rest) grown in
       let count : length (cut (text ++ byte ∷ [])).ended ≡ length (cut text).ended =
-      ap (λ (c : Cut). length c.ended) grown in
+      ap (λ (c : CutText). length c.ended) grown in
       let after = inside text s in
       let line : new.line ≡ old.line = omega (arith, after.1.number, s.number, count) in
       rw after.0 (
@@ -96,7 +97,7 @@ module _ (old new : LineReader) (held : List ℕ) (limit : ℕ)
   after-lf : ((text : List ℕ) → Stands old text
       → (result ≡ line_result ADDRESS_MAX old.line (open_line text))
       × OnOk result (Stands new (text ++ 10 ∷ [])))
-      → (script : Script) (l : Left) → ReadingLeft old (10 ∷ held) limit script l
+      → (script : Script) (l : Remaining) → ReadingLeft old (10 ∷ held) limit script l
       → AfterByte new held limit script l result
   after-lf ends script l (text, s, is) =
       let after = ends text s in
@@ -124,7 +125,7 @@ module _ (old new : LineReader) (held : List ℕ) (limit : ℕ)
       → (byte ≡ 10 → (text : List ℕ) → Stands old text
       → (result ≡ line_result ADDRESS_MAX old.line (open_line text))
       × OnOk result (Stands new (text ++ byte ∷ [])))
-      → (script : Script) (l : Left) → ReadingLeft old (byte ∷ held) limit script l
+      → (script : Script) (l : Remaining) → ReadingLeft old (byte ∷ held) limit script l
       → AfterByte new held limit script l result
   after-byte byte inside ends script l left =
       elim (cases_eq byte 10) [
@@ -134,7 +135,7 @@ module _ (old new : LineReader) (held : List ℕ) (limit : ℕ)
 
 -- a byte past the limit
 pub after-past : (reader : LineReader) (byte : ℕ) (held : List ℕ) (limit : ℕ) (script : Script)
-    (l : Left)
+    (l : Remaining)
     → reader.bytes ≡ limit
     → ReadingLeft reader (byte ∷ held) limit script l
     → l ≡ record { records = []; fault = Some TooLong }
@@ -145,7 +146,7 @@ after-past reader byte held limit script l at_limit (text, s, is) =
     (held ++ script.given) script.fails)
 
 -- the reader failed
-pub after-failure : (reader : LineReader) (limit : ℕ) (l : Left)
+pub after-failure : (reader : LineReader) (limit : ℕ) (l : Remaining)
     → ReadingLeft reader [] limit (record { given = []; fails = true }) l
     → l ≡ record { records = []; fault = Some Read }
 after-failure reader limit l (text, s, is) = is
@@ -169,7 +170,7 @@ none_from_sound (states.Failed f) fault is sound = absurd cc
 
 module _ (at : State) (is : at
     ≡ states.Reading) (reader : LineReader) (held : List ℕ) (limit : ℕ) (script : Script)
-    (l : Left) where
+    (l : Remaining) where
   pub reading-left : HasLeftIn at reader held limit script l
       → ReadingLeft reader held limit script l
   reading-left left = rw is at left
@@ -184,20 +185,21 @@ pub held-none : (buffer : List ℕ) (at filled : ℕ) → at ≡ filled
 held-none buffer at filled e = let none : filled - at ≡ 0 = omega arith in rw none refl
 
 -- what the end of the last line leaves
-abbrev pub AfterEnd : Left → Result (Option DinRecord) TraceFault → Type 0
+abbrev pub AfterEnd : Remaining → Result (Option DinRecord) TraceFault → Type 0
 AfterEnd l (Ok found) = (Ok found ≡ first_answer l)
-    × (behind_first l ≡ record { records = []; fault = None })
+    × (after_first l ≡ record { records = []; fault = None })
 AfterEnd l (Err f) = (Err f ≡ first_answer l)
-    × (behind_first l ≡ record { records = []; fault = Some f })
+    × (after_first l ≡ record { records = []; fault = Some f })
 
-form-ended : (f : Form) (number : ℕ) (l : Left) (result : Result (Option DinRecord) TraceFault)
+form-ended : (f : Form) (number : ℕ) (l : Remaining) (result : Result (Option DinRecord) TraceFault)
     → l ≡ form_left f number (record { records = []; fault = None })
     → result ≡ form_result number f → AfterEnd l result
 form-ended Blank number l result is answer = rw (answer, is) (refl, refl)
 form-ended (Din r) number l result is answer = rw (answer, is) (refl, refl)
 form-ended (Faulty why) number l result is answer = rw (answer, is) (refl, refl)
 
-line-ended : (line : List ℕ) (number : ℕ) (l : Left) (result : Result (Option DinRecord) TraceFault)
+line-ended : (line : List ℕ) (number : ℕ) (l : Remaining)
+    (result : Result (Option DinRecord) TraceFault)
     → l ≡ lines_left ADDRESS_MAX number (last_line line) None
     → (line ≡ [] → result ≡ Ok None)
     → (0 < length line → result ≡ line_result ADDRESS_MAX number line) → AfterEnd l result
@@ -205,7 +207,7 @@ line-ended [] number l result is empty ends = rw (empty refl, is) (refl, refl)
 line-ended (byte ∷ line) number l result is empty ends =
     form-ended (form ADDRESS_MAX (byte ∷ line)) number l result is (ends (omega arith))
 
-pub after-end : (reader : LineReader) (limit : ℕ) (l : Left)
+pub after-end : (reader : LineReader) (limit : ℕ) (l : Remaining)
     (result : Result (Option DinRecord) TraceFault)
     → ((text : List ℕ) → Stands reader text → open_line text ≡ [] → result ≡ Ok None)
     → ((text : List ℕ) → Stands reader text → 0 < length (open_line text) → result

@@ -3,7 +3,8 @@ use Rattle.std.proofs.Common.{◌≡◌, ℕ, List, Option, Result, refl, subst}
 use Rattle.din_trace.specs.declared.record.DinRecord.{DinRecord}
 use Rattle.din_trace.specs.declared.fault.TraceFault.{TraceFault}
 use Rattle.din_trace.specs.declared.source.Source.{Source}
-use Rattle.din_trace.specs.Left.{Left, Script, Fate, Open, Follows, first_answer, behind_first}
+use Rattle.din_trace.specs.Remaining.{Remaining, Script, Fate, Open, Follows, first_answer}
+use Rattle.din_trace.specs.Remaining.{after_first}
 use Rattle.din_trace.specs.Source.{reader_of, taken_by, HasLeft, IsSettled, Settles, Takes}
 use Rattle.din_trace.proofs.Scripts.{Composed, compose, consumes-nothing}
 use Rattle.std.proofs.Common.{[], arith}
@@ -66,14 +67,14 @@ module _ {R : Type 0} (remaining : R → Option (List ℕ)) (failures : R → �
   abbrev pub Answers : Source R → Source R → Result (Option DinRecord) TraceFault → Type 0
   Answers old new answer = (given : List ℕ) × (fate : Fate)
       × Takes remaining failures old new given fate
-      × ((before later : Script) (l : Left) → Follows fate given before later
-      → HasLeft old before l → (answer ≡ first_answer l) × HasLeft new later (behind_first l))
+      × ((before later : Script) (l : Remaining) → Follows fate given before later
+      → HasLeft old before l → (answer ≡ first_answer l) × HasLeft new later (after_first l))
 
   -- an answer at hand is an answer of `next`
   pub answers-at_hand : (a b : Source R) (answer : Result (Option DinRecord) TraceFault)
       → Takes remaining failures a b [] Open
-      → ((script : Script) (l : Left) → HasLeft a script l
-      → (answer ≡ first_answer l) × HasLeft b script (behind_first l)) → Answers a b answer
+      → ((script : Script) (l : Remaining) → HasLeft a script l
+      → (answer ≡ first_answer l) × HasLeft b script (after_first l)) → Answers a b answer
   answers-at_hand a b answer went left = (
     [],
     Open,
@@ -84,7 +85,7 @@ module _ {R : Type 0} (remaining : R → Option (List ℕ)) (failures : R → �
   -- and so is that of a `next` behind it, where none was at hand
   pub answers-asked : (a b c : Source R) (answer : Result (Option DinRecord) TraceFault)
       → Takes remaining failures a b [] Open
-      → ((script : Script) (l : Left) → HasLeft a script l → HasLeft b script l)
+      → ((script : Script) (l : Remaining) → HasLeft a script l → HasLeft b script l)
       → Answers b c answer → (IsSettled b → c ≡ b) → Answers a c answer
   answers-asked a b c answer went left next settled =
       let all = calls remaining failures a b c [] next.0 Open next.1 went next.2 settled in (

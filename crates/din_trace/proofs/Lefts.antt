@@ -7,8 +7,8 @@ use Rattle.std.proofs.lemmas.Bool.{cases_Bool, le-leb, lt-leb, leb-true, leb-fal
 use Rattle.std.proofs.lemmas.List.{append-nil}
 use Rattle.din_trace.specs.declared.fault.TraceFault.TheVariants.{TooLong, Read}
 use Rattle.din_trace.specs.Line.{form}
-use Rattle.din_trace.specs.Text.{Cut, cut, lines, ended_lines, open_line, last_line}
-use Rattle.din_trace.specs.Left.{form_left, lines_left, text_left}
+use Rattle.din_trace.specs.Text.{CutText, cut, lines, ended_lines, open_line, last_line}
+use Rattle.din_trace.specs.Remaining.{form_left, lines_left, text_left}
 use Rattle.din_trace.proofs.Cuts.{cut-append, IsOpen}
 
 take-over : (w rest : List ℕ) (n : ℕ) → take (length w + n) (w ++ rest) ≡ w ++ take n rest
@@ -30,19 +30,19 @@ text_left-longer bound number w byte held given bytes limit fails h =
 
 module _ (bound number : ℕ) (w : List ℕ) (is_open : IsOpen w) where
   ended_lines-line : (rest : List ℕ) → ended_lines (w ++ 10 ∷ rest) ≡ w ∷ ended_lines rest
-  ended_lines-line rest = ap (λ (c : Cut). c.ended) (cut-append w rest)
-      ∙ ap (λ (c : Cut). c.ended ++ c.rest ∷ (cut rest).ended) is_open
+  ended_lines-line rest = ap (λ (c : CutText). c.ended) (cut-append w rest)
+      ∙ ap (λ (c : CutText). c.ended ++ c.rest ∷ (cut rest).ended) is_open
 
   lines-line : (rest : List ℕ) → lines (w ++ 10 ∷ rest) ≡ w ∷ lines rest
-  lines-line rest = ap (λ (c : Cut). c.ended ++ last_line c.rest) (cut-append w rest)
-      ∙ ap (λ (c : Cut). (c.ended ++ c.rest ∷ (cut rest).ended) ++ last_line
+  lines-line rest = ap (λ (c : CutText). c.ended ++ last_line c.rest) (cut-append w rest)
+      ∙ ap (λ (c : CutText). (c.ended ++ c.rest ∷ (cut rest).ended) ++ last_line
       (cut rest).rest) is_open
 
   no_line : ended_lines w ≡ []
-  no_line = ap (λ (c : Cut). c.ended) is_open
+  no_line = ap (λ (c : CutText). c.ended) is_open
 
   whole_line : open_line w ≡ w
-  whole_line = ap (λ (c : Cut). c.rest) is_open
+  whole_line = ap (λ (c : CutText). c.rest) is_open
 
   fits_behind : (rest : List ℕ) (room : ℕ)
       → nat_le (length (w ++ 10 ∷ rest)) (length w + suc room) ≡ nat_le (length rest) room

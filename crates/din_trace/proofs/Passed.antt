@@ -8,8 +8,9 @@ use Rattle.std.proofs.lemmas.List.{append-nil}
 use Rattle.din_trace.specs.declared.record.DinRecord.{DinRecord}
 use Rattle.din_trace.specs.declared.line_reader.LineReader.{LineReader}
 use Rattle.din_trace.specs.LineSoFar.{begun}
-use Rattle.din_trace.specs.Text.{Cut, cut, open_line}
-use Rattle.din_trace.specs.Left.{Left, Script, form_left, text_left, first_answer, behind_first}
+use Rattle.din_trace.specs.Text.{CutText, cut, open_line}
+use Rattle.din_trace.specs.Remaining.{Remaining, Script, form_left, text_left, first_answer}
+use Rattle.din_trace.specs.Remaining.{after_first}
 use Rattle.din_trace.specs.Standing.{Stands}
 use Rattle.din_trace.specs.Backlog.{ReadingLeft}
 use Rattle.din_trace.proofs.Cuts.{cut-ended, cut-longer, first_fault-append}
@@ -54,14 +55,14 @@ stands-past old new count text line r p no_lf holds s =
     })
 
 pub after-plain : (old new : LineReader) (held : List ℕ) (r : DinRecord) (count limit : ℕ)
-    (script : Script) (l : Left)
+    (script : Script) (l : Remaining)
     → BeginsWithLine held r count → Passed old new count → old.bytes + count ≤ limit
     → ReadingLeft old held limit script l
     → (Ok (Some r) ≡ first_answer l)
-    × ReadingLeft new (drop count held) limit script (behind_first l)
+    × ReadingLeft new (drop count held) limit script (after_first l)
 after-plain old new held r count limit script l b p below (text, s, is) =
     let at_start = s.empty p.empty in
-    let others : Left =
+    let others : Remaining =
     text_left ADDRESS_MAX (old.line + 1) (drop count held ++ script.given)
     (limit - new.bytes) script.fails in
     let room : 0 + (limit - old.bytes) ≡ length b.line + suc (limit - new.bytes) =
@@ -79,7 +80,7 @@ after-plain old new held r count limit script l b p below (text, s, is) =
     ∙ cut_off ∙ ap (λ (f : Form). form_left f old.line others) b.holds in
     let all : l ≡ form_left (Din r) old.line others = (rw at_start at is) ∙ first in
     let ended : open_line ((text ++ b.line) ++ 10 ∷ []) ≡ [] =
-    ap (λ (c : Cut). c.rest) (grown text b.line at_start b.one_line) in
+    ap (λ (c : CutText). c.rest) (grown text b.line at_start b.one_line) in
     let after : ReadingLeft new (drop count held) limit script others = (
       (text ++ b.line) ++ 10 ∷ [],
       stands-past old new count text b.line r p b.one_line b.holds s,

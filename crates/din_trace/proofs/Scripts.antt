@@ -6,8 +6,8 @@ use Rattle.std.proofs.Common.{append_assoc, length-append, arith}
 use Rattle.std.specs.Io.KnownBytes.{Consumes, Keeps}
 use Rattle.std.proofs.lemmas.List.{append-nil}
 use Rattle.din_trace.specs.Device.{once_more}
-use Rattle.din_trace.specs.Left.{Left, Script, Fate, Open, Ended, Failed, Follows, FateIs}
-use Rattle.din_trace.specs.Left.{first_answer, behind_first, records_answer}
+use Rattle.din_trace.specs.Remaining.{Remaining, Script, Fate, Open, Ended, Failed, Follows, FateIs}
+use Rattle.din_trace.specs.Remaining.{first_answer, after_first, records_answer}
 use Rattle.din_trace.specs.State.{is_reading, Closes}
 use Rattle.din_trace.specs.declared.record.DinRecord.{DinRecord}
 use Rattle.din_trace.specs.declared.fault.TraceFault.{TraceFault}
@@ -40,7 +40,7 @@ consumes-kept (Some all) (Some some) (Some rest) xs h k = rw k h
 pub once_more-differs : (count : ℕ) → once_more count ≡ count → ⊥
 once_more-differs count same = omega arith
 
-module _ (b : Backlog) (fails : Bool) (l : Left) where
+module _ (b : Backlog) (fails : Bool) (l : Remaining) where
   pub left-regrouped : (xs ys zs : List ℕ)
       → HasLeft b (record { given = (xs ++ ys) ++ zs; fails = fails }) l
       → HasLeft b (record { given = xs ++ (ys ++ zs); fails = fails }) l
@@ -172,14 +172,14 @@ records-fault [] (Some g) f e = (refl, cc)
 records-fault (q ∷ rs) fault f e = absurd cc
 
 -- what the first answer says of what is left
-pub first_record : (l : Left) (r : DinRecord) → Ok (Some r) ≡ first_answer l
+pub first_record : (l : Remaining) (r : DinRecord) → Ok (Some r) ≡ first_answer l
     → l.records ≡ r ∷ drop 1 l.records
 first_record l r = records-first l.records l.fault r
 
-pub first_end : (l : Left) → Ok None ≡ first_answer l → (l.records ≡ []) × (l.fault ≡ None)
+pub first_end : (l : Remaining) → Ok None ≡ first_answer l → (l.records ≡ []) × (l.fault ≡ None)
 first_end l = records-end l.records l.fault
 
-pub first_fault-is : (l : Left) (f : TraceFault) → Err f ≡ first_answer l
+pub first_fault-is : (l : Remaining) (f : TraceFault) → Err f ≡ first_answer l
     → (l.records ≡ []) × (l.fault ≡ Some f)
 first_fault-is l f = records-fault l.records l.fault f
 
@@ -192,7 +192,7 @@ behind-not_nil [] rs r e = absurd cc
 behind-not_nil (q ∷ items) rs r e = absurd cc
 
 -- records, and what is left behind them
-module _ (items : List DinRecord) (before more : Left)
+module _ (items : List DinRecord) (before more : Remaining)
     (result : Result (Option DinRecord) TraceFault)
     (is : before ≡ record { records = items ++ more.records; fault = more.fault }) (answer : result
     ≡ first_answer more) where
@@ -207,24 +207,24 @@ module _ (items : List DinRecord) (before more : Left)
   rest-some r was none =
       let first : more.records ≡ r ∷ drop 1 more.records = first_record more r (sym was ∙ answer) in
       behind-not_nil items (drop 1 more.records) r
-      (ap (λ rs. items ++ rs) (sym first) ∙ sym (ap (λ (l : Left). l.records) is) ∙ none)
+      (ap (λ rs. items ++ rs) (sym first) ∙ sym (ap (λ (l : Remaining). l.records) is) ∙ none)
 
   pub rest-end : result ≡ Ok None
       → (items ≡ before.records) × (before.fault ≡ None)
-      × (behind_first more ≡ record { records = []; fault = None })
+      × (after_first more ≡ record { records = []; fault = None })
   rest-end was =
       let none = first_end more (sym was ∙ answer) in (
         sym (append-nil items) ∙ ap (λ rs. items ++ rs) (sym none.0)
-            ∙ sym (ap (λ (l : Left). l.records) is),
-        ap (λ (l : Left). l.fault) is ∙ none.1,
+            ∙ sym (ap (λ (l : Remaining). l.records) is),
+        ap (λ (l : Remaining). l.fault) is ∙ none.1,
         rw (none.0, none.1) refl,
       )
 
   pub rest-fault : (f : TraceFault) → result ≡ Err f
-      → (before.fault ≡ Some f) × (behind_first more ≡ record { records = []; fault = Some f })
+      → (before.fault ≡ Some f) × (after_first more ≡ record { records = []; fault = Some f })
   rest-fault f was =
       let none = first_fault-is more f (sym was ∙ answer) in
-      (ap (λ (l : Left). l.fault) is ∙ none.1, rw (none.0, none.1) refl)
+      (ap (λ (l : Remaining). l.fault) is ∙ none.1, rw (none.0, none.1) refl)
 
 -- a reader whose bytes are known, and that did not fail, does what its bytes say
 pub known-script : (fate : Fate) (all : List ℕ) (new : Option (List ℕ)) (given : List ℕ)

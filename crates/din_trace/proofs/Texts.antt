@@ -10,10 +10,10 @@ use Rattle.din_trace.specs.Laws.{LeavesText}
 use Rattle.din_trace.specs.Line.{Form, Blank, Din, Faulty, form}
 use Rattle.din_trace.specs.Text.{lines, ended_lines, form_records, line_records, records}
 use Rattle.din_trace.specs.Text.{form_fault, first_fault, fault}
-use Rattle.din_trace.specs.Left.{Left, form_left, lines_left, text_left}
+use Rattle.din_trace.specs.Remaining.{Remaining, form_left, lines_left, text_left}
 use Rattle.din_trace.proofs.Cuts.{others_none, first_fault-some}
 
-form_left-fault : (f : Form) (number : ℕ) (others : Left)
+form_left-fault : (f : Form) (number : ℕ) (others : Remaining)
     → (form_left f number others).fault ≡ form_fault f number others.fault
 form_left-fault Blank number others = refl
 form_left-fault (Din r) number others = refl
@@ -26,7 +26,7 @@ lines_left-fault bound number (line ∷ ls) otherwise =
     form_left-fault (form bound line) number (lines_left bound (number + 1) ls otherwise)
     ∙ ap (form_fault (form bound line) number) (lines_left-fault bound (number + 1) ls otherwise)
 
-form_left-records : (f : Form) (number : ℕ) (others : Left) (fault : Option TraceFault)
+form_left-records : (f : Form) (number : ℕ) (others : Remaining) (fault : Option TraceFault)
     → form_fault f number fault ≡ None
     → (form_left f number others).records ≡ form_records f ++ others.records
 form_left-records Blank number others fault none = refl

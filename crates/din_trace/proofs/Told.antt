@@ -9,8 +9,8 @@ use Rattle.din_trace.specs.declared.fault.TraceFault.{TraceFault}
 use Rattle.din_trace.specs.Faults.{FailedBehind, IsFaultOf}
 use Rattle.din_trace.specs.Line.{ADDRESS_MAX}
 use Rattle.din_trace.specs.Text.{records, fault}
-use Rattle.din_trace.specs.Left.{Left, Script, Fate, Open, Ended, Failed, Follows, FateIs}
-use Rattle.din_trace.specs.Left.{text_left}
+use Rattle.din_trace.specs.Remaining.{Remaining, Script, Fate, Open, Ended, Failed, Follows, FateIs}
+use Rattle.din_trace.specs.Remaining.{text_left}
 use Rattle.din_trace.proofs.Texts.{text_left-fault, text_left-records, leaves_text}
 
 -- a text that is too long leaves what its front leaves that is too long
@@ -27,7 +27,7 @@ text_left-front given rest limit long =
 module _ {R : Type 0} (remaining : R → Option (List ℕ)) (failures : R → ℕ) (reader last : R)
     (text : List ℕ) (limit : ℕ) where
   -- this may be left of a reader that tells the text
-  pub record MayBeLeft (l : Left) : Type 0 where
+  pub record MayBeLeft (l : Remaining) : Type 0 where
     pub no_fault : l.fault ≡ None
         → (fault ADDRESS_MAX text limit ≡ None) × (l.records ≡ records ADDRESS_MAX text)
     pub some_fault : (met : TraceFault) → l.fault ≡ Some met
@@ -55,7 +55,7 @@ module _ {R : Type 0} (remaining : R → Option (List ℕ)) (failures : R → �
               let same =
               text_left-front given failed.rest limit (leb-false (length given) limit e) in
               let of_text = subst (λ t. (text_left ADDRESS_MAX 1 t limit false).fault ≡ Some met)
-              (sym failed.whole) (ap (λ (l : Left). l.fault) same ∙ some) in
+              (sym failed.whole) (ap (λ (l : Remaining). l.fault) same ∙ some) in
               inl (sym (text_left-fault ADDRESS_MAX text limit) ∙ of_text)
         ];
       }

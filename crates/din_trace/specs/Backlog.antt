@@ -8,7 +8,7 @@ use Rattle.din_trace.specs.LineSoFar.{begun}
 use Rattle.din_trace.specs.Line.{ADDRESS_MAX}
 use Rattle.din_trace.specs.Text.{open_line}
 use Rattle.din_trace.specs.Standing.{Stands}
-use Rattle.din_trace.specs.Left.{Left, Script, text_left}
+use Rattle.din_trace.specs.Remaining.{Remaining, Script, text_left}
 
 -- the bytes that are held
 abbrev pub held : Backlog → List ℕ
@@ -30,17 +30,17 @@ room b = room_in b.state b.lines b.limit
 
 -- what a line reader leaves, under the limit, of the held bytes and then of what the script gives:
 -- what follows the text that it stands for
-abbrev pub ReadingLeft : LineReader → List ℕ → ℕ → Script → Left → Type 0
+abbrev pub ReadingLeft : LineReader → List ℕ → ℕ → Script → Remaining → Type 0
 ReadingLeft reader held limit script l = (text : List ℕ) × Stands reader text
     × (l ≡ text_left ADDRESS_MAX reader.line (open_line text ++ (held ++ script.given))
     (length (open_line text) + (limit - reader.bytes)) script.fails)
 
 -- what is left of a source that reads on, has ended or has failed
-abbrev pub HasLeftIn : State → LineReader → List ℕ → ℕ → Script → Left → Type 0
+abbrev pub HasLeftIn : State → LineReader → List ℕ → ℕ → Script → Remaining → Type 0
 HasLeftIn state.Reading reader held limit script l = ReadingLeft reader held limit script l
 HasLeftIn state.Ended reader held limit script l = l ≡ record { records = []; fault = None }
 HasLeftIn (state.Failed f) reader held limit script l = l ≡ record { records = []; fault = Some f }
 
 -- what is left of a source with this backlog
-abbrev pub HasLeft : Backlog → Script → Left → Type 0
+abbrev pub HasLeft : Backlog → Script → Remaining → Type 0
 HasLeft b script l = HasLeftIn b.state b.lines (held b) b.limit script l

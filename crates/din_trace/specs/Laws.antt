@@ -3,7 +3,7 @@ use Rattle.std.specs.Prelude.{◌≡◌, ◌≢◌, ℕ, ◌<◌, ◌≤◌, Lis
 use Rattle.din_trace.specs.declared.fault.TraceFault.TheVariants.{TooLong, Read, Memory}
 use Rattle.din_trace.specs.Line.{Form, HasForm, form}
 use Rattle.din_trace.specs.Text.{records, fault, failed_fault}
-use Rattle.din_trace.specs.Left.{text_left}
+use Rattle.din_trace.specs.Remaining.{text_left}
 
 -- each line has exactly one form, the one found from left to right
 abbrev pub EachLineHasOneForm : Type 0

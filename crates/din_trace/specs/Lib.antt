@@ -3,7 +3,7 @@ pub mod LineSoFar
 pub mod Text
 pub mod Laws
 pub mod Standing
-pub mod Left
+pub mod Remaining
 pub mod Device
 pub mod Backlog
 pub mod State

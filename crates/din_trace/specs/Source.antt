@@ -2,7 +2,7 @@
 use Rattle.std.specs.Prelude.{◌≡◌, ℕ, ◌+◌, false, List, length, Option}
 use Rattle.din_trace.specs.declared.source.Source.{Source}
 use Rattle.din_trace.specs.declared.backlog.State.TheVariants as state
-use Rattle.din_trace.specs.Left.{Left, Script, Fate, FateIs}
+use Rattle.din_trace.specs.Remaining.{Remaining, Script, Fate, FateIs}
 use Rattle.din_trace.specs.State.{is_reading, Closes}
 use Rattle.din_trace.specs.Backlog as backlog
 
@@ -23,7 +23,7 @@ unfoldable pub room_of : {R : Type 0} → Source R → ℕ
 room_of source = backlog.room source.backlog
 
 -- what it has left, if its reader does what the script says
-unfoldable pub HasLeft : {R : Type 0} → Source R → Script → Left → Type 0
+unfoldable pub HasLeft : {R : Type 0} → Source R → Script → Remaining → Type 0
 HasLeft source script l = backlog.HasLeft source.backlog script l
 
 -- it has ended or failed, and asks its reader no more

@@ -5,10 +5,10 @@ use Rattle.din_trace.specs.declared.fault.TraceFault.TheVariants.{Bad}
 use Rattle.din_trace.specs.declared.line_reader.LineReader.{LineReader}
 use Rattle.din_trace.specs.Line.{ADDRESS_MAX, form}
 use Rattle.din_trace.specs.LineSoFar.{form_from, begun}
-use Rattle.din_trace.specs.Text.{Cut, cut, first_fault}
+use Rattle.din_trace.specs.Text.{CutText, cut, first_fault}
 
 -- the reader has met no fault, and has read the ended lines and the rest, which is a part of a line
-pub record IsAt (reader : LineReader) (text : Cut) : Type 0 where
+pub record IsAt (reader : LineReader) (text : CutText) : Type 0 where
   pub no_fault : reader.fault ≡ None
   -- no line that ended is faulty
   pub sound : first_fault ADDRESS_MAX 1 text.ended None ≡ None

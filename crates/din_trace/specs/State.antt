@@ -3,7 +3,7 @@ use Rattle.std.specs.Prelude.{◌≡◌, Bool, true, false, Option, is_none, ⊤
 use Rattle.din_trace.specs.declared.fault.Why.{Why}
 use Rattle.din_trace.specs.declared.backlog.State.{State}
 use Rattle.din_trace.specs.declared.backlog.State.TheVariants as state
-use Rattle.din_trace.specs.Left.{Fate, Open, Ended, Failed}
+use Rattle.din_trace.specs.Remaining.{Fate, Open, Ended, Failed}
 
 -- a source that goes on has met no faulty line
 abbrev pub is_sound : State → Option Why → Bool

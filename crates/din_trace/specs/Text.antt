@@ -7,17 +7,17 @@ use Rattle.din_trace.specs.declared.fault.TraceFault.TheVariants.{Bad, TooLong, 
 use Rattle.din_trace.specs.Line.{Form, Blank, Din, Faulty, form}
 
 -- the lines that an LF ends, without it, and what follows the last LF
-pub record Cut : Type 0 where
+pub record CutText : Type 0 where
   pub ended : List (List ℕ)
   pub rest : List ℕ
 
 -- a byte in front of a text that was cut so
-abbrev pub with_first : ℕ → List (List ℕ) → List ℕ → Cut
+abbrev pub with_first : ℕ → List (List ℕ) → List ℕ → CutText
 with_first byte [] rest = record { ended = []; rest = byte ∷ rest }
 with_first byte (line ∷ ended) rest = record { ended = (byte ∷ line) ∷ ended; rest = rest }
 
 -- a text, cut at its LFs
-abbrev pub cut : List ℕ → Cut
+abbrev pub cut : List ℕ → CutText
 cut [] = record { ended = []; rest = [] }
 cut (byte ∷ text) =
     if byte == 10 then record { ended = [] ∷ (cut text).ended; rest = (cut text).rest }

@@ -8,7 +8,8 @@ ghost use Rattle.din_trace.specs.Device.{once_more};
 ghost use Rattle.din_trace.specs.declared.buffer.TheConstants.{ROOM};
 ghost use Rattle.din_trace.specs.Line.{ADDRESS_MAX};
 ghost use Rattle.din_trace.specs.State.{is_sound, is_reading};
-ghost use Rattle.din_trace.specs.Left.{Left, Script, text_left, first_answer, behind_first};
+ghost use Rattle.din_trace.specs.Remaining.{Remaining, Script, text_left, first_answer};
+ghost use Rattle.din_trace.specs.Remaining.{after_first};
 
 use crate::buffer::{Buffer, ROOM};
 use crate::device::{ByteReader, DeviceFailed};
@@ -76,10 +77,10 @@ impl Backlog {
     fn step(&mut self) -> Option<Result<Option<DinRecord>, TraceFault>>
         requires reading { self.old.state ≡ State.Reading }
         requires some { self.old.at < self.old.filled }
-        ensures answer { IfSome result (λ answer. (script : Script) (l : Left)
+        ensures answer { IfSome result (λ answer. (script : Script) (l : Remaining)
             → HasLeft self.old script l
-            → (answer ≡ first_answer l) × HasLeft self.new script (behind_first l)) }
-        ensures goes_on { IfNone result ((script : Script) (l : Left)
+            → (answer ≡ first_answer l) × HasLeft self.new script (after_first l)) }
+        ensures goes_on { IfNone result ((script : Script) (l : Remaining)
             → HasLeft self.old script l → HasLeft self.new script l) }
         ensures reading { IfNone result (self.new.state ≡ State.Reading) }
         ensures nearer { IfNone result ((self.new.at ≡ self.old.at + 1)
@@ -111,16 +112,16 @@ impl Backlog {
     /// The next answer that needs no further byte, if there is one. Else no byte is held.
     #[inline(always)]
     pub fn answer(&mut self) -> Option<Result<Option<DinRecord>, TraceFault>>
-        ensures answer { IfSome result (λ answer. (script : Script) (l : Left)
+        ensures answer { IfSome result (λ answer. (script : Script) (l : Remaining)
             → HasLeft self.old script l
-            → (answer ≡ first_answer l) × HasLeft self.new script (behind_first l)) }
-        ensures goes_on { IfNone result ((script : Script) (l : Left)
+            → (answer ≡ first_answer l) × HasLeft self.new script (after_first l)) }
+        ensures goes_on { IfNone result ((script : Script) (l : Remaining)
             → HasLeft self.old script l → HasLeft self.new script l) }
         ensures reading { IfNone result ((self.new.state ≡ State.Reading)
             × (self.new.at ≡ self.new.filled)) }
         ensures settled { is_reading self.old.state ≡ false
             → IsSome result × (self.new ≡ self.old) }
-        ensures dry { IfNone result ((l : Left)
+        ensures dry { IfNone result ((l : Remaining)
             → HasLeft self.old (record { given = []; fails = true }) l
             → l ≡ record { records = []; fault = Some TraceFault.Read }) }
         ensures taken { taken self.new ≡ taken self.old }
@@ -143,9 +144,9 @@ impl Backlog {
     #[inline(always)]
     fn plain(&mut self) -> Option<DinRecord>
         requires reading { self.old.state ≡ State.Reading }
-        ensures answer { IfSome result (λ found. (script : Script) (l : Left)
+        ensures answer { IfSome result (λ found. (script : Script) (l : Remaining)
             → HasLeft self.old script l
-            → (Ok (Some found) ≡ first_answer l) × HasLeft self.new script (behind_first l)) }
+            → (Ok (Some found) ≡ first_answer l) × HasLeft self.new script (after_first l)) }
         ensures same { IfNone result (self.new ≡ self.old) }
         ensures taken { taken self.new ≡ taken self.old }
         ensures limit { self.new.limit ≡ self.old.limit }
@@ -170,10 +171,10 @@ impl Backlog {
     /// The next answer that the held bytes give, if they give one, read byte by byte.
     fn answer_held(&mut self) -> Option<Result<Option<DinRecord>, TraceFault>>
         requires reading { self.old.state ≡ State.Reading }
-        ensures answer { IfSome result (λ answer. (script : Script) (l : Left)
+        ensures answer { IfSome result (λ answer. (script : Script) (l : Remaining)
             → HasLeft self.old script l
-            → (answer ≡ first_answer l) × HasLeft self.new script (behind_first l)) }
-        ensures goes_on { IfNone result ((script : Script) (l : Left)
+            → (answer ≡ first_answer l) × HasLeft self.new script (after_first l)) }
+        ensures goes_on { IfNone result ((script : Script) (l : Remaining)
             → HasLeft self.old script l → HasLeft self.new script l) }
         ensures reading { IfNone result ((self.new.state ≡ State.Reading)
             × (self.new.at ≡ self.new.filled)) }
@@ -195,9 +196,9 @@ impl Backlog {
     pub fn end(&mut self) -> Result<Option<DinRecord>, TraceFault>
         requires reading { self.old.state ≡ State.Reading }
         requires empty { self.old.at ≡ self.old.filled }
-        ensures answer { (l : Left) → HasLeft self.old (record { given = []; fails = false }) l
+        ensures answer { (l : Remaining) → HasLeft self.old (record { given = []; fails = false }) l
             → (result ≡ first_answer l)
-            × ((script : Script) → HasLeft self.new script (behind_first l)) }
+            × ((script : Script) → HasLeft self.new script (after_first l)) }
         ensures taken { taken self.new ≡ taken self.old }
         ensures limit { self.new.limit ≡ self.old.limit }
         ensures records { IfOk result (λ found. IsSome found → room self.new < room self.old) }
@@ -220,9 +221,9 @@ impl Backlog {
     pub fn fail(&mut self) -> Result<Option<DinRecord>, TraceFault>
         requires reading { self.old.state ≡ State.Reading }
         requires empty { self.old.at ≡ self.old.filled }
-        ensures answer { (l : Left) → HasLeft self.old (record { given = []; fails = true }) l
+        ensures answer { (l : Remaining) → HasLeft self.old (record { given = []; fails = true }) l
             → (result ≡ first_answer l)
-            × ((script : Script) → HasLeft self.new script (behind_first l)) }
+            × ((script : Script) → HasLeft self.new script (after_first l)) }
         ensures taken { taken self.new ≡ taken self.old }
         ensures limit { self.new.limit ≡ self.old.limit }
         ensures read { result ≡ Err TraceFault.Read }
@@ -239,14 +240,14 @@ impl Backlog {
         requires empty { self.old.at ≡ self.old.filled }
         ensures given { IfOk result (λ count. (given : List ℕ) × (length given ≡ count)
             × Consumes (R.remaining reader.old) (R.remaining reader.new) given
-            × ((script : Script) (l : Left)
+            × ((script : Script) (l : Remaining)
             → HasLeft self.old (record { given = given ++ script.given; fails = script.fails }) l
             → HasLeft self.new script l)) }
         ensures end { IfOk result (λ count. count ≡ 0 → IsAtEnd (R.remaining reader.new)) }
         ensures ok { OnOk result (R.failures reader.new ≡ R.failures reader.old) }
         ensures err { OnErr result ((R.failures reader.new ≡ once_more (R.failures reader.old))
             × Keeps (R.remaining reader.old) (R.remaining reader.new)) }
-        ensures same { OnErr result ((script : Script) (l : Left)
+        ensures same { OnErr result ((script : Script) (l : Remaining)
             → HasLeft self.old script l → HasLeft self.new script l) }
         ensures taken { IfOk result (λ count. taken self.new ≡ taken self.old + count) }
         ensures taken_none { OnErr result (taken self.new ≡ taken self.old) }

@@ -4,8 +4,8 @@ ghost use Rattle.std.specs.Prelude.{◌≡◌, ◌≢◌, ◌⊎◌, ℕ, true, 
 ghost use Rattle.std.specs.Prelude.{[], MatchResult, MatchOption, IfOk, IfSome, IfNone, IsSome};
 ghost use Rattle.std.specs.Prelude.{vec_len};
 ghost use Rattle.din_trace.specs.Line.{ADDRESS_MAX};
-ghost use Rattle.din_trace.specs.Left.{Left, Script, Fate, Open, Follows, text_left, first_answer};
-ghost use Rattle.din_trace.specs.Left.{behind_first};
+ghost use Rattle.din_trace.specs.Remaining.{Remaining, Script, Fate, Open, Follows, text_left};
+ghost use Rattle.din_trace.specs.Remaining.{first_answer, after_first};
 ghost use Rattle.din_trace.specs.Source.{reader_of, limit_of, taken_by, room_of, HasLeft};
 ghost use Rattle.din_trace.specs.Source.{IsSettled, MustAsk, Takes};
 
@@ -48,14 +48,14 @@ impl<R: ByteReader> Source<R> {
     pub fn at_hand(&mut self) -> Option<Result<Option<DinRecord>, TraceFault>>
         // An answer is the first of what was left, and the others stay left. With none, all stays.
         ensures reads { Takes R.remaining R.failures self.old self.new [] Open
-            × ((script : Script) (l : Left) → HasLeft self.old script l
+            × ((script : Script) (l : Remaining) → HasLeft self.old script l
             → MatchOption result (HasLeft self.new script l)
-            (λ answer. (answer ≡ first_answer l) × HasLeft self.new script (behind_first l))) }
+            (λ answer. (answer ≡ first_answer l) × HasLeft self.new script (after_first l))) }
         ensures reader { reader_of self.new ≡ reader_of self.old }
         // With no answer no line that the reader gave whole has one left: if the reader failed now,
         // nothing would be left but that.
         ensures asks { IfNone result (MustAsk self.new) }
-        ensures lazy { IfNone result ((l : Left)
+        ensures lazy { IfNone result ((l : Remaining)
             → HasLeft self.old (record { given = []; fails = true }) l
             → l ≡ record { records = []; fault = Some TraceFault.Read }) }
         ensures settled { IsSettled self.old → IsSome result × (self.new ≡ self.old) }
@@ -76,13 +76,13 @@ impl<R: ByteReader> Source<R> {
         // Whatever the reader does, this is the first of what was left, and the others stay left.
         ensures reads { (given : List ℕ) × (fate : Fate)
             × Takes R.remaining R.failures self.old self.new given fate
-            × ((before later : Script) (l : Left)
+            × ((before later : Script) (l : Remaining)
             → Follows fate given before later → HasLeft self.old before l
-            → (result ≡ first_answer l) × HasLeft self.new later (behind_first l)) }
+            → (result ≡ first_answer l) × HasLeft self.new later (after_first l)) }
         // The reader is asked only where no line that it gave whole has an answer left: if it
         // failed at once, nothing would be left but that.
         ensures lazy { (reader_of self.new ≡ reader_of self.old)
-            ⊎ ((l : Left) → HasLeft self.old (record { given = []; fails = true }) l
+            ⊎ ((l : Remaining) → HasLeft self.old (record { given = []; fails = true }) l
             → l ≡ record { records = []; fault = Some TraceFault.Read }) }
         // The same of each further time that it is asked: any of them may fail, and a failure is
         // met only where nothing but that is left to answer.
@@ -113,9 +113,9 @@ impl<R: ByteReader> Source<R> {
         requires asks { MustAsk self.old }
         ensures reads { (given : List ℕ) × (fate : Fate)
             × Takes R.remaining R.failures self.old self.new given fate
-            × ((before later : Script) (l : Left)
+            × ((before later : Script) (l : Remaining)
             → Follows fate given before later → HasLeft self.old before l
-            → (result ≡ first_answer l) × HasLeft self.new later (behind_first l)) }
+            → (result ≡ first_answer l) × HasLeft self.new later (after_first l)) }
         ensures failed { (R.failures (reader_of self.new) ≡ R.failures (reader_of self.old))
             ⊎ (result ≡ Err TraceFault.Read) }
         ensures limit { limit_of self.new ≡ limit_of self.old }
@@ -145,7 +145,7 @@ impl<R: ByteReader> Source<R> {
         // Memory is wanted only where a record is left to be stored, or where it was wanted before.
         ensures reads { (given : List ℕ) × (fate : Fate)
             × Takes R.remaining R.failures self.old self.new given fate
-            × ((before later : Script) (l : Left)
+            × ((before later : Script) (l : Remaining)
             → Follows fate given before later → HasLeft self.old before l
             → MatchResult result
             (λ records. (records.items ≡ l.records) × (l.fault ≡ None)
@@ -155,7 +155,7 @@ impl<R: ByteReader> Source<R> {
             × (fault ≡ TraceFault.Memory → (l.fault ≡ Some fault) ⊎ (l.records ≢ [])))) }
         ensures bound { taken_by self.new ≤ limit_of self.new + 1 }
         ensures limit { limit_of self.new ≡ limit_of self.old }
-        ensures few { IfOk result (λ records. vec_len records ≤ room_of self.old) }
+        ensures at_most { IfOk result (λ records. vec_len records ≤ room_of self.old) }
     {
         let mut records = Vec::new(alloc);
         'records: loop {

@@ -24,7 +24,7 @@ pub struct Rx<T: Copy> {
     pub(crate) peer: Bell,
     ghost bounds: { (left ≤ count) × (count ≤ length batch.items)
         × (left ≤ length (ring.received end)) },
-    ghost few: { length batch.items ≤ 64 },
+    ghost at_most: { length batch.items ≤ 64 },
     ghost kept: { take left (drop (count - left) batch.items)
         ≡ drop (length (ring.received end) - left) (ring.received end) },
 }

@@ -4,12 +4,13 @@ use Rattle.std.proofs.Common.{◌++◌, true, false, ◌∙◌, ℕ, ◌⊎◌, 
 use Rattle.std.specs.Prelude.{OnOk, IfOk, IfErr, IsOk, option_map}
 use Rattle.din_trace.specs.Line.{ADDRESS_MAX}
 use Rattle.din_trace.specs.Text.{records, fault}
-use Rattle.din_trace.specs.Left.{Left, Script, Fate, Open, Ended, Failed, Follows, text_left}
+use Rattle.din_trace.specs.Remaining.{Remaining, Script, Fate, Open, Ended, Failed, Follows}
+use Rattle.din_trace.specs.Remaining.{text_left}
 use Rattle.din_trace.proofs.Texts.{leaves_text}
 use Rattle.din_trace.specs.declared.record.DinRecord.{DinRecord}
 use Rattle.din_trace.specs.declared.fault.TraceFault.{TraceFault}
 use Rattle.stage_core.specs.Events.{events}
-use Rattle.stage_core.specs.Seen.{Hierarchy}
+use Rattle.stage_core.specs.SecondLevel.{Hierarchy}
 use Rattle.stage_core.specs.declared.selection.Selection.{Selection}
 use Rattle.sim_run.specs.declared.ends.SplitterEnds.{SplitterEnds}
 use Rattle.sim_run.specs.declared.fault.RunFault.{RunFault}
@@ -17,7 +18,7 @@ use Rattle.sim_run.specs.declared.pipeline.Settled.{Settled}
 use Rattle.sim_run.specs.declared.fault.RunFault.TheVariants.{Memory, Threads, Cut}
 use Rattle.sim_run.specs.declared.fault.Stop.{Stop}
 use Rattle.sim_run.specs.declared.fault.Stop.TheVariants as stop
-use Rattle.sim_run.specs.Faults.{MayAnswer, stopped}
+use Rattle.sim_run.specs.Faults.{MayAnswer, fault_of_stop}
 use Rattle.sim_run.specs.Threads.{HasSentAll, LeavesRest, SplitUp, at_end}
 use Rattle.sim_run.specs.Runs.{HasRun, RunsOver}
 
@@ -52,25 +53,26 @@ module _ (limit : ℕ) (P : List DinRecord → Type 0) where
 
 -- what holds of the fault of the splitter, of want of memory and of a gone end holds of the gravest
 module _ (P : RunFault → Type 0) (memory : P Memory) (cut : P Cut) (result : RunFault) where
-  of-stopped : (end : Option Stop) → option_map stopped end ≡ Some result → P result
-  of-stopped None is = cc
-  of-stopped (Some stop.Memory) is = let same : Memory ≡ result = cc in subst P same memory
-  of-stopped (Some stop.Cut) is = let same : Cut ≡ result = cc in subst P same cut
+  of-fault_of_stop : (end : Option Stop) → option_map fault_of_stop end ≡ Some result → P result
+  of-fault_of_stop None is = cc
+  of-fault_of_stop (Some stop.Memory) is = let same : Memory ≡ result = cc in subst P same memory
+  of-fault_of_stop (Some stop.Cut) is = let same : Cut ≡ result = cc in subst P same cut
 
   pub of-gravest : (splitter : RunFault) (i d merge : Option Stop) → P splitter
-      → (result ≡ splitter) ⊎ ((option_map stopped i ≡ Some result)
-      ⊎ ((option_map stopped d ≡ Some result) ⊎ (option_map stopped merge ≡ Some result)))
+      → (result ≡ splitter) ⊎ ((option_map fault_of_stop i ≡ Some result)
+      ⊎ ((option_map fault_of_stop d ≡ Some result)
+      ⊎ (option_map fault_of_stop merge ≡ Some result)))
       → P result
   of-gravest splitter i d merge fault one = elim one [
     | inl e ↦ subst P (sym e) fault
     | inr rest ↦ elim rest [
-      | inl e ↦ of-stopped i e
-      | inr last ↦ elim last [ inl e ↦ of-stopped d e | inr e ↦ of-stopped merge e ]
+      | inl e ↦ of-fault_of_stop i e
+      | inr last ↦ elim last [ inl e ↦ of-fault_of_stop d e | inr e ↦ of-fault_of_stop merge e ]
     ]
   ]
 
 -- of a source that was not read all is left
-pub leaves-all : (l : Left) (HasLeft : Left → Type 0) → HasLeft l → LeavesRest l HasLeft
+pub leaves-all : (l : Remaining) (HasLeft : Remaining → Type 0) → HasLeft l → LeavesRest l HasLeft
 leaves-all l HasLeft left = record {
   gone = [];
   rest = l;
@@ -79,8 +81,8 @@ leaves-all l HasLeft left = record {
   left = left;
 }
 
-pub runs-over : (ring : ℕ) (c : Hierarchy) (selection : Selection) (l : Left)
-    (HasLeft : Left → Type 0) (ends : SplitterEnds) (fed : Result (Unit {0}) RunFault)
+pub runs-over : (ring : ℕ) (c : Hierarchy) (selection : Selection) (l : Remaining)
+    (HasLeft : Remaining → Type 0) (ends : SplitterEnds) (fed : Result (Unit {0}) RunFault)
     (result : Result Settled RunFault)
     → SplitUp selection l HasLeft ends fed → OnOk result (IsOk fed)
     → IfOk result (λ s. (es : List DinRecord) → HasSentAll es ends → HasRun ring c es s)
@@ -103,8 +105,8 @@ runs-over ring c selection l HasLeft ends (Err f) (Err why) up fine whole answer
     (answers l.fault up.0, up.1)
 
 -- the same where no thread was fed
-pub runs-refused : (ring : ℕ) (c : Hierarchy) (selection : Selection) (l : Left)
-    (HasLeft : Left → Type 0) (why : RunFault) → (why ≡ Memory) ⊎ (why ≡ Threads) → HasLeft l
+pub runs-refused : (ring : ℕ) (c : Hierarchy) (selection : Selection) (l : Remaining)
+    (HasLeft : Remaining → Type 0) (why : RunFault) → (why ≡ Memory) ⊎ (why ≡ Threads) → HasLeft l
     → RunsOver ring c selection l HasLeft (Err why)
 runs-refused ring c selection l HasLeft why refused left = (
   elim refused [

@@ -3,10 +3,9 @@ use Rattle.std.proofs.Common.{◌≡◌, List, [], ◌∷◌, ◌++◌, refl, ap
 use Rattle.pipe_rings.specs.Rings.{received, SameRx}
 use Rattle.pipe_rings.proofs.Ends.{rx_stays}
 use Rattle.cache_core.specs.Standing.{rules_of}
-use Rattle.stage_core.specs.Merging.{Stand, AtOrder, AtI, AtD, AtBoth, LastI, LastD, AtEnd, wanted}
-use Rattle.stage_core.specs.Merging.{after_turn, after_message}
-use Rattle.stage_core.specs.Merging.{what_in, merged, all_used}
-use Rattle.stage_core.specs.Standing.{SecondStandsFor, second_cache}
+use Rattle.stage_core.specs.Merging.{MergeState, AtOrder, AtI, AtD, AtBoth, LastI, LastD, AtEnd}
+use Rattle.stage_core.specs.Merging.{wanted, after_turn, after_message, what_in, merged, all_used}
+use Rattle.stage_core.specs.Standing.{L2StandsFor, l2_cache}
 use Rattle.stage_core.specs.declared.message.Turn.{Turn}
 use Rattle.stage_core.specs.declared.message.Want.TheVariants as want
 use Rattle.stage_core.specs.declared.message.What.{What}
@@ -17,8 +16,8 @@ use Rattle.sim_run.specs.Ends.{UnusedMerge}
 use Rattle.sim_run.specs.Threads.{HasMerged}
 use Rattle.sim_run.proofs.Merging.{turn-more, i-more, d-more}
 
-pub merges-nothing : (u : L2Stage) (ends : MergeEnds) (at : Stand) → at ≡ AtOrder
-    → SecondStandsFor u [] → UnusedMerge ends → HasMerged at u ends u ends
+pub merges-nothing : (u : L2Stage) (ends : MergeEnds) (at : MergeState) → at ≡ AtOrder
+    → L2StandsFor u [] → UnusedMerge ends → HasMerged at u ends u ends
 merges-nothing u ends at begins stands unused = record {
   rings = record {
     order = ((refl, refl, refl, refl), refl);
@@ -26,15 +25,17 @@ merges-nothing u ends at begins stands unused = record {
     from_d = ((refl, refl, refl, refl), refl);
   };
   rules = refl;
-  whats = [];
+  requests = [];
   used = ap (λ turns. merged turns (received ends.from_i) (received ends.from_d)) unused.order
       ∙ ap (λ is. merged [] is (received ends.from_d)) unused.from_i
       ∙ ap (λ ds. merged [] [] ds) unused.from_d ∙ ap (all_used []) (sym begins);
   stands = stands;
 }
 
-module _ (began : L2Stage) (start : MergeEnds) (at : Stand) (u : L2Stage) (was : MergeEnds) where
-  pub merges-turn : (t : Turn) (now : MergeEnds) (next : Stand) → HasMerged at began start u was
+module _ (began : L2Stage) (start : MergeEnds) (at : MergeState) (u : L2Stage)
+    (was : MergeEnds) where
+  pub merges-turn : (t : Turn) (now : MergeEnds) (next : MergeState)
+      → HasMerged at began start u was
       → wanted at ≡ want.Order → next ≡ after_turn t → SameRx was.order now.order
       → received now.order ≡ received was.order ++ t ∷ []
       → now.from_i ≡ was.from_i → now.from_d ≡ was.from_d → HasMerged next began start u now
@@ -45,22 +46,23 @@ module _ (began : L2Stage) (start : MergeEnds) (at : Stand) (u : L2Stage) (was :
       from_d = subst (SameRx start.from_d) (sym same_d) going.rings.from_d;
     };
     rules = going.rules;
-    whats = going.whats ++ [];
+    requests = going.requests ++ [];
     used = ap (λ turns. merged turns (received now.from_i) (received now.from_d)) got
         ∙ ap (λ end. merged (received was.order ++ t ∷ []) (received end) (received now.from_d))
         same_i
         ∙ ap (λ end. merged (received was.order ++ t ∷ []) (received was.from_i) (received end))
         same_d
-        ∙ turn-more t (received was.order) (received was.from_i) (received was.from_d) going.whats
+        ∙ turn-more t (received was.order) (received was.from_i) (received was.from_d)
+        going.requests
         at going.used wants
-        ∙ ap (all_used (going.whats ++ [])) (sym to);
-    stands = subst (SecondStandsFor u) (sym (append-nil going.whats)) going.stands;
+        ∙ ap (all_used (going.requests ++ [])) (sym to);
+    stands = subst (L2StandsFor u) (sym (append-nil going.requests)) going.stands;
   }
 
-  module _ (m : FromStage) (next : Stand) (to : next ≡ after_message at m) (v : L2Stage) (now
+  module _ (m : FromStage) (next : MergeState) (to : next ≡ after_message at m) (v : L2Stage) (now
       : MergeEnds) (going : HasMerged at began start u was) (serves : (before : List What)
-      → SecondStandsFor u before → SecondStandsFor v (before ++ what_in m)) (same_rules : rules_of
-      (second_cache v) ≡ rules_of (second_cache u)) where
+      → L2StandsFor u before → L2StandsFor v (before ++ what_in m)) (same_rules : rules_of
+      (l2_cache v) ≡ rules_of (l2_cache u)) where
     pub merges-i : wanted at ≡ want.I → SameRx was.from_i now.from_i
         → received now.from_i ≡ received was.from_i ++ m ∷ []
         → now.order ≡ was.order → now.from_d ≡ was.from_d → HasMerged next began start v now
@@ -71,16 +73,16 @@ module _ (began : L2Stage) (start : MergeEnds) (at : Stand) (u : L2Stage) (was :
         from_d = subst (SameRx start.from_d) (sym same_d) going.rings.from_d;
       };
       rules = same_rules ∙ going.rules;
-      whats = going.whats ++ what_in m;
+      requests = going.requests ++ what_in m;
       used = ap (λ is. merged (received now.order) is (received now.from_d)) got
           ∙ ap (λ end. merged (received end) (received was.from_i ++ m ∷ []) (received now.from_d))
           same_order
           ∙ ap (λ end. merged (received was.order) (received was.from_i ++ m ∷ []) (received end))
           same_d
-          ∙ i-more m (received was.order) (received was.from_i) (received was.from_d) going.whats
+          ∙ i-more m (received was.order) (received was.from_i) (received was.from_d) going.requests
           at going.used wants
-          ∙ ap (all_used (going.whats ++ what_in m)) (sym to);
-      stands = serves going.whats going.stands;
+          ∙ ap (all_used (going.requests ++ what_in m)) (sym to);
+      stands = serves going.requests going.stands;
     }
 
     pub merges-d : wanted at ≡ want.D → SameRx was.from_d now.from_d
@@ -93,19 +95,19 @@ module _ (began : L2Stage) (start : MergeEnds) (at : Stand) (u : L2Stage) (was :
         from_d = rx_stays start.from_d was.from_d now.from_d going.rings.from_d ring;
       };
       rules = same_rules ∙ going.rules;
-      whats = going.whats ++ what_in m;
+      requests = going.requests ++ what_in m;
       used = ap (λ ds. merged (received now.order) (received now.from_i) ds) got
           ∙ ap (λ end. merged (received end) (received now.from_i) (received was.from_d ++ m ∷ []))
           same_order
           ∙ ap (λ end. merged (received was.order) (received end) (received was.from_d ++ m ∷ []))
           same_i
-          ∙ d-more m (received was.order) (received was.from_i) (received was.from_d) going.whats
+          ∙ d-more m (received was.order) (received was.from_i) (received was.from_d) going.requests
           at going.used wants
-          ∙ ap (all_used (going.whats ++ what_in m)) (sym to);
-      stands = serves going.whats going.stands;
+          ∙ ap (all_used (going.requests ++ what_in m)) (sym to);
+      stands = serves going.requests going.stands;
     }
 
-is-end : (at : Stand) → want.Nothing ≡ wanted at → at ≡ AtEnd
+is-end : (at : MergeState) → want.Nothing ≡ wanted at → at ≡ AtEnd
 is-end AtOrder e = cc
 is-end AtI e = cc
 is-end AtD e = cc
@@ -115,7 +117,8 @@ is-end LastD e = cc
 is-end AtEnd e = refl
 
 -- a merge that wants nothing is at its end
-pub merges-end : (began : L2Stage) (start : MergeEnds) (at : Stand) (u : L2Stage) (now : MergeEnds)
+pub merges-end : (began : L2Stage) (start : MergeEnds) (at : MergeState) (u : L2Stage)
+    (now : MergeEnds)
     → HasMerged at began start u now → want.Nothing ≡ wanted at → HasMerged AtEnd began start u now
 merges-end began start at u now going wants =
     subst (λ a. HasMerged a began start u now) (is-end at wants) going

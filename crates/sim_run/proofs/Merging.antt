@@ -1,9 +1,8 @@
 -- One message more through the merge.
 use Rattle.std.proofs.Common.{◌≡◌, List, [], ◌∷◌, ◌++◌, refl, ap, sym, ◌∙◌}
-use Rattle.stage_core.specs.Merging.{Stand, AtOrder, AtI, AtD, AtBoth, LastI, LastD, AtEnd, wanted}
-use Rattle.stage_core.specs.Merging.{after_turn, after_end, after_message, what_in, Merged}
-use Rattle.stage_core.specs.Merging.{with_what}
-use Rattle.stage_core.specs.Merging.{up_to_end, stops, merged, all_used}
+use Rattle.stage_core.specs.Merging.{MergeState, AtOrder, AtI, AtD, AtBoth, LastI, LastD, AtEnd}
+use Rattle.stage_core.specs.Merging.{wanted, after_turn, after_end, after_message, what_in, Merged}
+use Rattle.stage_core.specs.Merging.{with_what, up_to_end, stops, merged, all_used}
 use Rattle.stage_core.specs.declared.message.What.{What}
 use Rattle.stage_core.specs.declared.message.Turn.{Turn}
 use Rattle.stage_core.specs.declared.message.Turn.TheVariants as turn
@@ -13,13 +12,13 @@ use Rattle.stage_core.specs.declared.message.FromStage.{FromStage}
 use Rattle.stage_core.specs.declared.message.FromStage.TheVariants.{Part, Done, Finish}
 
 -- Where the rule used its lists up and wants a message of this kind, it uses the message up too:
--- it takes these whats more, and stands there.
-abbrev Goes : Want → List What → (Stand → Stand) → Merged → Merged → Type 0
-Goes wants more next was now = (ws : List What) (at : Stand) → was ≡ all_used ws at
+-- it takes these requests more, and stands there.
+abbrev Goes : Want → List What → (MergeState → MergeState) → Merged → Merged → Type 0
+Goes wants more next was now = (ws : List What) (at : MergeState) → was ≡ all_used ws at
     → wanted at ≡ wants → now ≡ all_used (ws ++ more) (next at)
 
 -- what follows a what that was taken
-taken-first : (w : What) (m : Merged) (ws : List What) (at : Stand)
+taken-first : (w : What) (m : Merged) (ws : List What) (at : MergeState)
     → with_what w m ≡ all_used ws at → (us : List What) × (ws ≡ w ∷ us) × (m ≡ all_used us at)
 taken-first w m ws at is = (
   m.taken,
@@ -27,7 +26,7 @@ taken-first w m ws at is = (
   ap (λ (x : Merged). record x { taken = m.taken }) is,
 )
 
-module _ (wants : Want) (more : List What) (next : Stand → Stand) where
+module _ (wants : Want) (more : List What) (next : MergeState → MergeState) where
   goes-with_what : (w : What) (was now : Merged) → Goes wants more next was now
       → Goes wants more next (with_what w was) (with_what w now)
   goes-with_what w was now goes ws at is wanting =
@@ -49,22 +48,22 @@ module _ (wants : Want) (more : List What) (next : Stand → Stand) where
   goes-up_to_end (Finish ∷ ms) stopped stopped' then then' s t = t ms
 
   -- a rule that stops elsewhere wants no such message
-  goes-elsewhere : (here : Stand) (turns turns' : List Turn) (is is' ds ds' : List FromStage)
+  goes-elsewhere : (here : MergeState) (turns turns' : List Turn) (is is' ds ds' : List FromStage)
       → (wanted here ≡ wants → ⊥)
       → Goes wants more next (stops here turns is ds) (stops here turns' is' ds')
   goes-elsewhere here turns turns' is is' ds ds' other ws at e wanting =
       absurd (other (ap (λ (x : Merged). wanted x.at) e ∙ wanting))
 
 -- where nothing was left, and nothing was taken
-used-nothing : (here at : Stand) (ws : List What) → ws ≡ [] → here ≡ at
+used-nothing : (here at : MergeState) (ws : List What) → ws ≡ [] → here ≡ at
     → all_used [] (after_end here) ≡ all_used (ws ++ []) (after_end at)
 used-nothing here at ws none same =
     ap (λ us. all_used (us ++ []) (after_end here)) (sym none)
     ∙ ap (λ a. all_used (ws ++ []) (after_end a)) same
 
-ends-turn : (here : Stand) (turns : List Turn) (is ds : List FromStage)
+ends-turn : (here : MergeState) (turns : List Turn) (is ds : List FromStage)
     (then : List Turn → List FromStage → List FromStage → Merged)
-    → then [] [] [] ≡ all_used [] (after_end here) → (ws : List What) (at : Stand)
+    → then [] [] [] ≡ all_used [] (after_end here) → (ws : List What) (at : MergeState)
     → stops here turns is ds ≡ all_used ws at
     → then turns is ds ≡ all_used (ws ++ []) (after_end at)
 ends-turn here [] [] [] then behind ws at e =
@@ -83,10 +82,10 @@ module _ (wants : Want) (m : FromStage) where
   Takes was now = Goes wants (what_in m) (λ at. after_message at m) was now
 
   takes-last : (n : FromStage) (stopped : Merged) (then : List FromStage → Merged)
-      → ((ws : List What) (at : Stand) → stopped ≡ all_used ws at → ws ≡ [])
-      → ((ws : List What) (at : Stand) → stopped ≡ all_used ws at
+      → ((ws : List What) (at : MergeState) → stopped ≡ all_used ws at → ws ≡ [])
+      → ((ws : List What) (at : MergeState) → stopped ≡ all_used ws at
       → then [] ≡ all_used (ws ++ []) (after_end at))
-      → (ws : List What) (at : Stand) → stopped ≡ all_used ws at
+      → (ws : List What) (at : MergeState) → stopped ≡ all_used ws at
       → up_to_end (n ∷ []) stopped then ≡ all_used (ws ++ what_in n) (after_message at n)
   takes-last (Part place part w) stopped then none ends ws at is =
       ap (with_what w) is ∙ ap (λ us. all_used (w ∷ us) at) (none ws at is)
@@ -95,8 +94,8 @@ module _ (wants : Want) (m : FromStage) where
   takes-last Finish stopped then none ends ws at is = ends ws at is
 
   takes-up_to_end : (ms : List FromStage) (stopped : Merged) (then : List FromStage → Merged)
-      → ((ws : List What) (at : Stand) → stopped ≡ all_used ws at → ws ≡ [])
-      → ((ws : List What) (at : Stand) → stopped ≡ all_used ws at
+      → ((ws : List What) (at : MergeState) → stopped ≡ all_used ws at → ws ≡ [])
+      → ((ws : List What) (at : MergeState) → stopped ≡ all_used ws at
       → then [] ≡ all_used (ws ++ []) (after_end at))
       → ((rest : List FromStage) → Takes (then rest) (then (rest ++ m ∷ [])))
       → Takes (up_to_end ms stopped then) (up_to_end (ms ++ m ∷ []) stopped then)
@@ -108,8 +107,8 @@ module _ (wants : Want) (m : FromStage) where
   takes-up_to_end (Done place parts ∷ ms) stopped then none ends t = t ms
   takes-up_to_end (Finish ∷ ms) stopped then none ends t = t ms
 
-took-nothing : (here : Stand) (turns : List Turn) (is ds : List FromStage) (ws : List What)
-    (at : Stand) → stops here turns is ds ≡ all_used ws at → ws ≡ []
+took-nothing : (here : MergeState) (turns : List Turn) (is ds : List FromStage) (ws : List What)
+    (at : MergeState) → stops here turns is ds ≡ all_used ws at → ws ≡ []
 took-nothing here turns is ds ws at e = sym (ap (λ (x : Merged). x.taken) e)
 
 -- one turn more
@@ -120,7 +119,7 @@ module _ (t : Turn) where
   abbrev with_turn : List Turn → List Turn
   with_turn turns = turns ++ t ∷ []
 
-  turned : (now : Stand) (ws : List What) → ws ≡ [] → now ≡ after_turn t
+  turned : (now : MergeState) (ws : List What) → ws ≡ [] → now ≡ after_turn t
       → all_used [] now ≡ all_used (ws ++ []) (after_turn t)
   turned now ws none same =
       ap (λ us. all_used (us ++ []) now) (sym none) ∙ ap (λ a. all_used (ws ++ []) a) same
@@ -132,7 +131,7 @@ one-turn turn.D ws none = turned turn.D AtD ws none refl
 one-turn turn.Both ws none = turned turn.Both AtBoth ws none refl
 one-turn turn.Finish ws none = turned turn.Finish LastI ws none refl
 
-elsewhere-turn : (t : Turn) (here : Stand) (turns : List Turn) (is ds : List FromStage)
+elsewhere-turn : (t : Turn) (here : MergeState) (turns : List Turn) (is ds : List FromStage)
     → (wanted here ≡ want.Order → ⊥)
     → Turns t (stops here turns is ds) (stops here (with_turn t turns) is ds)
 elsewhere-turn t here turns is ds other =
@@ -172,7 +171,7 @@ module _ (m : FromStage) where
   abbrev TakesI : Merged → Merged → Type 0
   TakesI was now = Takes want.I m was now
 
-  elsewhere-i : (here : Stand) (turns : List Turn) (is ds : List FromStage)
+  elsewhere-i : (here : MergeState) (turns : List Turn) (is ds : List FromStage)
       → (wanted here ≡ want.I → ⊥)
       → TakesI (stops here turns is ds) (stops here turns (is ++ m ∷ []) ds)
   elsewhere-i here turns is ds other =
@@ -217,7 +216,7 @@ module _ (m : FromStage) where
   abbrev TakesD : Merged → Merged → Type 0
   TakesD was now = Takes want.D m was now
 
-  elsewhere-d : (here : Stand) (turns : List Turn) (is ds : List FromStage)
+  elsewhere-d : (here : MergeState) (turns : List Turn) (is ds : List FromStage)
       → (wanted here ≡ want.D → ⊥)
       → TakesD (stops here turns is ds) (stops here turns is (ds ++ m ∷ []))
   elsewhere-d here turns is ds other =

@@ -5,23 +5,23 @@ use Rattle.std.proofs.Common.{refl, ap, sym, ◌∙◌, subst, append_assoc, app
 use Rattle.std.proofs.Common.{length-append}
 use Rattle.std.proofs.lemmas.List.{map-append}
 use Rattle.pipe_rings.proofs.Ends.{tx_stays}
-use Rattle.din_trace.specs.Left.{Left, Script, Fate, Follows, first_answer, behind_first}
+use Rattle.din_trace.specs.Remaining.{Remaining, Script, Fate, Follows, first_answer, after_first}
 use Rattle.din_trace.specs.Source.{HasLeft, Takes, room_of}
 use Rattle.din_trace.specs.declared.record.DinRecord.{DinRecord}
 use Rattle.din_trace.specs.declared.fault.TraceFault.{TraceFault}
 use Rattle.din_trace.specs.declared.source.Source.{Source}
 use Rattle.din_trace.proofs.Calls.{Calls}
 use Rattle.din_trace.proofs.Scripts.{first_record, first_end, first_fault-is}
-use Rattle.stage_core.specs.Places.{over}
+use Rattle.stage_core.specs.Places.{flat_map_with_past}
 use Rattle.stage_core.specs.Events.{events, asked}
-use Rattle.stage_core.specs.Streams.{turn_of, message, told}
+use Rattle.stage_core.specs.Streams.{turn_of, message, messages_to}
 use Rattle.stage_core.specs.Standing.{Offers, WasOffered}
 use Rattle.stage_core.specs.declared.message.Side.TheVariants as side
 use Rattle.stage_core.specs.declared.message.Turn.TheVariants as turn
 use Rattle.stage_core.specs.declared.message.ToStage.TheVariants as to_stage
 use Rattle.stage_core.specs.declared.message.Routed.{Routed}
 use Rattle.stage_core.specs.declared.selection.Selection.{Selection}
-use Rattle.stage_core.proofs.Place.{over-more}
+use Rattle.stage_core.proofs.Place.{flat_map_with_past-more}
 use Rattle.sim_run.specs.declared.ends.SplitterEnds.{SplitterEnds}
 use Rattle.din_trace.specs.declared.fault.TraceFault.TheVariants.{Bad, TooLong, Read, Memory}
 use Rattle.sim_run.specs.Faults.{MayAnswer, source_fault}
@@ -66,13 +66,13 @@ sends-event es e place next routed was now going is_next turn i d sends = record
       ∙ ap (λ t. map (λ (x : DinRecord). turn_of x.label) es ++ t ∷ []) turn
       ∙ sym (map-append (λ (x : DinRecord). turn_of x.label) es (e ∷ []));
   to_i = sends.to_i ∙ ap (λ l. l ++ option_to_list routed.i) going.to_i
-      ∙ ap (λ l. over (told side.I) es ++ l)
+      ∙ ap (λ l. flat_map_with_past (messages_to side.I) es ++ l)
       (i ∙ ap (λ n. map (message (n + 1)) (asked side.I e)) going.last)
-      ∙ sym (over-more (told side.I) es e);
+      ∙ sym (flat_map_with_past-more (messages_to side.I) es e);
   to_d = sends.to_d ∙ ap (λ l. l ++ option_to_list routed.d) going.to_d
-      ∙ ap (λ l. over (told side.D) es ++ l)
+      ∙ ap (λ l. flat_map_with_past (messages_to side.D) es ++ l)
       (d ∙ ap (λ n. map (message (n + 1)) (asked side.D e)) going.last)
-      ∙ sym (over-more (told side.D) es e);
+      ∙ sym (flat_map_with_past-more (messages_to side.D) es e);
 }
 
 -- the messages of the end
@@ -83,9 +83,9 @@ sends-end es place routed was now going turn i d sends = record {
   order = sends.order ∙ ap (λ l. l ++ routed.turn ∷ []) going.order
       ∙ ap (λ t. map (λ (x : DinRecord). turn_of x.label) es ++ t ∷ []) turn;
   to_i = sends.to_i ∙ ap (λ l. l ++ option_to_list routed.i) going.to_i
-      ∙ ap (λ o. over (told side.I) es ++ option_to_list o) i;
+      ∙ ap (λ o. flat_map_with_past (messages_to side.I) es ++ option_to_list o) i;
   to_d = sends.to_d ∙ ap (λ l. l ++ option_to_list routed.d) going.to_d
-      ∙ ap (λ o. over (told side.D) es ++ option_to_list o) d;
+      ∙ ap (λ o. flat_map_with_past (messages_to side.D) es ++ option_to_list o) d;
 }
 
 -- the splitter has read these records of a source, and sent all messages of what is selected of
@@ -97,14 +97,14 @@ pub record Splits {R : Type 0} (remaining : R → Option (List ℕ)) (failures :
   pub given : List ℕ
   pub fate : Fate
   pub went : Takes remaining failures start now given fate
-  pub left : (first last : Script) (l : Left) → Follows fate given first last
-      → HasLeft start first l → (rest : Left) × (l.records ≡ past ++ rest.records)
+  pub left : (first last : Script) (l : Remaining) → Follows fate given first last
+      → HasLeft start first l → (rest : Remaining) × (l.records ≡ past ++ rest.records)
       × (rest.fault ≡ l.fault) × HasLeft now last rest
   pub chosen : offers.selection ≡ selection
   pub offered : WasOffered offers past
   -- there is room for the records of the source
   pub room : (offers.records ≡ 0) ⊎ (offers.records + room_of now ≤ 2 ^ 40)
-  pub few : place ≤ 2 * offers.records
+  pub at_most : place ≤ 2 * offers.records
   pub rings : SameSplitterEnds began ends
   pub sends : HasSent (events selection past) place ends
 
@@ -114,33 +114,33 @@ module _ {R : Type 0} (remaining : R → Option (List ℕ)) (failures : R → �
     (going : Splits remaining failures selection start began offers place now ends)
     (next : Source R) (result : Result (Option DinRecord) TraceFault) (given : List ℕ) (fate : Fate)
     (all : Calls remaining failures start next going.given given going.fate fate)
-    (reads : (before later : Script) (l : Left) → Follows fate given before later
-    → HasLeft now before l → (result ≡ first_answer l) × HasLeft next later (behind_first l)) where
+    (reads : (before later : Script) (l : Remaining) → Follows fate given before later
+    → HasLeft now before l → (result ≡ first_answer l) × HasLeft next later (after_first l)) where
   -- what was left before the last call, and what it answered
-  before-last : (first last : Script) (l : Left) → Follows all.fate all.given first last
-      → HasLeft start first l → (rest : Left) × (l.records ≡ going.past ++ rest.records)
+  before-last : (first last : Script) (l : Remaining) → Follows all.fate all.given first last
+      → HasLeft start first l → (rest : Remaining) × (l.records ≡ going.past ++ rest.records)
       × (rest.fault ≡ l.fault) × (result ≡ first_answer rest)
-      × HasLeft next last (behind_first rest)
+      × HasLeft next last (after_first rest)
   before-last first last l is has =
       let mid = all.between first last is in
       let rest = going.left first mid.0 l mid.1 has in
       let after = reads mid.0 last rest.0 mid.2 rest.3 in
       (rest.0, rest.1, rest.2, after.0, after.1)
 
-  pub left-record : (r : DinRecord) → result ≡ Ok (Some r) → (first last : Script) (l : Left)
-      → Follows all.fate all.given first last → HasLeft start first l → (rest : Left)
+  pub left-record : (r : DinRecord) → result ≡ Ok (Some r) → (first last : Script) (l : Remaining)
+      → Follows all.fate all.given first last → HasLeft start first l → (rest : Remaining)
       × (l.records ≡ (going.past ++ r ∷ []) ++ rest.records) × (rest.fault ≡ l.fault)
       × HasLeft next last rest
   left-record r was first last l is has =
       let rest = before-last first last l is has in (
-        behind_first rest.0,
+        after_first rest.0,
         rest.1 ∙ ap (λ rs. going.past ++ rs) (first_record rest.0 r (sym was ∙ rest.3))
             ∙ sym (append_assoc going.past (r ∷ []) (drop 1 rest.0.records)),
         rest.2,
         rest.4,
       )
 
-  pub left-end : result ≡ Ok None → (first last : Script) (l : Left)
+  pub left-end : result ≡ Ok None → (first last : Script) (l : Remaining)
       → Follows all.fate all.given first last → HasLeft start first l
       → (l.fault ≡ None) × (l.records ≡ going.past) × HasLeft next last at_end
   left-end was first last l is has =
@@ -148,12 +148,12 @@ module _ {R : Type 0} (remaining : R → Option (List ℕ)) (failures : R → �
       let none = first_end rest.0 (sym was ∙ rest.3) in (
         sym rest.2 ∙ none.1,
         rest.1 ∙ ap (λ rs. going.past ++ rs) none.0 ∙ append-nil going.past,
-        subst (λ (x : Left). HasLeft next last x)
-            (ap (λ rs. behind_first (record { records = rs; fault = rest.0.fault })) none.0
+        subst (λ (x : Remaining). HasLeft next last x)
+            (ap (λ rs. after_first (record { records = rs; fault = rest.0.fault })) none.0
             ∙ ap (λ f. record { records = []; fault = f }) none.1) rest.4,
       )
 
-  pub left-fault : (f : TraceFault) → result ≡ Err f → (first last : Script) (l : Left)
+  pub left-fault : (f : TraceFault) → result ≡ Err f → (first last : Script) (l : Remaining)
       → Follows all.fate all.given first last → HasLeft start first l
       → (l.fault ≡ Some f) × LeavesRest l (HasLeft next last)
   left-fault f was first last l is has =
@@ -162,14 +162,14 @@ module _ {R : Type 0} (remaining : R → Option (List ℕ)) (failures : R → �
         sym rest.2 ∙ none.1,
         record {
           gone = going.past;
-          rest = behind_first rest.0;
+          rest = after_first rest.0;
           records = rest.1 ∙ ap (λ rs. going.past ++ rs) (none.0 ∙ sym (ap (drop 1) none.0));
           fault = rest.2;
           left = rest.4;
         },
       )
 
-  pub rest-record : (r : DinRecord) → result ≡ Ok (Some r) → (first last : Script) (l : Left)
+  pub rest-record : (r : DinRecord) → result ≡ Ok (Some r) → (first last : Script) (l : Remaining)
       → Follows all.fate all.given first last → HasLeft start first l
       → LeavesRest l (HasLeft next last)
   rest-record r was first last l is has =
@@ -182,7 +182,7 @@ module _ {R : Type 0} (remaining : R → Option (List ℕ)) (failures : R → �
         left = after.3;
       }
 
-  pub rest-end : result ≡ Ok None → (first last : Script) (l : Left)
+  pub rest-end : result ≡ Ok None → (first last : Script) (l : Remaining)
       → Follows all.fate all.given first last → HasLeft start first l
       → LeavesRest l (HasLeft next last)
   rest-end was first last l is has =
@@ -202,9 +202,9 @@ pub rest-cut : {R : Type 0} (remaining : R → Option (List ℕ)) (failures : R 
     (going : Splits remaining failures selection start began offers place now ends)
     (next : Source R) (given : List ℕ) (fate : Fate)
     (all : Calls remaining failures start next going.given given going.fate fate)
-    → ((before later : Script) (l : Left) → Follows fate given before later
+    → ((before later : Script) (l : Remaining) → Follows fate given before later
     → HasLeft now before l → HasLeft next later l)
-    → (first last : Script) (l : Left) → Follows all.fate all.given first last
+    → (first last : Script) (l : Remaining) → Follows all.fate all.given first last
     → HasLeft start first l → LeavesRest l (HasLeft next last)
 rest-cut remaining failures selection start began offers place now ends going next given fate all
     keeps first last l is has =

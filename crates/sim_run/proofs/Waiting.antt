@@ -4,9 +4,9 @@ use Rattle.pipe_rings.specs.Rings.{sent, received}
 use Rattle.din_trace.specs.declared.record.DinRecord.{DinRecord}
 use Rattle.cache_core.specs.Standing.{rules_of}
 use Rattle.cache_core.specs.History.{Rules}
-use Rattle.stage_core.specs.Places.{over, one_if}
-use Rattle.stage_core.specs.Seen.{parts_of}
-use Rattle.stage_core.specs.Streams.{told, reply, replies}
+use Rattle.stage_core.specs.Places.{flat_map_with_past, list_if}
+use Rattle.stage_core.specs.SecondLevel.{parts_of}
+use Rattle.stage_core.specs.Streams.{messages_to, reply, replies}
 use Rattle.stage_core.specs.Standing.{cache_of, side_of, outbox_of}
 use Rattle.stage_core.specs.Waiting.{HasAnswered}
 use Rattle.stage_core.specs.declared.message.Side.{Side}
@@ -14,16 +14,20 @@ use Rattle.stage_core.specs.declared.message.Side.TheVariants as side
 use Rattle.stage_core.specs.declared.message.ToStage.{ToStage}
 use Rattle.stage_core.specs.declared.message.ToStage.TheVariants as to_stage
 use Rattle.stage_core.specs.declared.l1_stage.L1Stage.{L1Stage}
-use Rattle.stage_core.proofs.Place.{over-more}
+use Rattle.stage_core.proofs.Place.{flat_map_with_past-more}
 use Rattle.sim_run.specs.declared.ends.SplitterEnds.{SplitterEnds}
 use Rattle.sim_run.specs.declared.ends.StageEnds.{StageEnds}
 use Rattle.sim_run.specs.Threads.{HasSent, HasServed}
 use Rattle.sim_run.specs.Waits.{PostedWhole, OfStage, sender_to}
 
 sent-to : (es : List DinRecord) (place : ℕ) (ends : SplitterEnds) → HasSent es place ends
-    → (s : Side) → (sender_to ends s).posted ≡ over (told s) es ++ one_if false to_stage.Finish
-sent-to es place ends going side.I = going.to_i ∙ sym (append-nil (over (told side.I) es))
-sent-to es place ends going side.D = going.to_d ∙ sym (append-nil (over (told side.D) es))
+    → (s : Side)
+    → (sender_to ends s).posted
+    ≡ flat_map_with_past (messages_to s) es ++ list_if false to_stage.Finish
+sent-to es place ends going side.I = going.to_i
+    ∙ sym (append-nil (flat_map_with_past (messages_to side.I) es))
+sent-to es place ends going side.D = going.to_d
+    ∙ sym (append-nil (flat_map_with_past (messages_to side.D) es))
 
 -- a splitter that has sent the messages of some events has posted whole events
 pub events-whole : (es : List DinRecord) (place : ℕ) (ends : SplitterEnds) → HasSent es place ends
@@ -56,7 +60,7 @@ taken-answers began start stage was m next now going got same same_side same_rul
     going.rules
     ∙ ap (λ (x : Side). sent was.to_merge ++ reply (parts_of rules) x before m) going.side
     ∙ ap (λ l. l ++ reply (parts_of rules) s before m) going.answered
-    ∙ sym (over-more (reply (parts_of rules) s) before m)
+    ∙ sym (flat_map_with_past-more (reply (parts_of rules) s) before m)
     ∙ ap (replies (parts_of rules) s) (sym got)
     ∙ sym (ap (λ (r : Rules). replies (parts_of r) (side_of next) (received now.from_splitter))
     (same_rules ∙ going.rules)

@@ -7,16 +7,16 @@ use Rattle.cache_core.specs.Counts.{counts_of}
 use Rattle.cache_core.specs.History.{Rules}
 use Rattle.cache_core.specs.Standing.{rules_of}
 use Rattle.cache_core.specs.declared.counts.Counts.{Counts}
-use Rattle.stage_core.specs.Places.{along}
+use Rattle.stage_core.specs.Places.{flat_map_after}
 use Rattle.stage_core.specs.Events.{history}
-use Rattle.stage_core.specs.Seen.{Hierarchy, Parts, parts_of, parts_in, rules_at, seen}
-use Rattle.stage_core.specs.Seen.{second_history}
+use Rattle.stage_core.specs.SecondLevel.{Hierarchy, Parts, parts_of, parts_in, rules_at}
+use Rattle.stage_core.specs.SecondLevel.{second_level_requests, second_history}
 use Rattle.stage_core.specs.Streams as streams
-use Rattle.stage_core.specs.Streams.{answered, replies, taken_in, to_side, from_side, told}
+use Rattle.stage_core.specs.Streams.{answered, replies, taken_in, to_side, from_side, messages_to}
 use Rattle.stage_core.specs.Merging.{merged, all_used, AtEnd, Merged}
-use Rattle.stage_core.specs.Laws.{MergeTakesWhatIsSeen, StagesAnswerTheirStreams}
-use Rattle.stage_core.specs.Standing.{StageStandsFor, SecondStandsFor, cache_of, side_of}
-use Rattle.stage_core.specs.Standing.{second_cache}
+use Rattle.stage_core.specs.Laws.{MergeTakesTheRequests, StagesAnswerTheirStreams}
+use Rattle.stage_core.specs.Standing.{StageStandsFor, L2StandsFor, cache_of, side_of}
+use Rattle.stage_core.specs.Standing.{l2_cache}
 use Rattle.stage_core.specs.declared.message.Side.{Side}
 use Rattle.stage_core.specs.declared.message.Side.TheVariants as side
 use Rattle.stage_core.specs.declared.message.What.{What}
@@ -27,7 +27,7 @@ use Rattle.stage_core.specs.declared.message.FromStage.TheVariants as from_stage
 use Rattle.stage_core.specs.declared.totals.Totals.{Totals}
 use Rattle.stage_core.specs.declared.l1_stage.L1Stage.{L1Stage}
 use Rattle.stage_core.specs.declared.l2_stage.L2Stage.{L2Stage}
-use Rattle.stage_core.proofs.Told.{taken_in-to_side}
+use Rattle.stage_core.proofs.Messages.{taken_in-to_side}
 use Rattle.sim_run.specs.declared.ends.SplitterEnds.{SplitterEnds}
 use Rattle.sim_run.specs.declared.ends.StageEnds.{StageEnds}
 use Rattle.sim_run.specs.declared.ends.Rings.{Rings}
@@ -97,8 +97,8 @@ carried-whole c xs all is =
 
 -- a stage answers with the parts of its own cache
 own-parts : (c : Hierarchy) (s : Side) (before es : List DinRecord)
-    → along (answered (parts_of (rules_at c s)) s) before es
-    ≡ along (answered (parts_in c) s) before es
+    → flat_map_after (answered (parts_of (rules_at c s)) s) before es
+    ≡ flat_map_after (answered (parts_in c) s) before es
 own-parts c s before [] = refl
 own-parts c s before (e ∷ es) =
     ap (λ l. answered (parts_in c) s before e ++ l) (own-parts c s (before ++ e ∷ []) es)
@@ -127,7 +127,7 @@ module _ (law : StagesAnswerTheirStreams) (c : Hierarchy) (s : Side) (es : List 
       ∙ ap (counts_of (rules_at c s)) (taken_in-to_side s es)
 
 -- the whole of a run
-module _ (stages : StagesAnswerTheirStreams) (merges : MergeTakesWhatIsSeen) (es : List DinRecord)
+module _ (stages : StagesAnswerTheirStreams) (merges : MergeTakesTheRequests) (es : List DinRecord)
     (machines : Machines) (new : AreNew machines) (start : Rings) (was now : Rings)
     (i d : L1Stage) (u : L2Stage) (fed : HasSentAll es was.splitter)
     (ran_i : HasServed machines.i start.i i was.i) (ran_d : HasServed machines.d start.d d was.d)
@@ -173,26 +173,27 @@ module _ (stages : StagesAnswerTheirStreams) (merges : MergeTakesWhatIsSeen) (es
   abbrev fed_with : Carried Turn → Carried FromStage → Carried FromStage → Merged
   fed_with order from_i from_d = merged order.received from_i.received from_d.received
 
-  takes : fed_with (on_order now) (on_from_i now) (on_from_d now) ≡ all_used (seen parts es) AtEnd
+  takes : fed_with (on_order now) (on_from_i now) (on_from_d now)
+      ≡ all_used (second_level_requests parts es) AtEnd
   takes =
       ap (λ x. fed_with x (on_from_i now) (on_from_d now)) into-order
       ∙ ap (λ x. fed_with (whole (streams.order es)) x (on_from_d now)) out-of-i
       ∙ ap (λ x. fed_with (whole (streams.order es)) (whole (from_side parts side.I es)) x) out-of-d
       ∙ merges parts es
 
-  served : ran_u.whats ≡ seen parts es
+  served : ran_u.requests ≡ second_level_requests parts es
   served =
       ap (λ (m : Merged). m.taken) (sym ran_u.used
       ∙ sym (ap (λ x. fed_with x (on_from_i was) (on_from_d was)) same.order)
       ∙ sym (ap (λ x. fed_with (on_order now) x (on_from_d was)) same.from_i)
       ∙ sym (ap (λ x. fed_with (on_order now) (on_from_i now) x) same.from_d) ∙ takes)
 
-  second-counted : (counts : Counts) → ((whats : List What) → SecondStandsFor u whats
-      → counts ≡ counts_of (rules_of (second_cache u)) (second_history whats))
-      → counts ≡ counts_of c.u (second_history (seen parts es))
+  second-counted : (counts : Counts) → ((requests : List What) → L2StandsFor u requests
+      → counts ≡ counts_of (rules_of (l2_cache u)) (second_history requests))
+      → counts ≡ counts_of c.u (second_history (second_level_requests parts es))
   second-counted counts counted =
-      counted ran_u.whats ran_u.stands
-      ∙ ap (λ (r : Rules). counts_of r (second_history ran_u.whats)) ran_u.rules
+      counted ran_u.requests ran_u.stands
+      ∙ ap (λ (r : Rules). counts_of r (second_history ran_u.requests)) ran_u.rules
       ∙ ap (λ ws. counts_of c.u (second_history ws)) served
 
   pub whole-run : (totals : Totals)
@@ -200,8 +201,8 @@ module _ (stages : StagesAnswerTheirStreams) (merges : MergeTakesWhatIsSeen) (es
       → totals.i ≡ counts_of (rules_of (cache_of i)) (taken_in ms))
       → ((ms : List ToStage) → StageStandsFor d ms
       → totals.d ≡ counts_of (rules_of (cache_of d)) (taken_in ms))
-      → ((ws : List What) → SecondStandsFor u ws
-      → totals.u ≡ counts_of (rules_of (second_cache u)) (second_history ws))
+      → ((ws : List What) → L2StandsFor u ws
+      → totals.u ≡ counts_of (rules_of (l2_cache u)) (second_history ws))
       → HasRun ring c es (record { totals = totals; rings = now })
   whole-run totals count_i count_d count_u = record {
     capacity = capacity-settled ring was now

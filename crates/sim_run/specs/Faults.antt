@@ -15,9 +15,9 @@ source_fault trace.Read = Trace trace.Read
 source_fault trace.Memory = Memory
 
 -- what a run answers for a thread that stopped so
-abbrev pub stopped : Stop → RunFault
-stopped stop.Memory = Memory
-stopped stop.Cut = Cut
+abbrev pub fault_of_stop : Stop → RunFault
+fault_of_stop stop.Memory = Memory
+fault_of_stop stop.Cut = Cut
 
 -- the order in which faults are answered: a fault of the trace, want of memory, a thread that was
 -- not granted, an end that was gone; the writer comes after all of them

@@ -1,9 +1,9 @@
 -- The machines that go into threads, and a run whose threads were started.
 use Rattle.std.specs.Prelude.{◌≡◌, []}
 use Rattle.cache_core.specs.Standing.{rules_of}
-use Rattle.stage_core.specs.Seen.{Hierarchy}
-use Rattle.stage_core.specs.Standing.{StageStandsFor, SecondStandsFor, IsReady, cache_of, side_of}
-use Rattle.stage_core.specs.Standing.{second_cache}
+use Rattle.stage_core.specs.SecondLevel.{Hierarchy}
+use Rattle.stage_core.specs.Standing.{StageStandsFor, L2StandsFor, IsReady, cache_of, side_of}
+use Rattle.stage_core.specs.Standing.{l2_cache}
 use Rattle.stage_core.specs.declared.message.Side.{Side}
 use Rattle.stage_core.specs.declared.message.Side.TheVariants as side
 use Rattle.stage_core.specs.declared.l1_stage.L1Stage.{L1Stage}
@@ -21,14 +21,14 @@ pub record IsNew (s : Side) (stage : L1Stage) : Type 0 where
 pub record AreNew (m : Machines) : Type 0 where
   pub i : IsNew side.I m.i
   pub d : IsNew side.D m.d
-  pub u : SecondStandsFor m.u []
+  pub u : L2StandsFor m.u []
 
 -- the rules of the machines' caches
 abbrev pub rules_in : Machines → Hierarchy
 rules_in m = record {
   i = rules_of (cache_of m.i);
   d = rules_of (cache_of m.d);
-  u = rules_of (second_cache m.u);
+  u = rules_of (l2_cache m.u);
 }
 
 -- the machines as the threads began with them

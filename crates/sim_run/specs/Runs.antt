@@ -2,11 +2,11 @@
 use Rattle.std.specs.Prelude.{◌≡◌, ℕ, List, None, Result, Ok, Err}
 use Rattle.din_trace.specs.Line.{ADDRESS_MAX}
 use Rattle.din_trace.specs.Text.{records}
-use Rattle.din_trace.specs.Left.{Left}
+use Rattle.din_trace.specs.Remaining.{Remaining}
 use Rattle.din_trace.specs.declared.record.DinRecord.{DinRecord}
 use Rattle.stage_core.specs.Config.{hierarchy_of}
 use Rattle.stage_core.specs.Events.{events}
-use Rattle.stage_core.specs.Seen.{Hierarchy, parts_in, seen, totals}
+use Rattle.stage_core.specs.SecondLevel.{Hierarchy, parts_in, second_level_requests, totals}
 use Rattle.stage_core.specs.Streams as streams
 use Rattle.stage_core.specs.Merging as rule
 use Rattle.stage_core.specs.declared.message.Side.TheVariants as side
@@ -39,12 +39,13 @@ pub record HasRun (ring : ℕ) (c : Hierarchy) (es : List DinRecord) (s : Settle
   -- the merge's rule takes all that the second level is to see out of what was received, by place,
   -- and is at its end
   pub merged : rule.merged (on_order s.rings).received (on_from_i s.rings).received
-      (on_from_d s.rings).received ≡ rule.all_used (seen (parts_in c) es) rule.AtEnd
+      (on_from_d s.rings).received
+      ≡ rule.all_used (second_level_requests (parts_in c) es) rule.AtEnd
   -- the counts are those of the definitions
   pub counted : s.totals ≡ totals c es
 
 -- what a run over a source that had this left comes to, and what is left of it then
-abbrev pub RunsOver : ℕ → Hierarchy → Selection → Left → (Left → Type 0)
+abbrev pub RunsOver : ℕ → Hierarchy → Selection → Remaining → (Remaining → Type 0)
     → Result Settled RunFault → Type 0
 RunsOver ring c selection l HasLeft (Ok settled) =
     (l.fault ≡ None) × HasRun ring c (events selection l.records) settled × HasLeft at_end

@@ -4,18 +4,18 @@ use Rattle.std.specs.Prelude.{Some, None, Result, Ok, Err}
 use Rattle.std.specs.List.{list_any}
 use Rattle.pipe_rings.specs.Rings.{sent, received}
 use Rattle.din_trace.specs.declared.record.DinRecord.{DinRecord}
-use Rattle.din_trace.specs.Left.{Left}
+use Rattle.din_trace.specs.Remaining.{Remaining}
 use Rattle.cache_core.specs.Counts.{counts_of}
 use Rattle.cache_core.specs.Standing.{rules_of}
 use Rattle.cache_core.specs.declared.counts.Counts.{Counts}
 use Rattle.stage_core.specs.Events.{events}
-use Rattle.stage_core.specs.Places.{over}
-use Rattle.stage_core.specs.Seen.{parts_of, second_history}
+use Rattle.stage_core.specs.Places.{flat_map_with_past}
+use Rattle.stage_core.specs.SecondLevel.{parts_of, second_history}
 use Rattle.stage_core.specs.Streams as streams
-use Rattle.stage_core.specs.Streams.{turn_of, told, replies, is_finish, taken_in}
-use Rattle.stage_core.specs.Merging.{Stand, AtEnd, merged, all_used}
-use Rattle.stage_core.specs.Standing.{StageStandsFor, SecondStandsFor, cache_of, side_of}
-use Rattle.stage_core.specs.Standing.{second_cache}
+use Rattle.stage_core.specs.Streams.{turn_of, messages_to, replies, is_finish, taken_in}
+use Rattle.stage_core.specs.Merging.{MergeState, AtEnd, merged, all_used}
+use Rattle.stage_core.specs.Standing.{StageStandsFor, L2StandsFor, cache_of, side_of}
+use Rattle.stage_core.specs.Standing.{l2_cache}
 use Rattle.stage_core.specs.declared.message.Side.TheVariants as side
 use Rattle.stage_core.specs.declared.message.Routed.{Routed}
 use Rattle.stage_core.specs.declared.message.What.{What}
@@ -48,8 +48,8 @@ pub record IsEnd (routed : Routed) : Type 0 where
 pub record HasSent (events : List DinRecord) (place : ℕ) (ends : SplitterEnds) : Type 0 where
   pub last : place ≡ length events
   pub order : sent ends.order ≡ map (λ e. turn_of e.label) events
-  pub to_i : sent ends.to_i ≡ over (told side.I) events
-  pub to_d : sent ends.to_d ≡ over (told side.D) events
+  pub to_i : sent ends.to_i ≡ flat_map_with_past (messages_to side.I) events
+  pub to_d : sent ends.to_d ≡ flat_map_with_past (messages_to side.D) events
 
 -- and the messages of the end too
 pub record HasSentAll (events : List DinRecord) (ends : SplitterEnds) : Type 0 where
@@ -58,19 +58,20 @@ pub record HasSentAll (events : List DinRecord) (ends : SplitterEnds) : Type 0 w
   pub to_d : sent ends.to_d ≡ streams.to_side side.D events
 
 -- records were taken off what a source had left; what it then has left is the rest
-pub record LeavesRest (l : Left) (HasLeft : Left → Type 0) : Type 0 where
+pub record LeavesRest (l : Remaining) (HasLeft : Remaining → Type 0) : Type 0 where
   pub gone : List DinRecord
-  pub rest : Left
+  pub rest : Remaining
   pub records : l.records ≡ gone ++ rest.records
   pub fault : rest.fault ≡ l.fault
   pub left : HasLeft rest
 
 -- nothing is left of a source, and it has met no fault
-abbrev pub at_end : Left
+abbrev pub at_end : Remaining
 at_end = record { records = []; fault = None }
 
 -- the splitter has split up what a source had left, to its end, or stopped somewhere
-abbrev pub SplitUp : Selection → Left → (Left → Type 0) → SplitterEnds → Result (Unit {0}) RunFault
+abbrev pub SplitUp : Selection → Remaining → (Remaining → Type 0) → SplitterEnds
+    → Result (Unit {0}) RunFault
     → Type 0
 SplitUp selection l HasLeft ends (Ok done) =
     (l.fault ≡ None) × HasSentAll (events selection l.records) ends × HasLeft at_end
@@ -100,14 +101,14 @@ pub record StageEnded (began : L1Stage) (was : StageEnds) (stage : L1Stage) (now
 
 -- the merge's rule has used up what was received and stands there, and the second level has served
 -- what the rule took
-pub record HasMerged (at : Stand) (began : L2Stage) (was : MergeEnds) (u : L2Stage)
+pub record HasMerged (at : MergeState) (began : L2Stage) (was : MergeEnds) (u : L2Stage)
     (now : MergeEnds) : Type 0 where
   pub rings : SameMergeEnds was now
-  pub rules : rules_of (second_cache u) ≡ rules_of (second_cache began)
-  pub whats : List What
+  pub rules : rules_of (l2_cache u) ≡ rules_of (l2_cache began)
+  pub requests : List What
   pub used : merged (received now.order) (received now.from_i) (received now.from_d)
-      ≡ all_used whats at
-  pub stands : SecondStandsFor u whats
+      ≡ all_used requests at
+  pub stands : L2StandsFor u requests
 
 -- a stage that began so has ended well, and counts this
 pub record StageCounted (began : L1Stage) (was : StageEnds) (counts : Counts) (now : StageEnds)
@@ -122,5 +123,5 @@ pub record MergeCounted (began : L2Stage) (was : MergeEnds) (counts : Counts) (n
     : Type 0 where
   pub u : L2Stage
   pub merged : HasMerged AtEnd began was u now
-  pub counted : (whats : List What) → SecondStandsFor u whats
-      → counts ≡ counts_of (rules_of (second_cache u)) (second_history whats)
+  pub counted : (requests : List What) → L2StandsFor u requests
+      → counts ≡ counts_of (rules_of (l2_cache u)) (second_history requests)

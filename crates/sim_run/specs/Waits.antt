@@ -5,8 +5,8 @@ use Rattle.pipe_rings.specs.Rings.{received, LookedForRoom}
 use Rattle.pipe_rings.specs.declared.tx.Tx.{Tx}
 use Rattle.din_trace.specs.declared.record.DinRecord.{DinRecord}
 use Rattle.cache_core.specs.Standing.{rules_of}
-use Rattle.stage_core.specs.Seen.{Parts, parts_of}
-use Rattle.stage_core.specs.Merging.{Stand}
+use Rattle.stage_core.specs.SecondLevel.{Parts, parts_of}
+use Rattle.stage_core.specs.Merging.{MergeState}
 use Rattle.stage_core.specs.Standing.{cache_of, side_of, outbox_of}
 use Rattle.stage_core.specs.Waiting.{Sender, SplitterThread, StageThread, MergeThread}
 use Rattle.stage_core.specs.Waiting.{HasPosted, HasMerged, SplitterMayWait}
@@ -72,7 +72,7 @@ received_from ends side.I = received ends.from_i
 received_from ends side.D = received ends.from_d
 
 -- the merge, which stands there and has given this to the second level
-abbrev pub merge_at : Stand → List What → MergeEnds → MergeThread
+abbrev pub merge_at : MergeState → List What → MergeEnds → MergeThread
 merge_at at given ends = record {
   turns = received ends.order;
   from = received_from ends;
@@ -81,5 +81,5 @@ merge_at at given ends = record {
 }
 
 -- its rule has used up what was received, and stands there
-abbrev pub MergeUsed : Stand → MergeEnds → Type 0
+abbrev pub MergeUsed : MergeState → MergeEnds → Type 0
 MergeUsed at ends = (given : List What) × HasMerged (merge_at at given ends)

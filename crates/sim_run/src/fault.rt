@@ -1,7 +1,7 @@
 //! Why a run gives no report.
 
 ghost use Rattle.std.specs.Prelude.{◌≡◌, ◌⊎◌, ◌≤◌, Some, IfSome, option_map};
-ghost use Rattle.sim_run.specs.Faults.{source_fault, stopped, rank};
+ghost use Rattle.sim_run.specs.Faults.{source_fault, fault_of_stop, rank};
 
 use din_trace::TraceFault;
 
@@ -44,8 +44,8 @@ pub fn fault_of_source(fault: TraceFault) -> RunFault
 }
 
 /// The fault that a run answers where a thread stopped so.
-fn told(stop: Stop) -> RunFault
-    ensures { result ≡ stopped stop }
+fn fault_of_stop(stop: Stop) -> RunFault
+    ensures { result ≡ fault_of_stop stop }
 {
     match stop {
         Stop::Memory => RunFault::Memory,
@@ -68,14 +68,14 @@ fn rank(fault: RunFault) -> u8
 
 /// The one that goes before the other, of a fault and what a thread came to.
 fn graver(fault: RunFault, end: Option<Stop>) -> RunFault
-    ensures one { (result ≡ fault) ⊎ (option_map stopped end ≡ Some result) }
+    ensures one { (result ≡ fault) ⊎ (option_map fault_of_stop end ≡ Some result) }
     ensures fault { rank result ≤ rank fault }
-    ensures end { IfSome end (λ stop. rank result ≤ rank (stopped stop)) }
+    ensures end { IfSome end (λ stop. rank result ≤ rank (fault_of_stop stop)) }
 {
     let Some(stop) = end else {
         return fault;
     };
-    let other = told(stop);
+    let other = fault_of_stop(stop);
     if rank(other) < rank(fault) {
         other
     } else {
@@ -91,12 +91,13 @@ pub fn gravest(
     d: Option<Stop>,
     merge: Option<Stop>,
 ) -> RunFault
-    ensures one { (result ≡ splitter) ⊎ ((option_map stopped i ≡ Some result)
-        ⊎ ((option_map stopped d ≡ Some result) ⊎ (option_map stopped merge ≡ Some result))) }
+    ensures one { (result ≡ splitter) ⊎ ((option_map fault_of_stop i ≡ Some result)
+        ⊎ ((option_map fault_of_stop d ≡ Some result)
+        ⊎ (option_map fault_of_stop merge ≡ Some result))) }
     ensures splitter { rank result ≤ rank splitter }
-    ensures i { IfSome i (λ stop. rank result ≤ rank (stopped stop)) }
-    ensures d { IfSome d (λ stop. rank result ≤ rank (stopped stop)) }
-    ensures merge { IfSome merge (λ stop. rank result ≤ rank (stopped stop)) }
+    ensures i { IfSome i (λ stop. rank result ≤ rank (fault_of_stop stop)) }
+    ensures d { IfSome d (λ stop. rank result ≤ rank (fault_of_stop stop)) }
+    ensures merge { IfSome merge (λ stop. rank result ≤ rank (fault_of_stop stop)) }
 {
     graver(graver(graver(splitter, i), d), merge)
 }

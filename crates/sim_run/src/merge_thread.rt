@@ -4,7 +4,7 @@ ghost use Rattle.std.specs.Prelude.{◌≡◌, ◌≤◌, ◌⊎◌, [], ◌∷�
 ghost use Rattle.pipe_rings.specs.Rings.{received, SameRx};
 ghost use Rattle.cache_core.specs.Standing.{rules_of, served_of};
 ghost use Rattle.stage_core.specs.Merging.{AtEnd, wanted, after_message, what_in};
-ghost use Rattle.stage_core.specs.Standing.{SecondStandsFor, second_cache};
+ghost use Rattle.stage_core.specs.Standing.{L2StandsFor, l2_cache};
 ghost use Rattle.stage_core.specs.declared.message.Want.TheVariants as want;
 ghost use Rattle.stage_core.specs.declared.message.What.{What};
 ghost use Rattle.stage_core.specs.declared.message.FromStage.{FromStage};
@@ -42,14 +42,14 @@ pub type MergeHandle = PromisedHandle<MergeEnd, MergePromise>;
 
 // The merge takes a side's message, and the second level serves what it brings.
 #[inline(always)]
-fn serve(merge: &mut Merge, u: &mut L2Stage, message: FromStage) -> Result<(), Stop>
+fn take_and_serve(merge: &mut Merge, u: &mut L2Stage, message: FromStage) -> Result<(), Stop>
     requires { (wanted merge.old ≡ want.I) ⊎ (wanted merge.old ≡ want.D) }
     ensures merge { merge.new ≡ after_message merge.old message }
-    ensures stands { OnOk result ((before : List What) → SecondStandsFor u.old before
-        → SecondStandsFor u.new (before ++ what_in message)) }
-    ensures rules { rules_of (second_cache u.new) ≡ rules_of (second_cache u.old) }
+    ensures stands { OnOk result ((before : List What) → L2StandsFor u.old before
+        → L2StandsFor u.new (before ++ what_in message)) }
+    ensures rules { rules_of (l2_cache u.new) ≡ rules_of (l2_cache u.old) }
     ensures cut { IfErr result (λ why. why ≡ Stop.Cut
-        → MAX_EVENTS ≤ served_of (second_cache u.old)) }
+        → MAX_EVENTS ≤ served_of (l2_cache u.old)) }
 {
     let Some(what) = merge.take(message) else {
         return Ok(());
@@ -122,13 +122,13 @@ fn take_in<H: Wait, G: Gate>(
     count: u64,
 ) -> Result<u64, Stop>
     requires { (wanted merge.old ≡ want.I) ⊎ (wanted merge.old ≡ want.D) }
-    ensures rules { rules_of (second_cache u.new) ≡ rules_of (second_cache u.old) }
+    ensures rules { rules_of (l2_cache u.new) ≡ rules_of (l2_cache u.old) }
     ensures merge { OnOk result (merge.new ≡ after_message merge.old message) }
-    ensures stands { OnOk result ((before : List What) → SecondStandsFor u.old before
-        → SecondStandsFor u.new (before ++ what_in message)) }
+    ensures stands { OnOk result ((before : List What) → L2StandsFor u.old before
+        → L2StandsFor u.new (before ++ what_in message)) }
 {
     let count = pass(rt, gate, Who::Merge, count)?;
-    serve(merge, u, message)?;
+    take_and_serve(merge, u, message)?;
     Ok(count)
 }
 
@@ -139,7 +139,7 @@ fn merge_all<H: Wait, G: Gate>(
     u: &mut L2Stage,
     ends: &mut MergeEnds,
 ) -> Result<(), Stop>
-    requires new { SecondStandsFor u.old [] }
+    requires new { L2StandsFor u.old [] }
     requires unused { UnusedMerge ends.old }
     ensures { OnOk result (HasMerged AtEnd u.old ends.old u.new ends.new) }
 {
@@ -179,7 +179,7 @@ pub fn run_merge<H: Wait, G: Gate>(
     machine: L2Stage,
     unused: MergeEnds,
 ) -> MergeEnd
-    requires new { SecondStandsFor machine [] }
+    requires new { L2StandsFor machine [] }
     requires unused { UnusedMerge unused }
     ensures { IfOk result (λ r. HasMerged AtEnd machine unused r.0 r.1) }
 {
@@ -198,7 +198,7 @@ pub fn start_merge<'s, E, H: Threads + Wait + Sync, G: Gate>(
     machine: L2Stage,
     ends: MergeEnds,
 ) -> Result<MergeHandle, NoThread>
-    requires new { SecondStandsFor machine [] }
+    requires new { L2StandsFor machine [] }
     requires unused { UnusedMerge ends }
     ensures machine { IfOk result (λ h. h.promise.machine.value ≡ machine) }
     ensures ends { IfOk result (λ h. h.promise.ends.value ≡ ends) }
@@ -208,7 +208,7 @@ pub fn start_merge<'s, E, H: Threads + Wait + Sync, G: Gate>(
         ends: Snapshot::of(&ends),
     };
     let run = move || -> MergeEnd
-        requires new { SecondStandsFor machine [] }
+        requires new { L2StandsFor machine [] }
         requires unused { UnusedMerge ends }
         ensures { IfOk result (λ r. HasMerged AtEnd machine ends r.0 r.1) }
     { run_merge(rt, gate, machine, ends) };

@@ -2,7 +2,7 @@
 
 ghost use Rattle.std.specs.Prelude.{◌≡◌, ◌⊎◌, List, ℕ, Option, None, IfOk, IfErr, IsOk};
 ghost use Rattle.std.specs.Prelude.{OnOk, Ok, Err};
-ghost use Rattle.din_trace.specs.Left.{Left, Script, Fate, Follows};
+ghost use Rattle.din_trace.specs.Remaining.{Remaining, Script, Fate, Follows};
 ghost use Rattle.din_trace.specs.Source.{HasLeft, Takes};
 ghost use Rattle.din_trace.specs.declared.fault.TraceFault.{TraceFault};
 ghost use Rattle.din_trace.specs.declared.record.DinRecord.{DinRecord};
@@ -25,7 +25,7 @@ use cache_core::Counts;
 use din_trace::{ByteReader, Source};
 use pipe_rings::OUTBOX;
 use stage_core::{
-    Config, L1Stage, L2Stage, NoMemory, Selection, Side, Totals, merge_takes_what_is_seen,
+    Config, L1Stage, L2Stage, NoMemory, Selection, Side, Totals, merge_takes_the_requests,
     stages_answer_their_streams,
 };
 use std::alloc::Global;
@@ -172,7 +172,7 @@ fn finish<H: Threads>(
         → IfErr fed (MayAnswer left) → MayAnswer left why) }
     ensures threads { result ≡ Err RunFault.Threads → fed ≡ Err RunFault.Threads }
 {
-    merge_takes_what_is_seen();
+    merge_takes_the_requests();
     stages_answer_their_streams();
     let Started {
         splitter,
@@ -222,7 +222,7 @@ pub(crate) fn run_in<'s, E, H: Threads + Wait + Sync, R: ByteReader + Drop, G: G
     ensures met { IfErr result.1 IsMet }
     ensures reads { (given : List ℕ) × (fate : Fate)
         × Takes R.remaining R.failures source result.0 given fate
-        × ((ring : ℕ) (before later : Script) (l : Left) → HaveCapacity ring rings
+        × ((ring : ℕ) (before later : Script) (l : Remaining) → HaveCapacity ring rings
         → Follows fate given before later → HasLeft source before l
         → RunsOver ring (rules_in machines) selection l (HasLeft result.0 later) result.1) }
 {
@@ -255,7 +255,7 @@ pub fn run_pipeline<H: Threads + Wait + Sync, R: ByteReader + Drop, G: Gate>(
     // that were.
     ensures reads { (given : List ℕ) × (fate : Fate)
         × Takes R.remaining R.failures source result.0 given fate
-        × ((before later : Script) (l : Left)
+        × ((before later : Script) (l : Remaining)
         → Follows fate given before later → HasLeft source before l
         → RunsOver (ring_of config.now) (hierarchy_of config.now) selection.now l
         (HasLeft result.0 later) result.1) }
@@ -275,7 +275,7 @@ pub fn run_pipeline<H: Threads + Wait + Sync, R: ByteReader + Drop, G: Gate>(
             ensures met { IfErr result.1 IsMet }
             ensures reads { (given : List ℕ) × (fate : Fate)
                 × Takes R.remaining R.failures source result.0 given fate
-                × ((ring : ℕ) (before later : Script) (l : Left) → HaveCapacity ring rings
+                × ((ring : ℕ) (before later : Script) (l : Remaining) → HaveCapacity ring rings
                 → Follows fate given before later → HasLeft source before l
                 → RunsOver ring (rules_in machines) selection l (HasLeft result.0 later)
                 result.1) }

@@ -4,7 +4,8 @@ ghost use Rattle.std.specs.Prelude.{◌≡◌, ◌<◌, ◌≤◌, ◌+◌, ◌*
 ghost use Rattle.std.specs.Prelude.{◌≢◌, ◌⊎◌, IfOk, IfErr, IsSome, IsFalse, MatchResult};
 ghost use Rattle.std.specs.Prelude.{option_to_list};
 ghost use Rattle.pipe_rings.specs.Rings.{sent};
-ghost use Rattle.din_trace.specs.Left.{Left, Script, Fate, Follows, first_answer, behind_first};
+ghost use Rattle.din_trace.specs.Remaining.{Remaining, Script, Fate, Follows, first_answer};
+ghost use Rattle.din_trace.specs.Remaining.{after_first};
 ghost use Rattle.din_trace.specs.Source.{HasLeft, IsSettled, Takes, reader_of, room_of};
 ghost use Rattle.din_trace.specs.declared.record.DinRecord.{DinRecord};
 ghost use Rattle.stage_core.specs.Events.{IsBounded, picked_events};
@@ -69,9 +70,9 @@ fn ask<R: ByteReader>(
     requires published { held ends.now ≡ 0 }
     ensures reads { (given : List ℕ) × (fate : Fate)
         × Takes R.remaining R.failures source.old source.new given fate
-        × ((before later : Script) (l : Left)
+        × ((before later : Script) (l : Remaining)
         → Follows fate given before later → HasLeft source.old before l
-        → (result ≡ first_answer l) × HasLeft source.new later (behind_first l)) }
+        → (result ≡ first_answer l) × HasLeft source.new later (after_first l)) }
     ensures settled { IsSettled source.old → source.new ≡ source.old }
     ensures records { IfOk result (λ found. IsSome found
         → room_of source.new < room_of source.old) }
@@ -105,10 +106,10 @@ fn next_record<H: Wait, R: ByteReader>(
         ⊎ (held ends.new ≡ 0)) }
     ensures reads { (given : List ℕ) × (fate : Fate)
         × Takes R.remaining R.failures source.old source.new given fate
-        × ((before later : Script) (l : Left)
+        × ((before later : Script) (l : Remaining)
         → Follows fate given before later → HasLeft source.old before l
         → MatchResult result
-        (λ answer. (answer ≡ first_answer l) × HasLeft source.new later (behind_first l))
+        (λ answer. (answer ≡ first_answer l) × HasLeft source.new later (after_first l))
         (λ _. HasLeft source.new later l)) }
     ensures settled { IsSettled source.old → source.new ≡ source.old }
     ensures records { IfOk result (λ answer. IfOk answer (λ found. IsSome found
@@ -166,7 +167,7 @@ fn send_some<H: Wait>(
     ends: &mut SplitterEnds,
     event: Option<DinRecord>,
 ) -> Result<(), Stop>
-    requires few { splitter.old < 2 * MAX_LIMIT }
+    requires at_most { splitter.old < 2 * MAX_LIMIT }
     requires sent { (es : List DinRecord) × HasSent es splitter.old ends.old }
     ensures rings { SameSplitterEnds ends.old ends.new }
     ensures place { splitter.new ≤ splitter.old + 1 }
@@ -187,7 +188,7 @@ fn send_picked<H: Wait>(
     ends: &mut SplitterEnds,
     picked: Picked,
 ) -> Result<(), Stop>
-    requires few { splitter.old + 1 < 2 * MAX_LIMIT }
+    requires at_most { splitter.old + 1 < 2 * MAX_LIMIT }
     requires sent { (es : List DinRecord) × HasSent es splitter.old ends.old }
     ensures rings { SameSplitterEnds ends.old ends.new }
     ensures place { splitter.new ≤ splitter.old + 2 }
@@ -216,7 +217,7 @@ pub fn split<H: Wait, R: ByteReader, G: Gate>(
     // Whatever the reader did, the records that were left are split up, to the end or some way.
     ensures reads { (given : List ℕ) × (fate : Fate)
         × Takes R.remaining R.failures source.old source.new given fate
-        × ((before later : Script) (l : Left)
+        × ((before later : Script) (l : Remaining)
         → Follows fate given before later → HasLeft source.old before l
         → SplitUp selection l (HasLeft source.new later) ends.new result) }
 {

@@ -11,16 +11,17 @@ use Rattle.cache_core.specs.History.{Rules, History, Event, access, flush, block
 use Rattle.cache_core.specs.Parts.{outcome_of, part_count, one_if as one_counted}
 use Rattle.cache_core.specs.Residents.{renewals}
 use Rattle.cache_core.specs.Dirty.{dirty_blocks}
-use Rattle.cache_core.specs.Laws.{AccessesPay, FlushesPay}
+use Rattle.cache_core.specs.Laws.{WriteBacksAreCharged, FlushesLeaveNoneDirty}
 use Rattle.din_trace.specs.declared.record.DinRecord.{DinRecord}
 use Rattle.din_trace.specs.declared.record.Label.{Label}
 use Rattle.din_trace.specs.declared.record.Label.TheVariants as label
-use Rattle.stage_core.specs.Places.{along, one_if}
+use Rattle.stage_core.specs.Places.{flat_map_after, list_if}
 use Rattle.stage_core.specs.Events.{asked, asked_by, newest_first, history, events_at}
 use Rattle.stage_core.specs.Events.{picked_events, picked, is_reference, inserted_flush}
-use Rattle.stage_core.specs.Seen.{Hierarchy, rules_at, parts_in, parts_of, back, access_parts}
-use Rattle.stage_core.specs.Seen.{flush_all, fetch_class, sent_up, read_as, seen}
-use Rattle.stage_core.specs.Laws.{SecondLevelSeesFew, SelectionsMakeFew}
+use Rattle.stage_core.specs.SecondLevel.{Hierarchy, rules_at, parts_in, parts_of, back}
+use Rattle.stage_core.specs.SecondLevel.{access_parts, flush_all, fetch_class, sent_up, read_as}
+use Rattle.stage_core.specs.SecondLevel.{second_level_requests}
+use Rattle.stage_core.specs.Laws.{SecondLevelSeesAtMostTwo, SelectionsMakeAtMostTwo}
 use Rattle.stage_core.specs.declared.selection.Selection.{Selection}
 use Rattle.stage_core.specs.declared.selection.Picked.{Picked}
 use Rattle.stage_core.specs.declared.message.Side.{Side}
@@ -29,9 +30,9 @@ use Rattle.stage_core.specs.declared.message.What.{What}
 use Rattle.stage_core.specs.declared.message.What.TheVariants as what
 use Rattle.stage_core.proofs.Stands.{history-more}
 
-length-one_if : {A : Type 0} (b : Bool) (x : A) → length (one_if b x) ≡ one_counted b
-length-one_if true x = refl
-length-one_if false x = refl
+length-list_if : {A : Type 0} (b : Bool) (x : A) → length (list_if b x) ≡ one_counted b
+length-list_if true x = refl
+length-list_if false x = refl
 
 length-option : {A : Type 0} (o : Option A) → length (option_to_list o) ≡ one_counted (is_some o)
 length-option None = refl
@@ -41,16 +42,16 @@ length-access_parts : (s : Side) (first : ℕ) (x : Access) (o : Outcome)
     → length (access_parts s first x o) ≡ part_count o
 length-access_parts s first x o =
     let backs : List What = map back (option_to_list o.back) in
-    let fetches : List What = one_if o.fetch (what.Fetch (fetch_class s) first) in
-    let throughs : List What = one_if o.through (what.Through x.addr) in
+    let fetches : List What = list_if o.fetch (what.Fetch (fetch_class s) first) in
+    let throughs : List What = list_if o.through (what.Through x.addr) in
     omega (
       arith,
       length-append (backs ++ fetches) throughs,
       length-append backs fetches,
       length-map (option_to_list o.back) back,
       length-option o.back,
-      length-one_if o.fetch (what.Fetch (fetch_class s) first),
-      length-one_if o.through (what.Through x.addr),
+      length-list_if o.fetch (what.Fetch (fetch_class s) first),
+      length-list_if o.through (what.Through x.addr),
     )
 
 -- what an event may send or leave to be sent
@@ -100,7 +101,7 @@ few-history s (e ∷ es) =
       length-reverse (asked s e ++ flat_map (asked s) es),
     )
 
-module _ (accesses : AccessesPay) (flushes : FlushesPay) where
+module _ (accesses : WriteBacksAreCharged) (flushes : FlushesLeaveNoneDirty) where
   -- a cache owes its dirty blocks
   abbrev owed : Rules → History → ℕ
   owed r h = length (dirty_blocks r h)
@@ -111,17 +112,17 @@ module _ (accesses : AccessesPay) (flushes : FlushesPay) where
   event_pays r s h (access x) = omega (
     arith,
     accesses r h x,
-    length-access_parts s (block_of r x * r.block_size) x (outcome_of r h x),
+    length-access_parts s (block_of r x * r.bsize) x (outcome_of r h x),
   )
   event_pays r s h flush =
-      let firsts : List ℕ = map (λ b. b * r.block_size) (dirty_blocks r h) in
+      let firsts : List ℕ = map (λ b. b * r.bsize) (dirty_blocks r h) in
       omega (
         arith,
         ap length (flushes r h),
         few-flush_all s,
         length-append (map back firsts) (flush_all s),
         length-map firsts back,
-        length-map (dirty_blocks r h) (λ b. b * r.block_size),
+        length-map (dirty_blocks r h) (λ b. b * r.bsize),
       )
 
   events_pay : (r : Rules) (s : Side) (h : History) (es : List Event) → length es ≤ 1
@@ -153,7 +154,7 @@ module _ (accesses : AccessesPay) (flushes : FlushesPay) where
     abbrev ups : List DinRecord → DinRecord → List What
     ups before e = sent_up (parts_in c) side.I before e ++ sent_up (parts_in c) side.D before e
 
-    few-ups : (before es : List DinRecord) → length (along ups before es)
+    few-ups : (before es : List DinRecord) → length (flat_map_after ups before es)
         ≤ owed_at side.I before + owed_at side.D before + 2 * length es
     few-ups before [] = omega arith
     few-ups before (e ∷ es) =
@@ -163,7 +164,7 @@ module _ (accesses : AccessesPay) (flushes : FlushesPay) where
           side_pays side.I before e,
           side_pays side.D before e,
           few-weights e.label e.addr,
-          length-append (ups before e) (along ups (before ++ e ∷ []) es),
+          length-append (ups before e) (flat_map_after ups (before ++ e ∷ []) es),
           length-append (sent_up (parts_in c) side.I before e)
               (sent_up (parts_in c) side.D before e),
         )
@@ -173,15 +174,15 @@ module _ (accesses : AccessesPay) (flushes : FlushesPay) where
   nothing-owed r = refl
 
   -- the second level sees at most two requests for each event
-  pub few-seen : SecondLevelSeesFew
-  few-seen c es =
+  pub few-second_level_requests : SecondLevelSeesAtMostTwo
+  few-second_level_requests c es =
       omega (
         arith,
         few-ups c [] es,
         nothing-owed c.i,
         nothing-owed c.d,
-        length-reverse (map read_as (seen (parts_in c) es)),
-        length-map (seen (parts_in c) es) read_as,
+        length-reverse (map read_as (second_level_requests (parts_in c) es)),
+        length-map (second_level_requests (parts_in c) es) read_as,
       )
 
 few-one : (b : Bool) → one_counted b ≤ 1
@@ -192,24 +193,24 @@ few-picked : (p : Picked) → length (picked_events p) ≤ 2
 few-picked p =
     omega (
       arith,
-      length-append (option_to_list p.event) (one_if p.flush inserted_flush),
+      length-append (option_to_list p.event) (list_if p.flush inserted_flush),
       length-option p.event,
-      length-one_if p.flush inserted_flush,
+      length-list_if p.flush inserted_flush,
       few-one (is_some p.event),
       few-one p.flush,
     )
 
-few-along : (s : Selection) (before xs : List DinRecord)
-    → length (along (events_at s) before xs) ≤ 2 * length xs
-few-along s before [] = omega arith
-few-along s before (x ∷ xs) =
+few-flat_map_after : (s : Selection) (before xs : List DinRecord)
+    → length (flat_map_after (events_at s) before xs) ≤ 2 * length xs
+few-flat_map_after s before [] = omega arith
+few-flat_map_after s before (x ∷ xs) =
     omega (
       arith,
-      few-along s (before ++ x ∷ []) xs,
+      few-flat_map_after s (before ++ x ∷ []) xs,
       few-picked (picked s (count_by is_reference (before ++ x ∷ [])) x),
-      length-append (events_at s before x) (along (events_at s) (before ++ x ∷ []) xs),
+      length-append (events_at s before x) (flat_map_after (events_at s) (before ++ x ∷ []) xs),
     )
 
 -- a selection makes at most two events of each record
-pub few-events : SelectionsMakeFew
-few-events s records = few-along s [] records
+pub few-events : SelectionsMakeAtMostTwo
+few-events s records = few-flat_map_after s [] records

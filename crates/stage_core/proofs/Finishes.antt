@@ -7,10 +7,10 @@ use Rattle.cache_core.specs.History.{Event}
 use Rattle.din_trace.specs.declared.record.DinRecord.{DinRecord}
 use Rattle.din_trace.specs.declared.record.Label.{Label}
 use Rattle.din_trace.specs.declared.record.Label.TheVariants as label
-use Rattle.stage_core.specs.Places.{along, over}
+use Rattle.stage_core.specs.Places.{flat_map_after, flat_map_with_past}
 use Rattle.stage_core.specs.Events.{asked, history}
-use Rattle.stage_core.specs.Seen.{Parts}
-use Rattle.stage_core.specs.Streams.{turn_of, told, numbered, answer, answered, is_finish}
+use Rattle.stage_core.specs.SecondLevel.{Parts}
+use Rattle.stage_core.specs.Streams.{turn_of, messages_to, numbered, answer, answered, is_finish}
 use Rattle.stage_core.specs.Finishes.{is_last_turn, is_last_answer, FinishEndsEachStream}
 use Rattle.stage_core.specs.declared.message.Side.{Side}
 use Rattle.stage_core.specs.declared.message.What.{What}
@@ -25,13 +25,13 @@ none-of p xs ys x y =
     list_any-append p xs ys ∙ ap (λ b. b || list_any p ys) x ∙ y
 
 -- none at any place, none along all of them
-none-along : {X Y : Type 0} (p : Y → Bool) (f : List X → X → List Y)
+none-flat_map_after : {X Y : Type 0} (p : Y → Bool) (f : List X → X → List Y)
     → ((before : List X) (x : X) → list_any p (f before x) ≡ false) → (before xs : List X)
-    → list_any p (along f before xs) ≡ false
-none-along p f none before [] = refl
-none-along p f none before (x ∷ xs) =
-    none-of p (f before x) (along f (before ++ x ∷ []) xs) (none before x)
-    (none-along p f none (before ++ x ∷ []) xs)
+    → list_any p (flat_map_after f before xs) ≡ false
+none-flat_map_after p f none before [] = refl
+none-flat_map_after p f none before (x ∷ xs) =
+    none-of p (f before x) (flat_map_after f (before ++ x ∷ []) xs) (none before x)
+    (none-flat_map_after p f none (before ++ x ∷ []) xs)
 
 no-last-turn : (l : Label) → is_last_turn (turn_of l) ≡ false
 no-last-turn label.Instr = refl
@@ -67,15 +67,16 @@ pub finish-ends : FinishEndsEachStream
 finish-ends parts s es = (
   record { before = map (λ e. turn_of e.label) es; last = refl; only = no-last-turns es },
   record {
-    before = over (told s) es;
+    before = flat_map_with_past (messages_to s) es;
     last = refl;
-    only = none-along is_finish (told s) (λ before e. no_finish (length before + 1) (asked s e)) []
+    only = none-flat_map_after is_finish (messages_to s)
+        (λ before e. no_finish (length before + 1) (asked s e)) []
         es;
   },
   record {
-    before = over (answered parts s) es;
+    before = flat_map_with_past (answered parts s) es;
     last = refl;
-    only = none-along is_last_answer (answered parts s)
+    only = none-flat_map_after is_last_answer (answered parts s)
         (λ before e. no-finish-answered parts s before (length before + 1) (asked s e)) [] es;
   },
 )

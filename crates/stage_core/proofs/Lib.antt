@@ -2,7 +2,7 @@ pub mod Place
 pub mod Stands
 pub mod Merged
 pub mod Few
-pub mod Told
+pub mod Messages
 pub mod Turns
 pub mod Finishes
 pub mod Worked

@@ -7,13 +7,14 @@ use Rattle.cache_core.specs.declared.access.Class.TheVariants as class
 use Rattle.din_trace.specs.declared.record.DinRecord.{DinRecord}
 use Rattle.din_trace.specs.declared.record.Label.{Label}
 use Rattle.din_trace.specs.declared.record.Label.TheVariants as label
-use Rattle.stage_core.specs.Places.{along}
+use Rattle.stage_core.specs.Places.{flat_map_after}
 use Rattle.stage_core.specs.Events.{access_of, history}
-use Rattle.stage_core.specs.Seen.{Parts, sent_up}
+use Rattle.stage_core.specs.SecondLevel.{Parts, sent_up}
 use Rattle.stage_core.specs.Streams.{turn_of, answer, numbered, answered}
-use Rattle.stage_core.specs.Merging.{Merged, merged, all_used, up_to_end, with_what, Stand, AtEnd}
-use Rattle.stage_core.specs.Laws.{MergeTakesWhatIsSeen}
-use Rattle.stage_core.proofs.Pops.{with_whats}
+use Rattle.stage_core.specs.Merging.{Merged, merged, all_used, up_to_end, with_what, MergeState}
+use Rattle.stage_core.specs.Merging.{AtEnd}
+use Rattle.stage_core.specs.Laws.{MergeTakesTheRequests}
+use Rattle.stage_core.proofs.Pops.{with_requests}
 use Rattle.stage_core.specs.declared.message.Side.{Side}
 use Rattle.stage_core.specs.declared.message.Side.TheVariants as side
 use Rattle.stage_core.specs.declared.message.What.{What}
@@ -22,13 +23,14 @@ use Rattle.stage_core.specs.declared.message.Turn.TheVariants as turn
 use Rattle.stage_core.specs.declared.message.FromStage.{FromStage}
 use Rattle.stage_core.specs.declared.message.FromStage.TheVariants as from_stage
 
-with_whats-all_used : (ws us : List What) (at : Stand)
-    → with_whats ws (all_used us at) ≡ all_used (ws ++ us) at
-with_whats-all_used ws us at = refl
+with_requests-all_used : (ws us : List What) (at : MergeState)
+    → with_requests ws (all_used us at) ≡ all_used (ws ++ us) at
+with_requests-all_used ws us at = refl
 
 up_to_end-numbered : (place n k : ℕ) (ws : List What) (rest : List FromStage) (stopped : Merged)
     (next : List FromStage → Merged) → up_to_end
-    (numbered place n ws ++ from_stage.Done place k ∷ rest) stopped next ≡ with_whats ws (next rest)
+    (numbered place n ws ++ from_stage.Done place k ∷ rest) stopped next
+    ≡ with_requests ws (next rest)
 up_to_end-numbered place n k [] rest stopped next = refl
 up_to_end-numbered place n k (w ∷ ws) rest stopped next =
     ap (with_what w) (up_to_end-numbered place (n + 1) k ws rest stopped next)
@@ -36,7 +38,7 @@ up_to_end-numbered place n k (w ∷ ws) rest stopped next =
 -- a whole answer is taken
 up_to_end-answer : (place : ℕ) (ws : List What) (xs ys : List FromStage) (stopped : Merged)
     (next : List FromStage → Merged) → up_to_end (((answer place ws ++ []) ++ xs) ++ ys)
-    stopped next ≡ with_whats ws (next (xs ++ ys))
+    stopped next ≡ with_requests ws (next (xs ++ ys))
 up_to_end-answer place ws xs ys stopped next =
     rw append-nil (rw append_assoc (rw append_assoc
     (up_to_end-numbered place 1 (length ws) ws (xs ++ ys) stopped next)))
@@ -49,12 +51,12 @@ module _ (parts : Parts) where
   turns_from es = map (λ e. turn_of e.label) es ++ turn.Finish ∷ []
 
   abbrev stream : Side → List DinRecord → List DinRecord → List FromStage
-  stream s before es = along (answered parts s) before es ++ from_stage.Finish ∷ []
+  stream s before es = flat_map_after (answered parts s) before es ++ from_stage.Finish ∷ []
 
   -- the rule from some place on
   abbrev Law : List DinRecord → List DinRecord → Type 0
   Law before es = merged (turns_from es) (stream side.I before es) (stream side.D before es)
-      ≡ all_used (along ups before es) AtEnd
+      ≡ all_used (flat_map_after ups before es) AtEnd
 
   -- the turn of one side
   one_side : (place : ℕ) (ws us vs : List What) (xs : List FromStage) (stopped : Merged)
@@ -63,8 +65,9 @@ module _ (parts : Parts) where
       → up_to_end (((answer place ws ++ []) ++ xs) ++ from_stage.Finish ∷ []) stopped next
       ≡ all_used vs AtEnd
   one_side place ws us vs xs stopped next same rest =
-      up_to_end-answer place ws xs (from_stage.Finish ∷ []) stopped next ∙ ap (with_whats ws) rest
-      ∙ with_whats-all_used ws us AtEnd ∙ ap (λ zs. all_used zs AtEnd) same
+      up_to_end-answer place ws xs (from_stage.Finish ∷ []) stopped next
+      ∙ ap (with_requests ws) rest
+      ∙ with_requests-all_used ws us AtEnd ∙ ap (λ zs. all_used zs AtEnd) same
 
   -- one event
   one : (l : Label) (a : ℕ) (before es : List DinRecord)
@@ -85,7 +88,7 @@ module _ (parts : Parts) where
   one label.Flush a before es rest =
       one_side (length before + 1) (parts side.I (history side.I before) flush)
       (parts side.D (history side.D before) flush
-      ++ along ups (before ++ record { label = label.Flush; addr = a } ∷ []) es) _ _ _ _
+      ++ flat_map_after ups (before ++ record { label = label.Flush; addr = a } ∷ []) es) _ _ _ _
       (simp (append-nil, append_assoc))
       (one_side (length before + 1) (parts side.D (history side.D before) flush)
       _ _ _ _ _ refl rest)
@@ -95,5 +98,5 @@ module _ (parts : Parts) where
   law before (e ∷ es) = one e.label e.addr before es (law (before ++ e ∷ []) es)
 
 -- the merge's rule takes just what the second level is to see, and uses the streams up
-pub merged-streams : MergeTakesWhatIsSeen
+pub merged-streams : MergeTakesTheRequests
 merged-streams parts es = law parts [] es

@@ -2,9 +2,9 @@
 use Rattle.std.proofs.Common.{◌≡◌, ℕ, zero, suc, ◌+◌, ◌<◌, List, [], ◌∷◌, ◌++◌, length, refl, sym}
 use Rattle.std.proofs.Common.{ap, ◌∙◌, append_assoc, arith, subst}
 use Rattle.stage_core.specs.Network.Pushes.{for_side}
-use Rattle.stage_core.specs.Merging.{Merged, merged, all_used, up_to_end, stops, Stand, AtOrder}
-use Rattle.stage_core.specs.Merging.{AtI, AtD, AtBoth, LastI, LastD, AtEnd, wanted, after_turn}
-use Rattle.stage_core.specs.Merging.{after_message, what_in}
+use Rattle.stage_core.specs.Merging.{Merged, merged, all_used, up_to_end, stops, MergeState}
+use Rattle.stage_core.specs.Merging.{AtOrder, AtI, AtD, AtBoth, LastI, LastD, AtEnd, wanted}
+use Rattle.stage_core.specs.Merging.{after_turn, after_message, what_in}
 use Rattle.stage_core.specs.declared.message.Side.{Side}
 use Rattle.stage_core.specs.declared.message.Side.TheVariants as side
 use Rattle.stage_core.specs.declared.message.What.{What}
@@ -16,7 +16,7 @@ use Rattle.stage_core.specs.declared.message.FromStage.{FromStage}
 use Rattle.stage_core.specs.declared.message.FromStage.TheVariants as from_stage
 
 -- the rule from where it stands
-abbrev pub continue : Stand → List Turn → List FromStage → List FromStage → Merged
+abbrev pub continue : MergeState → List Turn → List FromStage → List FromStage → Merged
 continue AtOrder o i d = merged o i d
 continue AtI o i d = up_to_end i (stops AtI o [] d) (λ i'. merged o i' d)
 continue AtD o i d = up_to_end d (stops AtD o i []) (λ d'. merged o i d')
@@ -28,22 +28,22 @@ continue LastD o i d = up_to_end d (stops LastD o i []) (λ d'. stops AtEnd o i 
 continue AtEnd o i d = stops AtEnd o i d
 
 -- the same answer of the rule, with these taken first
-abbrev pub with_whats : List What → Merged → Merged
-with_whats ws m = record m { taken = ws ++ m.taken }
+abbrev pub with_requests : List What → Merged → Merged
+with_requests ws m = record m { taken = ws ++ m.taken }
 
 -- what the rule does at a ring that is wanted: it takes the next message, or stops
-abbrev Goes : Want → Stand → Type 0
+abbrev Goes : Want → MergeState → Type 0
 Goes want.Order at =
     ((t : Turn) (o : List Turn) (i d : List FromStage) →
     continue at (t ∷ o) i d ≡ continue (after_turn t) o i d)
     × ((i d : List FromStage) → continue at [] i d ≡ stops at [] i d)
 Goes want.I at =
     ((m : FromStage) (o : List Turn) (i d : List FromStage) →
-    continue at o (m ∷ i) d ≡ with_whats (what_in m) (continue (after_message at m) o i d))
+    continue at o (m ∷ i) d ≡ with_requests (what_in m) (continue (after_message at m) o i d))
     × ((o : List Turn) (d : List FromStage) → continue at o [] d ≡ stops at o [] d)
 Goes want.D at =
     ((m : FromStage) (o : List Turn) (i d : List FromStage) →
-    continue at o i (m ∷ d) ≡ with_whats (what_in m) (continue (after_message at m) o i d))
+    continue at o i (m ∷ d) ≡ with_requests (what_in m) (continue (after_message at m) o i d))
     × ((o : List Turn) (i : List FromStage) → continue at o i [] ≡ stops at o i [])
 Goes want.Nothing at =
     (o : List Turn) (i d : List FromStage) → continue at o i d ≡ stops at o i d
@@ -56,36 +56,39 @@ at_order turn.Both o i d = refl
 at_order turn.Finish o i d = refl
 
 at_i : (m : FromStage) (o : List Turn) (i d : List FromStage)
-    → continue AtI o (m ∷ i) d ≡ with_whats (what_in m) (continue (after_message AtI m) o i d)
+    → continue AtI o (m ∷ i) d ≡ with_requests (what_in m) (continue (after_message AtI m) o i d)
 at_i (from_stage.Part p n w) o i d = refl
 at_i (from_stage.Done p n) o i d = refl
 at_i from_stage.Finish o i d = refl
 
 at_both : (m : FromStage) (o : List Turn) (i d : List FromStage)
-    → continue AtBoth o (m ∷ i) d ≡ with_whats (what_in m) (continue (after_message AtBoth m) o i d)
+    → continue AtBoth o (m ∷ i) d
+    ≡ with_requests (what_in m) (continue (after_message AtBoth m) o i d)
 at_both (from_stage.Part p n w) o i d = refl
 at_both (from_stage.Done p n) o i d = refl
 at_both from_stage.Finish o i d = refl
 
 last_i : (m : FromStage) (o : List Turn) (i d : List FromStage)
-    → continue LastI o (m ∷ i) d ≡ with_whats (what_in m) (continue (after_message LastI m) o i d)
+    → continue LastI o (m ∷ i) d
+    ≡ with_requests (what_in m) (continue (after_message LastI m) o i d)
 last_i (from_stage.Part p n w) o i d = refl
 last_i (from_stage.Done p n) o i d = refl
 last_i from_stage.Finish o i d = refl
 
 at_d : (m : FromStage) (o : List Turn) (i d : List FromStage)
-    → continue AtD o i (m ∷ d) ≡ with_whats (what_in m) (continue (after_message AtD m) o i d)
+    → continue AtD o i (m ∷ d) ≡ with_requests (what_in m) (continue (after_message AtD m) o i d)
 at_d (from_stage.Part p n w) o i d = refl
 at_d (from_stage.Done p n) o i d = refl
 at_d from_stage.Finish o i d = refl
 
 last_d : (m : FromStage) (o : List Turn) (i d : List FromStage)
-    → continue LastD o i (m ∷ d) ≡ with_whats (what_in m) (continue (after_message LastD m) o i d)
+    → continue LastD o i (m ∷ d)
+    ≡ with_requests (what_in m) (continue (after_message LastD m) o i d)
 last_d (from_stage.Part p n w) o i d = refl
 last_d (from_stage.Done p n) o i d = refl
 last_d from_stage.Finish o i d = refl
 
-goes_at : (at : Stand) → Goes (wanted at) at
+goes_at : (at : MergeState) → Goes (wanted at) at
 goes_at AtOrder = (at_order, λ i d. refl)
 goes_at AtI = (at_i, λ o d. refl)
 goes_at AtD = (at_d, λ o i. refl)
@@ -94,10 +97,10 @@ goes_at LastI = (last_i, λ o d. refl)
 goes_at LastD = (last_d, λ o i. refl)
 goes_at AtEnd = λ o i d. refl
 
-goes : (at : Stand) (w : Want) → wanted at ≡ w → Goes w at
+goes : (at : MergeState) (w : Want) → wanted at ≡ w → Goes w at
 goes at w h = subst (λ (v : Want). Goes v at) h (goes_at at)
 
-at_rest : (at : Stand) → continue at [] [] [] ≡ all_used [] at
+at_rest : (at : MergeState) → continue at [] [] [] ≡ all_used [] at
 at_rest AtOrder = refl
 at_rest AtI = refl
 at_rest AtD = refl
@@ -129,34 +132,34 @@ from_of s (Turned t ∷ ps) = from_of s ps
 from_of s (From r m ∷ ps) = for_side s r m ++ from_of s ps
 
 -- what the popped messages brought
-abbrev pub whats_of : List Pop → List What
-whats_of [] = []
-whats_of (Turned t ∷ ps) = whats_of ps
-whats_of (From s m ∷ ps) = what_in m ++ whats_of ps
+abbrev pub requests_of : List Pop → List What
+requests_of [] = []
+requests_of (Turned t ∷ ps) = requests_of ps
+requests_of (From s m ∷ ps) = what_in m ++ requests_of ps
 
 -- where the merge stands after these pops
-abbrev pub stand_after : Stand → List Pop → Stand
-stand_after at [] = at
-stand_after at (Turned t ∷ ps) = stand_after (after_turn t) ps
-stand_after at (From s m ∷ ps) = stand_after (after_message at m) ps
+abbrev pub state_after : MergeState → List Pop → MergeState
+state_after at [] = at
+state_after at (Turned t ∷ ps) = state_after (after_turn t) ps
+state_after at (From s m ∷ ps) = state_after (after_message at m) ps
 
 -- each pop is of the ring that is wanted when it comes
-abbrev pub Lawful : Stand → List Pop → Type 0
+abbrev pub Lawful : MergeState → List Pop → Type 0
 Lawful at [] = Unit {0}
 Lawful at (Turned t ∷ ps) = (wanted at ≡ want.Order) × Lawful (after_turn t) ps
 Lawful at (From s m ∷ ps) = (wanted at ≡ want_of s) × Lawful (after_message at m) ps
 
 -- a log of what the rule did with three lists
-pub record Log (at : Stand) (o : List Turn) (i d : List FromStage) (m : Merged) : Type 0 where
+pub record Log (at : MergeState) (o : List Turn) (i d : List FromStage) (m : Merged) : Type 0 where
   pub pops : List Pop
   pub lawful : Lawful at pops
   pub turns : turns_of pops ++ m.turns ≡ o
   pub from_i : from_of side.I pops ++ m.from_i ≡ i
   pub from_d : from_of side.D pops ++ m.from_d ≡ d
-  pub taken : whats_of pops ≡ m.taken
-  pub at_end : stand_after at pops ≡ m.at
+  pub taken : requests_of pops ≡ m.taken
+  pub at_end : state_after at pops ≡ m.at
 
-no_pop : (at : Stand) (o : List Turn) (i d : List FromStage) → Log at o i d (stops at o i d)
+no_pop : (at : MergeState) (o : List Turn) (i d : List FromStage) → Log at o i d (stops at o i d)
 no_pop at o i d = record {
   pops = [];
   lawful = tt;
@@ -167,7 +170,7 @@ no_pop at o i d = record {
   at_end = refl;
 }
 
-a_turn : (at : Stand) (t : Turn) (o : List Turn) (i d : List FromStage) (m : Merged)
+a_turn : (at : MergeState) (t : Turn) (o : List Turn) (i d : List FromStage) (m : Merged)
     → wanted at ≡ want.Order → Log (after_turn t) o i d m → Log at (t ∷ o) i d m
 a_turn at t o i d m h l =
     record {
@@ -180,9 +183,9 @@ a_turn at t o i d m h l =
       at_end = l.at_end;
     }
 
-an_i : (at : Stand) (x : FromStage) (o : List Turn) (i d : List FromStage) (m : Merged)
+an_i : (at : MergeState) (x : FromStage) (o : List Turn) (i d : List FromStage) (m : Merged)
     → wanted at ≡ want.I → Log (after_message at x) o i d m
-    → Log at o (x ∷ i) d (with_whats (what_in x) m)
+    → Log at o (x ∷ i) d (with_requests (what_in x) m)
 an_i at x o i d m h l =
     record {
       pops = From side.I x ∷ l.pops;
@@ -195,9 +198,9 @@ an_i at x o i d m h l =
       at_end = l.at_end;
     }
 
-a_d : (at : Stand) (x : FromStage) (o : List Turn) (i d : List FromStage) (m : Merged)
+a_d : (at : MergeState) (x : FromStage) (o : List Turn) (i d : List FromStage) (m : Merged)
     → wanted at ≡ want.D → Log (after_message at x) o i d m
-    → Log at o i (x ∷ d) (with_whats (what_in x) m)
+    → Log at o i (x ∷ d) (with_requests (what_in x) m)
 a_d at x o i d m h l =
     record {
       pops = From side.D x ∷ l.pops;
@@ -211,9 +214,10 @@ a_d at x o i d m h l =
     }
 
 -- the rule has a log, by the ring that is wanted
-by_want : (k : ℕ) (at : Stand) (w : Want) (o : List Turn) (i d : List FromStage) → wanted at ≡ w
+by_want : (k : ℕ) (at : MergeState) (w : Want) (o : List Turn) (i d : List FromStage)
+    → wanted at ≡ w
     → length o + length i + length d < suc k
-    → ((at' : Stand) (o' : List Turn) (i' d' : List FromStage)
+    → ((at' : MergeState) (o' : List Turn) (i' d' : List FromStage)
     → length o' + length i' + length d' < k → Log at' o' i' d' (continue at' o' i' d'))
     → Log at o i d (continue at o i d)
 by_want k at want.Order [] i d h lt rest = rw ((goes at want.Order h).1 i d) (no_pop at [] i d)
@@ -230,29 +234,30 @@ by_want k at want.D o i (x ∷ d) h lt rest =
     (rest (after_message at x) o i d (omega arith)))
 by_want k at want.Nothing o i d h lt rest = rw (goes at want.Nothing h o i d) (no_pop at o i d)
 
-log_of : (k : ℕ) (at : Stand) (o : List Turn) (i d : List FromStage)
+log_of : (k : ℕ) (at : MergeState) (o : List Turn) (i d : List FromStage)
     → length o + length i + length d < k → Log at o i d (continue at o i d)
 log_of zero at o i d lt = absurd (omega arith)
 log_of (suc k) at o i d lt = by_want k at (wanted at) o i d refl lt (log_of k)
 
 -- the rule has a log
-pub log : (at : Stand) (o : List Turn) (i d : List FromStage) → Log at o i d (continue at o i d)
+pub log : (at : MergeState) (o : List Turn) (i d : List FromStage)
+    → Log at o i d (continue at o i d)
 log at o i d = log_of (suc (length o + length i + length d)) at o i d (omega arith)
 
 -- and each log is the rule's
-pub from_log : (ps : List Pop) (at : Stand) → Lawful at ps
+pub from_log : (ps : List Pop) (at : MergeState) → Lawful at ps
     → continue at (turns_of ps) (from_of side.I ps) (from_of side.D ps)
-    ≡ all_used (whats_of ps) (stand_after at ps)
+    ≡ all_used (requests_of ps) (state_after at ps)
 from_log [] at h = at_rest at
 from_log (Turned t ∷ ps) at h = (goes at want.Order h.0).0 t _ _ _ ∙ from_log ps (after_turn t) h.1
 from_log (From side.I m ∷ ps) at h = (goes at want.I h.0).0 m _ _ _
-    ∙ ap (with_whats (what_in m)) (from_log ps (after_message at m) h.1)
+    ∙ ap (with_requests (what_in m)) (from_log ps (after_message at m) h.1)
 from_log (From side.D m ∷ ps) at h = (goes at want.D h.0).0 m _ _ _
-    ∙ ap (with_whats (what_in m)) (from_log ps (after_message at m) h.1)
+    ∙ ap (with_requests (what_in m)) (from_log ps (after_message at m) h.1)
 
 -- a log and one more pop
-pub Lawful-more : (ps : List Pop) (at : Stand) (p : Pop) → Lawful at ps
-    → Lawful (stand_after at ps) (p ∷ []) → Lawful at (ps ++ p ∷ [])
+pub Lawful-more : (ps : List Pop) (at : MergeState) (p : Pop) → Lawful at ps
+    → Lawful (state_after at ps) (p ∷ []) → Lawful at (ps ++ p ∷ [])
 Lawful-more [] at p h l = l
 Lawful-more (Turned t ∷ ps) at p h l = (h.0, Lawful-more ps (after_turn t) p h.1 l)
 Lawful-more (From s m ∷ ps) at p h l = (h.0, Lawful-more ps (after_message at m) p h.1 l)
@@ -272,15 +277,16 @@ from_of-append s (From r m ∷ ps) qs = ap (λ x. for_side s r m ++ x) (from_of-
     ∙ sym (append_assoc (for_side s r m) _ _)
 
 -- so is what they brought
-pub whats_of-append : (ps qs : List Pop) → whats_of (ps ++ qs) ≡ whats_of ps ++ whats_of qs
-whats_of-append [] qs = refl
-whats_of-append (Turned t ∷ ps) qs = whats_of-append ps qs
-whats_of-append (From s m ∷ ps) qs = ap (λ x. what_in m ++ x) (whats_of-append ps qs)
+pub requests_of-append : (ps qs : List Pop)
+    → requests_of (ps ++ qs) ≡ requests_of ps ++ requests_of qs
+requests_of-append [] qs = refl
+requests_of-append (Turned t ∷ ps) qs = requests_of-append ps qs
+requests_of-append (From s m ∷ ps) qs = ap (λ x. what_in m ++ x) (requests_of-append ps qs)
     ∙ sym (append_assoc (what_in m) _ _)
 
 -- where the merge stands after two lists of pops is where the second leads from the first
-pub stand_after-append : (ps qs : List Pop) (at : Stand)
-    → stand_after at (ps ++ qs) ≡ stand_after (stand_after at ps) qs
-stand_after-append [] qs at = refl
-stand_after-append (Turned t ∷ ps) qs at = stand_after-append ps qs (after_turn t)
-stand_after-append (From s m ∷ ps) qs at = stand_after-append ps qs (after_message at m)
+pub state_after-append : (ps qs : List Pop) (at : MergeState)
+    → state_after at (ps ++ qs) ≡ state_after (state_after at ps) qs
+state_after-append [] qs at = refl
+state_after-append (Turned t ∷ ps) qs at = state_after-append ps qs (after_turn t)
+state_after-append (From s m ∷ ps) qs at = state_after-append ps qs (after_message at m)

@@ -11,9 +11,9 @@ use Rattle.cache_core.specs.Standing.{StandsFor}
 use Rattle.cache_core.specs.declared.cache.Cache.{Cache}
 use Rattle.din_trace.specs.declared.record.DinRecord.{DinRecord}
 use Rattle.stage_core.specs.Events.{asked, history, newest_first}
-use Rattle.stage_core.specs.Seen.{read_as, second_history}
+use Rattle.stage_core.specs.SecondLevel.{read_as, second_history}
 use Rattle.stage_core.specs.Streams.{taken_in, asked_in, is_finish}
-use Rattle.stage_core.specs.Standing.{StageStandsFor, SecondStandsFor, cache_of, second_cache}
+use Rattle.stage_core.specs.Standing.{StageStandsFor, L2StandsFor, cache_of, l2_cache}
 use Rattle.stage_core.specs.Standing.{took_finish}
 use Rattle.stage_core.specs.declared.l1_stage.L1Stage.{L1Stage}
 use Rattle.stage_core.specs.declared.l2_stage.L2Stage.{L2Stage}
@@ -64,10 +64,10 @@ one_event_more old new ms m e asks goes_on same longer st = record {
 
 -- a second level whose cache was given one event more served one what more
 pub one_what_more : (old new : L2Stage) (ws : List What) (w : What) (e : Event) → read_as w ≡ e
-    → ((h : History) → StandsFor (second_cache old) h → StandsFor (second_cache new) (e ∷ h))
-    → SecondStandsFor old ws → SecondStandsFor new (ws ++ w ∷ [])
+    → ((h : History) → StandsFor (l2_cache old) h → StandsFor (l2_cache new) (e ∷ h))
+    → L2StandsFor old ws → L2StandsFor new (ws ++ w ∷ [])
 one_what_more old new ws w e reads longer st = record {
-  cache = subst (λ (h : History). StandsFor (second_cache new) h)
+  cache = subst (λ (h : History). StandsFor (l2_cache new) h)
       (sym (second_history-more ws w ∙ ap (λ x. x ∷ second_history ws) reads))
       (longer (second_history ws) st.cache);
 }

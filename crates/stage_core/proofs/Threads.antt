@@ -4,9 +4,9 @@ use Rattle.std.proofs.Common.{◌≡◌, Bool, true, false, List, [], ◌∷◌,
 use Rattle.std.proofs.Common.{append-nil}
 use Rattle.std.proofs.lemmas.List.{append_cancel_right}
 use Rattle.din_trace.specs.declared.record.DinRecord.{DinRecord}
-use Rattle.stage_core.specs.Places.{over, one_if}
-use Rattle.stage_core.specs.Seen.{Parts}
-use Rattle.stage_core.specs.Streams.{turn_of, told, replies}
+use Rattle.stage_core.specs.Places.{flat_map_with_past, list_if}
+use Rattle.stage_core.specs.SecondLevel.{Parts}
+use Rattle.stage_core.specs.Streams.{turn_of, messages_to, replies}
 use Rattle.stage_core.specs.Network.Pushes.{Push, pushes, pushes_at, ending, turns_in, sent_to}
 use Rattle.stage_core.specs.Network.Rings.{carried}
 use Rattle.stage_core.specs.Network.{Network, Lane, lane, Consistent}
@@ -64,15 +64,16 @@ lane-of n side.I = refl
 lane-of n side.D = refl
 
 pushed-front : (b : Bool) (es : List DinRecord)
-    → (over pushes_at es ++ begun b) ++ left b ≡ pushes es
+    → (flat_map_with_past pushes_at es ++ begun b) ++ left b ≡ pushes es
 pushed-front true es = append-nil (pushes es)
-pushed-front false es = ap (λ ps. ps ++ ending) (append-nil (over pushes_at es))
+pushed-front false es = ap (λ ps. ps ++ ending) (append-nil (flat_map_with_past pushes_at es))
 
-turns-pushed : (b : Bool) (es : List DinRecord) → turns_in (over pushes_at es ++ begun b)
-    ≡ map (λ e. turn_of e.label) es ++ one_if b turn.Finish
+turns-pushed : (b : Bool) (es : List DinRecord)
+    → turns_in (flat_map_with_past pushes_at es ++ begun b)
+    ≡ map (λ e. turn_of e.label) es ++ list_if b turn.Finish
 turns-pushed true es = turns_in-pushes es
 turns-pushed false es =
-    let ps : List Push = over pushes_at es in
+    let ps : List Push = flat_map_with_past pushes_at es in
     let ts : List Turn = map (λ e. turn_of e.label) es in
     ap turns_in (append-nil ps)
     ∙ append_cancel_right (turns_in ps) ts (turn.Finish ∷ [])
@@ -84,11 +85,12 @@ ending-to side.I = refl
 ending-to side.D = refl
 
 sent-pushed : (b : Bool) (s : Side) (es : List DinRecord)
-    → sent_to s (over pushes_at es ++ begun b) ≡ over (told s) es ++ one_if b to_stage.Finish
+    → sent_to s (flat_map_with_past pushes_at es ++ begun b)
+    ≡ flat_map_with_past (messages_to s) es ++ list_if b to_stage.Finish
 sent-pushed true s es = sent_to-pushes s es
 sent-pushed false s es =
-    let ps : List Push = over pushes_at es in
-    let ms : List ToStage = over (told s) es in
+    let ps : List Push = flat_map_with_past pushes_at es in
+    let ms : List ToStage = flat_map_with_past (messages_to s) es in
     ap (sent_to s) (append-nil ps)
     ∙ append_cancel_right (sent_to s ps) ms (to_stage.Finish ∷ [])
     (ap (λ l. sent_to s ps ++ l) (sym (ending-to s)) ∙ sym (sent_to-append s ps ending)
@@ -108,7 +110,7 @@ consistent parts n h r =
     let es : List DinRecord = n.splitter.events in
     let b : Bool = n.splitter.closed in
     record {
-      pushed = over pushes_at es ++ begun b;
+      pushed = flat_map_with_past pushes_at es ++ begun b;
       front = pushed-front b es;
       turns = sym h.order ∙ r.posted.order ∙ sym (turns-pushed b es);
       to_side = λ s.

@@ -6,10 +6,10 @@ use Rattle.cache_core.specs.History.{Event, access, flush}
 use Rattle.din_trace.specs.declared.record.Label.{Label}
 use Rattle.din_trace.specs.declared.record.Label.TheVariants as label
 use Rattle.stage_core.specs.Events.{asked_by}
-use Rattle.stage_core.specs.Seen.{Parts}
+use Rattle.stage_core.specs.SecondLevel.{Parts}
 use Rattle.stage_core.specs.Streams.{numbered, reply, message, turn_of, is_finish}
-use Rattle.stage_core.specs.Merging.{Stand, AtOrder, after_turn, after_end}
-use Rattle.stage_core.specs.Plain.{WantsSide, AreWanted, stand_after, WantsAnswers, after_answers}
+use Rattle.stage_core.specs.Merging.{MergeState, AtOrder, after_turn, after_end}
+use Rattle.stage_core.specs.Plain.{WantsSide, AreWanted, state_after, WantsAnswers, after_answers}
 use Rattle.stage_core.specs.declared.message.Side.{Side}
 use Rattle.stage_core.specs.declared.message.Side.TheVariants as side
 use Rattle.stage_core.specs.declared.message.What.{What}
@@ -19,25 +19,25 @@ use Rattle.stage_core.specs.declared.message.FromStage.{FromStage}
 use Rattle.stage_core.specs.declared.message.FromStage.TheVariants as from_stage
 
 -- a merge that wants a side takes these, and goes on where the side's turn ends
-pub record IsTurn (at : Stand) (ms : List FromStage) : Type 0 where
+pub record IsTurn (at : MergeState) (ms : List FromStage) : Type 0 where
   pub wanted : AreWanted at ms
-  pub after : stand_after at ms ≡ after_end at
+  pub after : state_after at ms ≡ after_end at
 
-numbered-turn : (at : Stand) (place n k : ℕ) (ws : List What) → WantsSide at
+numbered-turn : (at : MergeState) (place n k : ℕ) (ws : List What) → WantsSide at
     → IsTurn at (numbered place n ws ++ from_stage.Done place k ∷ [])
 numbered-turn at place n k [] wants = record { wanted = (wants, tt); after = refl }
 numbered-turn at place n k (w ∷ ws) wants =
     let rest = numbered-turn at place (n + 1) k ws wants in
     record { wanted = (wants, rest.wanted); after = rest.after }
 
-pub reply-turn : (parts : Parts) (s : Side) (before : List ToStage) (at : Stand) (m : ToStage)
+pub reply-turn : (parts : Parts) (s : Side) (before : List ToStage) (at : MergeState) (m : ToStage)
     → WantsSide at → IsTurn at (reply parts s before m)
 reply-turn parts s before at (to_stage.Ref place c a) wants = numbered-turn at place 1 _ _ wants
 reply-turn parts s before at (to_stage.Flush place) wants = numbered-turn at place 1 _ _ wants
 reply-turn parts s before at to_stage.Finish wants = record { wanted = (wants, tt); after = refl }
 
 -- the same of a message that an option holds
-pub option-turn : (parts : Parts) (s : Side) (before : List ToStage) (at : Stand) (m : ToStage)
+pub option-turn : (parts : Parts) (s : Side) (before : List ToStage) (at : MergeState) (m : ToStage)
     {o : Option ToStage} {ms : List FromStage} → o ≡ Some m → ms ≡ reply parts s before m
     → WantsAnswers at (option_to_list o) → IsTurn at ms
 option-turn parts s before at m some sent wants =
@@ -45,7 +45,7 @@ option-turn parts s before at m some sent wants =
     subst (IsTurn at) (sym sent) (reply-turn parts s before at m answers.0)
 
 -- the two sides' answers to an event come when the merge wants them
-pub record AreTurns (at : Stand) (is ds : List ToStage) : Type 0 where
+pub record AreTurns (at : MergeState) (is ds : List ToStage) : Type 0 where
   pub i : WantsAnswers at is
   pub d : WantsAnswers (after_answers at is) ds
   pub after : after_answers (after_answers at is) ds ≡ AtOrder
@@ -65,7 +65,7 @@ no_finish p (access x ∷ es) = no_finish p es
 no_finish p (flush ∷ es) = no_finish p es
 
 -- so the merge stands where it stood before the event
-pub at-order : (l : Label) (a p : ℕ) {is ds : List ToStage} {turned between after : Stand}
+pub at-order : (l : Label) (a p : ℕ) {is ds : List ToStage} {turned between after : MergeState}
     → turned ≡ after_turn (turn_of l) → is ≡ map (message p) (asked_by side.I l a)
     → ds ≡ map (message p) (asked_by side.D l a)
     → between ≡ after_answers turned is → after ≡ after_answers between ds → after ≡ AtOrder

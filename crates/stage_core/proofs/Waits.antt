@@ -3,7 +3,7 @@ use Rattle.std.proofs.Common.{◌≡◌, ℕ, ◌<◌, ◌⊎◌, inl, inr, Bool
 use Rattle.std.proofs.Common.{length, refl, sym, ap, ◌∙◌, arith, length-append}
 use Rattle.std.proofs.lemmas.List.{nil_from_length}
 use Rattle.din_trace.specs.declared.record.DinRecord.{DinRecord}
-use Rattle.stage_core.specs.Seen.{Parts}
+use Rattle.stage_core.specs.SecondLevel.{Parts}
 use Rattle.stage_core.specs.Network.Pushes.{turns_in}
 use Rattle.stage_core.specs.Merging.{wanted}
 use Rattle.stage_core.specs.Network.{Lane, lane, finish_taken, Consistent, IsFinished}
@@ -11,7 +11,7 @@ use Rattle.stage_core.specs.Waiting.{Sender, HasPosted, HasAnswered, HasMerged, 
 use Rattle.stage_core.specs.Waiting.{splitter_holds, Threads, RingsCarry, NoRoom, NothingFor}
 use Rattle.stage_core.specs.Waiting.{SplitterWaits, StageWaits, MergeWaits, SplitterEnded}
 use Rattle.stage_core.specs.Waiting.{StageEnded, MergeEnded, NoneGoesOn, AllEnded}
-use Rattle.stage_core.specs.Laws.{WaitingThreadsHaveEnded, EndedThreadsHaveSeen}
+use Rattle.stage_core.specs.Laws.{WaitingThreadsHaveEnded, EndedThreadsGaveAll}
 use Rattle.stage_core.specs.declared.message.Side.{Side}
 use Rattle.stage_core.specs.declared.message.Side.TheVariants as side
 use Rattle.stage_core.specs.declared.message.Want.{Want}
@@ -141,11 +141,11 @@ module _ (parts : Parts) (capacity : ℕ) (pos : 0 < capacity) (n : Threads)
       let o : (network n).order.waiting ≡ [] = nil-append e (held-order e) in
       elim g.splitter [
         | inl x ↦
-            let owes = known n.merge.at want.Order w in
+            let closing = known n.merge.at want.Order w in
             omega (
               arith,
               x.may.holds,
-              owes,
+              closing,
               ap length (held-order e),
               merge-count parts es (network n) k side.I,
               stage-count parts es (network n) k side.I,
@@ -216,8 +216,8 @@ pub waiting_ended : WaitingThreadsHaveEnded
 waiting_ended parts capacity n pos h g = none_goes_on parts capacity pos n h g
 
 -- where all have ended, the second level was given just what it is to see
-pub ended_seen : EndedThreadsHaveSeen
-ended_seen parts n h e =
+pub ended_given : EndedThreadsGaveAll
+ended_given parts n h e =
     let k = consistent parts n h record {
       posted = e.splitter.posted;
       answered = λ s. (e.stage s).answered;

@@ -4,7 +4,7 @@ use Rattle.cache_core.specs.declared.geometry.Geometry.{Geometry}
 use Rattle.cache_core.specs.declared.policy.Policy.{Policy}
 use Rattle.cache_core.specs.Geometry.{IsMadeOf}
 use Rattle.cache_core.specs.Standing.{rules_from}
-use Rattle.stage_core.specs.Seen.{Hierarchy}
+use Rattle.stage_core.specs.SecondLevel.{Hierarchy}
 use Rattle.stage_core.specs.declared.config.CacheName.{CacheName}
 use Rattle.stage_core.specs.declared.config.CacheName.TheVariants as cache_name
 use Rattle.stage_core.specs.declared.config.CacheSpec.{CacheSpec}

@@ -9,7 +9,7 @@ use Rattle.din_trace.specs.declared.record.Label.TheVariants as label
 use Rattle.cache_core.specs.declared.access.Class.{Class}
 use Rattle.cache_core.specs.declared.access.Class.TheVariants as class
 use Rattle.cache_core.specs.History.{Event, access, flush, History}
-use Rattle.stage_core.specs.Places.{over, one_if}
+use Rattle.stage_core.specs.Places.{flat_map_with_past, list_if}
 use Rattle.stage_core.specs.declared.message.Side.{Side}
 use Rattle.stage_core.specs.declared.message.Side.TheVariants as side
 use Rattle.stage_core.specs.declared.selection.Selection.{Selection}
@@ -64,7 +64,7 @@ picked s r x = record {
 
 -- the events that it makes
 abbrev pub picked_events : Picked → List DinRecord
-picked_events p = option_to_list p.event ++ one_if p.flush inserted_flush
+picked_events p = option_to_list p.event ++ list_if p.flush inserted_flush
 
 -- the events of the record x, which stands after the records before
 abbrev pub events_at : Selection → List DinRecord → DinRecord → List DinRecord
@@ -72,7 +72,7 @@ events_at s before x = picked_events (picked s (count_by is_reference (before ++
 
 -- the event list of a trace; the place of an event is its number in this list, from 1
 abbrev pub events : Selection → List DinRecord → List DinRecord
-events s records = over (events_at s) records
+events s records = flat_map_with_past (events_at s) records
 
 -- an access of this class to this address
 abbrev pub access_of : Class → ℕ → Event

@@ -10,7 +10,8 @@ use Rattle.din_trace.specs.declared.record.DinRecord.{DinRecord}
 use Rattle.din_trace.specs.declared.record.Label.{Label}
 use Rattle.din_trace.specs.declared.record.Label.TheVariants as label
 use Rattle.stage_core.specs.Events.{access_of, events}
-use Rattle.stage_core.specs.Seen.{Hierarchy, parts_of, parts_in, seen, second_history, totals}
+use Rattle.stage_core.specs.SecondLevel.{Hierarchy, parts_of, parts_in, second_level_requests}
+use Rattle.stage_core.specs.SecondLevel.{second_history, totals}
 use Rattle.stage_core.specs.Streams.{order, to_side, from_side}
 use Rattle.stage_core.specs.Network.{messages}
 use Rattle.stage_core.specs.declared.message.Side.TheVariants as side
@@ -21,14 +22,14 @@ use Rattle.stage_core.specs.declared.message.FromStage.TheVariants as from_stage
 
 -- an LRU cache with write back and write allocation
 abbrev lru : ℕ → ℕ → ℕ → Rules
-lru block_size sets ways = record {
-  block_size = block_size;
+lru bsize sets assoc = record {
+  bsize = bsize;
   sets = sets;
-  ways = ways;
+  assoc = assoc;
   blocks = 4;
   fifo = false;
-  write_back = true;
-  allocate = true;
+  wback = true;
+  walloc = true;
 }
 
 -- I 16/4/1, D 16/4/2 and U 32/8/2
@@ -64,7 +65,7 @@ unfolding parts_of outcome_of victim renewals is_resident reuse_distance dirty_b
 from_d-victim = refl
 
 -- the second level's history, the newest event first
-second-victim : second_history (seen (parts_in small) victim_trace)
+second-victim : second_history (second_level_requests (parts_in small) victim_trace)
     ≡ access_of class.Read 16 ∷ access_of class.Write 0 ∷ access_of class.Read 8
     ∷ access_of class.Read 0 ∷ []
 unfolding parts_of outcome_of victim renewals is_resident reuse_distance dirty_blocks is_dirty
@@ -109,7 +110,7 @@ unfolding parts_of outcome_of victim renewals is_resident reuse_distance dirty_b
     is_written
 from_d-flush = refl
 
-second-flush : second_history (seen (parts_in small) flush_trace)
+second-flush : second_history (second_level_requests (parts_in small) flush_trace)
     ≡ flush
     ∷ access_of class.Write 8
     ∷ access_of class.Write 0

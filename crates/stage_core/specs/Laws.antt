@@ -2,7 +2,8 @@
 use Rattle.std.specs.Prelude.{◌≡◌, ℕ, ◌*◌, ◌<◌, ◌≤◌, List, length}
 use Rattle.din_trace.specs.declared.record.DinRecord.{DinRecord}
 use Rattle.stage_core.specs.Events.{events}
-use Rattle.stage_core.specs.Seen.{Parts, Hierarchy, parts_in, seen, second_history}
+use Rattle.stage_core.specs.SecondLevel.{Parts, Hierarchy, parts_in, second_level_requests}
+use Rattle.stage_core.specs.SecondLevel.{second_history}
 use Rattle.stage_core.specs.Streams.{order, to_side, from_side, replies}
 use Rattle.stage_core.specs.Merging.{merged, all_used, AtEnd}
 use Rattle.stage_core.specs.Waiting.{Threads, RingsCarry, NoneGoesOn, AllEnded}
@@ -12,10 +13,10 @@ use Rattle.stage_core.specs.declared.selection.Selection.{Selection}
 
 -- the merge's rule, fed with the streams of an event list, takes exactly what the second level is
 -- to see, uses the streams up and is at its end
-abbrev pub MergeTakesWhatIsSeen : Type 0
-MergeTakesWhatIsSeen = (parts : Parts) (es : List DinRecord) →
+abbrev pub MergeTakesTheRequests : Type 0
+MergeTakesTheRequests = (parts : Parts) (es : List DinRecord) →
     merged (order es) (from_side parts side.I es) (from_side parts side.D es)
-    ≡ all_used (seen parts es) AtEnd
+    ≡ all_used (second_level_requests parts es) AtEnd
 
 -- what a stage sends for its whole stream is the stream to the merge
 abbrev pub StagesAnswerTheirStreams : Type 0
@@ -23,13 +24,13 @@ StagesAnswerTheirStreams = (parts : Parts) (s : Side) (es : List DinRecord) →
     replies parts s (to_side s es) ≡ from_side parts s es
 
 -- the second level's history is at most twice as long as the event list
-abbrev pub SecondLevelSeesFew : Type 0
-SecondLevelSeesFew = (c : Hierarchy) (es : List DinRecord) →
-    length (second_history (seen (parts_in c) es)) ≤ 2 * length es
+abbrev pub SecondLevelSeesAtMostTwo : Type 0
+SecondLevelSeesAtMostTwo = (c : Hierarchy) (es : List DinRecord) →
+    length (second_history (second_level_requests (parts_in c) es)) ≤ 2 * length es
 
 -- the event list is at most twice as long as the trace
-abbrev pub SelectionsMakeFew : Type 0
-SelectionsMakeFew = (s : Selection) (records : List DinRecord)
+abbrev pub SelectionsMakeAtMostTwo : Type 0
+SelectionsMakeAtMostTwo = (s : Selection) (records : List DinRecord)
     → length (events s records) ≤ 2 * length records
 
 -- threads of which each waits in vain or has ended have all ended, if each ring holds a message or
@@ -40,7 +41,7 @@ WaitingThreadsHaveEnded =
     NoneGoesOn parts capacity n → AllEnded parts n
 
 -- and where all have ended, the second level was given just what it is to see
-abbrev pub EndedThreadsHaveSeen : Type 0
-EndedThreadsHaveSeen =
+abbrev pub EndedThreadsGaveAll : Type 0
+EndedThreadsGaveAll =
     (parts : Parts) (n : Threads) → RingsCarry n → AllEnded parts n →
-    n.merge.given ≡ seen parts n.splitter.events
+    n.merge.given ≡ second_level_requests parts n.splitter.events

@@ -10,11 +10,11 @@ use Rattle.stage_core.specs.declared.message.FromStage.TheVariants as from_stage
 
 -- Where the merge stands: before a turn; in a turn of I, of D, or of both with I's part still to
 -- come; after the last turn, before I's Finish or D's; at the end.
-pub data Stand : Type 0 where
-  AtOrder AtI AtD AtBoth LastI LastD AtEnd : Stand
+pub data MergeState : Type 0 where
+  AtOrder AtI AtD AtBoth LastI LastD AtEnd : MergeState
 
 -- whose message it takes next
-abbrev pub wanted : Stand → Want
+abbrev pub wanted : MergeState → Want
 wanted AtOrder = want.Order
 wanted AtI = want.I
 wanted AtD = want.D
@@ -24,14 +24,14 @@ wanted LastD = want.D
 wanted AtEnd = want.Nothing
 
 -- where a turn leads
-abbrev pub after_turn : Turn → Stand
+abbrev pub after_turn : Turn → MergeState
 after_turn turn.I = AtI
 after_turn turn.D = AtD
 after_turn turn.Both = AtBoth
 after_turn turn.Finish = LastI
 
 -- where the end of a side's messages leads
-abbrev pub after_end : Stand → Stand
+abbrev pub after_end : MergeState → MergeState
 after_end AtI = AtOrder
 after_end AtD = AtOrder
 after_end AtBoth = AtD
@@ -42,7 +42,7 @@ after_end AtEnd = AtEnd
 
 -- a Part leaves the merge where it is; Done and Finish, either in the place of the other, end a
 -- side's messages
-abbrev pub after_message : Stand → FromStage → Stand
+abbrev pub after_message : MergeState → FromStage → MergeState
 after_message at (from_stage.Part place part w) = at
 after_message at (from_stage.Done place parts) = after_end at
 after_message at from_stage.Finish = after_end at
@@ -56,7 +56,7 @@ what_in from_stage.Finish = []
 -- what the rule has taken from three lists, where it stands then, and what is left of the lists
 pub record Merged : Type 0 where
   pub taken : List What
-  pub at : Stand
+  pub at : MergeState
   pub turns : List Turn
   pub from_i : List FromStage
   pub from_d : List FromStage
@@ -74,7 +74,7 @@ up_to_end (from_stage.Done place parts ∷ ms) stopped next = next ms
 up_to_end (from_stage.Finish ∷ ms) stopped next = next ms
 
 -- the rule stops here, and leaves these
-abbrev pub stops : Stand → List Turn → List FromStage → List FromStage → Merged
+abbrev pub stops : MergeState → List Turn → List FromStage → List FromStage → Merged
 stops at turns is ds = record { taken = []; at = at; turns = turns; from_i = is; from_d = ds }
 
 -- the rule, fed with the turns and with the messages from I and from D
@@ -89,6 +89,6 @@ merged (turn.Finish ∷ ts) is ds =
     up_to_end is (stops LastI ts [] ds) (λ is'.
     up_to_end ds (stops LastD ts is' []) (λ ds'. stops AtEnd ts is' ds'))
 
--- the rule took these whats, used all three lists up and stands there
-abbrev pub all_used : List What → Stand → Merged
+-- the rule took these requests, used all three lists up and stands there
+abbrev pub all_used : List What → MergeState → Merged
 all_used ws at = record { taken = ws; at = at; turns = []; from_i = []; from_d = [] }

@@ -10,11 +10,11 @@ use Rattle.std.specs.Prelude.{Some, None, is_some, option_and_then, if◌then◌
 use Rattle.std.specs.Option.{option_map}
 use Rattle.std.specs.List.{list_any}
 use Rattle.din_trace.specs.declared.record.DinRecord.{DinRecord}
-use Rattle.stage_core.specs.Seen.{Parts}
+use Rattle.stage_core.specs.SecondLevel.{Parts}
 use Rattle.stage_core.specs.Streams.{order, to_side, from_side, is_finish, reply, replies}
-use Rattle.stage_core.specs.Merging.{Stand, AtOrder, wanted, after_turn, after_message, what_in}
-use Rattle.stage_core.specs.Merging.{merged, all_used}
-use Rattle.stage_core.specs.Network.Rings.{Ring, carried, empty_ring, push, pop, ring_events}
+use Rattle.stage_core.specs.Merging.{MergeState, AtOrder, wanted, after_turn, after_message}
+use Rattle.stage_core.specs.Merging.{what_in, merged, all_used}
+use Rattle.stage_core.specs.Network.Rings.{Ring, carried, empty_ring, push, pop, ring_steps}
 use Rattle.stage_core.specs.Network.Pushes.{Push, Order, To, pushes, turns_in, sent_to}
 use Rattle.stage_core.specs.declared.message.Side.{Side}
 use Rattle.stage_core.specs.declared.message.Side.TheVariants as side
@@ -44,7 +44,7 @@ pub record Network : Type 0 where
   pub order : Ring Turn
   pub i : Lane
   pub d : Lane
-  pub at : Stand
+  pub at : MergeState
   pub given : List What
 
 -- the lane of a side
@@ -96,7 +96,7 @@ merge want.I n = take_from side.I n
 merge want.D n = take_from side.D n
 merge want.Nothing n = None
 
--- the state after the next event of a machine, where that event is possible
+-- the state after the next step of a machine, where that step is possible
 abbrev pub next : Parts → ℕ → Machine → Network → Option Network
 next parts capacity Splitter n = split capacity n.still n
 next parts capacity (Stage s) n =
@@ -111,11 +111,11 @@ can parts capacity n m = is_some (next parts capacity m n)
 abbrev pub machines : List Machine
 machines = Splitter ∷ Stage side.I ∷ Stage side.D ∷ Merging ∷ []
 
--- those whose next event is possible
+-- those whose next step is possible
 abbrev pub enabled : Parts → ℕ → Network → List Machine
 enabled parts capacity n = filter (can parts capacity n) machines
 
--- no machine has a next event: all was pushed, both stages took Finish in and sent all that they
+-- no machine has a next step: all was pushed, both stages took Finish in and sent all that they
 -- had to, and the merge wants nothing
 pub record IsFinished (n : Network) : Type 0 where
   pub splitter : n.still ≡ []
@@ -138,18 +138,18 @@ start events = record {
   given = [];
 }
 
--- a schedule: each machine that it names makes its next event, where that is possible
+-- a schedule: each machine that it names makes its next step, where that is possible
 abbrev pub run : Parts → ℕ → List Machine → Network → Option Network
 run parts capacity [] n = Some n
 run parts capacity (m ∷ ms) n = option_and_then (run parts capacity ms) (next parts capacity m n)
 
--- the events that were made with a lane's rings
-abbrev pub lane_events : Lane → ℕ
-lane_events l = ring_events l.to + ring_events l.from
+-- the steps that were made with a lane's rings
+abbrev pub lane_steps : Lane → ℕ
+lane_steps l = ring_steps l.to + ring_steps l.from
 
--- the events that were made: the pushes and the pops of all five rings
-abbrev pub events_made : Network → ℕ
-events_made n = ring_events n.order + lane_events n.i + lane_events n.d
+-- the steps that were made: the pushes and the pops of all five rings
+abbrev pub steps_made : Network → ℕ
+steps_made n = ring_steps n.order + lane_steps n.i + lane_steps n.d
 
 -- the messages of a side's two streams
 abbrev pub side_messages : Parts → List DinRecord → Side → ℕ

@@ -1,13 +1,13 @@
 -- A stage's outbox, whose messages are made as they are sent.
 use Rattle.std.specs.Prelude.{ℕ, ◌+◌, List, [], ◌∷◌, ◌++◌, length, map, Option}
 use Rattle.std.specs.Prelude.{option_to_list, drop}
-use Rattle.stage_core.specs.Seen.{back}
+use Rattle.stage_core.specs.SecondLevel.{back}
 use Rattle.stage_core.specs.Streams.{numbered}
 use Rattle.stage_core.specs.declared.message.What.{What}
 use Rattle.stage_core.specs.declared.message.FromStage.{FromStage}
 use Rattle.stage_core.specs.declared.message.FromStage.TheVariants as from_stage
-use Rattle.stage_core.specs.declared.outbox.Owes.{Owes}
-use Rattle.stage_core.specs.declared.outbox.Owes.TheVariants as owes
+use Rattle.stage_core.specs.declared.outbox.Closing.{Closing}
+use Rattle.stage_core.specs.declared.outbox.Closing.TheVariants as closing
 
 -- the write-backs that are left, and at most three parts more
 abbrev pub parts_left : List ℕ → ℕ → Option ℕ → Option What → Option What → List What
@@ -16,19 +16,19 @@ parts_left backs next first second third =
     ++ (map back (option_to_list first) ++ option_to_list second ++ option_to_list third)
 
 -- the message that ends them, behind n parts
-abbrev pub last_message : ℕ → ℕ → Owes → List FromStage
-last_message place n owes.Nothing = []
-last_message place n owes.Parts = from_stage.Done place n ∷ []
-last_message place n owes.Done = from_stage.Done place n ∷ []
-last_message place n owes.Finish = from_stage.Finish ∷ []
+abbrev pub last_message : ℕ → ℕ → Closing → List FromStage
+last_message place n closing.Nothing = []
+last_message place n closing.Parts = from_stage.Done place n ∷ []
+last_message place n closing.Done = from_stage.Done place n ∷ []
+last_message place n closing.Finish = from_stage.Finish ∷ []
 
 -- the parts that are left behind those that were sent, and the end
-abbrev pub to_send : ℕ → ℕ → List What → Owes → List FromStage
+abbrev pub to_send : ℕ → ℕ → List What → Closing → List FromStage
 to_send place sent ws o = numbered place (sent + 1) ws ++ last_message place (sent + length ws) o
 
 -- the parts among what is owed
-abbrev pub parts_owed : Owes → List What → List What
-parts_owed owes.Nothing ws = []
-parts_owed owes.Parts ws = ws
-parts_owed owes.Done ws = []
-parts_owed owes.Finish ws = []
+abbrev pub parts_owed : Closing → List What → List What
+parts_owed closing.Nothing ws = []
+parts_owed closing.Parts ws = ws
+parts_owed closing.Done ws = []
+parts_owed closing.Finish ws = []

@@ -3,12 +3,13 @@ use Rattle.std.specs.Prelude.{◌≡◌, ◌⊎◌, List, [], ◌∷◌, length,
 use Rattle.std.specs.List.{flat_map}
 use Rattle.din_trace.specs.declared.record.DinRecord.{DinRecord}
 use Rattle.cache_core.specs.Standing.{rules_of}
-use Rattle.stage_core.specs.Places.{over}
-use Rattle.stage_core.specs.Seen.{Hierarchy, Parts, parts_of, parts_in, seen}
-use Rattle.stage_core.specs.Streams.{told, reply}
-use Rattle.stage_core.specs.Merging.{Stand, AtOrder, wanted, after_end, after_message, what_in}
-use Rattle.stage_core.specs.Standing.{StageStandsFor, SecondStandsFor, IsReady, cache_of, side_of}
-use Rattle.stage_core.specs.Standing.{second_cache}
+use Rattle.stage_core.specs.Places.{flat_map_with_past}
+use Rattle.stage_core.specs.SecondLevel.{Hierarchy, Parts, parts_of, parts_in}
+use Rattle.stage_core.specs.SecondLevel.{second_level_requests}
+use Rattle.stage_core.specs.Streams.{messages_to, reply}
+use Rattle.stage_core.specs.Merging.{MergeState, AtOrder, wanted, after_end, after_message, what_in}
+use Rattle.stage_core.specs.Standing.{StageStandsFor, L2StandsFor, IsReady, cache_of, side_of}
+use Rattle.stage_core.specs.Standing.{l2_cache}
 use Rattle.stage_core.specs.declared.message.Side.{Side}
 use Rattle.stage_core.specs.declared.message.Side.TheVariants as side
 use Rattle.stage_core.specs.declared.message.Want.TheVariants as want
@@ -19,26 +20,26 @@ use Rattle.stage_core.specs.declared.l1_stage.L1Stage.{L1Stage}
 use Rattle.stage_core.specs.declared.plain.Machines.{Machines}
 
 -- the merge wants a side's message
-abbrev pub WantsSide : Stand → Type 0
+abbrev pub WantsSide : MergeState → Type 0
 WantsSide at = (wanted at ≡ want.I) ⊎ (wanted at ≡ want.D)
 
 -- it does at each of these messages
-abbrev pub AreWanted : Stand → List FromStage → Type 0
+abbrev pub AreWanted : MergeState → List FromStage → Type 0
 AreWanted at [] = Unit {0}
 AreWanted at (m ∷ ms) = WantsSide at × AreWanted (after_message at m) ms
 
 -- where it stands after them
-abbrev pub stand_after : Stand → List FromStage → Stand
-stand_after at [] = at
-stand_after at (m ∷ ms) = stand_after (after_message at m) ms
+abbrev pub state_after : MergeState → List FromStage → MergeState
+state_after at [] = at
+state_after at (m ∷ ms) = state_after (after_message at m) ms
 
 -- it does where each of these is to be answered
-abbrev pub WantsAnswers : Stand → List ToStage → Type 0
+abbrev pub WantsAnswers : MergeState → List ToStage → Type 0
 WantsAnswers at [] = Unit {0}
 WantsAnswers at (m ∷ ms) = WantsSide at × WantsAnswers (after_end at) ms
 
 -- where it stands after the answers to these
-abbrev pub after_answers : Stand → List ToStage → Stand
+abbrev pub after_answers : MergeState → List ToStage → MergeState
 after_answers at [] = at
 after_answers at (m ∷ ms) = after_answers (after_end at) ms
 
@@ -54,7 +55,7 @@ brought_from stage before message =
 -- a stage took in all that its side was told of these events, and has sent all that it has to
 pub record StageRan (s : Side) (stage : L1Stage) (es : List DinRecord) : Type 0 where
   pub side : side_of stage ≡ s
-  pub stands : StageStandsFor stage (over (told s) es)
+  pub stands : StageStandsFor stage (flat_map_with_past (messages_to s) es)
   pub ready : IsReady stage
 
 -- the rules of the machines' caches
@@ -62,7 +63,7 @@ abbrev pub hierarchy_in : Machines → Hierarchy
 hierarchy_in m = record {
   i = rules_of (cache_of m.i);
   d = rules_of (cache_of m.d);
-  u = rules_of (second_cache m.u);
+  u = rules_of (l2_cache m.u);
 }
 
 -- the machines have worked these events off
@@ -71,4 +72,4 @@ pub record Ran (m : Machines) (es : List DinRecord) : Type 0 where
   pub i : StageRan side.I m.i es
   pub d : StageRan side.D m.d es
   pub merge : m.merge ≡ AtOrder
-  pub u : SecondStandsFor m.u (seen (parts_in (hierarchy_in m)) es)
+  pub u : L2StandsFor m.u (second_level_requests (parts_in (hierarchy_in m)) es)

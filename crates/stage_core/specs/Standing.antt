@@ -5,11 +5,11 @@ use Rattle.din_trace.specs.declared.record.DinRecord.{DinRecord}
 use Rattle.cache_core.specs.declared.cache.Cache.{Cache}
 use Rattle.cache_core.specs.Standing.{StandsFor, served_of, counts_kept, has_failed}
 use Rattle.stage_core.specs.Events.{is_reference}
-use Rattle.stage_core.specs.Seen.{second_history}
+use Rattle.stage_core.specs.SecondLevel.{second_history}
 use Rattle.stage_core.specs.Streams.{taken_in, is_finish}
-use Rattle.stage_core.specs.Merging.{Stand, AtOrder, AtI, AtD, AtBoth, LastI, LastD, AtEnd}
-use Rattle.stage_core.specs.declared.merge.Standing.{Standing}
-use Rattle.stage_core.specs.declared.merge.Standing.TheVariants as standing
+use Rattle.stage_core.specs.Merging.{MergeState, AtOrder, AtI, AtD, AtBoth, LastI, LastD, AtEnd}
+use Rattle.stage_core.specs.declared.merge.State.{State}
+use Rattle.stage_core.specs.declared.merge.State.TheVariants as state
 use Rattle.stage_core.specs.declared.message.Side.{Side}
 use Rattle.stage_core.specs.declared.message.What.{What}
 use Rattle.stage_core.specs.declared.message.ToStage.{ToStage}
@@ -19,14 +19,14 @@ use Rattle.stage_core.specs.declared.l1_stage.L1Stage.{L1Stage}
 use Rattle.stage_core.specs.declared.l2_stage.L2Stage.{L2Stage}
 
 -- where the merge stands, as it keeps it
-abbrev pub stand_of : Standing → Stand
-stand_of standing.Order = AtOrder
-stand_of standing.I = AtI
-stand_of standing.D = AtD
-stand_of standing.Both = AtBoth
-stand_of standing.LastI = LastI
-stand_of standing.LastD = LastD
-stand_of standing.End = AtEnd
+abbrev pub state_of : State → MergeState
+state_of state.Order = AtOrder
+state_of state.I = AtI
+state_of state.D = AtD
+state_of state.Both = AtBoth
+state_of state.LastI = LastI
+state_of state.LastD = LastD
+state_of state.End = AtEnd
 
 -- what a selector keeps: how many records it was offered, and how many of them are references
 pub record Offers : Type 0 where
@@ -61,7 +61,7 @@ pub record IsReady (s : L1Stage) : Type 0 where
   pub empty : outbox_of s ≡ []
 
 -- Finish was taken in, and nothing is left to send
-pub record IsFinished (s : L1Stage) : Type 0 where
+pub record StageIsFinished (s : L1Stage) : Type 0 where
   pub took : took_finish s ≡ true
   pub empty : outbox_of s ≡ []
 
@@ -78,9 +78,9 @@ pub record HasFailedSince (old new : Cache) : Type 0 where
   pub served : served_of new ≡ served_of old
 
 -- the second level's cache
-unfoldable pub second_cache : L2Stage → Cache
-second_cache s = s.cache
+unfoldable pub l2_cache : L2Stage → Cache
+l2_cache s = s.cache
 
 -- the second level served these
-pub record SecondStandsFor (s : L2Stage) (whats : List What) : Type 0 where
-  pub cache : StandsFor (second_cache s) (second_history whats)
+pub record L2StandsFor (s : L2Stage) (requests : List What) : Type 0 where
+  pub cache : StandsFor (l2_cache s) (second_history requests)

@@ -5,9 +5,9 @@ use Rattle.din_trace.specs.declared.record.DinRecord.{DinRecord}
 use Rattle.din_trace.specs.declared.record.Label.{Label}
 use Rattle.din_trace.specs.declared.record.Label.TheVariants as label
 use Rattle.cache_core.specs.History.{Event, access, flush, History}
-use Rattle.stage_core.specs.Places.{over}
+use Rattle.stage_core.specs.Places.{flat_map_with_past}
 use Rattle.stage_core.specs.Events.{access_of, asked, newest_first, history}
-use Rattle.stage_core.specs.Seen.{Parts}
+use Rattle.stage_core.specs.SecondLevel.{Parts}
 use Rattle.stage_core.specs.declared.message.Side.{Side}
 use Rattle.stage_core.specs.declared.message.What.{What}
 use Rattle.stage_core.specs.declared.message.Turn.{Turn}
@@ -34,13 +34,13 @@ abbrev pub message : ℕ → Event → ToStage
 message place (access x) = to_stage.Ref place x.class x.addr
 message place flush = to_stage.Flush place
 
--- what a side is told of the event e, which stands after the events before
-abbrev pub told : Side → List DinRecord → DinRecord → List ToStage
-told side before e = map (message (length before + 1)) (asked side e)
+-- the messages to a side for the event e, which stands after the events before
+abbrev pub messages_to : Side → List DinRecord → DinRecord → List ToStage
+messages_to side before e = map (message (length before + 1)) (asked side e)
 
 -- the ring to a stage
 abbrev pub to_side : Side → List DinRecord → List ToStage
-to_side side events = over (told side) events ++ to_stage.Finish ∷ []
+to_side side events = flat_map_with_past (messages_to side) events ++ to_stage.Finish ∷ []
 
 -- parts under their place, numbered from n
 abbrev pub numbered : ℕ → ℕ → List What → List FromStage
@@ -59,7 +59,8 @@ answered parts side before e =
 
 -- the ring from a stage
 abbrev pub from_side : Parts → Side → List DinRecord → List FromStage
-from_side parts side events = over (answered parts side) events ++ from_stage.Finish ∷ []
+from_side parts side events = flat_map_with_past (answered parts side) events ++ from_stage.Finish
+    ∷ []
 
 -- what a message asks of a stage's cache
 abbrev pub asked_in : ToStage → List Event
@@ -86,4 +87,4 @@ reply parts side before to_stage.Finish = from_stage.Finish ∷ []
 
 -- what it sends for a whole list of messages
 abbrev pub replies : Parts → Side → List ToStage → List FromStage
-replies parts side messages = over (reply parts side) messages
+replies parts side messages = flat_map_with_past (reply parts side) messages

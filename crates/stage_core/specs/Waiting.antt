@@ -3,10 +3,10 @@ use Rattle.std.specs.Prelude.{◌≡◌, ◌⊎◌, ℕ, ◌+◌, ◌<◌, ◌�
 use Rattle.std.specs.Prelude.{length}
 use Rattle.std.specs.List.{list_any}
 use Rattle.din_trace.specs.declared.record.DinRecord.{DinRecord}
-use Rattle.stage_core.specs.Places.{over, one_if}
-use Rattle.stage_core.specs.Seen.{Parts}
-use Rattle.stage_core.specs.Streams.{turn_of, told, replies, is_finish}
-use Rattle.stage_core.specs.Merging.{Stand, wanted, merged, all_used}
+use Rattle.stage_core.specs.Places.{flat_map_with_past, list_if}
+use Rattle.stage_core.specs.SecondLevel.{Parts}
+use Rattle.stage_core.specs.Streams.{turn_of, messages_to, replies, is_finish}
+use Rattle.stage_core.specs.Merging.{MergeState, wanted, merged, all_used}
 use Rattle.stage_core.specs.declared.message.Side.{Side}
 use Rattle.stage_core.specs.declared.message.Side.TheVariants as side
 use Rattle.stage_core.specs.declared.message.What.{What}
@@ -40,7 +40,7 @@ pub record StageThread : Type 0 where
 pub record MergeThread : Type 0 where
   pub turns : List Turn
   pub from : Side → List FromStage
-  pub at : Stand
+  pub at : MergeState
   pub given : List What
 
 -- the four threads, and what waits in the rings between them: it was published, and not received
@@ -62,8 +62,10 @@ pub record RingsCarry (n : Threads) : Type 0 where
 
 -- what the splitter has posted is, ring by ring, what it has to send for its events
 pub record HasPosted (t : SplitterThread) : Type 0 where
-  pub order : t.order.posted ≡ map (λ e. turn_of e.label) t.events ++ one_if t.closed turn.Finish
-  pub to : (s : Side) → (t.to s).posted ≡ over (told s) t.events ++ one_if t.closed to_stage.Finish
+  pub order : t.order.posted ≡ map (λ e. turn_of e.label) t.events ++ list_if t.closed turn.Finish
+  pub to : (s : Side)
+      → (t.to s).posted
+      ≡ flat_map_with_past (messages_to s) t.events ++ list_if t.closed to_stage.Finish
 
 -- what a stage has posted, with what it has still to post, answers what it received
 abbrev pub HasAnswered : Parts → Side → StageThread → Type 0

@@ -120,7 +120,7 @@ impl Config {
     pub fn ring(&self) -> usize
         ensures ring { result ≡ ring_of self.now }
         ensures some { 0 < result }
-        ensures few { result ≤ 65536 }
+        ensures at_most { result ≤ 65536 }
     {
         self.ring as usize
     }

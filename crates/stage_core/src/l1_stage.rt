@@ -3,8 +3,8 @@
 ghost use Rattle.std.specs.Prelude.{◌≡◌, option_to_list};
 ghost use Rattle.cache_core.specs.Standing.{rules_of};
 ghost use Rattle.cache_core.specs.Geometry.{bsize_of};
-ghost use Rattle.stage_core.specs.Places.{one_if};
-ghost use Rattle.stage_core.specs.Seen.{access_parts, flush_all, fetch_class};
+ghost use Rattle.stage_core.specs.Places.{list_if};
+ghost use Rattle.stage_core.specs.SecondLevel.{access_parts, flush_all, fetch_class};
 ghost use Rattle.stage_core.specs.Streams.{answer};
 ghost use Rattle.stage_core.specs.declared.message.What.TheVariants as what;
 
@@ -24,12 +24,12 @@ pub struct L1Stage {
     cache: Cache,
     outbox: Outbox,
     took_finish: bool,
-    ghost shape: { (rules_of cache).block_size ≡ bsize_of geometry },
+    ghost shape: { (rules_of cache).bsize ≡ bsize_of geometry },
 }
 
 // The fetch of a block, as the next level serves it.
 fn fetch_part(side: Side, fetch: bool, first: u64) -> Option<What>
-    ensures { option_to_list result ≡ one_if fetch (what.Fetch (fetch_class side) first) }
+    ensures { option_to_list result ≡ list_if fetch (what.Fetch (fetch_class side) first) }
 {
     if !fetch {
         return None;
@@ -43,7 +43,7 @@ fn fetch_part(side: Side, fetch: bool, first: u64) -> Option<What>
 
 // The write sent on.
 fn through_part(through: bool, addr: u64) -> Option<What>
-    ensures { option_to_list result ≡ one_if through (what.Through addr) }
+    ensures { option_to_list result ≡ list_if through (what.Through addr) }
 {
     if through {
         Some(What::Through(addr))
@@ -106,9 +106,9 @@ impl L1Stage {
     ghost use Rattle.cache_core.specs.Counts.{KindsAddUp, counts_of};
     ghost use Rattle.cache_core.specs.Standing.{StandsFor, rules_of, rules_from, served_of};
     ghost use Rattle.cache_core.specs.Standing.{counts_kept, has_failed};
-    ghost use Rattle.stage_core.specs.Seen.{parts_of};
+    ghost use Rattle.stage_core.specs.SecondLevel.{parts_of};
     ghost use Rattle.stage_core.specs.Streams.{answer, reply, asked_in, taken_in, is_finish};
-    ghost use Rattle.stage_core.specs.Standing.{StageStandsFor, IsReady, IsFinished};
+    ghost use Rattle.stage_core.specs.Standing.{StageStandsFor, IsReady, StageIsFinished};
     ghost use Rattle.stage_core.specs.Standing.{HasFailedSince, cache_of, side_of, outbox_of};
     ghost use Rattle.stage_core.specs.Standing.{took_finish};
     ghost use Rattle.stage_core.specs.declared.message.ToStage.{ToStage};
@@ -148,7 +148,7 @@ impl L1Stage {
 
     /// Whether Finish was taken in and all was sent.
     pub fn finished(&self) -> bool
-        ensures { IsTrue result ↔ IsFinished self.now }
+        ensures { IsTrue result ↔ StageIsFinished self.now }
     {
         self.took_finish && self.outbox.is_empty()
     }

@@ -6,8 +6,8 @@ ghost use Rattle.cache_core.specs.History.{History, access as accessed, flush as
 ghost use Rattle.cache_core.specs.Counts.{KindsAddUp, counts_of};
 ghost use Rattle.cache_core.specs.Standing.{StandsFor, rules_of, rules_from, served_of};
 ghost use Rattle.cache_core.specs.Standing.{counts_kept, has_failed};
-ghost use Rattle.stage_core.specs.Seen.{second_history};
-ghost use Rattle.stage_core.specs.Standing.{SecondStandsFor, HasFailedSince, second_cache};
+ghost use Rattle.stage_core.specs.SecondLevel.{second_history};
+ghost use Rattle.stage_core.specs.Standing.{L2StandsFor, HasFailedSince, l2_cache};
 ghost use Rattle.stage_core.specs.declared.message.What.{What};
 
 use crate::memory::NoMemory;
@@ -22,14 +22,14 @@ pub struct L2Stage {
     cache: Cache,
 }
 
-#[tactic(auto, unfolding(crate::specs::Standing::second_cache))]
+#[tactic(auto, unfolding(crate::specs::Standing::l2_cache))]
 impl L2Stage {
     /// A second level that served nothing.
     pub fn new(alloc: Global, geometry: Geometry, policy: Policy) -> Result<L2Stage, NoMemory>
-        ensures rules { IfOk result (λ stage. rules_of (second_cache stage)
+        ensures rules { IfOk result (λ stage. rules_of (l2_cache stage)
             ≡ rules_from geometry policy) }
-        ensures stands { IfOk result (λ stage. SecondStandsFor stage []) }
-        ensures works { IfOk result (λ stage. has_failed (second_cache stage) ≡ false) }
+        ensures stands { IfOk result (λ stage. L2StandsFor stage []) }
+        ensures works { IfOk result (λ stage. has_failed (l2_cache stage) ≡ false) }
     {
         let cache = Cache::new(alloc, geometry, policy)?;
         Ok(L2Stage { alloc, cache })
@@ -37,18 +37,18 @@ impl L2Stage {
 
     /// How many accesses and flushes its cache served.
     pub fn served(&self) -> u64
-        ensures served { result ≡ served_of (second_cache self.now) }
-        ensures all { (whats : List What) → SecondStandsFor self.now whats →
-            result ≡ length (second_history whats) }
+        ensures served { result ≡ served_of (l2_cache self.now) }
+        ensures all { (requests : List What) → L2StandsFor self.now requests →
+            result ≡ length (second_history requests) }
     {
         self.cache.served()
     }
 
     /// Its cache's counts, also after a refusal.
     pub fn counts(&self) -> Counts
-        ensures kept { result ≡ counts_kept (second_cache self.now) }
-        ensures counted { (whats : List What) → SecondStandsFor self.now whats →
-            result ≡ counts_of (rules_of (second_cache self.now)) (second_history whats) }
+        ensures kept { result ≡ counts_kept (l2_cache self.now) }
+        ensures counted { (requests : List What) → L2StandsFor self.now requests →
+            result ≡ counts_of (rules_of (l2_cache self.now)) (second_history requests) }
         ensures kinds_add_up { KindsAddUp result }
     {
         self.cache.counts()
@@ -56,23 +56,23 @@ impl L2Stage {
 
     /// Whether an `on` was refused memory.
     pub fn failed(&self) -> bool
-        ensures { result ≡ has_failed (second_cache self.now) }
+        ensures { result ≡ has_failed (l2_cache self.now) }
     {
         self.cache.failed()
     }
 
     // Serves an access.
     fn access(&mut self, access: Access) -> Result<(), NoMemory>
-        requires { served_of (second_cache self.old) < MAX_EVENTS }
-        ensures stands { OnOk result ((h : History) → StandsFor (second_cache self.old) h →
-            StandsFor (second_cache self.new) (accessed access ∷ h)) }
-        ensures served { OnOk result (served_of (second_cache self.new)
-            ≡ served_of (second_cache self.old) + 1) }
-        ensures works { OnOk result (has_failed (second_cache self.new) ≡ false) }
-        ensures refused { OnErr result (HasFailedSince (second_cache self.old)
-            (second_cache self.new)) }
-        ensures failed { has_failed (second_cache self.old) ≡ true → IsErr result }
-        ensures rules { rules_of (second_cache self.new) ≡ rules_of (second_cache self.old) }
+        requires { served_of (l2_cache self.old) < MAX_EVENTS }
+        ensures stands { OnOk result ((h : History) → StandsFor (l2_cache self.old) h →
+            StandsFor (l2_cache self.new) (accessed access ∷ h)) }
+        ensures served { OnOk result (served_of (l2_cache self.new)
+            ≡ served_of (l2_cache self.old) + 1) }
+        ensures works { OnOk result (has_failed (l2_cache self.new) ≡ false) }
+        ensures refused { OnErr result (HasFailedSince (l2_cache self.old)
+            (l2_cache self.new)) }
+        ensures failed { has_failed (l2_cache self.old) ≡ true → IsErr result }
+        ensures rules { rules_of (l2_cache self.new) ≡ rules_of (l2_cache self.old) }
     {
         self.cache.access(access)?;
         Ok(())
@@ -80,16 +80,16 @@ impl L2Stage {
 
     // Serves a flush.
     fn flush(&mut self) -> Result<(), NoMemory>
-        requires { served_of (second_cache self.old) < MAX_EVENTS }
-        ensures stands { OnOk result ((h : History) → StandsFor (second_cache self.old) h →
-            StandsFor (second_cache self.new) (flushed ∷ h)) }
-        ensures served { OnOk result (served_of (second_cache self.new)
-            ≡ served_of (second_cache self.old) + 1) }
-        ensures works { OnOk result (has_failed (second_cache self.new) ≡ false) }
-        ensures refused { OnErr result (HasFailedSince (second_cache self.old)
-            (second_cache self.new)) }
-        ensures failed { has_failed (second_cache self.old) ≡ true → IsErr result }
-        ensures rules { rules_of (second_cache self.new) ≡ rules_of (second_cache self.old) }
+        requires { served_of (l2_cache self.old) < MAX_EVENTS }
+        ensures stands { OnOk result ((h : History) → StandsFor (l2_cache self.old) h →
+            StandsFor (l2_cache self.new) (flushed ∷ h)) }
+        ensures served { OnOk result (served_of (l2_cache self.new)
+            ≡ served_of (l2_cache self.old) + 1) }
+        ensures works { OnOk result (has_failed (l2_cache self.new) ≡ false) }
+        ensures refused { OnErr result (HasFailedSince (l2_cache self.old)
+            (l2_cache self.new)) }
+        ensures failed { has_failed (l2_cache self.old) ≡ true → IsErr result }
+        ensures rules { rules_of (l2_cache self.new) ≡ rules_of (l2_cache self.old) }
     {
         let mut to_memory = Vec::new(self.alloc);
         self.cache.flush(&mut to_memory)?;
@@ -99,16 +99,16 @@ impl L2Stage {
     /// Serves what the first level sends. After a refusal the stage has failed, and each further
     /// call is refused.
     pub fn on(&mut self, what: What) -> Result<(), NoMemory>
-        requires { served_of (second_cache self.old) < MAX_EVENTS }
-        ensures stands { OnOk result ((before : List What) → SecondStandsFor self.old before →
-            SecondStandsFor self.new (before ++ what ∷ [])) }
-        ensures served { OnOk result (served_of (second_cache self.new)
-            ≡ served_of (second_cache self.old) + 1) }
-        ensures works { OnOk result (has_failed (second_cache self.new) ≡ false) }
-        ensures refused { OnErr result (HasFailedSince (second_cache self.old)
-            (second_cache self.new)) }
-        ensures failed { has_failed (second_cache self.old) ≡ true → IsErr result }
-        ensures rules { rules_of (second_cache self.new) ≡ rules_of (second_cache self.old) }
+        requires { served_of (l2_cache self.old) < MAX_EVENTS }
+        ensures stands { OnOk result ((before : List What) → L2StandsFor self.old before →
+            L2StandsFor self.new (before ++ what ∷ [])) }
+        ensures served { OnOk result (served_of (l2_cache self.new)
+            ≡ served_of (l2_cache self.old) + 1) }
+        ensures works { OnOk result (has_failed (l2_cache self.new) ≡ false) }
+        ensures refused { OnErr result (HasFailedSince (l2_cache self.old)
+            (l2_cache self.new)) }
+        ensures failed { has_failed (l2_cache self.old) ≡ true → IsErr result }
+        ensures rules { rules_of (l2_cache self.new) ≡ rules_of (l2_cache self.old) }
     {
         match what {
             What::Back(addr) | What::Through(addr) => self.access(Access {

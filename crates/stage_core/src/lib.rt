@@ -13,8 +13,8 @@
 //! Proved of every trace, selection and lawful configuration: what each machine puts out is a
 //! function of the list that it took in (`specs/Streams`); the merge takes the two sides' messages
 //! by place, I's before D's, whichever is there first (`specs/Merging`); and a run answers the
-//! counts that the definitions give over the whole event list (`specs/Seen`), or want of memory. No
-//! order of events is stuck, however small the rings are, and all have the same end
+//! counts that the definitions give over the whole event list (`specs/SecondLevel`), or want of
+//! memory. No order of steps is stuck, however small the rings are, and all have the same end
 //! (`specs/Network`, `specs/Network/Laws`). Nor do threads that keep outboxes ever all wait in
 //! vain, if each waits only where it may (`specs/Waiting`, `specs/Laws`).
 #![tactic(auto)]
@@ -39,15 +39,15 @@ pub use config::{CacheName, CacheSpec, Config, ConfigFault};
 pub use l1_stage::L1Stage;
 pub use l2_stage::L2Stage;
 pub use laws::{
-    finish_ends_each_stream, merge_takes_what_is_seen, second_level_sees_few, selections_make_few,
-    stages_answer_their_streams, waiting_threads_have_ended,
+    finish_ends_each_stream, merge_takes_the_requests, second_level_sees_at_most_two,
+    selections_make_at_most_two, stages_answer_their_streams, waiting_threads_have_ended,
 };
 pub use memory::NoMemory;
 pub use merge::Merge;
 pub use message::{FromStage, Routed, Side, ToStage, Turn, Want, What};
 pub use network::{
-    Core, complete_schedules_are_as_long, drive, events_keep_consistency, no_schedule_is_stuck,
-    rings_carry_beginnings, rings_hold_their_capacity, second_level_is_given_few,
+    Core, complete_schedules_are_as_long, drive, no_schedule_is_stuck, rings_carry_beginnings,
+    rings_hold_their_capacity, second_level_is_given_no_more, steps_keep_consistency,
 };
 pub use plain::run_plain;
 pub use selection::{Picked, Selection, Selector};

@@ -9,7 +9,7 @@ use std::marker::Model;
 
 // Where the merge stands: `Both` is a turn of both sides with I's part still to come.
 #[derive(Clone, Copy)]
-enum Standing {
+enum State {
     Order,
     I,
     D,
@@ -22,16 +22,16 @@ enum Standing {
 /// Says whose message comes next, and takes it. It never looks at which ring has one.
 #[derive(Drop)]
 pub struct Merge {
-    standing: Standing,
+    state: State,
 }
 
 impl Model for Merge {
-    ghost use Rattle.stage_core.specs.Merging.{Stand};
-    ghost use Rattle.stage_core.specs.Standing.{stand_of};
+    ghost use Rattle.stage_core.specs.Merging.{MergeState};
+    ghost use Rattle.stage_core.specs.Standing.{state_of};
 
-    ghost Value = { Stand };
+    ghost Value = { MergeState };
 
-    ghost view = { λ m. stand_of m.standing };
+    ghost view = { λ m. state_of m.state };
 }
 
 impl Merge {
@@ -40,7 +40,7 @@ impl Merge {
         ensures { result ≡ AtOrder }
     {
         Merge {
-            standing: Standing::Order,
+            state: State::Order,
         }
     }
 
@@ -48,11 +48,11 @@ impl Merge {
     pub fn wants(&self) -> Want
         ensures { result ≡ wanted self.now }
     {
-        match self.standing {
-            Standing::Order => Want::Order,
-            Standing::I | Standing::Both | Standing::LastI => Want::I,
-            Standing::D | Standing::LastD => Want::D,
-            Standing::End => Want::Nothing,
+        match self.state {
+            State::Order => Want::Order,
+            State::I | State::Both | State::LastI => Want::I,
+            State::D | State::LastD => Want::D,
+            State::End => Want::Nothing,
         }
     }
 
@@ -61,11 +61,11 @@ impl Merge {
         requires { wanted self.old ≡ want.Order }
         ensures { self.new ≡ after_turn turn }
     {
-        self.standing = match turn {
-            Turn::I => Standing::I,
-            Turn::D => Standing::D,
-            Turn::Both => Standing::Both,
-            Turn::Finish => Standing::LastI,
+        self.state = match turn {
+            Turn::I => State::I,
+            Turn::D => State::D,
+            Turn::Both => State::Both,
+            Turn::Finish => State::LastI,
         };
     }
 
@@ -79,11 +79,11 @@ impl Merge {
         match message {
             FromStage::Part { what, .. } => Some(what),
             FromStage::Done { .. } | FromStage::Finish => {
-                self.standing = match self.standing {
-                    Standing::Both => Standing::D,
-                    Standing::LastI => Standing::LastD,
-                    Standing::LastD | Standing::End => Standing::End,
-                    Standing::Order | Standing::I | Standing::D => Standing::Order,
+                self.state = match self.state {
+                    State::Both => State::D,
+                    State::LastI => State::LastD,
+                    State::LastD | State::End => State::End,
+                    State::Order | State::I | State::D => State::Order,
                 };
                 None
             }

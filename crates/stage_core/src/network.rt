@@ -1,7 +1,7 @@
 //! The network of the stages as one machine of single pushes and pops. No program uses it: it
 //! serves the proofs and the tests.
 //!
-//! [`Core`] is the network and `machines` makes each machine's next event. Its parts are `ring`,
+//! [`Core`] is the network and `machines` makes each machine's next step. Its parts are `ring`,
 //! `lane` (a first-level stage between two rings) and `pushes` (what the splitter pushes).
 //! `schedule` makes a whole run, and `laws` has what holds of every schedule.
 
@@ -14,7 +14,7 @@ mod schedule;
 
 use crate::config::Config;
 use crate::l2_stage::L2Stage;
-use crate::laws::selections_make_few;
+use crate::laws::selections_make_at_most_two;
 use crate::memory::NoMemory;
 use crate::merge::Merge;
 use crate::message::{Side, Turn};
@@ -25,8 +25,8 @@ use crate::selection::{Selection, events_of};
 use crate::totals::Totals;
 use din_trace::{DinRecord, MAX_LIMIT};
 pub use laws::{
-    complete_schedules_are_as_long, events_keep_consistency, no_schedule_is_stuck,
-    rings_carry_beginnings, rings_hold_their_capacity, second_level_is_given_few,
+    complete_schedules_are_as_long, no_schedule_is_stuck, rings_carry_beginnings,
+    rings_hold_their_capacity, second_level_is_given_no_more, steps_keep_consistency,
 };
 pub use schedule::drive;
 use std::alloc::Global;
@@ -72,11 +72,11 @@ impl Core {
     ghost use Rattle.std.specs.Prelude.{◌≡◌, ◌<◌, ◌≤◌, ◌↔◌, Some, IsTrue, IfOk, OnOk, OnErr, true};
     ghost use Rattle.std.specs.Prelude.{false, length, filter, slice_get};
     ghost use Rattle.stage_core.specs.Events.{IsBounded, events};
-    ghost use Rattle.stage_core.specs.Seen.{totals};
+    ghost use Rattle.stage_core.specs.SecondLevel.{totals};
     ghost use Rattle.stage_core.specs.Config.{hierarchy_of};
     ghost use Rattle.stage_core.specs.Network.{IsFinished};
     ghost use Rattle.stage_core.specs.Network.Cores.{started, can_in, enabled_in, IsChosen};
-    ghost use Rattle.stage_core.specs.Network.Cores.{MakesEvent, IsSameRun, IsConsistent, IsOver};
+    ghost use Rattle.stage_core.specs.Network.Cores.{MakesStep, IsSameRun, IsConsistent, IsOver};
     ghost use Rattle.stage_core.specs.declared.network.Machine.{Machine};
 
     /// The network at its start, for the selected part of a trace.
@@ -91,7 +91,7 @@ impl Core {
         ensures { IfOk result (λ core. core
             ≡ started config.now (events selection.now records.now)) }
     {
-        selections_make_few();
+        selections_make_at_most_two();
         let events = events_of(alloc, *selection, records)?;
         let pushes = pushes_of(alloc, &events)?;
         let (i_geometry, i_policy) = config.i();
@@ -111,7 +111,7 @@ impl Core {
         })
     }
 
-    // The machine number nth of those among these whose next event is possible.
+    // The machine number nth of those among these whose next step is possible.
     fn nth_of(&self, machines: &[Machine], nth: u8) -> Machine
         requires works { self.now.failed ≡ false }
         requires below { nth < length (filter (can_in self.now) machines.now) }
@@ -129,7 +129,7 @@ impl Core {
         unreachable!()
     }
 
-    // How many machines can make their next event, before a refusal.
+    // How many machines can make their next step, before a refusal.
     fn count(&self) -> u8
         requires { self.now.failed ≡ false }
         ensures { result ≡ length (enabled_in self.now) }
@@ -140,7 +140,7 @@ impl Core {
             + u8::from(self.can(Machine::Merging))
     }
 
-    /// How many machines can make their next event, from 0 to 4: 0 after a refusal, and else only
+    /// How many machines can make their next step, from 0 to 4: 0 after a refusal, and else only
     /// where all have finished.
     pub fn enabled(&self) -> u8
         ensures count { result ≡ length (enabled_in self.now) }
@@ -150,12 +150,12 @@ impl Core {
         if self.failed { 0 } else { self.count() }
     }
 
-    /// Makes one event: that of the machine number `nth`, from 0, of those that can, in the order
+    /// Makes one step: that of the machine number `nth`, from 0, of those that can, in the order
     /// splitter, I, D, merge. After a refusal the core has failed, and nothing is enabled.
     pub fn step(&mut self, nth: u8) -> Result<(), NoMemory>
         requires { nth < length (enabled_in self.old) }
-        ensures event { OnOk result ((m : Machine) × IsChosen nth self.old m
-            × MakesEvent m self.old self.new) }
+        ensures step { OnOk result ((m : Machine) × IsChosen nth self.old m
+            × MakesStep m self.old self.new) }
         ensures refused { OnErr result (self.new.failed ≡ true) }
         ensures run { IsSameRun self.old self.new }
     {
@@ -171,7 +171,7 @@ impl Core {
         self.make(machine)
     }
 
-    /// Whether no machine has a next event, and memory was never refused.
+    /// Whether no machine has a next step, and memory was never refused.
     pub fn finished(&self) -> bool
         ensures { IsTrue result ↔ IsOver self.now }
     {

@@ -2,7 +2,7 @@
 
 ghost use Rattle.std.specs.Prelude.{◌≡◌, ◌<◌, ◌^◌, ◌↔◌, ◌++◌, ◌∷◌, [], IsNone, IsTrue, length};
 ghost use Rattle.std.specs.Prelude.{option_to_list, map};
-ghost use Rattle.stage_core.specs.Seen.{back};
+ghost use Rattle.stage_core.specs.SecondLevel.{back};
 ghost use Rattle.stage_core.specs.Streams.{answer};
 ghost use Rattle.stage_core.specs.declared.message.FromStage.TheVariants as from_stage;
 
@@ -71,7 +71,7 @@ impl Pending {
 
 // What is still to be sent: `Parts` are parts, perhaps none, and Done behind them.
 #[derive(Clone, Copy)]
-enum Owes {
+enum Closing {
     Nothing,
     Parts,
     Done,
@@ -84,7 +84,7 @@ pub(crate) struct Outbox {
     place: u64,
     sent: u32,
     pending: Pending,
-    owes: Owes,
+    closing: Closing,
 }
 
 impl Model for Outbox {
@@ -94,9 +94,9 @@ impl Model for Outbox {
 
     ghost Value = { List FromStage };
 
-    ghost view = { λ o. to_send o.place o.sent (parts_owed o.owes o.pending) o.owes };
+    ghost view = { λ o. to_send o.place o.sent (parts_owed o.closing o.pending) o.closing };
 
-    ghost invariant = { λ o. o.sent + length (parts_owed o.owes o.pending) < 2 ^ 32 };
+    ghost invariant = { λ o. o.sent + length (parts_owed o.closing o.pending) < 2 ^ 32 };
 }
 
 impl Outbox {
@@ -108,7 +108,7 @@ impl Outbox {
             place: 0,
             sent: 0,
             pending: Pending::none(alloc),
-            owes: Owes::Nothing,
+            closing: Closing::Nothing,
         }
     }
 
@@ -120,7 +120,7 @@ impl Outbox {
             place: 0,
             sent: 0,
             pending: Pending::none(alloc),
-            owes: Owes::Finish,
+            closing: Closing::Finish,
         }
     }
 
@@ -146,7 +146,7 @@ impl Outbox {
                 second,
                 third,
             },
-            owes: Owes::Parts,
+            closing: Closing::Parts,
         }
     }
 
@@ -156,16 +156,16 @@ impl Outbox {
     {
         self.place = place;
         self.sent = 0;
-        self.owes = Owes::Done;
+        self.closing = Closing::Done;
     }
 
     /// Whether all was sent.
     pub(crate) fn is_empty(&self) -> bool
         ensures { IsTrue result ↔ (self.now ≡ []) }
     {
-        match self.owes {
-            Owes::Nothing => true,
-            Owes::Parts | Owes::Done | Owes::Finish => false,
+        match self.closing {
+            Closing::Nothing => true,
+            Closing::Parts | Closing::Done | Closing::Finish => false,
         }
     }
 
@@ -174,7 +174,7 @@ impl Outbox {
         ensures front { self.old ≡ option_to_list result ++ self.new }
         ensures none { IsNone result ↔ (self.old ≡ []) }
     {
-        if let Owes::Parts = self.owes {
+        if let Closing::Parts = self.closing {
             if let Some(what) = self.pending.next() {
                 self.sent += 1;
                 return Some(FromStage::Part {
@@ -184,15 +184,15 @@ impl Outbox {
                 });
             }
         }
-        let owes = self.owes;
-        self.owes = Owes::Nothing;
-        match owes {
-            Owes::Nothing => None,
-            Owes::Parts | Owes::Done => Some(FromStage::Done {
+        let closing = self.closing;
+        self.closing = Closing::Nothing;
+        match closing {
+            Closing::Nothing => None,
+            Closing::Parts | Closing::Done => Some(FromStage::Done {
                 place: self.place,
                 parts: self.sent,
             }),
-            Owes::Finish => Some(FromStage::Finish),
+            Closing::Finish => Some(FromStage::Finish),
         }
     }
 }

@@ -6,13 +6,13 @@ ghost use Rattle.std.specs.List.{flat_map, list_any};
 ghost use Rattle.cache_core.specs.Standing.{rules_of, served_of};
 ghost use Rattle.din_trace.specs.declared.record.DinRecord.{DinRecord};
 ghost use Rattle.stage_core.specs.Events.{IsBounded, events};
-ghost use Rattle.stage_core.specs.Seen.{totals};
+ghost use Rattle.stage_core.specs.SecondLevel.{totals};
 ghost use Rattle.stage_core.specs.Streams.{is_finish};
 ghost use Rattle.stage_core.specs.Merging.{what_in};
 ghost use Rattle.stage_core.specs.Config.{hierarchy_of};
-ghost use Rattle.stage_core.specs.Standing.{StageStandsFor, SecondStandsFor, IsReady, cache_of};
-ghost use Rattle.stage_core.specs.Standing.{side_of, outbox_of, took_finish, second_cache};
-ghost use Rattle.stage_core.specs.Plain.{AreWanted, WantsAnswers, stand_after, after_answers};
+ghost use Rattle.stage_core.specs.Standing.{StageStandsFor, L2StandsFor, IsReady, cache_of};
+ghost use Rattle.stage_core.specs.Standing.{side_of, outbox_of, took_finish, l2_cache};
+ghost use Rattle.stage_core.specs.Plain.{AreWanted, WantsAnswers, state_after, after_answers};
 ghost use Rattle.stage_core.specs.Plain.{brought_from, hierarchy_in, Ran};
 ghost use Rattle.stage_core.specs.declared.message.What.{What};
 ghost use Rattle.stage_core.specs.declared.message.ToStage.{ToStage};
@@ -20,7 +20,7 @@ ghost use Rattle.stage_core.specs.declared.message.ToStage.{ToStage};
 use crate::config::Config;
 use crate::l1_stage::L1Stage;
 use crate::l2_stage::L2Stage;
-use crate::laws::{second_level_sees_few, selections_make_few};
+use crate::laws::{second_level_sees_at_most_two, selections_make_at_most_two};
 use crate::memory::NoMemory;
 use crate::merge::Merge;
 use crate::message::{Side, ToStage};
@@ -35,16 +35,16 @@ use std::alloc::Global;
 #[inline(always)]
 fn drain(stage: &mut L1Stage, merge: &mut Merge, u: &mut L2Stage) -> Result<(), NoMemory>
     requires wanted { AreWanted merge.old (outbox_of stage.old) }
-    requires room { served_of (second_cache u.old) + length (flat_map what_in (outbox_of stage.old))
+    requires room { served_of (l2_cache u.old) + length (flat_map what_in (outbox_of stage.old))
         ≤ MAX_EVENTS }
     ensures empty { OnOk result (outbox_of stage.new ≡ []) }
-    ensures merge { OnOk result (merge.new ≡ stand_after merge.old (outbox_of stage.old)) }
-    ensures second { OnOk result ((before : List What) → SecondStandsFor u.old before →
-        SecondStandsFor u.new (before ++ flat_map what_in (outbox_of stage.old))) }
+    ensures merge { OnOk result (merge.new ≡ state_after merge.old (outbox_of stage.old)) }
+    ensures second { OnOk result ((before : List What) → L2StandsFor u.old before →
+        L2StandsFor u.new (before ++ flat_map what_in (outbox_of stage.old))) }
     ensures cache { cache_of stage.new ≡ cache_of stage.old }
     ensures side { side_of stage.new ≡ side_of stage.old }
     ensures finish { took_finish stage.new ≡ took_finish stage.old }
-    ensures rules { rules_of (second_cache u.new) ≡ rules_of (second_cache u.old) }
+    ensures rules { rules_of (l2_cache u.new) ≡ rules_of (l2_cache u.old) }
 {
     while let Some(message) = stage.outbox_next() {
         if let Some(what) = merge.take(message) {
@@ -56,7 +56,7 @@ fn drain(stage: &mut L1Stage, merge: &mut Merge, u: &mut L2Stage) -> Result<(), 
 
 // Hands a stage its message, if it has one, and all that this brings to the second level.
 #[inline(always)]
-fn serve(
+fn serve_side(
     stage: &mut L1Stage,
     message: Option<ToStage>,
     merge: &mut Merge,
@@ -67,18 +67,18 @@ fn serve(
     requires wanted { WantsAnswers merge.old (option_to_list message) }
     requires room { served_of (cache_of stage.old) < MAX_EVENTS }
     requires room_above { (before : List ToStage) × StageStandsFor stage.old before
-        × (served_of (second_cache u.old) + length (brought_from stage.old before message)
+        × (served_of (l2_cache u.old) + length (brought_from stage.old before message)
         ≤ MAX_EVENTS) }
     ensures ready { OnOk result (IsReady stage.new) }
     ensures merge { OnOk result (merge.new ≡ after_answers merge.old (option_to_list message)) }
     ensures stands { OnOk result ((before : List ToStage) → StageStandsFor stage.old before →
         StageStandsFor stage.new (before ++ option_to_list message)) }
-    ensures second { OnOk result ((before : List ToStage) (whats : List What) →
-        StageStandsFor stage.old before → SecondStandsFor u.old whats →
-        SecondStandsFor u.new (whats ++ brought_from stage.old before message)) }
+    ensures second { OnOk result ((before : List ToStage) (requests : List What) →
+        StageStandsFor stage.old before → L2StandsFor u.old requests →
+        L2StandsFor u.new (requests ++ brought_from stage.old before message)) }
     ensures side { side_of stage.new ≡ side_of stage.old }
     ensures rules { rules_of (cache_of stage.new) ≡ rules_of (cache_of stage.old) }
-    ensures rules_above { rules_of (second_cache u.new) ≡ rules_of (second_cache u.old) }
+    ensures rules_above { rules_of (l2_cache u.new) ≡ rules_of (l2_cache u.old) }
 {
     let Some(message) = message else {
         return Ok(());
@@ -106,11 +106,11 @@ impl Machines {
             → Ran self.new (es ++ event ∷ [])) }
         ensures rules { hierarchy_in self.new ≡ hierarchy_in self.old }
     {
-        second_level_sees_few();
+        second_level_sees_at_most_two();
         let routed = self.splitter.route(event);
         self.merge.turn(routed.turn);
-        serve(&mut self.i, routed.i, &mut self.merge, &mut self.u)?;
-        serve(&mut self.d, routed.d, &mut self.merge, &mut self.u)?;
+        serve_side(&mut self.i, routed.i, &mut self.merge, &mut self.u)?;
+        serve_side(&mut self.d, routed.d, &mut self.merge, &mut self.u)?;
         Ok(())
     }
 
@@ -136,7 +136,7 @@ impl Machines {
         ensures ran { OnOk result (Ran self.new (events selection records.now)) }
         ensures rules { hierarchy_in self.new ≡ hierarchy_in self.old }
     {
-        selections_make_few();
+        selections_make_at_most_two();
         let mut selector = Selector::new(selection);
         for next in records {
             let picked = selector.offer(*next);

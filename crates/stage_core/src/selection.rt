@@ -2,7 +2,7 @@
 
 ghost use Rattle.std.specs.Prelude.{◌≡◌, ◌<◌, ◌≤◌, ◌+◌, ◌++◌, ◌∷◌, [], List, count_by, IfOk};
 ghost use Rattle.std.specs.Prelude.{length, OnOk, option_to_list};
-ghost use Rattle.stage_core.specs.Places.{one_if};
+ghost use Rattle.stage_core.specs.Places.{list_if};
 ghost use Rattle.stage_core.specs.Events.{IsBounded, is_reference, picked, events, inserted_flush};
 ghost use Rattle.stage_core.specs.Standing.{WasOffered};
 ghost use Rattle.din_trace.specs.declared.record.DinRecord.{DinRecord};
@@ -106,7 +106,7 @@ impl Selector {
 
 /// The flush that a selection puts in.
 pub fn inserted(flush: bool) -> Option<DinRecord>
-    ensures { option_to_list result ≡ one_if flush inserted_flush }
+    ensures { option_to_list result ≡ list_if flush inserted_flush }
 {
     if flush {
         Some(DinRecord {

@@ -1,7 +1,7 @@
 //! Threads whose ends are gone, or that were not granted.
 
 ghost use Rattle.std.specs.Prelude.{IfOk, []};
-ghost use Rattle.stage_core.specs.Standing.{IsReady, StageStandsFor, SecondStandsFor};
+ghost use Rattle.stage_core.specs.Standing.{IsReady, StageStandsFor, L2StandsFor};
 ghost use Rattle.sim_run.specs.Ends.{AreUnused, UnusedStage, UnusedMerge};
 
 use super::config;
@@ -34,7 +34,7 @@ pub(super) fn stage(alloc: Global, side: Side) -> Result<L1Stage, Fail>
 }
 
 fn second_level(alloc: Global) -> Result<L2Stage, Fail>
-    ensures { IfOk result (λ stage. SecondStandsFor stage []) }
+    ensures { IfOk result (λ stage. L2StandsFor stage []) }
 {
     let (geometry, policy) = config()?.u();
     Ok(L2Stage::new(alloc, geometry, policy)?)

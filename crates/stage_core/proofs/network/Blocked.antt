@@ -1,9 +1,9 @@
--- What it means that a machine's next event isn't possible.
+-- What it means that a machine's next step isn't possible.
 use Rattle.std.proofs.Common.{◌≡◌, ℕ, ◌≤◌, ◌⊎◌, inl, inr, Bool, true, false, cond, List, [], ◌∷◌}
 use Rattle.std.proofs.Common.{length, refl, arith, Option, Some, None, nat_lt}
 use Rattle.std.specs.Option.{option_map}
 use Rattle.std.proofs.lemmas.Bool.{ltb-false}
-use Rattle.stage_core.specs.Seen.{Parts}
+use Rattle.stage_core.specs.SecondLevel.{Parts}
 use Rattle.stage_core.specs.Network.Pushes.{Push, Order, To}
 use Rattle.stage_core.specs.Merging.{wanted}
 use Rattle.stage_core.specs.Network.Rings.{Ring, push, pop, pop_from}
@@ -104,13 +104,13 @@ merge-none n want.Nothing h = record {
   d = λ x. absurd (cc);
 }
 
--- neither the splitter, nor a stage, nor the merge has a next event
+-- neither the splitter, nor a stage, nor the merge has a next step
 pub record AllBlocked (capacity : ℕ) (n : Network) : Type 0 where
   pub splitter : SplitterBlocked capacity n n.still
   pub stages : (s : Side) → StageBlocked capacity (lane s n) (lane s n).outbox
   pub merge : MergeBlocked n (wanted n.at)
 
--- that is so where no machine has a next event
+-- that is so where no machine has a next step
 pub all_blocked : (parts : Parts) (capacity : ℕ) (n : Network)
     → ((m : Machine) → next parts capacity m n ≡ None) → AllBlocked capacity n
 all_blocked parts capacity n h =

@@ -4,12 +4,12 @@ use Rattle.std.proofs.Common.{length-append, refl}
 use Rattle.std.specs.List.{flat_map}
 use Rattle.std.proofs.lemmas.List.{length-map, length-reverse}
 use Rattle.din_trace.specs.declared.record.DinRecord.{DinRecord}
-use Rattle.stage_core.specs.Seen.{Parts, Hierarchy, parts_in, seen}
+use Rattle.stage_core.specs.SecondLevel.{Parts, Hierarchy, parts_in, second_level_requests}
 use Rattle.stage_core.specs.Streams.{order, turn_of, to_side, from_side, asked_in, taken_in}
 use Rattle.stage_core.specs.Merging.{AtEnd}
 use Rattle.stage_core.specs.Network.Pushes.{sent_to}
 use Rattle.stage_core.specs.Network.{Network, Consistent, lane, messages}
-use Rattle.stage_core.specs.Laws.{SecondLevelSeesFew}
+use Rattle.stage_core.specs.Laws.{SecondLevelSeesAtMostTwo}
 use Rattle.stage_core.specs.declared.message.Side.{Side}
 use Rattle.stage_core.specs.declared.message.Side.TheVariants as side
 use Rattle.stage_core.specs.declared.message.Turn.{Turn}
@@ -23,7 +23,7 @@ use Rattle.stage_core.proofs.network.Ends.{visit, visits, ends}
 use Rattle.stage_core.proofs.network.StreamCounts.{ends-replies, visits-order}
 use Rattle.stage_core.proofs.network.StateCounts.{whole-to}
 use Rattle.stage_core.proofs.Merged.{merged-streams}
-use Rattle.stage_core.proofs.Told.{replies-to_side}
+use Rattle.stage_core.proofs.Messages.{replies-to_side}
 use Rattle.stage_core.proofs.network.Given.{part_in, merged-count, given-few}
 use Rattle.stage_core.proofs.Worked.{length-second_history}
 
@@ -75,13 +75,13 @@ few-taken_in parts es n k s =
     )
 
 -- and the second level serves no more than two things for each event
-pub few-given : SecondLevelSeesFew → (c : Hierarchy) (es : List DinRecord) (n : Network)
+pub few-given : SecondLevelSeesAtMostTwo → (c : Hierarchy) (es : List DinRecord) (n : Network)
     → Consistent (parts_in c) es n → length n.given ≤ 2 * length es
 few-given few c es n k =
     omega (
       arith,
       few c es,
-      length-second_history (seen (parts_in c) es),
+      length-second_history (second_level_requests (parts_in c) es),
       given-few (parts_in c) es n k,
     )
 
@@ -103,7 +103,7 @@ length-from_side parts s es =
     )
 
 -- so the five streams have no more than seven messages for each event, and those of the end
-pub few-messages : SecondLevelSeesFew → (c : Hierarchy) (es : List DinRecord)
+pub few-messages : SecondLevelSeesAtMostTwo → (c : Hierarchy) (es : List DinRecord)
     → messages (parts_in c) es ≤ 7 * length es + 5
 few-messages few c es =
     let parts : Parts = parts_in c in
@@ -115,7 +115,7 @@ few-messages few c es =
       length-from_side parts side.I es,
       length-from_side parts side.D es,
       merged-count (order es) (from_side parts side.I es) (from_side parts side.D es)
-          (seen parts es) AtEnd (merged-streams parts es),
+          (second_level_requests parts es) AtEnd (merged-streams parts es),
       few c es,
-      length-second_history (seen parts es),
+      length-second_history (second_level_requests parts es),
     )

@@ -1,7 +1,7 @@
 -- A schedule with one event more.
 use Rattle.std.proofs.Common.{◌≡◌, ℕ, ◌+◌, List, [], ◌∷◌, ◌++◌, length, sym, ap, ◌∙◌, subst, arith}
 use Rattle.std.proofs.Common.{Some, option_and_then}
-use Rattle.stage_core.specs.Seen.{Parts}
+use Rattle.stage_core.specs.SecondLevel.{Parts}
 use Rattle.stage_core.specs.Network.{Network, Machine, next, enabled, run}
 use Rattle.stage_core.specs.Network.Choices.{named, IsNamedFrom}
 use Rattle.stage_core.proofs.network.Schedules.{and_then-some}

@@ -1,9 +1,9 @@
--- The machines whose next event is possible.
+-- The machines whose next step is possible.
 use Rattle.std.proofs.Common.{◌≡◌, ℕ, zero, suc, ◌+◌, ◌<◌, Bool, true, false, cond, List, [], ◌∷◌}
 use Rattle.std.proofs.Common.{length, filter, refl, sym, ap, ◌∙◌, arith, Option, Some, None}
 use Rattle.std.proofs.Common.{is_some, IsSome, slice_get}
 use Rattle.std.specs.Option.{option_map}
-use Rattle.stage_core.specs.Seen.{Parts}
+use Rattle.stage_core.specs.SecondLevel.{Parts}
 use Rattle.stage_core.specs.Streams.{reply}
 use Rattle.stage_core.specs.Network.{Network, Machine, Splitter, Stage, Merging, next, can, enabled}
 use Rattle.stage_core.specs.Network.{IsFinished, Consistent, stage, lane, split, merge, with_lane}
@@ -67,7 +67,7 @@ filtered p [] zero x h = absurd (cc)
 filtered p [] (suc k) x h = absurd (cc)
 filtered p (y ∷ ys) k x h = one_more p (p y) y (filter p ys) k x refl h (λ k h. filtered p ys k x h)
 
--- an enabled machine has a next event
+-- an enabled machine has a next step
 pub enabled-some : (parts : Parts) (capacity : ℕ) (n : Network) (k : ℕ) (m : Machine)
     → slice_get (enabled parts capacity n) k ≡ Some m → IsSome (next parts capacity m n)
 enabled-some parts capacity n k m h = filtered (can parts capacity n)

@@ -1,7 +1,7 @@
 -- How many ends of turns the merge has popped.
 use Rattle.std.proofs.Common.{◌≡◌, ℕ, ◌+◌, List, [], ◌∷◌, refl, sym, ap, ◌∙◌, append-nil, arith}
 use Rattle.std.proofs.Common.{subst}
-use Rattle.stage_core.specs.Merging.{merged, all_used, Stand, AtOrder, AtI, AtD, AtBoth, LastI}
+use Rattle.stage_core.specs.Merging.{merged, all_used, MergeState, AtOrder, AtI, AtD, AtBoth, LastI}
 use Rattle.stage_core.specs.Merging.{LastD, AtEnd, wanted, after_turn, after_end}
 use Rattle.stage_core.specs.declared.message.Side.{Side}
 use Rattle.stage_core.specs.declared.message.Side.TheVariants as side
@@ -14,7 +14,7 @@ use Rattle.stage_core.specs.declared.message.FromStage.{FromStage}
 use Rattle.stage_core.specs.declared.message.FromStage.TheVariants as from_stage
 use Rattle.stage_core.proofs.network.Sums.{total}
 use Rattle.stage_core.proofs.network.OnePop.{used_log}
-use Rattle.stage_core.proofs.Pops.{Pop, Turned, From, Log, want_of, turns_of, from_of, stand_after}
+use Rattle.stage_core.proofs.Pops.{Pop, Turned, From, Log, want_of, turns_of, from_of, state_after}
 use Rattle.stage_core.proofs.Pops.{Lawful}
 
 -- does a turn visit a side?
@@ -43,7 +43,7 @@ abbrev pub ends : List FromStage → ℕ
 ends = total end
 
 -- has the merge still to be at a side in this turn?
-abbrev pub owed : Side → Stand → ℕ
+abbrev pub owed : Side → MergeState → ℕ
 owed side.I AtOrder = 0
 owed side.I AtI = 1
 owed side.I AtD = 0
@@ -60,7 +60,7 @@ owed side.D LastD = 1
 owed side.D AtEnd = 0
 
 -- is it in its last turn?
-abbrev pub last : Stand → ℕ
+abbrev pub last : MergeState → ℕ
 last AtOrder = 0
 last AtI = 0
 last AtD = 0
@@ -81,18 +81,18 @@ abbrev pub finishes : List Turn → ℕ
 finishes = total finish
 
 -- what the end of the messages of the side s changes, r being the other side
-abbrev EndsTurn : Side → Side → Stand → Type 0
+abbrev EndsTurn : Side → Side → MergeState → Type 0
 EndsTurn s r at = (owed s at ≡ 1) × (owed s (after_end at) ≡ 0)
     × (owed r (after_end at) ≡ owed r at) × (last (after_end at) ≡ last at)
 
 -- what is known of the merge by what it wants
-abbrev pub Known : Want → Stand → Type 0
+abbrev pub Known : Want → MergeState → Type 0
 Known want.Order at = (owed side.I at ≡ 0) × (owed side.D at ≡ 0) × (last at ≡ 0)
 Known want.I at = EndsTurn side.I side.D at
 Known want.D at = EndsTurn side.D side.I at × (owed side.I at ≡ 0)
 Known want.Nothing at = (owed side.I at ≡ 0) × (owed side.D at ≡ 0) × (last at ≡ 1)
 
-known_at : (at : Stand) → Known (wanted at) at
+known_at : (at : MergeState) → Known (wanted at) at
 known_at AtOrder = (refl, refl, refl)
 known_at AtI = (refl, refl, refl, refl)
 known_at AtD = ((refl, refl, refl, refl), refl)
@@ -102,11 +102,11 @@ known_at LastD = ((refl, refl, refl, refl), refl)
 known_at AtEnd = (refl, refl, refl)
 
 -- that is so wherever the merge stands
-pub known : (at : Stand) (w : Want) → wanted at ≡ w → Known w at
+pub known : (at : MergeState) (w : Want) → wanted at ≡ w → Known w at
 known at w h = subst (λ (v : Want). Known v at) h (known_at at)
 
 -- a side whose ring the merge wants owes it the end of this turn's messages
-pub owed-wanted : (s : Side) (at : Stand) → wanted at ≡ want_of s → owed s at ≡ 1
+pub owed-wanted : (s : Side) (at : MergeState) → wanted at ≡ want_of s → owed s at ≡ 1
 owed-wanted side.I at h = (known at want.I h).0
 owed-wanted side.D at h = ((known at want.D h).0).0
 
@@ -127,8 +127,8 @@ last-turn turn.Both = refl
 last-turn turn.Finish = refl
 
 -- the ends that were popped, and the one that is owed, are the turns
-pub ends-visits : (s : Side) (ps : List Pop) (at : Stand) → Lawful at ps
-    → ends (from_of s ps) + owed s (stand_after at ps) ≡ owed s at + visits s (turns_of ps)
+pub ends-visits : (s : Side) (ps : List Pop) (at : MergeState) → Lawful at ps
+    → ends (from_of s ps) + owed s (state_after at ps) ≡ owed s at + visits s (turns_of ps)
 ends-visits s [] at h = omega arith
 ends-visits side.I (Turned t ∷ ps) at h = omega (
   arith,
@@ -167,8 +167,8 @@ ends-visits side.D (From side.D (from_stage.Done p n) ∷ ps) at h =
 ends-visits side.D (From side.D from_stage.Finish ∷ ps) at h =
     omega (arith, ends-visits side.D ps (after_end at) h.1, known at want.D h.0)
 
-last-finishes : (ps : List Pop) (at : Stand) → Lawful at ps
-    → last (stand_after at ps) ≡ last at + finishes (turns_of ps)
+last-finishes : (ps : List Pop) (at : MergeState) → Lawful at ps
+    → last (state_after at ps) ≡ last at + finishes (turns_of ps)
 last-finishes [] at h = omega arith
 last-finishes (Turned t ∷ ps) at h = omega (
   arith,
@@ -187,7 +187,7 @@ last-finishes (From side.D from_stage.Finish ∷ ps) at h =
     omega (arith, last-finishes ps (after_end at) h.1, known at want.D h.0)
 
 -- the ends popped from I, with one that it owes, are as many as the turns that visit it
-pub merged-ends-i : (o : List Turn) (i d : List FromStage) (ws : List What) (at : Stand)
+pub merged-ends-i : (o : List Turn) (i d : List FromStage) (ws : List What) (at : MergeState)
     → merged o i d ≡ all_used ws at → ends i + owed side.I at ≡ visits side.I o
 merged-ends-i o i d ws at e =
     let l : Log AtOrder o i d (all_used ws at) = used_log e in
@@ -197,7 +197,7 @@ merged-ends-i o i d ws at e =
     omega (arith, count, ap ends ei, ap (visits side.I) eo, ap (owed side.I) l.at_end)
 
 -- so are those of D
-pub merged-ends-d : (o : List Turn) (i d : List FromStage) (ws : List What) (at : Stand)
+pub merged-ends-d : (o : List Turn) (i d : List FromStage) (ws : List What) (at : MergeState)
     → merged o i d ≡ all_used ws at → ends d + owed side.D at ≡ visits side.D o
 merged-ends-d o i d ws at e =
     let l : Log AtOrder o i d (all_used ws at) = used_log e in
@@ -207,7 +207,7 @@ merged-ends-d o i d ws at e =
     omega (arith, count, ap ends ed, ap (visits side.D) eo, ap (owed side.D) l.at_end)
 
 -- the merge is in its last turn where it has popped Finish from the order ring
-pub merged-last : (o : List Turn) (i d : List FromStage) (ws : List What) (at : Stand)
+pub merged-last : (o : List Turn) (i d : List FromStage) (ws : List What) (at : MergeState)
     → merged o i d ≡ all_used ws at → last at ≡ finishes o
 merged-last o i d ws at e =
     let l : Log AtOrder o i d (all_used ws at) = used_log e in

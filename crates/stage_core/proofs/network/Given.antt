@@ -1,9 +1,9 @@
 -- In every state the second level was given no more than it is to see in all.
 use Rattle.std.proofs.Common.{◌≡◌, ℕ, ◌+◌, ◌≤◌, List, [], ◌∷◌, length, refl, sym, ap, ◌∙◌}
 use Rattle.std.proofs.Common.{append-nil, arith, length-append}
-use Rattle.stage_core.specs.Seen.{Parts, seen}
+use Rattle.stage_core.specs.SecondLevel.{Parts, second_level_requests}
 use Rattle.stage_core.specs.Streams.{order, from_side}
-use Rattle.stage_core.specs.Merging.{Stand, AtOrder, AtEnd, merged, all_used, what_in}
+use Rattle.stage_core.specs.Merging.{MergeState, AtOrder, AtEnd, merged, all_used, what_in}
 use Rattle.stage_core.specs.Network.{Network, Consistent}
 use Rattle.stage_core.specs.Network.Rings.{carried}
 use Rattle.din_trace.specs.declared.record.DinRecord.{DinRecord}
@@ -13,7 +13,7 @@ use Rattle.stage_core.specs.declared.message.Turn.{Turn}
 use Rattle.stage_core.specs.declared.message.FromStage.{FromStage}
 use Rattle.stage_core.specs.declared.message.FromStage.TheVariants as from_stage
 use Rattle.stage_core.proofs.network.Sums.{total, total-append}
-use Rattle.stage_core.proofs.Pops.{Pop, Turned, From, Log, from_of, whats_of}
+use Rattle.stage_core.proofs.Pops.{Pop, Turned, From, Log, from_of, requests_of}
 use Rattle.stage_core.proofs.network.OnePop.{used_log}
 use Rattle.stage_core.proofs.Merged.{merged-streams}
 use Rattle.stage_core.proofs.network.Schedules.{from-prefix}
@@ -29,25 +29,25 @@ what-count (from_stage.Part p n w) = refl
 what-count (from_stage.Done p n) = refl
 what-count from_stage.Finish = refl
 
-whats-count : (ps : List Pop) → length (whats_of ps)
+requests-count : (ps : List Pop) → length (requests_of ps)
     ≡ total part_in (from_of side.I ps) + total part_in (from_of side.D ps)
-whats-count [] = refl
-whats-count (Turned t ∷ ps) = whats-count ps
-whats-count (From side.I m ∷ ps) = omega (
+requests-count [] = refl
+requests-count (Turned t ∷ ps) = requests-count ps
+requests-count (From side.I m ∷ ps) = omega (
   arith,
-  whats-count ps,
+  requests-count ps,
   what-count m,
-  length-append (what_in m) (whats_of ps),
+  length-append (what_in m) (requests_of ps),
 )
-whats-count (From side.D m ∷ ps) = omega (
+requests-count (From side.D m ∷ ps) = omega (
   arith,
-  whats-count ps,
+  requests-count ps,
   what-count m,
-  length-append (what_in m) (whats_of ps),
+  length-append (what_in m) (requests_of ps),
 )
 
 -- the rule takes as many parts as the messages bring that it pops
-pub merged-count : (o : List Turn) (i d : List FromStage) (ws : List What) (at : Stand)
+pub merged-count : (o : List Turn) (i d : List FromStage) (ws : List What) (at : MergeState)
     → merged o i d ≡ all_used ws at → length ws ≡ total part_in i + total part_in d
 merged-count o i d ws at e =
     let l : Log AtOrder o i d (all_used ws at) = used_log e in
@@ -55,7 +55,7 @@ merged-count o i d ws at e =
     let ed : from_of side.D l.pops ≡ d = sym (append-nil _) ∙ l.from_d in
     omega (
       arith,
-      whats-count l.pops,
+      requests-count l.pops,
       ap (total part_in) ei,
       ap (total part_in) ed,
       ap length l.taken,
@@ -63,11 +63,11 @@ merged-count o i d ws at e =
 
 -- the second level was given no more than it is to see in all
 pub given-few : (parts : Parts) (es : List DinRecord) (n : Network) → Consistent parts es n
-    → length n.given ≤ length (seen parts es)
+    → length n.given ≤ length (second_level_requests parts es)
 given-few parts es n k =
     let now = merged-count n.order.popped n.i.from.popped n.d.from.popped n.given n.at k.merge in
     let all = merged-count (order es) (from_side parts side.I es) (from_side parts side.D es)
-    (seen parts es) AtEnd (merged-streams parts es) in
+    (second_level_requests parts es) AtEnd (merged-streams parts es) in
     let fi = from-prefix parts es n k side.I in
     let fd = from-prefix parts es n k side.D in
     omega (

@@ -3,7 +3,7 @@ use Rattle.std.proofs.Common.{◌≡◌, ℕ, Bool, true, false, cond, List, [],
 use Rattle.std.proofs.Common.{sym, ap, ◌∙◌, append_assoc, append-nil, subst, Option, Some, None}
 use Rattle.std.proofs.Common.{nat_lt}
 use Rattle.std.specs.Option.{option_map}
-use Rattle.stage_core.specs.Seen.{Parts}
+use Rattle.stage_core.specs.SecondLevel.{Parts}
 use Rattle.stage_core.specs.Network.Pushes.{Push, Order, To, pushes, turns_in, sent_to}
 use Rattle.stage_core.specs.Streams.{reply, replies}
 use Rattle.stage_core.specs.Merging.{wanted, merged, all_used, after_turn, after_message, what_in}
@@ -19,7 +19,7 @@ use Rattle.stage_core.specs.declared.message.Want.{Want}
 use Rattle.stage_core.specs.declared.message.Want.TheVariants as want
 use Rattle.stage_core.specs.declared.message.ToStage.{ToStage}
 use Rattle.stage_core.specs.declared.message.FromStage.{FromStage}
-use Rattle.stage_core.proofs.Place.{over-more}
+use Rattle.stage_core.proofs.Place.{flat_map_with_past-more}
 use Rattle.stage_core.proofs.Pops.{want_of}
 use Rattle.stage_core.proofs.network.OnePop.{merged-turn, merged-i, merged-d}
 use Rattle.stage_core.proofs.network.StreamCounts.{turns_in-append, sent_to-append}
@@ -98,7 +98,8 @@ lane-takes parts s l m r e h p =
     record {
       to = p.carried_same;
       stage = ap (λ x. x ++ reply parts s l.to.popped m) before
-          ∙ sym (over-more (reply parts s) l.to.popped m) ∙ ap (replies parts s) (sym p.popped);
+          ∙ sym (flat_map_with_past-more (reply parts s) l.to.popped m)
+          ∙ ap (replies parts s) (sym p.popped);
       popped = refl;
     }
 

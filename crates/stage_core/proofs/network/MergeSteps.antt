@@ -2,10 +2,10 @@
 use Rattle.std.proofs.Common.{◌≡◌, Bool, ◌++◌, Some, sym, ap, ◌∙◌, subst}
 use Rattle.std.specs.Option.{option_map}
 use Rattle.cache_core.specs.Standing.{rules_of}
-use Rattle.stage_core.specs.Seen.{Parts}
-use Rattle.stage_core.specs.Merging.{Stand, Merged, wanted, merged, after_turn, after_message}
+use Rattle.stage_core.specs.SecondLevel.{Parts}
+use Rattle.stage_core.specs.Merging.{MergeState, Merged, wanted, merged, after_turn, after_message}
 use Rattle.stage_core.specs.Merging.{what_in}
-use Rattle.stage_core.specs.Standing.{SecondStandsFor, second_cache}
+use Rattle.stage_core.specs.Standing.{L2StandsFor, l2_cache}
 use Rattle.stage_core.specs.Network.Rings.{Ring, pop}
 use Rattle.stage_core.specs.Network.{Network, Merging, Consistent, with_lane, merge}
 use Rattle.stage_core.specs.Network.Lanes.{lane_of}
@@ -21,11 +21,11 @@ use Rattle.stage_core.proofs.network.Kept.{keeps-turns, keeps-takes, pop-some}
 use Rattle.stage_core.proofs.network.Steps.{Steps}
 
 -- the core after the merge took a turn
-abbrev pub with_turn : Inside → Ring Turn → Stand → Inside
+abbrev pub with_turn : Inside → Ring Turn → MergeState → Inside
 with_turn c o at = record c { order = o; merge = at }
 
 -- it made the next event of the merge, and is sound
-pub turn-steps : (c : Inside) (t : Turn) (o : Ring Turn) (at : Stand) → Sound c
+pub turn-steps : (c : Inside) (t : Turn) (o : Ring Turn) (at : MergeState) → Sound c
     → wanted c.merge ≡ want.Order → pop c.order ≡ Some (t, o) → at ≡ after_turn t
     → Steps Merging c (with_turn c o at)
 turn-steps c t o at s w p e =
@@ -46,13 +46,13 @@ turn-steps c t o at s w p e =
         caches = record {
           i = s.caches.i;
           d = s.caches.d;
-          u = subst (SecondStandsFor c.u) given s.caches.u;
+          u = subst (L2StandsFor c.u) given s.caches.u;
           u_rules = s.caches.u_rules;
         };
         pushed = s.pushed;
         runnable = s.runnable;
       };
-      event = ap (λ w. merge w n) w
+      step = ap (λ w. merge w n) w
           ∙ ap (option_map (λ (x : Turn × Ring Turn). record n {
             order = x.1;
             at = after_turn x.0;
@@ -61,15 +61,15 @@ turn-steps c t o at s w p e =
     }
 
 -- the core after the merge took a message from I
-abbrev pub with_from_i : Inside → Ring FromStage → Stand → L2Stage → Bool → Inside
+abbrev pub with_from_i : Inside → Ring FromStage → MergeState → L2Stage → Bool → Inside
 with_from_i c r at u f = record c { i = record (c.i) { from = r }; merge = at; u = u; failed = f }
 
 -- it made the next event of the merge, and is sound
-pub take_i-steps : (c : Inside) (m : FromStage) (r : Ring FromStage) (at : Stand) (u : L2Stage)
+pub take_i-steps : (c : Inside) (m : FromStage) (r : Ring FromStage) (at : MergeState) (u : L2Stage)
     (f : Bool) → Sound c → wanted c.merge ≡ want.I → pop c.i.from ≡ Some (m, r)
     → at ≡ after_message c.merge m
-    → SecondStandsFor u ((network_of c).given ++ what_in m)
-    → rules_of (second_cache u) ≡ rules_of (second_cache c.u)
+    → L2StandsFor u ((network_of c).given ++ what_in m)
+    → rules_of (l2_cache u) ≡ rules_of (l2_cache c.u)
     → Steps Merging c (with_from_i c r at u f)
 take_i-steps c m r at u f s w p e stands rules =
     let parts : Parts = parts_for c.config in
@@ -97,13 +97,13 @@ take_i-steps c m r at u f s w p e stands rules =
         caches = record {
           i = s.caches.i;
           d = s.caches.d;
-          u = subst (SecondStandsFor u) given stands;
+          u = subst (L2StandsFor u) given stands;
           u_rules = rules ∙ s.caches.u_rules;
         };
         pushed = s.pushed;
         runnable = s.runnable;
       };
-      event = ap (λ w. merge w n) w
+      step = ap (λ w. merge w n) w
           ∙ ap (option_map (λ (x : FromStage × Ring FromStage).
           with_lane side.I (record (lane_of c.i) { from = x.1 })
           (record n { at = after_message c.merge x.0; given = n.given ++ what_in x.0 }))) p
@@ -111,15 +111,15 @@ take_i-steps c m r at u f s w p e stands rules =
     }
 
 -- the core after the merge took a message from D
-abbrev pub with_from_d : Inside → Ring FromStage → Stand → L2Stage → Bool → Inside
+abbrev pub with_from_d : Inside → Ring FromStage → MergeState → L2Stage → Bool → Inside
 with_from_d c r at u f = record c { d = record (c.d) { from = r }; merge = at; u = u; failed = f }
 
 -- it made the next event of the merge, and is sound
-pub take_d-steps : (c : Inside) (m : FromStage) (r : Ring FromStage) (at : Stand) (u : L2Stage)
+pub take_d-steps : (c : Inside) (m : FromStage) (r : Ring FromStage) (at : MergeState) (u : L2Stage)
     (f : Bool) → Sound c → wanted c.merge ≡ want.D → pop c.d.from ≡ Some (m, r)
     → at ≡ after_message c.merge m
-    → SecondStandsFor u ((network_of c).given ++ what_in m)
-    → rules_of (second_cache u) ≡ rules_of (second_cache c.u)
+    → L2StandsFor u ((network_of c).given ++ what_in m)
+    → rules_of (l2_cache u) ≡ rules_of (l2_cache c.u)
     → Steps Merging c (with_from_d c r at u f)
 take_d-steps c m r at u f s w p e stands rules =
     let parts : Parts = parts_for c.config in
@@ -147,13 +147,13 @@ take_d-steps c m r at u f s w p e stands rules =
         caches = record {
           i = s.caches.i;
           d = s.caches.d;
-          u = subst (SecondStandsFor u) given stands;
+          u = subst (L2StandsFor u) given stands;
           u_rules = rules ∙ s.caches.u_rules;
         };
         pushed = s.pushed;
         runnable = s.runnable;
       };
-      event = ap (λ w. merge w n) w
+      step = ap (λ w. merge w n) w
           ∙ ap (option_map (λ (x : FromStage × Ring FromStage).
           with_lane side.D (record (lane_of c.d) { from = x.1 })
           (record n { at = after_message c.merge x.0; given = n.given ++ what_in x.0 }))) p

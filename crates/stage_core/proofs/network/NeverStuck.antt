@@ -2,7 +2,7 @@
 use Rattle.std.proofs.Common.{◌≡◌, ℕ, zero, suc, ◌+◌, ◌<◌, ◌≤◌, ◌⊎◌, inl, inr, true, List, [], ◌++◌}
 use Rattle.std.proofs.Common.{length, refl, sym, ap, ◌∙◌, append-nil, arith, length-append, None}
 use Rattle.std.proofs.lemmas.List.{nil_from_length}
-use Rattle.stage_core.specs.Seen.{Parts}
+use Rattle.stage_core.specs.SecondLevel.{Parts}
 use Rattle.stage_core.specs.Network.Pushes.{Order, turns_in, sent_to}
 use Rattle.stage_core.specs.Streams.{order, replies}
 use Rattle.stage_core.specs.Merging.{wanted}
@@ -211,7 +211,7 @@ module _ (parts : Parts) (es : List DinRecord) (n : Network) (k : Consistent par
       absurd (not-d capacity pos blocked.splitter (blocked.stages side.D) w (blocked.merge.d w))
   never_stuck_at capacity pos blocked want.Nothing w = ended capacity pos blocked.splitter w
 
--- in a state that keeps the invariant, where no machine's next event is possible, all have finished
+-- in a state that keeps the invariant, where no machine's next step is possible, all have finished
 pub never_stuck : (parts : Parts) (es : List DinRecord) (capacity : ℕ) → 0 < capacity
     → (n : Network) → Consistent parts es n → ((m : Machine) → next parts capacity m n ≡ None)
     → IsFinished n

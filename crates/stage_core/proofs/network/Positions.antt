@@ -1,6 +1,6 @@
 -- Where the splitter is in its list, in numbers.
 use Rattle.std.proofs.Common.{◌≡◌, ℕ, ◌+◌, ◌≤◌, List, [], ◌∷◌, ◌++◌, length, refl, arith}
-use Rattle.stage_core.specs.Places.{along}
+use Rattle.stage_core.specs.Places.{flat_map_after}
 use Rattle.stage_core.specs.Network.Pushes.{Push, Order, To, pushes, pushes_at, turns_in, sent_to}
 use Rattle.stage_core.specs.Network.Pushes.{ending}
 use Rattle.din_trace.specs.declared.record.DinRecord.{DinRecord}
@@ -120,20 +120,21 @@ no_more : Positions []
 no_more [] still e = rw e record { i = refl; d = refl; both = omega arith }
 no_more (x ∷ ps) still e = absurd (cc)
 
-boundary : (before es : List DinRecord) → Boundary (along pushes_at before es ++ ending)
+boundary : (before es : List DinRecord) → Boundary (flat_map_after pushes_at before es ++ ending)
 boundary before [] = tt
 boundary before (e ∷ es) = tt
 
 positions_at : (l : Label) (a : ℕ) (before es : List DinRecord)
-    → Positions (along pushes_at (before ++ record { label = l; addr = a } ∷ []) es ++ ending)
-    → Positions (along pushes_at before (record { label = l; addr = a } ∷ es) ++ ending)
+    → Positions
+    (flat_map_after pushes_at (before ++ record { label = l; addr = a } ∷ []) es ++ ending)
+    → Positions (flat_map_after pushes_at before (record { label = l; addr = a } ∷ es) ++ ending)
 positions_at label.Instr a before es rest = place_i turn.I _ _ refl refl (boundary _ es) rest
 positions_at label.Read a before es rest = place_d turn.D _ _ refl refl rest
 positions_at label.Write a before es rest = place_d turn.D _ _ refl refl rest
 positions_at label.Misc a before es rest = place_d turn.D _ _ refl refl rest
 positions_at label.Flush a before es rest = place_both turn.Both _ _ _ refl refl rest
 
-positions : (before es : List DinRecord) → Positions (along pushes_at before es ++ ending)
+positions : (before es : List DinRecord) → Positions (flat_map_after pushes_at before es ++ ending)
 positions before [] = place_both turn.Finish _ _ [] refl refl no_more
 positions before (e ∷ es) = positions_at e.label e.addr before es (positions (before ++ e ∷ []) es)
 

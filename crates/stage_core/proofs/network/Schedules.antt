@@ -2,110 +2,110 @@
 use Rattle.std.proofs.Common.{◌≡◌, ℕ, suc, ◌+◌, ◌*◌, ◌≤◌, cond, List, [], ◌∷◌, ◌++◌, length, refl}
 use Rattle.std.proofs.Common.{sym, ap, ◌∙◌, append_assoc, append-nil, subst, arith, Option, Some}
 use Rattle.std.proofs.Common.{None, length-append, option_and_then}
-use Rattle.stage_core.specs.Places.{along}
-use Rattle.stage_core.specs.Seen.{Parts, seen}
+use Rattle.stage_core.specs.Places.{flat_map_after}
+use Rattle.stage_core.specs.SecondLevel.{Parts, second_level_requests}
 use Rattle.stage_core.specs.Network.Pushes.{Push, Order, To, turns_in, sent_to}
 use Rattle.stage_core.specs.Streams.{order, to_side, from_side, reply, replies}
 use Rattle.stage_core.specs.Merging.{Merged, wanted, merged}
-use Rattle.stage_core.specs.Network.Rings.{with_message, Ring, carried, push, pop, ring_events}
+use Rattle.stage_core.specs.Network.Rings.{with_message, Ring, carried, push, pop, ring_steps}
 use Rattle.stage_core.specs.Network.{Lane, Network, lane, finish_taken, next, Machine, Splitter}
 use Rattle.stage_core.specs.Network.{Stage, Merging, split, stage, merge, Consistent, start, run}
-use Rattle.stage_core.specs.Network.{lane_events, events_made, messages, IsFinished}
+use Rattle.stage_core.specs.Network.{lane_steps, steps_made, messages, IsFinished}
 use Rattle.din_trace.specs.declared.record.DinRecord.{DinRecord}
 use Rattle.stage_core.specs.declared.message.Side.{Side}
 use Rattle.stage_core.specs.declared.message.Side.TheVariants as side
 use Rattle.stage_core.specs.declared.message.Want.{Want}
 use Rattle.stage_core.specs.declared.message.Want.TheVariants as want
 use Rattle.stage_core.specs.declared.message.FromStage.{FromStage}
-use Rattle.stage_core.proofs.Place.{along-append}
+use Rattle.stage_core.proofs.Place.{flat_map_after-append}
 use Rattle.stage_core.proofs.Merged.{merged-streams}
 use Rattle.stage_core.proofs.network.Positions.{pending}
-use Rattle.stage_core.proofs.Told.{replies-to_side}
+use Rattle.stage_core.proofs.Messages.{replies-to_side}
 use Rattle.stage_core.proofs.network.NeverStuck.{all-popped}
 use Rattle.stage_core.proofs.network.StateCounts.{whole-order, whole-to}
 use Rattle.stage_core.proofs.network.Kept.{option_map-some, push-some, Popped, pop-some}
 use Rattle.stage_core.proofs.network.Kept.{keeps-start, keeps-next, cond-none-some}
 
 -- a push and a pop are one event each
-push-events : {A : Type 0} (x : A) (r : Ring A)
-    → ring_events (with_message x r) ≡ suc (ring_events r)
-push-events x r = omega (
+push-made : {A : Type 0} (x : A) (r : Ring A)
+    → ring_steps (with_message x r) ≡ suc (ring_steps r)
+push-made x r = omega (
   arith,
   length-append r.popped (r.waiting ++ x ∷ []),
   length-append r.waiting (x ∷ []),
   length-append r.popped r.waiting,
 )
 
-pop-events : {A : Type 0} (r : Ring A) (x : A) (r' : Ring A) → Popped r x r'
-    → ring_events r' ≡ suc (ring_events r)
-pop-events r x r' p = omega (
+pop-made : {A : Type 0} (r : Ring A) (x : A) (r' : Ring A) → Popped r x r'
+    → ring_steps r' ≡ suc (ring_steps r)
+pop-made r x r' p = omega (
   arith,
   ap length p.carried_same,
   ap length p.popped,
   length-append r.popped (x ∷ []),
 )
 
-split-events : (capacity : ℕ) (n : Network) (ps : List Push) (n' : Network)
-    → split capacity ps n ≡ Some n' → events_made n' ≡ suc (events_made n)
-split-events capacity n [] n' h = absurd (cc)
-split-events capacity n (Order t ∷ rest) n' h =
+split-made : (capacity : ℕ) (n : Network) (ps : List Push) (n' : Network)
+    → split capacity ps n ≡ Some n' → steps_made n' ≡ suc (steps_made n)
+split-made capacity n [] n' h = absurd (cc)
+split-made capacity n (Order t ∷ rest) n' h =
     let x = option_map-some _ (push capacity t n.order) n' h in
-    let e = ap ring_events (push-some capacity t n.order x.0 x.1) in
-    omega (arith, ap events_made x.2, e, push-events t n.order)
-split-events capacity n (To side.I m ∷ rest) n' h =
+    let e = ap ring_steps (push-some capacity t n.order x.0 x.1) in
+    omega (arith, ap steps_made x.2, e, push-made t n.order)
+split-made capacity n (To side.I m ∷ rest) n' h =
     let x = option_map-some _ (push capacity m n.i.to) n' h in
-    let e = ap ring_events (push-some capacity m n.i.to x.0 x.1) in
-    omega (arith, ap events_made x.2, e, push-events m n.i.to)
-split-events capacity n (To side.D m ∷ rest) n' h =
+    let e = ap ring_steps (push-some capacity m n.i.to x.0 x.1) in
+    omega (arith, ap steps_made x.2, e, push-made m n.i.to)
+split-made capacity n (To side.D m ∷ rest) n' h =
     let x = option_map-some _ (push capacity m n.d.to) n' h in
-    let e = ap ring_events (push-some capacity m n.d.to x.0 x.1) in
-    omega (arith, ap events_made x.2, e, push-events m n.d.to)
+    let e = ap ring_steps (push-some capacity m n.d.to x.0 x.1) in
+    omega (arith, ap steps_made x.2, e, push-made m n.d.to)
 
-stage-events : (parts : Parts) (capacity : ℕ) (s : Side) (outbox : List FromStage) (l l' : Lane)
-    → stage parts capacity s outbox l ≡ Some l' → lane_events l' ≡ suc (lane_events l)
-stage-events parts capacity s (m ∷ rest) l l' h =
+stage-made : (parts : Parts) (capacity : ℕ) (s : Side) (outbox : List FromStage) (l l' : Lane)
+    → stage parts capacity s outbox l ≡ Some l' → lane_steps l' ≡ suc (lane_steps l)
+stage-made parts capacity s (m ∷ rest) l l' h =
     let x = option_map-some _ (push capacity m l.from) l' h in
-    let e = ap ring_events (push-some capacity m l.from x.0 x.1) in
-    omega (arith, ap lane_events x.2, e, push-events m l.from)
-stage-events parts capacity s [] l l' h =
+    let e = ap ring_steps (push-some capacity m l.from x.0 x.1) in
+    omega (arith, ap lane_steps x.2, e, push-made m l.from)
+stage-made parts capacity s [] l l' h =
     let x = option_map-some _ (cond (finish_taken l) None (pop l.to)) l' h in
     let p = pop-some l.to x.0 (cond-none-some (finish_taken l) (pop l.to) x.0 x.1) in
-    omega (arith, ap lane_events x.2, pop-events l.to (x.0).0 (x.0).1 p)
+    omega (arith, ap lane_steps x.2, pop-made l.to (x.0).0 (x.0).1 p)
 
-merge-events : (n : Network) (w : Want) (n' : Network) → merge w n ≡ Some n'
-    → events_made n' ≡ suc (events_made n)
-merge-events n want.Order n' h =
+merge-made : (n : Network) (w : Want) (n' : Network) → merge w n ≡ Some n'
+    → steps_made n' ≡ suc (steps_made n)
+merge-made n want.Order n' h =
     let x = option_map-some _ (pop n.order) n' h in
-    omega (arith, ap events_made x.2, pop-events n.order (x.0).0 (x.0).1 (pop-some n.order x.0 x.1))
-merge-events n want.I n' h =
+    omega (arith, ap steps_made x.2, pop-made n.order (x.0).0 (x.0).1 (pop-some n.order x.0 x.1))
+merge-made n want.I n' h =
     let x = option_map-some _ (pop n.i.from) n' h in
     omega (
       arith,
-      ap events_made x.2,
-      pop-events n.i.from (x.0).0 (x.0).1
+      ap steps_made x.2,
+      pop-made n.i.from (x.0).0 (x.0).1
           (pop-some n.i.from x.0 x.1),
     )
-merge-events n want.D n' h =
+merge-made n want.D n' h =
     let x = option_map-some _ (pop n.d.from) n' h in
     omega (
       arith,
-      ap events_made x.2,
-      pop-events n.d.from (x.0).0 (x.0).1
+      ap steps_made x.2,
+      pop-made n.d.from (x.0).0 (x.0).1
           (pop-some n.d.from x.0 x.1),
     )
-merge-events n want.Nothing n' h = absurd (cc)
+merge-made n want.Nothing n' h = absurd (cc)
 
 -- each step is one event
-pub next-events : (parts : Parts) (capacity : ℕ) (m : Machine) (n n' : Network)
-    → next parts capacity m n ≡ Some n' → events_made n' ≡ suc (events_made n)
-next-events parts capacity Splitter n n' h = split-events capacity n n.still n' h
-next-events parts capacity (Stage side.I) n n' h =
+pub next-made : (parts : Parts) (capacity : ℕ) (m : Machine) (n n' : Network)
+    → next parts capacity m n ≡ Some n' → steps_made n' ≡ suc (steps_made n)
+next-made parts capacity Splitter n n' h = split-made capacity n n.still n' h
+next-made parts capacity (Stage side.I) n n' h =
     let x = option_map-some _ (stage parts capacity side.I n.i.outbox n.i) n' h in
-    omega (arith, ap events_made x.2, stage-events parts capacity side.I n.i.outbox n.i x.0 x.1)
-next-events parts capacity (Stage side.D) n n' h =
+    omega (arith, ap steps_made x.2, stage-made parts capacity side.I n.i.outbox n.i x.0 x.1)
+next-made parts capacity (Stage side.D) n n' h =
     let x = option_map-some _ (stage parts capacity side.D n.d.outbox n.d) n' h in
-    omega (arith, ap events_made x.2, stage-events parts capacity side.D n.d.outbox n.d x.0 x.1)
-next-events parts capacity Merging n n' h = merge-events n (wanted n.at) n' h
+    omega (arith, ap steps_made x.2, stage-made parts capacity side.D n.d.outbox n.d x.0 x.1)
+next-made parts capacity Merging n n' h = merge-made n (wanted n.at) n' h
 
 -- what two steps give is what the second gives for what the first gave
 pub and_then-some : {A B : Type 0} (f : A → Option B) (o : Option A) (y : B)
@@ -116,15 +116,15 @@ and_then-some f (Some x) y h = (x, refl, h)
 -- a schedule keeps the invariant, and has one event a step
 pub run-keeps : (parts : Parts) (es : List DinRecord) (capacity : ℕ) (ms : List Machine)
     (n n' : Network) → Consistent parts es n → run parts capacity ms n ≡ Some n'
-    → Consistent parts es n' × (events_made n' ≡ length ms + events_made n)
+    → Consistent parts es n' × (steps_made n' ≡ length ms + steps_made n)
 run-keeps parts es capacity [] n n' k h =
     let e : n ≡ n' = cc in
-    (subst (Consistent parts es) e k, omega (arith, ap events_made e))
+    (subst (Consistent parts es) e k, omega (arith, ap steps_made e))
 run-keeps parts es capacity (m ∷ ms) n n' k h =
     let x = and_then-some (run parts capacity ms) (next parts capacity m n) n' h in
     let r = run-keeps parts es capacity ms x.0 n'
     (keeps-next parts es n k capacity m x.0 x.1) x.2 in
-    (r.0, omega (arith, r.1, next-events parts capacity m n x.0 x.1))
+    (r.0, omega (arith, r.1, next-made parts capacity m n x.0 x.1))
 
 module _ (parts : Parts) (es : List DinRecord) (n : Network) (k : Consistent parts es n) where
   -- what each ring has carried is the beginning of its stream
@@ -141,19 +141,19 @@ module _ (parts : Parts) (es : List DinRecord) (n : Network) (k : Consistent par
   pub from-prefix : (s : Side) → (rest : List FromStage)
       × (carried (lane s n).from ++ rest ≡ from_side parts s es)
   from-prefix s =
-      let later = along (reply parts s) (lane s n).to.popped
+      let later = flat_map_after (reply parts s) (lane s n).to.popped
       ((lane s n).to.waiting ++ sent_to s n.still) in (
         (lane s n).outbox ++ later,
         sym (append_assoc (carried (lane s n).from) (lane s n).outbox later)
             ∙ ap (λ x. x ++ later) (k.from_side s)
-            ∙ sym (along-append (reply parts s) [] (lane s n).to.popped
+            ∙ sym (flat_map_after-append (reply parts s) [] (lane s n).to.popped
             ((lane s n).to.waiting ++ sent_to s n.still))
             ∙ ap (replies parts s) (whole-to parts es n k s)
             ∙ replies-to_side parts s es,
       )
 
   ring-bound : {A : Type 0} (r : Ring A) (rest all : List A) → carried r ++ rest ≡ all
-      → ring_events r ≤ 2 * length all
+      → ring_steps r ≤ 2 * length all
   ring-bound r rest all e = omega (
     arith,
     ap length e,
@@ -161,9 +161,9 @@ module _ (parts : Parts) (es : List DinRecord) (n : Network) (k : Consistent par
     length-append r.popped r.waiting,
   )
 
-  -- no state has made more events than two for each message
-  pub events-bound : events_made n ≤ 2 * messages parts es
-  events-bound =
+  -- no state has made more steps than two for each message
+  pub steps-bound : steps_made n ≤ 2 * messages parts es
+  steps-bound =
       let o = ring-bound n.order _ _ order-prefix in
       let ti = ring-bound n.i.to _ _ (to-prefix side.I) in
       let td = ring-bound n.d.to _ _ (to-prefix side.D) in
@@ -198,7 +198,7 @@ module _ (parts : Parts) (es : List DinRecord) (n : Network) (k : Consistent par
         ∙ k.from_side s ∙ ap (replies parts s) (to-done s) ∙ replies-to_side parts s es
 
     -- the second level was given what it is to see
-    pub given-done : n.given ≡ seen parts es
+    pub given-done : n.given ≡ second_level_requests parts es
     given-done =
         ap (λ (m : Merged). m.taken)
         (sym k.merge
@@ -208,7 +208,7 @@ module _ (parts : Parts) (es : List DinRecord) (n : Network) (k : Consistent par
         ∙ merged-streams parts es)
 
     ring-done : {A : Type 0} (r : Ring A) (rest all : List A) → carried r ++ rest ≡ all
-        → r.popped ≡ all → ring_events r ≡ 2 * length all
+        → r.popped ≡ all → ring_steps r ≡ 2 * length all
     ring-done r rest all e p = omega (
       arith,
       ap length e,
@@ -218,8 +218,8 @@ module _ (parts : Parts) (es : List DinRecord) (n : Network) (k : Consistent par
     )
 
     -- where all have finished, two events were made for each message
-    pub events-done : events_made n ≡ 2 * messages parts es
-    events-done =
+    pub steps-done : steps_made n ≡ 2 * messages parts es
+    steps-done =
         let o = ring-done n.order _ _ order-prefix order-done in
         let ti = ring-done n.i.to _ _ (to-prefix side.I) (to-done side.I) in
         let td = ring-done n.d.to _ _ (to-prefix side.D) (to-done side.D) in
@@ -227,10 +227,10 @@ module _ (parts : Parts) (es : List DinRecord) (n : Network) (k : Consistent par
         let fd = ring-done n.d.from _ _ (from-prefix side.D).1 (from-done side.D) in
         omega (arith, o, ti, td, fi, fd)
 
--- every complete schedule has two events for each message
+-- every complete schedule has two steps for each message
 pub schedule-length : (parts : Parts) (es : List DinRecord) (capacity : ℕ) (ms : List Machine)
     (n : Network) → run parts capacity ms (start es) ≡ Some n → IsFinished n
     → length ms ≡ 2 * messages parts es
 schedule-length parts es capacity ms n h f =
     let r = run-keeps parts es capacity ms (start es) n (keeps-start parts es) h in
-    omega (arith, r.1, events-done parts es n r.0 f)
+    omega (arith, r.1, steps-done parts es n r.0 f)

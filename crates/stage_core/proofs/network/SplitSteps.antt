@@ -66,9 +66,9 @@ pushed-steps : (c : Inside) (o : Ring Turn) (i d : Ring ToStage) (f : Bool) → 
     → Consistent (parts_for c.config) c.events.items (network_of (with_push c o i d f))
     → next_in (core_of c) Splitter ≡ Some (network_of (with_push c o i d f))
     → Steps Splitter c (with_push c o i d f)
-pushed-steps c o i d f s lt caches consistent event = record {
+pushed-steps c o i d f s lt caches consistent step = record {
   sound = record { consistent = consistent; caches = caches; pushed = lt; runnable = s.runnable };
-  event = event;
+  step = step;
 }
 
 -- it made the next event of the splitter, and is sound

@@ -4,11 +4,11 @@ use Rattle.std.proofs.Common.{sym, ap, ◌∙◌, subst}
 use Rattle.std.specs.Option.{option_map}
 use Rattle.cache_core.specs.History.{Rules}
 use Rattle.cache_core.specs.Standing.{rules_of}
-use Rattle.stage_core.specs.Seen.{Parts, Hierarchy, parts_of, parts_in, rules_at}
+use Rattle.stage_core.specs.SecondLevel.{Parts, Hierarchy, parts_of, parts_in, rules_at}
 use Rattle.stage_core.specs.Streams.{reply, replies}
 use Rattle.stage_core.specs.Merging.{merged}
 use Rattle.stage_core.specs.Config.{hierarchy_of, ring_of}
-use Rattle.stage_core.specs.Standing.{StageStandsFor, SecondStandsFor, cache_of, side_of, outbox_of}
+use Rattle.stage_core.specs.Standing.{StageStandsFor, L2StandsFor, cache_of, side_of, outbox_of}
 use Rattle.stage_core.specs.Network.Rings.{carried, Ring, pop}
 use Rattle.stage_core.specs.Network.{Lane, Network, Stage, Consistent, finish_taken, stage}
 use Rattle.stage_core.specs.Network.{with_lane}
@@ -91,7 +91,7 @@ still-took took stands sides rules = record {
 abbrev pub with_i : Inside → code.Lane → Bool → Inside
 with_i c l f = record c { i = l; failed = f }
 
--- it made the next event of the stage I, and is sound
+-- it made the next step of the stage I, and is sound
 pub step_i-steps : (c : Inside) (l : code.Lane) (f : Bool) → Sound c
     → stage_next (ring_of c.config) c.i ≡ Some (lane_of l)
     → StageStandsFor l.stage l.to.popped → side_of l.stage ≡ side_of c.i.stage
@@ -113,20 +113,20 @@ step_i-steps c l f s e stands sides rules =
         caches = record {
           i = still-took s.caches.i stands sides rules;
           d = s.caches.d;
-          u = subst (SecondStandsFor c.u) given s.caches.u;
+          u = subst (L2StandsFor c.u) given s.caches.u;
           u_rules = s.caches.u_rules;
         };
         pushed = s.pushed;
         runnable = s.runnable;
       };
-      event = ap (option_map (λ x. with_lane side.I x n)) steps.made ∙ ap Some same;
+      step = ap (option_map (λ x. with_lane side.I x n)) steps.made ∙ ap Some same;
     }
 
 -- the core after an event of the stage D
 abbrev pub with_d : Inside → code.Lane → Bool → Inside
 with_d c l f = record c { d = l; failed = f }
 
--- it made the next event of the stage D, and is sound
+-- it made the next step of the stage D, and is sound
 pub step_d-steps : (c : Inside) (l : code.Lane) (f : Bool) → Sound c
     → stage_next (ring_of c.config) c.d ≡ Some (lane_of l)
     → StageStandsFor l.stage l.to.popped → side_of l.stage ≡ side_of c.d.stage
@@ -148,11 +148,11 @@ step_d-steps c l f s e stands sides rules =
         caches = record {
           i = s.caches.i;
           d = still-took s.caches.d stands sides rules;
-          u = subst (SecondStandsFor c.u) given s.caches.u;
+          u = subst (L2StandsFor c.u) given s.caches.u;
           u_rules = s.caches.u_rules;
         };
         pushed = s.pushed;
         runnable = s.runnable;
       };
-      event = ap (option_map (λ x. with_lane side.D x n)) steps.made ∙ ap Some same;
+      step = ap (option_map (λ x. with_lane side.D x n)) steps.made ∙ ap Some same;
     }

@@ -1,9 +1,9 @@
 -- A core at its start.
 use Rattle.std.proofs.Common.{◌≡◌, ◌<◌, List, [], drop, sym, ap, ◌∙◌, subst, arith}
 use Rattle.cache_core.specs.History.{Rules}
-use Rattle.stage_core.specs.Merging.{AtOrder, Stand, merged}
+use Rattle.stage_core.specs.Merging.{AtOrder, MergeState, merged}
 use Rattle.stage_core.specs.Config.{hierarchy_of, ring_of}
-use Rattle.stage_core.specs.Standing.{SecondStandsFor}
+use Rattle.stage_core.specs.Standing.{L2StandsFor}
 use Rattle.stage_core.specs.Network.Rings.{Ring, empty_ring}
 use Rattle.stage_core.specs.Network.Pushes.{Push, pushes}
 use Rattle.stage_core.specs.Network.{Lane, Network, Consistent, start, empty_lane}
@@ -18,7 +18,7 @@ use Rattle.stage_core.specs.declared.network.Core.TheInside.{Inside}
 use Rattle.stage_core.proofs.network.Kept.{keeps-start}
 
 -- the start
-abbrev network_in : List Push → Ring Turn → Lane → Lane → Stand → Network
+abbrev network_in : List Push → Ring Turn → Lane → Lane → MergeState → Network
 network_in still order i d at = record {
   still = still;
   order = order;
@@ -49,7 +49,7 @@ sound-start c k ps o i d at caches runnable =
       caches = record {
         i = caches.i;
         d = caches.d;
-        u = subst (SecondStandsFor c.u) (sym (ap (λ (n : Network). n.given) same)) caches.u;
+        u = subst (L2StandsFor c.u) (sym (ap (λ (n : Network). n.given) same)) caches.u;
         u_rules = caches.u_rules;
       };
       pushed = omega (arith, k);

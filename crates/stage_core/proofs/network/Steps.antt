@@ -3,35 +3,35 @@ use Rattle.std.proofs.Common.{◌≡◌, suc, ◌^◌, ◌<◌, Bool, false, con
 use Rattle.std.proofs.Common.{Err, OnOk, is_err, sym, ap, ◌∙◌, arith}
 use Rattle.cache_core.specs.Standing.{served_of}
 use Rattle.stage_core.specs.Config.{hierarchy_of, ring_of}
-use Rattle.stage_core.specs.Standing.{cache_of, second_cache}
-use Rattle.stage_core.specs.Network.{Machine, Consistent, machines, enabled, events_made}
-use Rattle.stage_core.specs.Laws.{SecondLevelSeesFew}
-use Rattle.stage_core.specs.Network.Cores.{IsConsistent, can_in, enabled_in, CoreState, MakesEvent}
+use Rattle.stage_core.specs.Standing.{cache_of, l2_cache}
+use Rattle.stage_core.specs.Network.{Machine, Consistent, machines, enabled, steps_made}
+use Rattle.stage_core.specs.Laws.{SecondLevelSeesAtMostTwo}
+use Rattle.stage_core.specs.Network.Cores.{IsConsistent, can_in, enabled_in, CoreState, MakesStep}
 use Rattle.stage_core.specs.Network.Cores.{Sound, core_of, network_of, next_in, parts_for}
 use Rattle.stage_core.specs.declared.message.Side.TheVariants as side
 use Rattle.stage_core.specs.declared.network.Core.TheInside.{Inside}
 use Rattle.stage_core.proofs.network.Kept.{keeps-next}
 use Rattle.stage_core.proofs.network.Bounds.{few-given, few-taken_in}
-use Rattle.stage_core.proofs.network.Schedules.{next-events}
-use Rattle.stage_core.proofs.Worked.{served-whats}
+use Rattle.stage_core.proofs.network.Schedules.{next-made}
+use Rattle.stage_core.proofs.Worked.{served-requests}
 
 -- this event leads to a sound core
 pub record Steps (m : Machine) (old new : Inside) : Type 0 where
   pub sound : Sound new
-  pub event : next_in (core_of old) m ≡ Some (network_of new)
+  pub step : next_in (core_of old) m ≡ Some (network_of new)
 
--- so the core made the machine's next event, if the call was not refused
-pub makes-event : {T E P : Type 0} {m : Machine} {old : CoreState} {c : Inside}
+-- so the core made the machine's next step, if the call was not refused
+pub makes-step : {T E P : Type 0} {m : Machine} {old : CoreState} {c : Inside}
     (new : Bool → Inside) (r : Result T E) (refused : Bool) → refused ≡ is_err r → core_of c ≡ old
     → ((f : Bool) → (new f).failed ≡ f) → (P → Steps m c (new refused)) → OnOk r P
-    → OnOk r (MakesEvent m old (core_of (new refused)))
-makes-event {m} {old} {c} new (Ok x) refused same view failed steps p =
+    → OnOk r (MakesStep m old (core_of (new refused)))
+makes-step {m} {old} {c} new (Ok x) refused same view failed steps p =
     let s = steps p in
     record {
-      event = ap (λ (v : CoreState). next_in v m) (sym view) ∙ s.event;
+      step = ap (λ (v : CoreState). next_in v m) (sym view) ∙ s.step;
       works = failed refused ∙ same;
     }
-makes-event new (Err x) refused same view failed steps p = p
+makes-step new (Err x) refused same view failed steps p = p
 
 -- what holds of an answer that is no refusal, by the flag that says so
 pub on_ok_by : {T E P : Type 0} (r : Result T E) (refused : Bool) → refused ≡ is_err r
@@ -49,12 +49,12 @@ room-below c s =
     )
 
 -- the second level has room for one more
-pub room-above : SecondLevelSeesFew → (c : Inside) → Sound c
-    → served_of (second_cache c.u) < 2 ^ 44
+pub room-above : SecondLevelSeesAtMostTwo → (c : Inside) → Sound c
+    → served_of (l2_cache c.u) < 2 ^ 44
 room-above few c s =
     omega (
       arith,
-      served-whats s.caches.u,
+      served-requests s.caches.u,
       few-given few (hierarchy_of c.config) c.events.items (network_of c) s.consistent,
       s.runnable.short,
     )
@@ -65,10 +65,10 @@ pub working : (v : CoreState) → v.failed ≡ false
 working v ok = ap (λ b. cond b [] (filter (can_in v) machines)) ok
 
 -- the core's event keeps it consistent, and is one event
-pub driven : {v w : CoreState} → IsConsistent v → (m : Machine) → MakesEvent m v w
+pub driven : {v w : CoreState} → IsConsistent v → (m : Machine) → MakesStep m v w
     → Consistent (parts_for v.config) v.events w.network
-    × (events_made w.network ≡ suc (events_made v.network))
+    × (steps_made w.network ≡ suc (steps_made v.network))
 driven {v} {w} k m made = (
-  keeps-next (parts_for v.config) v.events v.network k (ring_of v.config) m w.network made.event,
-  next-events (parts_for v.config) (ring_of v.config) m v.network w.network made.event,
+  keeps-next (parts_for v.config) v.events v.network k (ring_of v.config) m w.network made.step,
+  next-made (parts_for v.config) (ring_of v.config) m v.network w.network made.step,
 )

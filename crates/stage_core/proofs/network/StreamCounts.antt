@@ -1,14 +1,14 @@
 -- The five streams of an event list, in numbers: turns, ends and Finish.
 use Rattle.std.proofs.Common.{◌≡◌, ℕ, ◌+◌, List, [], ◌∷◌, ◌++◌, map, length, refl, sym, ap, ◌∙◌}
 use Rattle.std.proofs.Common.{append_assoc, arith}
-use Rattle.stage_core.specs.Places.{along}
+use Rattle.stage_core.specs.Places.{flat_map_after}
 use Rattle.cache_core.specs.History.{Event, access, flush}
 use Rattle.stage_core.specs.Events.{asked, access_of}
-use Rattle.stage_core.specs.Seen.{Parts}
+use Rattle.stage_core.specs.SecondLevel.{Parts}
 use Rattle.stage_core.specs.Network.Pushes.{Push, Order, To, pushes, pushes_at, turns_in, sent_to}
 use Rattle.stage_core.specs.Network.Pushes.{for_side, ending}
-use Rattle.stage_core.specs.Streams.{order, turn_of, to_side, told, message, answer, numbered}
-use Rattle.stage_core.specs.Streams.{reply, replies, taken_in}
+use Rattle.stage_core.specs.Streams.{order, turn_of, to_side, messages_to, message, answer}
+use Rattle.stage_core.specs.Streams.{numbered, reply, replies, taken_in}
 use Rattle.din_trace.specs.declared.record.DinRecord.{DinRecord}
 use Rattle.din_trace.specs.declared.record.Label.{Label}
 use Rattle.din_trace.specs.declared.record.Label.TheVariants as label
@@ -40,16 +40,16 @@ sent_to-append s (To r m ∷ ps) qs = ap (λ x. for_side s r m ++ x) (sent_to-ap
 
 abbrev Streams : List DinRecord → List DinRecord → Type 0
 Streams before es =
-    (turns_in (along pushes_at before es ++ ending)
+    (turns_in (flat_map_after pushes_at before es ++ ending)
     ≡ map (λ e. turn_of e.label) es ++ turn.Finish ∷ [])
-    × (sent_to side.I (along pushes_at before es ++ ending)
-    ≡ along (told side.I) before es ++ to_stage.Finish ∷ [])
-    × (sent_to side.D (along pushes_at before es ++ ending)
-    ≡ along (told side.D) before es ++ to_stage.Finish ∷ [])
+    × (sent_to side.I (flat_map_after pushes_at before es ++ ending)
+    ≡ flat_map_after (messages_to side.I) before es ++ to_stage.Finish ∷ [])
+    × (sent_to side.D (flat_map_after pushes_at before es ++ ending)
+    ≡ flat_map_after (messages_to side.D) before es ++ to_stage.Finish ∷ [])
     × (visits side.I (map (λ e. turn_of e.label) es ++ turn.Finish ∷ [])
-    ≡ length (along (told side.I) before es ++ to_stage.Finish ∷ []))
+    ≡ length (flat_map_after (messages_to side.I) before es ++ to_stage.Finish ∷ []))
     × (visits side.D (map (λ e. turn_of e.label) es ++ turn.Finish ∷ [])
-    ≡ length (along (told side.D) before es ++ to_stage.Finish ∷ []))
+    ≡ length (flat_map_after (messages_to side.D) before es ++ to_stage.Finish ∷ []))
 
 streams_at : (l : Label) (a : ℕ) (before es : List DinRecord)
     → Streams (before ++ record { label = l; addr = a } ∷ []) es
@@ -135,29 +135,31 @@ finish_in-messages p [] = refl
 finish_in-messages p (access x ∷ es) = omega (arith, finish_in-messages p es)
 finish_in-messages p (flush ∷ es) = omega (arith, finish_in-messages p es)
 
-finish_in-told : (s : Side) (before es : List DinRecord)
-    → total finish_in (along (told s) before es) ≡ 0
-finish_in-told s before [] = refl
-finish_in-told s before (e ∷ es) =
+finish_in-messages_to : (s : Side) (before es : List DinRecord)
+    → total finish_in (flat_map_after (messages_to s) before es) ≡ 0
+finish_in-messages_to s before [] = refl
+finish_in-messages_to s before (e ∷ es) =
     omega (
       arith,
-      total-append finish_in (told s before e) (along (told s) (before ++ e ∷ []) es),
+      total-append finish_in (messages_to s before e)
+          (flat_map_after (messages_to s) (before ++ e ∷ []) es),
       finish_in-messages (length before + 1) (asked s e),
-      finish_in-told s (before ++ e ∷ []) es,
+      finish_in-messages_to s (before ++ e ∷ []) es,
     )
 
 -- the stream to a side has one Finish
 pub finish_in-to_side : (s : Side) (es : List DinRecord) → total finish_in (to_side s es) ≡ 1
 finish_in-to_side s es = omega (
   arith,
-  total-append finish_in (along (told s) [] es)
+  total-append finish_in (flat_map_after (messages_to s) [] es)
       (to_stage.Finish ∷ []),
-  finish_in-told s [] es,
+  finish_in-messages_to s [] es,
 )
 
 -- and ends with it
 pub last-to_side : (s : Side) (es : List DinRecord) → last_by finish_in 0 (to_side s es) ≡ 1
-last-to_side s es = last_by-append finish_in 0 (along (told s) [] es) to_stage.Finish []
+last-to_side s es = last_by-append finish_in 0 (flat_map_after (messages_to s) [] es)
+    to_stage.Finish []
 
 -- each message that a stage takes in is answered by one end, which stands last
 ends-numbered : (p n : ℕ) (ws : List What) → ends (numbered p n ws) ≡ 0
@@ -186,29 +188,32 @@ module _ (parts : Parts) (s : Side) where
   last-reply before (to_stage.Flush p) = last-answer p (parts s (taken_in before) flush)
   last-reply before to_stage.Finish = refl
 
-  ends-along : (before ms : List ToStage) → ends (along (reply parts s) before ms) ≡ length ms
-  ends-along before [] = refl
-  ends-along before (m ∷ ms) =
+  ends-flat_map_after : (before ms : List ToStage)
+      → ends (flat_map_after (reply parts s) before ms) ≡ length ms
+  ends-flat_map_after before [] = refl
+  ends-flat_map_after before (m ∷ ms) =
       omega (
         arith,
         total-append end (reply parts s before m)
-            (along (reply parts s) (before ++ m ∷ []) ms),
+            (flat_map_after (reply parts s) (before ++ m ∷ []) ms),
         ends-reply before m,
-        ends-along (before ++ m ∷ []) ms,
+        ends-flat_map_after (before ++ m ∷ []) ms,
       )
 
-  last-along : (before ms : List ToStage) → last_by end 1 (along (reply parts s) before ms) ≡ 1
-  last-along before [] = refl
-  last-along before (m ∷ ms) =
-      last_by-both end 1 1 (reply parts s before m) (along (reply parts s) (before ++ m ∷ []) ms)
-      (last-reply before m) (last-along (before ++ m ∷ []) ms)
+  last-flat_map_after : (before ms : List ToStage)
+      → last_by end 1 (flat_map_after (reply parts s) before ms) ≡ 1
+  last-flat_map_after before [] = refl
+  last-flat_map_after before (m ∷ ms) =
+      last_by-both end 1 1 (reply parts s before m)
+      (flat_map_after (reply parts s) (before ++ m ∷ []) ms)
+      (last-reply before m) (last-flat_map_after (before ++ m ∷ []) ms)
 
 -- a stage answers each message with one end
 pub ends-replies : (parts : Parts) (s : Side) (ms : List ToStage)
     → ends (replies parts s ms) ≡ length ms
-ends-replies parts s ms = ends-along parts s [] ms
+ends-replies parts s ms = ends-flat_map_after parts s [] ms
 
 -- and its answers end with one
 pub last-replies : (parts : Parts) (s : Side) (ms : List ToStage)
     → last_by end 1 (replies parts s ms) ≡ 1
-last-replies parts s ms = last-along parts s [] ms
+last-replies parts s ms = last-flat_map_after parts s [] ms

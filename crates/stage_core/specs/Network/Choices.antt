@@ -2,15 +2,15 @@
 use Rattle.std.specs.Prelude.{◌≡◌, ℕ, ◌+◌, ◌%◌, List, [], ◌∷◌, length, Option, Some, slice_get}
 use Rattle.std.specs.Prelude.{slice_index}
 use Rattle.din_trace.specs.declared.record.DinRecord.{DinRecord}
-use Rattle.stage_core.specs.Seen.{Parts}
+use Rattle.stage_core.specs.SecondLevel.{Parts}
 use Rattle.stage_core.specs.Network.{Network, Machine, IsFinished, next, enabled, start, run}
 
--- the machine that choice number k, from 0, names of those that can make an event: its number is
+-- the machine that choice number k, from 0, names of those that can make a step: its number is
 -- the choice, modulo how many they are; behind the last choice it is the first of them
 abbrev pub named : List ℕ → ℕ → List Machine → Option Machine
 named choices k can = slice_get can (slice_index choices k % length can)
 
--- from a state on, event number k is that of the machine that choice number k names, and so on
+-- from a state on, step number k is that of the machine that choice number k names, and so on
 abbrev pub IsNamedFrom : Parts → ℕ → List ℕ → ℕ → List Machine → Network → Type 0
 IsNamedFrom parts capacity choices k [] n = Unit {0}
 IsNamedFrom parts capacity choices k (m ∷ ms) n =

@@ -3,10 +3,10 @@ use Rattle.std.specs.Prelude.{◌≡◌, ℕ, ◌<◌, ◌≤◌, ◌*◌, ◌^�
 use Rattle.std.specs.Prelude.{Option, Some, filter, slice_get, if◌then◌else◌}
 use Rattle.cache_core.specs.Standing.{rules_of}
 use Rattle.din_trace.specs.declared.record.DinRecord.{DinRecord}
-use Rattle.stage_core.specs.Seen.{Parts, Hierarchy, parts_in}
+use Rattle.stage_core.specs.SecondLevel.{Parts, Hierarchy, parts_in}
 use Rattle.stage_core.specs.Merging.{merged}
 use Rattle.stage_core.specs.Config.{hierarchy_of, ring_of}
-use Rattle.stage_core.specs.Standing.{SecondStandsFor, second_cache}
+use Rattle.stage_core.specs.Standing.{L2StandsFor, l2_cache}
 use Rattle.stage_core.specs.Network.{Network, Machine, Consistent, IsFinished, next, can, start}
 use Rattle.stage_core.specs.Network.{machines}
 use Rattle.stage_core.specs.Network.Lanes.{lane_of, TookIn}
@@ -34,7 +34,7 @@ started config events =
 abbrev pub parts_for : Config → Parts
 parts_for config = parts_in (hierarchy_of config)
 
--- the network after the next event of a machine, where that is possible
+-- the network after the next step of a machine, where that is possible
 abbrev pub next_in : CoreState → Machine → Option Network
 next_in c m = next (parts_for c.config) (ring_of c.config) m c.network
 
@@ -42,7 +42,7 @@ next_in c m = next (parts_for c.config) (ring_of c.config) m c.network
 abbrev pub can_in : CoreState → Machine → Bool
 can_in c = can (parts_for c.config) (ring_of c.config) c.network
 
--- the machines whose next event is possible, in their order: none after a refusal
+-- the machines whose next step is possible, in their order: none after a refusal
 abbrev pub enabled_in : CoreState → List Machine
 enabled_in c = if c.failed then [] else filter (can_in c) machines
 
@@ -50,9 +50,9 @@ enabled_in c = if c.failed then [] else filter (can_in c) machines
 abbrev pub IsConsistent : CoreState → Type 0
 IsConsistent c = Consistent (parts_for c.config) c.events c.network
 
--- the next event of this machine was made
-pub record MakesEvent (m : Machine) (old new : CoreState) : Type 0 where
-  pub event : next_in old m ≡ Some new.network
+-- the next step of this machine was made
+pub record MakesStep (m : Machine) (old new : CoreState) : Type 0 where
+  pub step : next_in old m ≡ Some new.network
   pub works : new.failed ≡ false
 
 -- the configuration and the event list are as before
@@ -64,7 +64,7 @@ pub record IsSameRun (old new : CoreState) : Type 0 where
 abbrev pub IsChosen : ℕ → CoreState → Machine → Type 0
 IsChosen nth c m = slice_get (enabled_in c) nth ≡ Some m
 
--- the run is over: memory was never refused, and no machine has a next event
+-- the run is over: memory was never refused, and no machine has a next step
 pub record IsOver (c : CoreState) : Type 0 where
   pub works : c.failed ≡ false
   pub finished : IsFinished c.network
@@ -95,8 +95,8 @@ pub record CachesStand (h : Hierarchy) (stage_i stage_d : L1Stage) (second : L2S
     (to_i to_d : List ToStage) (given : List What) : Type 0 where
   pub i : TookIn h.i side.I stage_i to_i
   pub d : TookIn h.d side.D stage_d to_d
-  pub u : SecondStandsFor second given
-  pub u_rules : rules_of (second_cache second) ≡ h.u
+  pub u : L2StandsFor second given
+  pub u_rules : rules_of (l2_cache second) ≡ h.u
 
 -- the event list is short, and each ring holds a message or more
 pub record IsRunnable (config : Config) (events : List DinRecord) : Type 0 where

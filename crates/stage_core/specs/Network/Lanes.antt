@@ -2,7 +2,7 @@
 use Rattle.std.specs.Prelude.{◌≡◌, ℕ, List, Option}
 use Rattle.cache_core.specs.History.{Rules}
 use Rattle.cache_core.specs.Standing.{rules_of}
-use Rattle.stage_core.specs.Seen.{parts_of}
+use Rattle.stage_core.specs.SecondLevel.{parts_of}
 use Rattle.stage_core.specs.Standing.{StageStandsFor, cache_of, side_of, outbox_of}
 use Rattle.stage_core.specs.Network.{Lane, stage}
 use Rattle.stage_core.specs.declared.message.Side.{Side}
@@ -14,7 +14,7 @@ use Rattle.stage_core.specs.declared.network.lane.Lane as code
 abbrev pub lane_of : code.Lane → Lane
 lane_of l = record { to = l.to; outbox = outbox_of l.stage; from = l.from }
 
--- the lane after its stage's next event
+-- the lane after its stage's next step
 abbrev pub stage_next : ℕ → code.Lane → Option Lane
 stage_next capacity l =
     stage (parts_of (rules_of (cache_of l.stage))) capacity (side_of l.stage)

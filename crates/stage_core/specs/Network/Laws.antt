@@ -1,20 +1,20 @@
 -- Laws over the network, whatever the first level sends and however small the rings are.
 use Rattle.std.specs.Prelude.{◌≡◌, ℕ, ◌*◌, ◌<◌, ◌≤◌, List, ◌++◌, length, Some, None}
 use Rattle.din_trace.specs.declared.record.DinRecord.{DinRecord}
-use Rattle.stage_core.specs.Seen.{Parts, seen}
+use Rattle.stage_core.specs.SecondLevel.{Parts, second_level_requests}
 use Rattle.stage_core.specs.Streams.{order, to_side, from_side}
 use Rattle.stage_core.specs.Network.Rings.{carried}
 use Rattle.stage_core.specs.Network.{Network, Machine, Consistent, IsFinished, lane, next, run}
-use Rattle.stage_core.specs.Network.{start, events_made, messages}
+use Rattle.stage_core.specs.Network.{start, steps_made, messages}
 use Rattle.stage_core.specs.declared.message.Side.{Side}
 
 -- the start is consistent
 abbrev pub StartIsConsistent : Type 0
 StartIsConsistent = (parts : Parts) (es : List DinRecord) → Consistent parts es (start es)
 
--- each event of each machine leads from a consistent state to a consistent state
-abbrev pub EventsKeepConsistency : Type 0
-EventsKeepConsistency =
+-- each step of each machine leads from a consistent state to a consistent state
+abbrev pub StepsKeepConsistency : Type 0
+StepsKeepConsistency =
     (parts : Parts) (es : List DinRecord) (capacity : ℕ) (m : Machine) (old new : Network) →
     Consistent parts es old → next parts capacity m old ≡ Some new → Consistent parts es new
 
@@ -24,7 +24,7 @@ SchedulesKeepConsistency =
     (parts : Parts) (es : List DinRecord) (capacity : ℕ) (ms : List Machine) (n : Network) →
     run parts capacity ms (start es) ≡ Some n → Consistent parts es n
 
--- a consistent state in which no machine's next event is possible is finished, if each ring holds a
+-- a consistent state in which no machine's next step is possible is finished, if each ring holds a
 -- message or more
 abbrev pub ConsistentStatesGoOn : Type 0
 ConsistentStatesGoOn =
@@ -64,30 +64,30 @@ RingsCarryBeginnings =
     × ((s : Side) → IsBeginning (carried (lane s n).from) (from_side parts s es))
 
 -- the second level was given no more than it is to see in all
-abbrev pub SecondLevelIsGivenFew : Type 0
-SecondLevelIsGivenFew =
+abbrev pub SecondLevelIsGivenNoMore : Type 0
+SecondLevelIsGivenNoMore =
     (parts : Parts) (es : List DinRecord) (n : Network) → Consistent parts es n →
-    length n.given ≤ length (seen parts es)
+    length n.given ≤ length (second_level_requests parts es)
 
 -- where all have finished it was given just that
-abbrev pub FinishedMeansSeen : Type 0
-FinishedMeansSeen =
+abbrev pub FinishedMeansAllGiven : Type 0
+FinishedMeansAllGiven =
     (parts : Parts) (es : List DinRecord) (n : Network) → Consistent parts es n →
-    IsFinished n → n.given ≡ seen parts es
+    IsFinished n → n.given ≡ second_level_requests parts es
 
--- no consistent state has made more events than a push and a pop for each message
-abbrev pub EventsAreBounded : Type 0
-EventsAreBounded =
+-- no consistent state has made more steps than a push and a pop for each message
+abbrev pub StepsAreBounded : Type 0
+StepsAreBounded =
     (parts : Parts) (es : List DinRecord) (n : Network) → Consistent parts es n →
-    events_made n ≤ 2 * messages parts es
+    steps_made n ≤ 2 * messages parts es
 
 -- where all have finished it has made just these
-abbrev pub FinishedMeansAllEvents : Type 0
-FinishedMeansAllEvents =
+abbrev pub FinishedMeansAllSteps : Type 0
+FinishedMeansAllSteps =
     (parts : Parts) (es : List DinRecord) (n : Network) → Consistent parts es n →
-    IsFinished n → events_made n ≡ 2 * messages parts es
+    IsFinished n → steps_made n ≡ 2 * messages parts es
 
--- so every schedule that ends where all have finished has two events for each message
+-- so every schedule that ends where all have finished has two steps for each message
 abbrev pub CompleteSchedulesAreAsLong : Type 0
 CompleteSchedulesAreAsLong =
     (parts : Parts) (es : List DinRecord) (capacity : ℕ) (ms : List Machine) (n : Network) →

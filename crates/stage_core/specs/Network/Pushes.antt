@@ -1,9 +1,9 @@
 -- What the splitter pushes for an event list: each message with its ring.
 use Rattle.std.specs.Prelude.{◌≡◌, List, [], ◌∷◌, ◌++◌, map, option_to_list}
 use Rattle.din_trace.specs.declared.record.DinRecord.{DinRecord}
-use Rattle.stage_core.specs.Places.{over}
+use Rattle.stage_core.specs.Places.{flat_map_with_past}
 use Rattle.stage_core.specs.Network.Rings.{Ring, with_message}
-use Rattle.stage_core.specs.Streams.{turn_of, told}
+use Rattle.stage_core.specs.Streams.{turn_of, messages_to}
 use Rattle.stage_core.specs.declared.message.Side.{Side}
 use Rattle.stage_core.specs.declared.message.Side.TheVariants as side
 use Rattle.stage_core.specs.declared.message.Turn.{Turn}
@@ -20,7 +20,8 @@ in_order t is ds = Order t ∷ (map (To side.I) is ++ map (To side.D) ds)
 
 -- the pushes of the event e, which stands after the events before
 abbrev pub pushes_at : List DinRecord → DinRecord → List Push
-pushes_at before e = in_order (turn_of e.label) (told side.I before e) (told side.D before e)
+pushes_at before e = in_order (turn_of e.label) (messages_to side.I before e)
+    (messages_to side.D before e)
 
 -- the pushes of the end
 abbrev pub ending : List Push
@@ -28,7 +29,7 @@ ending = in_order turn.Finish (to_stage.Finish ∷ []) (to_stage.Finish ∷ [])
 
 -- all that the splitter pushes
 abbrev pub pushes : List DinRecord → List Push
-pushes events = over pushes_at events ++ ending
+pushes events = flat_map_with_past pushes_at events ++ ending
 
 -- the pushes of what the splitter made of an event, or of the end
 abbrev pub pushes_in : Routed → List Push

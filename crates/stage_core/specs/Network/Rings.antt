@@ -33,5 +33,5 @@ abbrev pub pop : {A : Type 0} → Ring A → Option (A × Ring A)
 pop r = pop_from r.popped r.waiting
 
 -- a push for each message that it has carried, and a pop for each that was popped
-abbrev pub ring_events : {A : Type 0} → Ring A → ℕ
-ring_events r = length (carried r) + length r.popped
+abbrev pub ring_steps : {A : Type 0} → Ring A → ℕ
+ring_steps r = length (carried r) + length r.popped

@@ -2,7 +2,7 @@
 
 ghost use Rattle.std.specs.Prelude.{◌≡◌, ◌<◌, Some, is_some, IsSome, IfOk, OnOk};
 ghost use Rattle.cache_core.specs.Standing.{rules_of, rules_from, served_of};
-ghost use Rattle.stage_core.specs.Seen.{Parts};
+ghost use Rattle.stage_core.specs.SecondLevel.{Parts};
 ghost use Rattle.stage_core.specs.Standing.{StageStandsFor, cache_of, side_of, outbox_of};
 ghost use Rattle.stage_core.specs.Network.{stage, empty_lane};
 ghost use Rattle.stage_core.specs.Network.Lanes.{lane_of, stage_next, TookIn};
@@ -42,7 +42,7 @@ impl Lane {
         })
     }
 
-    /// Whether the stage's next event is possible, where each ring holds so many messages.
+    /// Whether the stage's next step is possible, where each ring holds so many messages.
     pub fn can_step(&self, capacity: usize) -> bool
         requires { StageStandsFor self.now.stage self.now.to.popped }
         ensures { (parts : Parts) (s : Side) →
@@ -58,12 +58,12 @@ impl Lane {
         }
     }
 
-    /// Makes the stage's next event.
+    /// Makes the stage's next step.
     pub fn step(&mut self, capacity: usize) -> Result<(), NoMemory>
         requires stands { StageStandsFor self.old.stage self.old.to.popped }
         requires possible { IsSome (stage_next capacity self.old) }
         requires room { served_of (cache_of self.old.stage) < MAX_EVENTS }
-        ensures event { OnOk result (stage_next capacity self.old ≡ Some (lane_of self.new)) }
+        ensures step { OnOk result (stage_next capacity self.old ≡ Some (lane_of self.new)) }
         ensures stands { OnOk result (StageStandsFor self.new.stage self.new.to.popped) }
         ensures side { side_of self.new.stage ≡ side_of self.old.stage }
         ensures rules { rules_of (cache_of self.new.stage) ≡ rules_of (cache_of self.old.stage) }

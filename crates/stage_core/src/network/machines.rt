@@ -1,12 +1,12 @@
-//! What each machine of the network does at its next event, and whether it can.
+//! What each machine of the network does at its next step, and whether it can.
 
 ghost use Rattle.std.specs.Prelude.{◌≡◌, ◌<◌, ◌++◌, OnOk, List, option_to_list};
 ghost use Rattle.cache_core.specs.Standing.{rules_of, served_of};
-ghost use Rattle.stage_core.specs.Standing.{SecondStandsFor, second_cache};
+ghost use Rattle.stage_core.specs.Standing.{L2StandsFor, l2_cache};
 ghost use Rattle.stage_core.specs.declared.message.What.{What};
 
 use crate::l2_stage::L2Stage;
-use crate::laws::second_level_sees_few;
+use crate::laws::second_level_sees_at_most_two;
 use crate::memory::NoMemory;
 use crate::message::{Side, Want, What};
 use crate::network::pushes::{Push, push_to};
@@ -14,11 +14,11 @@ use crate::network::{Core, Machine};
 use cache_core::MAX_EVENTS;
 
 // The second level serves what a message brought, if it brought anything.
-fn serve(u: &mut L2Stage, what: Option<What>) -> Result<(), NoMemory>
-    requires { served_of (second_cache u.old) < MAX_EVENTS }
-    ensures stands { OnOk result ((before : List What) → SecondStandsFor u.old before →
-        SecondStandsFor u.new (before ++ option_to_list what)) }
-    ensures rules { rules_of (second_cache u.new) ≡ rules_of (second_cache u.old) }
+fn serve_l2(u: &mut L2Stage, what: Option<What>) -> Result<(), NoMemory>
+    requires { served_of (l2_cache u.old) < MAX_EVENTS }
+    ensures stands { OnOk result ((before : List What) → L2StandsFor u.old before →
+        L2StandsFor u.new (before ++ option_to_list what)) }
+    ensures rules { rules_of (l2_cache u.new) ≡ rules_of (l2_cache u.old) }
 {
     match what {
         Some(what) => u.on(what),
@@ -30,11 +30,11 @@ impl Core {
     ghost use Rattle.std.specs.Prelude.{◌≡◌, ◌<◌, IsSome, OnOk, OnErr, true, false, length};
     ghost use Rattle.stage_core.specs.Merging.{wanted};
     ghost use Rattle.stage_core.specs.Network.{Splitter, Stage, Merging};
-    ghost use Rattle.stage_core.specs.Network.Cores.{next_in, can_in, MakesEvent, IsSameRun};
+    ghost use Rattle.stage_core.specs.Network.Cores.{next_in, can_in, MakesStep, IsSameRun};
     ghost use Rattle.stage_core.specs.declared.message.Side.TheVariants as side;
     ghost use Rattle.stage_core.specs.declared.message.Want.TheVariants as want;
 
-    // Whether the splitter's next event is possible.
+    // Whether the splitter's next step is possible.
     fn can_split(&self) -> bool
         requires { self.now.failed ≡ false }
         ensures { result ≡ can_in self.now Splitter }
@@ -48,7 +48,7 @@ impl Core {
         }
     }
 
-    // Whether the merge's next event is possible.
+    // Whether the merge's next step is possible.
     fn can_merge(&self) -> bool
         ensures { result ≡ can_in self.now Merging }
     {
@@ -60,7 +60,7 @@ impl Core {
         }
     }
 
-    // Whether a machine's next event is possible.
+    // Whether a machine's next step is possible.
     pub(super) fn can(&self, machine: Machine) -> bool
         requires { self.now.failed ≡ false }
         ensures { result ≡ can_in self.now machine }
@@ -73,11 +73,11 @@ impl Core {
         }
     }
 
-    // Makes the splitter's next event.
+    // Makes the splitter's next step.
     fn split(&mut self) -> Result<(), NoMemory>
         requires works { self.old.failed ≡ false }
         requires possible { IsSome (next_in self.old Splitter) }
-        ensures made { OnOk result (MakesEvent Splitter self.old self.new) }
+        ensures made { OnOk result (MakesStep Splitter self.old self.new) }
         ensures refused { OnErr result (self.new.failed ≡ true) }
         ensures run { IsSameRun self.old self.new }
     {
@@ -88,11 +88,11 @@ impl Core {
         sent
     }
 
-    // Makes the next event of the stage I.
+    // Makes the next step of the stage I.
     fn step_i(&mut self) -> Result<(), NoMemory>
         requires works { self.old.failed ≡ false }
         requires possible { IsSome (next_in self.old (Stage side.I)) }
-        ensures made { OnOk result (MakesEvent (Stage side.I) self.old self.new) }
+        ensures made { OnOk result (MakesStep (Stage side.I) self.old self.new) }
         ensures refused { OnErr result (self.new.failed ≡ true) }
         ensures run { IsSameRun self.old self.new }
     {
@@ -101,11 +101,11 @@ impl Core {
         made
     }
 
-    // Makes the next event of the stage D.
+    // Makes the next step of the stage D.
     fn step_d(&mut self) -> Result<(), NoMemory>
         requires works { self.old.failed ≡ false }
         requires possible { IsSome (next_in self.old (Stage side.D)) }
-        ensures made { OnOk result (MakesEvent (Stage side.D) self.old self.new) }
+        ensures made { OnOk result (MakesStep (Stage side.D) self.old self.new) }
         ensures refused { OnErr result (self.new.failed ≡ true) }
         ensures run { IsSameRun self.old self.new }
     {
@@ -126,7 +126,7 @@ impl Core {
         requires works { self.old.failed ≡ false }
         requires wants { wanted self.old.network.at ≡ want.Order }
         requires waits { 0 < length self.old.network.order.waiting }
-        ensures made { MakesEvent Merging self.old self.new }
+        ensures made { MakesStep Merging self.old self.new }
         ensures run { IsSameRun self.old self.new }
     {
         let turn = self.order.pop();
@@ -138,14 +138,14 @@ impl Core {
         requires works { self.old.failed ≡ false }
         requires wants { wanted self.old.network.at ≡ want.I }
         requires waits { 0 < length self.old.network.i.from.waiting }
-        ensures made { OnOk result (MakesEvent Merging self.old self.new) }
+        ensures made { OnOk result (MakesStep Merging self.old self.new) }
         ensures refused { OnErr result (self.new.failed ≡ true) }
         ensures run { IsSameRun self.old self.new }
     {
-        second_level_sees_few();
+        second_level_sees_at_most_two();
         let message = self.i.from.pop();
         let what = self.merge.take(message);
-        let served = serve(&mut self.u, what);
+        let served = serve_l2(&mut self.u, what);
         self.failed = served.is_err();
         served
     }
@@ -155,23 +155,23 @@ impl Core {
         requires works { self.old.failed ≡ false }
         requires wants { wanted self.old.network.at ≡ want.D }
         requires waits { 0 < length self.old.network.d.from.waiting }
-        ensures made { OnOk result (MakesEvent Merging self.old self.new) }
+        ensures made { OnOk result (MakesStep Merging self.old self.new) }
         ensures refused { OnErr result (self.new.failed ≡ true) }
         ensures run { IsSameRun self.old self.new }
     {
-        second_level_sees_few();
+        second_level_sees_at_most_two();
         let message = self.d.from.pop();
         let what = self.merge.take(message);
-        let served = serve(&mut self.u, what);
+        let served = serve_l2(&mut self.u, what);
         self.failed = served.is_err();
         served
     }
 
-    // Makes the merge's next event.
+    // Makes the merge's next step.
     fn merge_step(&mut self) -> Result<(), NoMemory>
         requires works { self.old.failed ≡ false }
         requires possible { IsSome (next_in self.old Merging) }
-        ensures made { OnOk result (MakesEvent Merging self.old self.new) }
+        ensures made { OnOk result (MakesStep Merging self.old self.new) }
         ensures refused { OnErr result (self.new.failed ≡ true) }
         ensures run { IsSameRun self.old self.new }
     {
@@ -186,11 +186,11 @@ impl Core {
         }
     }
 
-    // Makes a machine's next event.
+    // Makes a machine's next step.
     pub(super) fn make(&mut self, machine: Machine) -> Result<(), NoMemory>
         requires works { self.old.failed ≡ false }
         requires possible { IsSome (next_in self.old machine) }
-        ensures made { OnOk result (MakesEvent machine self.old self.new) }
+        ensures made { OnOk result (MakesStep machine self.old self.new) }
         ensures refused { OnErr result (self.new.failed ≡ true) }
         ensures run { IsSameRun self.old self.new }
     {

@@ -3,14 +3,14 @@
 ghost use Rattle.std.specs.Prelude.{◌≡◌, ◌<◌, ◌≤◌, ◌*◌, ◌%◌, ◌^◌, IfOk, List, length};
 ghost use Rattle.std.specs.Prelude.{slice_index};
 ghost use Rattle.stage_core.specs.Events.{IsBounded, events};
-ghost use Rattle.stage_core.specs.Seen.{totals};
+ghost use Rattle.stage_core.specs.SecondLevel.{totals};
 ghost use Rattle.stage_core.specs.Config.{hierarchy_of, ring_of};
 ghost use Rattle.stage_core.specs.Network.{Machine, messages};
 ghost use Rattle.stage_core.specs.Network.Choices.{IsNamed};
 ghost use Rattle.stage_core.specs.Network.Cores.{parts_for, started};
 
 use crate::config::Config;
-use crate::laws::{second_level_sees_few, selections_make_few};
+use crate::laws::{second_level_sees_at_most_two, selections_make_at_most_two};
 use crate::memory::NoMemory;
 use crate::network::Core;
 use crate::selection::Selection;
@@ -18,7 +18,7 @@ use crate::totals::Totals;
 use din_trace::{DinRecord, MAX_LIMIT};
 use std::alloc::Global;
 
-// The choice for an event, below the number of machines that can make one.
+// The choice for a step, below the number of machines that can make one.
 fn chosen(choices: &[u8], made: u64, enabled: u8) -> u8
     requires { 0 < enabled }
     ensures below { result < enabled }
@@ -36,7 +36,7 @@ fn run(core: &mut Core, choices: &[u8]) -> Result<(Totals, u64), NoMemory>
     requires short { messages (parts_for core.old.config) core.old.events ≤ 2 ^ 62 }
     ensures totals { IfOk result (λ answer. answer.0
         ≡ totals (hierarchy_of core.old.config) core.old.events) }
-    ensures events { IfOk result (λ answer. answer.1
+    ensures steps { IfOk result (λ answer. answer.1
         ≡ 2 * messages (parts_for core.old.config) core.old.events) }
     ensures schedule { IfOk result (λ answer. (ms : List Machine)
         × IsNamed (parts_for core.old.config) (ring_of core.old.config) choices.now
@@ -52,9 +52,9 @@ fn run(core: &mut Core, choices: &[u8]) -> Result<(Totals, u64), NoMemory>
     Ok((core.totals(), made))
 }
 
-/// Makes one event after another, until all machines have finished: event `k`, from 0, is that of
+/// Makes one step after another, until all machines have finished: step `k`, from 0, is that of
 /// the machine number `choices[k]`, modulo their number, of those that can make one, and of the
-/// first of them where the list has ended. Answers the counts and the number of events, which the
+/// first of them where the list has ended. Answers the counts and the number of steps, which the
 /// choices don't change.
 pub fn drive(
     alloc: Global,
@@ -67,7 +67,7 @@ pub fn drive(
     requires short { length records.now ≤ MAX_LIMIT }
     ensures totals { IfOk result (λ answer. answer.0
         ≡ totals (hierarchy_of config.now) (events selection.now records.now)) }
-    ensures events { IfOk result (λ answer. answer.1
+    ensures steps { IfOk result (λ answer. answer.1
         ≡ 2 * messages (parts_for config.now) (events selection.now records.now)) }
     // The run was the one that the choices name.
     ensures schedule { IfOk result (λ answer. (ms : List Machine)
@@ -75,8 +75,8 @@ pub fn drive(
         (events selection.now records.now) ms
         × (answer.1 ≡ length ms)) }
 {
-    second_level_sees_few();
-    selections_make_few();
+    second_level_sees_at_most_two();
+    selections_make_at_most_two();
     let mut core = Core::new(alloc, config, selection, records)?;
     run(&mut core, choices)
 }

@@ -68,7 +68,7 @@ fn a_long_trace_goes_through_rings_of_one_message(rt: HostRuntime) -> Result<(),
     driven(&rt, rt.alloc(), 0, 1, &trace, sweep_totals(), 80_010)
 }
 
-// How many machines can make an event, whether all have finished, and whether a growth was refused.
+// How many machines can make a step, whether all have finished, and whether a growth was refused.
 fn state(core: &Core) -> (u8, bool, bool) {
     (core.enabled(), core.finished(), core.failed())
 }
@@ -85,7 +85,7 @@ fn step(rt: &impl Abort, core: &mut Core, nth: u8) -> Result<(), Fail> {
     Ok(stepped?)
 }
 
-// Of an empty trace. Each time so many machines can make an event, and that of this number does.
+// Of an empty trace. Each time so many machines can make a step, and that of this number does.
 fn ends_are_sent(rt: &impl Abort, core: &mut Core) -> Result<(), Fail> {
     for (machines, nth) in [(1, 0), (2, 1), (1, 0)] {
         assert_eq!(rt; state(core), (machines, false, false));

@@ -14,11 +14,12 @@ returns-then-hit-clause-served c =
     let there = sym c.touch-hit.ensures.hit ∙ c.if-hit.true in
     record {
       row = ap (λ t. shown m.cap t.entries) c.touch-hit.ensures.map
-          ∙ hit-row (is_fifo p) p.wback p.walloc c.args.write c.args.first m.cap m.entries fits
+          ∙ hit-row (is_fifo p) p.wback p.walloc c.args.write c.args.block_addr m.cap m.entries fits
           there;
       hit = sym c.if-hit.true ∙ c.touch-hit.ensures.hit
-          ∙ hit-is (is_fifo p) p.wback p.walloc c.args.write c.args.first m.cap m.entries fits;
-      back = sym (hit-back (is_fifo p) p.wback p.walloc c.args.write c.args.first m.cap m.entries
+          ∙ hit-is (is_fifo p) p.wback p.walloc c.args.write c.args.block_addr m.cap m.entries fits;
+      back = sym (hit-back (is_fifo p) p.wback p.walloc c.args.write c.args.block_addr
+          m.cap m.entries
           fits there);
     }
 
@@ -30,11 +31,13 @@ returns-then-not-load-clause-served c =
     let pass = sym c.may_load-load.ensures ∙ c.if-not-load.true in
     record {
       row = ap (λ t. shown m.cap t.entries) c.touch-hit.ensures.map
-          ∙ pass-row (is_fifo p) p.wback p.walloc c.args.write c.args.first m.cap m.entries fits
+          ∙ pass-row (is_fifo p) p.wback p.walloc c.args.write c.args.block_addr m.cap m.entries
+          fits
           absent pass;
       hit = sym c.if-hit.false ∙ c.touch-hit.ensures.hit
-          ∙ hit-is (is_fifo p) p.wback p.walloc c.args.write c.args.first m.cap m.entries fits;
-      back = sym (pass-back (is_fifo p) p.wback p.walloc c.args.write c.args.first m.cap m.entries
+          ∙ hit-is (is_fifo p) p.wback p.walloc c.args.write c.args.block_addr m.cap m.entries fits;
+      back = sym (pass-back (is_fifo p) p.wback p.walloc c.args.write c.args.block_addr
+          m.cap m.entries
           fits absent pass);
     }
 
@@ -47,23 +50,28 @@ returns-clause-served c =
     let size = suc_pred m.cap valid.2 in
     let same : c.touch-hit.new.map ≡ lru_cache m.entries m.cap = c.touch-hit.ensures.map
     ∙ ap (λ l. lru_cache l m.cap) (miss-same (is_fifo p) p.wback p.walloc c.args.write
-    c.args.first m.cap m.entries valid.1 absent) in
+    c.args.block_addr m.cap m.entries valid.1 absent) in
     let mark = c.mark_of-dirty.ensures ∙ or-nothing p.wback c.args.write in
     record {
       row = ap (λ t. shown m.cap t.entries) c.in-Ok.ensures.map
-          ∙ ap (λ t. shown m.cap (put_entries nat_eq t c.args.first c.mark_of-dirty.result)) same
-          ∙ ap (λ d. shown m.cap (put_entries nat_eq (lru_cache m.entries m.cap) c.args.first d))
+          ∙ ap (λ t. shown m.cap (put_entries nat_eq t c.args.block_addr c.mark_of-dirty.result))
+          same
+          ∙ ap (λ d. shown
+          m.cap (put_entries nat_eq (lru_cache m.entries m.cap) c.args.block_addr d))
           mark
-          ∙ load-row (is_fifo p) p.wback p.walloc c.args.write c.args.first m.cap m.entries valid.1
+          ∙ load-row (is_fifo p) p.wback p.walloc c.args.write c.args.block_addr m.cap m.entries
+          valid.1
           absent (m.cap - 1) size load;
       hit = sym c.if-hit.false ∙ c.touch-hit.ensures.hit
-          ∙ hit-is (is_fifo p) p.wback p.walloc c.args.write c.args.first m.cap m.entries valid.1;
+          ∙ hit-is (is_fifo p) p.wback p.walloc c.args.write c.args.block_addr m.cap m.entries
+          valid.1;
       back = c.in-Ok.ensures.back
           ∙ ap (λ t. option_map_or dirty_entry
-          (displaced nat_eq t c.args.first c.mark_of-dirty.result) None) same
+          (displaced nat_eq t c.args.block_addr c.mark_of-dirty.result) None) same
           ∙ ap (λ d. option_map_or dirty_entry
-          (displaced nat_eq (lru_cache m.entries m.cap) c.args.first d) None) mark
-          ∙ load-back (is_fifo p) p.wback p.walloc c.args.write c.args.first m.cap m.entries valid.1
+          (displaced nat_eq (lru_cache m.entries m.cap) c.args.block_addr d) None) mark
+          ∙ load-back (is_fifo p) p.wback p.walloc c.args.write c.args.block_addr m.cap m.entries
+          valid.1
           absent (m.cap - 1) size load;
     }
 
@@ -73,4 +81,4 @@ returns-in_default-clause-keeps c =
     let absent = sym c.touch-hit.ensures.hit ∙ c.if-hit.false in
     c.in_default.ensures.keeps ∙ c.touch-hit.ensures.map
     ∙ ap (λ l. lru_cache l m.cap) (miss-same (is_fifo p) p.wback p.walloc c.args.write
-    c.args.first m.cap m.entries c.len-len.ensures.valid.1 absent)
+    c.args.block_addr m.cap m.entries c.len-len.ensures.valid.1 absent)

@@ -5,8 +5,9 @@ use Rattle.cache_core.proofs.ways.bring_front.Given as goal
 -- what is left of the pass gives what the whole pass gives
 abbrev pub invariant-loop-way : goal.invariant-loop-way
 invariant-loop-way l = record {
-  row : take l.way-index l.row ++ shifted (holds_block l.first) l.carried (drop l.way-index l.row)
-      ≡ shifted (holds_block l.first) l.initial.carried l.initial.row;
-  leaves : leaving (holds_block l.first) l.carried (drop l.way-index l.row)
-      ≡ leaving (holds_block l.first) l.initial.carried l.initial.row;
+  row : take l.way-index l.row
+      ++ shifted (holds_block l.block_addr) l.carried (drop l.way-index l.row)
+      ≡ shifted (holds_block l.block_addr) l.initial.carried l.initial.row;
+  leaves : leaving (holds_block l.block_addr) l.carried (drop l.way-index l.row)
+      ≡ leaving (holds_block l.block_addr) l.initial.carried l.initial.row;
 }

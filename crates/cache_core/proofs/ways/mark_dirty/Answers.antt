@@ -4,10 +4,12 @@ use Rattle.cache_core.specs.Row.{holds_block, empty_way, dirtied}
 use Rattle.cache_core.proofs.PassSteps.{changed-stop}
 use Rattle.cache_core.proofs.ways.mark_dirty.Goals as goal
 
-pub returns-then-way-first : goal.returns-then-way-first
-returns-then-way-first c =
+pub returns-then-way-block_addr : goal.returns-then-way-block_addr
+returns-then-way-block_addr c =
     let inside : c.loop-way.way-index < length c.loop-way.row = omega arith in
-    let passes : holds_block c.args.first (get_or c.loop-way.row c.loop-way.way-index empty_way)
+    let passes : holds_block c.args.block_addr
+    (get_or c.loop-way.row c.loop-way.way-index empty_way)
     ≡ true = grind (arith, common_steps) in
-    changed-stop (holds_block c.args.first) c.loop-way.row c.loop-way.way-index empty_way inside
+    changed-stop (holds_block c.args.block_addr) c.loop-way.row c.loop-way.way-index empty_way
+    inside
     passes dirtied ∙ c.loop-way.invariant

@@ -1,7 +1,7 @@
 use Rattle.std.proofs.Common.{◌≡◌, None, Result, Ok, Err, refl, sym, ◌∙◌, false}
 use Rattle.std.specs.Prelude.{MatchResult, IfOk, IfErr}
 use Rattle.din_trace.specs.Line.{ADDRESS_MAX}
-use Rattle.din_trace.specs.Left.{text_left}
+use Rattle.din_trace.specs.Remaining.{text_left}
 use Rattle.din_trace.specs.Text.{fault}
 use Rattle.din_trace.specs.Source.{reader_of}
 use Rattle.din_trace.proofs.Scripts.{known-script}

@@ -39,7 +39,7 @@ returns-clause-whole g c =
     let d = rw ended.d at c.join_stage-d.ensures in
     let u = rw ended.merge at c.join_merge-merge.ensures in
     IfOk-weaker c.settle.result _ _ (λ (s : Settled) is ring room es new fed.
-    whole-run c.stages_answer_their_streams.ensures c.merge_takes_what_is_seen.ensures es
+    whole-run c.stages_answer_their_streams.ensures c.merge_takes_the_requests.ensures es
     (machines_at c.args.started) new (rings_at c.args.started) _ s.rings i.stage
     d.stage u.u fed i.ended.served d.ended.served u.merged is.1 is.2 ring room refl s.totals
     (λ ms stands. ap (λ (t : Totals). t.i) is.0 ∙ i.counted ms stands)

@@ -1,6 +1,6 @@
 use Rattle.std.proofs.Common.{[], ℕ, subst, sym}
 use Rattle.std.proofs.lemmas.Result.{IfOk-weaker}
-use Rattle.din_trace.specs.Left.{Open}
+use Rattle.din_trace.specs.Remaining.{Open}
 use Rattle.din_trace.specs.Source.{HasLeft}
 use Rattle.din_trace.proofs.Calls.{no_calls}
 use Rattle.sim_run.specs.declared.pipeline.Machines.{Machines}

@@ -1,9 +1,9 @@
 use Rattle.std.proofs.Common.{rules, [], subst, inl, refl}
-use Rattle.din_trace.specs.Left.{Open}
+use Rattle.din_trace.specs.Remaining.{Open}
 use Rattle.din_trace.specs.Source.{HasLeft}
 use Rattle.din_trace.proofs.Calls.{no_calls}
 use Rattle.stage_core.specs.Config.{hierarchy_of, ring_of}
-use Rattle.stage_core.specs.Seen.{Hierarchy}
+use Rattle.stage_core.specs.SecondLevel.{Hierarchy}
 use Rattle.sim_run.specs.Runs.{RunsOver}
 use Rattle.sim_run.specs.declared.fault.RunFault.TheVariants.{Memory}
 use Rattle.sim_run.proofs.Endings.{runs-refused}

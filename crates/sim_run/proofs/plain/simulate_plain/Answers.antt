@@ -9,7 +9,7 @@ use Rattle.din_trace.specs.Source.{reader_of}
 use Rattle.din_trace.proofs.Told.{script_of_told}
 use Rattle.stage_core.specs.Config.{hierarchy_of}
 use Rattle.stage_core.specs.Events.{events}
-use Rattle.stage_core.specs.Seen.{totals}
+use Rattle.stage_core.specs.SecondLevel.{totals}
 use Rattle.sim_run.specs.declared.fault.RunFault.{RunFault}
 use Rattle.sim_run.specs.declared.fault.RunFault.TheVariants.{Trace}
 use Rattle.sim_run.specs.Faults.{source_fault}

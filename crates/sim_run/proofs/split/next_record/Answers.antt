@@ -1,5 +1,5 @@
 use Rattle.std.proofs.Common.{◌≡◌, [], subst}
-use Rattle.din_trace.specs.Left.{Open}
+use Rattle.din_trace.specs.Remaining.{Open}
 use Rattle.din_trace.specs.Source.{HasLeft}
 use Rattle.din_trace.proofs.Calls.{no_calls, answers-asked}
 use Rattle.sim_run.proofs.split.next_record.Goals as goal

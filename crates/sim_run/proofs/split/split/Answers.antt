@@ -1,12 +1,12 @@
 use Rattle.std.proofs.Common.{rules, ◌≡◌, ◌∙◌, ap, sym, subst, refl, ℕ, List, [], ◌∷◌, ◌++◌, Option}
 use Rattle.std.proofs.Common.{Some, None, Ok, count_by, arith, inl, inr, ◌<◌}
-use Rattle.din_trace.specs.Left.{Fate, Open}
+use Rattle.din_trace.specs.Remaining.{Fate, Open}
 use Rattle.din_trace.specs.Source.{HasLeft, Takes, room_of}
 use Rattle.din_trace.specs.declared.record.DinRecord.{DinRecord}
 use Rattle.din_trace.proofs.Calls.{Calls, calls, no_calls}
 use Rattle.stage_core.specs.Events.{events, events_at, picked, picked_events, is_reference}
 use Rattle.stage_core.specs.declared.selection.Selection.{Selection}
-use Rattle.stage_core.proofs.Place.{over-more}
+use Rattle.stage_core.proofs.Place.{flat_map_with_past-more}
 use Rattle.sim_run.specs.Faults.{MayAnswer}
 use Rattle.sim_run.specs.Threads.{HasSent, HasSentAll}
 use Rattle.sim_run.proofs.Splitting.{same-ends, ends-stay, sent-same, sends-end, left-record}
@@ -49,7 +49,7 @@ loop-init g c = (
     chosen = c.new-selector.ensures.selection;
     offered = c.new-selector.ensures.none;
     room = inl c.new-selector.ensures.none.count;
-    few = omega (arith, c.new-splitter.ensures);
+    at_most = omega (arith, c.new-splitter.ensures);
     rings = same-ends c.args.ends.now;
     sends = record {
       last = c.new-splitter.ensures;
@@ -78,7 +78,7 @@ loop-preserved g c =
     going.chosen in
     let es : List DinRecord = events c.args.selection going.past in
     let longer = ap (λ p. es ++ picked_events p) picks
-    ∙ sym (over-more (events_at c.args.selection) going.past next) in
+    ∙ sym (flat_map_with_past-more (events_at c.args.selection) going.past next) in
     let sent : (xs : List DinRecord) → HasSent xs c.loop.splitter c.next_record.new.ends
     → HasSent (xs ++ picked_events c.offer-picked.result) c.send_picked.new.splitter
     c.send_picked.new.ends = search rules in (
@@ -99,7 +99,7 @@ loop-preserved g c =
           | inl e ↦ omega (arith, offers.offered, c.in-Ok.ensures.room)
           | inr h ↦ omega (arith, offers.offered)
         ]);
-        few = omega (arith, offers.offered, c.send_picked.ensures.place, going.few);
+        at_most = omega (arith, offers.offered, c.send_picked.ensures.place, going.at_most);
         rings = ends-stay c.args.ends.now c.next_record.new.ends c.send_picked.new.ends
             (ends-stay c.args.ends.now c.loop.ends c.next_record.new.ends going.rings
             c.next_record.ensures.rings) c.send_picked.ensures.rings;

@@ -11,7 +11,7 @@ use Rattle.cache_core.specs.Counting.{AreWithin, with_access}
 use Rattle.cache_core.specs.Standing.{rules_of, served_of, counts_kept, has_failed}
 use Rattle.cache_core.proofs.Lawful.{sane_of}
 use Rattle.cache_core.proofs.CacheFacts.{AreWithin-with_access, KindsAddUp-with_access}
-use Rattle.cache_core.proofs.AccessStep.{answers, rows-after, shadow-after, known-after}
+use Rattle.cache_core.proofs.AccessStep.{answers, rows-after, shadow-after, referenced-after}
 use Rattle.cache_core.proofs.Steps.{outcome_of-hit, counts-step}
 use Rattle.cache_core.proofs.Held.{holds-residents}
 use Rattle.std.proofs.Common.{◌∷◌}
@@ -25,19 +25,19 @@ serve_set-requires c =
       rw c.set-set.ensures (mod-lt c.block-block.result (sane_of g).sets_pos),
     )
 
--- the cache has failed, and its sets may have one dirty block more than it has paid for
-pub invariant_of-self-in_default-see : goal.invariant_of-self-in_default-see
-invariant_of-self-in_default-see c =
+-- the cache has failed, and its sets may have one dirty block more than it is charged for
+pub invariant_of-self-in_default-classify : goal.invariant_of-self-in_default-classify
+invariant_of-self-in_default-classify c =
     let old = c.args.self.now in
-    let step = c.in-Ok.ensures.paid in
-    let before = old.paid in
+    let step = c.in-Ok.ensures.charged in
+    let before = old.charged in
     let none = ap one_if c.if-self.false in
     record {
       room = rw c.assoc-assoc.ensures at c.serve_set.ensures.shape (sets_of old.geometry) old.room;
-      shadow_room = c.see.ensures.capacity ∙ old.shadow_room;
+      shadow_room = c.classify.ensures.capacity ∙ old.shadow_room;
       bounded = old.bounded;
       sums = old.sums;
-      paid = omega arith;
+      charged = omega arith;
     }
 
 pub invariant_of-self-2 : goal.invariant_of-self-2
@@ -47,22 +47,23 @@ invariant_of-self-2 c =
     let served = c.in-Ok.served in
     record {
       room = rw c.assoc-assoc.ensures at c.serve_set.ensures.shape (sets_of old.geometry) old.room;
-      shadow_room = c.in-Ok-see.ensures.capacity ∙ old.shadow_room;
+      shadow_room = c.in-Ok-classify.ensures.capacity ∙ old.shadow_room;
       bounded = subst (λ k. AreWithin k (old.served + 1)) (sym c.count_access.ensures)
           (AreWithin-with_access c.args.access c.outcome_from-outcome.result old.counts old.served
           old.bounded);
       sums = subst (λ k. AddUp k.misses k.compulsory k.capacity k.conflict)
           (sym (c.count_access.ensures ∙ ap (λ o. with_access c.args.access o old.counts) made))
           (KindsAddUp-with_access c.args.access old.policy.wback old.policy.walloc
-          c.writes-write.result served.hit c.in-Ok-see.seen.known c.in-Ok-see.seen.in_shadow
+          c.writes-write.result served.hit c.in-Ok-classify.prior.referenced
+          c.in-Ok-classify.prior.in_shadow
           served.back old.counts old.sums);
-      paid =
+      charged =
           (let counted : c.count_access.new.counts.written_back
           ≡ one_if (is_some served.back) + old.counts.written_back =
           ap (λ k. k.written_back) c.count_access.ensures
           ∙ ap (λ o. one_if (is_some o.back) + old.counts.written_back) made in
-          let step = c.in-Ok.ensures.paid in
-          let before = old.paid in
+          let step = c.in-Ok.ensures.charged in
+          let before = old.charged in
           let none = ap one_if c.if-self.false in
           omega arith);
     }
@@ -74,16 +75,16 @@ returns-clause-outcome c = λ h st.
     let served = rw (
       c.assoc-assoc.ensures,
       c.set-set.ensures,
-      c.first_byte-first.ensures,
+      c.first_byte-block_addr.ensures,
       c.block-block.ensures,
       c.writes-write.ensures,
     ) at c.in-Ok.ensures.served in
-    let known = rw c.block-block.ensures at c.in-Ok-see.ensures.known in
-    let shadow = rw c.block-block.ensures at c.in-Ok-see.ensures.in_shadow in
+    let referenced = rw c.block-block.ensures at c.in-Ok-classify.ensures.referenced in
+    let shadow = rw c.block-block.ensures at c.in-Ok-classify.ensures.in_shadow in
     c.outcome_from-outcome.ensures
     ∙ rw c.writes-write.ensures (answers old.geometry old.policy h c.args.access
-    (ways_in old.sets) st.rows _ _ _ _ _ served.hit served.back (known
-    ∙ ap (λ t. c.in-Ok.served.hit || t) (st.known _)) shadow st.shadow)
+    (ways_in old.sets) st.rows _ _ _ _ _ served.hit served.back (referenced
+    ∙ ap (λ t. c.in-Ok.served.hit || t) (st.referenced _)) shadow st.shadow)
 
 stands-next : goal.returns-clause-stands
 unfolding rules_of served_of counts_kept has_failed
@@ -97,7 +98,7 @@ stands-next c = λ h st.
     let served = rw (
       c.assoc-assoc.ensures,
       c.set-set.ensures,
-      c.first_byte-first.ensures,
+      c.first_byte-block_addr.ensures,
       c.block-block.ensures,
       c.writes-write.ensures,
     ) at c.in-Ok.ensures.served in
@@ -107,17 +108,19 @@ stands-next c = λ h st.
       working = st.working;
       rows = λ t below. rows-after g p h x (ways_in old.sets) st.rows (ways_in c.serve_set.new.sets)
           served.row others t below;
-      shadow = shadow-after g p h x c.in-Ok-see.seen.in_shadow c.may_load-load.result
-          old.kinds.shadow.cap old.kinds.shadow.entries c.see.new.self.shadow.entries
-          (rw c.block-block.ensures at c.in-Ok-see.ensures.promotes)
-          (rw c.block-block.ensures at c.in-Ok-see.ensures.in_shadow) (c.may_load-load.ensures
+      shadow = shadow-after g p h x c.in-Ok-classify.prior.in_shadow c.may_load-load.result
+          old.classifier.shadow.cap old.classifier.shadow.entries c.classify.new.self.shadow.entries
+          (rw c.block-block.ensures at c.in-Ok-classify.ensures.promotes)
+          (rw c.block-block.ensures at c.in-Ok-classify.ensures.in_shadow) (c.may_load-load.ensures
           ∙ ap (λ w. not w || p.walloc) c.writes-write.ensures) old.shadow_room st.shadow;
-      known = λ q. c.in-Ok-see.ensures.adds q
-          ∙ ap (λ z. not c.in-Ok.served.hit && nat_eq z q || contains nat_eq old.kinds.known q)
-          c.block-block.ensures ∙ known-after g p h x c.in-Ok.served.hit
-          (contains nat_eq old.kinds.known) (ap (λ o. o.hit) (sym c.outcome_from-outcome.ensures)
+      referenced = λ q. c.in-Ok-classify.ensures.adds q
+          ∙ ap (λ z. not c.in-Ok.served.hit && nat_eq z q
+          || contains nat_eq old.classifier.referenced q)
+          c.block-block.ensures ∙ referenced-after g p h x c.in-Ok.served.hit
+          (contains nat_eq old.classifier.referenced)
+          (ap (λ o. o.hit) (sym c.outcome_from-outcome.ensures)
           ∙ ap (λ o. o.hit) (returns-clause-outcome c h st)
-          ∙ outcome_of-hit (rules_of old) h x) st.known q;
+          ∙ outcome_of-hit (rules_of old) h x) st.referenced q;
       counts = c.count_access.ensures
           ∙ ap (λ o. with_access x o old.counts) (returns-clause-outcome c h st)
           ∙ ap (with_access x (outcome_of (rules_of old) h x)) st.counts

@@ -1,6 +1,6 @@
 use Rattle.std.proofs.Common.{nat_eq, ◌≡◌, ◌<◌, [], map, refl, sym, ap, subst, ◌∙◌, arith, rules}
 use Rattle.std.specs.List.{list_any}
-use Rattle.cache_core.specs.Kinds.{known_blocks, shadow_of}
+use Rattle.cache_core.specs.Kinds.{referenced_blocks, shadow_of}
 use Rattle.cache_core.specs.Counts.{tally, counts_of, flushes_in, flushed_back, no_counts, AddUp}
 use Rattle.cache_core.specs.Geometry.{assoc_of}
 use Rattle.cache_core.specs.Order.{ways_of}
@@ -8,7 +8,7 @@ use Rattle.cache_core.specs.Row.{row, dirty_count}
 use Rattle.cache_core.specs.Sets.{ways_in}
 use Rattle.cache_core.specs.Counting.{AreWithin}
 use Rattle.cache_core.specs.Standing.{rules_from, rules_of, served_of, counts_kept, has_failed}
-use Rattle.cache_core.proofs.Paid.{dirty_count-replicate}
+use Rattle.cache_core.proofs.Charged.{dirty_count-replicate}
 use Rattle.cache_core.proofs.Lawful.{sane_of}
 use Rattle.cache_core.proofs.CacheFacts.{AreWithin-none}
 use Rattle.cache_core.proofs.Shadow.{pair}
@@ -39,11 +39,11 @@ invariant_of-result c =
       bounded = subst (λ k. AreWithin k 0) (sym none) AreWithin-none;
       sums = subst (λ k. AddUp k.misses k.compulsory k.capacity k.conflict) (sym none)
           (record { instr = refl; read = refl; write = refl; misc = refl; total = refl });
-      paid = omega arith;
+      charged = omega arith;
     }
 
 pub returns-clause-stands : goal.returns-clause-stands
-unfolding counts_of tally flushes_in flushed_back known_blocks rules_of served_of counts_kept has_failed
+unfolding counts_of tally flushes_in flushed_back referenced_blocks rules_of served_of counts_kept has_failed
 returns-clause-stands c =
     let r = rules_from c.args.geometry c.args.policy in
     record {
@@ -54,7 +54,7 @@ returns-clause-stands c =
       shadow = ap (λ l. l.entries) c.in-Ok-new.ensures.shadow
           ∙ sym (ap (λ l. map pair l) (ap (ways_of (shadow_of r) 0) (renewals-start (shadow_of r))
           ∙ ways_of-none (shadow_of r) 0));
-      known = λ q. ap (list_any (nat_eq q)) c.in-Ok-new.ensures.known;
+      referenced = λ q. ap (list_any (nat_eq q)) c.in-Ok-new.ensures.referenced;
       counts = (let none : c.default.result ≡ no_counts = search rules in none);
       served = refl;
     }

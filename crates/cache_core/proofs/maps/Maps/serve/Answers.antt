@@ -5,7 +5,7 @@ use Rattle.cache_core.specs.Policy.{is_fifo}
 use Rattle.cache_core.specs.Row.{holds_block, row, dirty_count}
 use Rattle.cache_core.specs.Mapped.{cap_of, shown, flat}
 use Rattle.cache_core.proofs.Flat.{row-here, row-set, row-set_other, count-set, cap-at}
-use Rattle.cache_core.proofs.Paid.{paid-row, paid-by}
+use Rattle.cache_core.proofs.Charged.{charged-row, charged-by}
 use Rattle.cache_core.proofs.maps.Maps.serve.Goals as goal
 
 pub returns-clause-others : goal.returns-clause-others
@@ -26,8 +26,8 @@ returns-clause-served c =
     let new = row-set m.assoc m.sets.items c.args.set c.serve_map.new.map inside in
     rw (old, new) (rw cap at c.in-Ok.ensures.served)
 
-pub returns-clause-paid : goal.returns-clause-paid
-returns-clause-paid c =
+pub returns-clause-charged : goal.returns-clause-charged
+returns-clause-charged c =
     let m = c.args.self.now in let o = c.index_mut.result.now in
     let inside : c.args.set < length m.sets.items =
     subst (λ k. c.args.set < k) m.sets.ok.0 c.requires in
@@ -36,9 +36,9 @@ returns-clause-paid c =
     let old = shown m.assoc o.entries in
     let p = c.args.policy in
     let served = c.in-Ok.ensures.served in
-    let step = paid-by old _ _ _ _ (rw cap at served.row) (rw cap at served.back)
-    (paid-row old (is_fifo p) p.wback p.walloc c.args.write c.args.first
-    (find (holds_block c.args.first) old)) in
+    let step = charged-by old _ _ _ _ (rw cap at served.row) (rw cap at served.back)
+    (charged-row old (is_fifo p) p.wback p.walloc c.args.write c.args.block_addr
+    (find (holds_block c.args.block_addr) old)) in
     let sum = count-set m.assoc m.sets.items c.args.set c.serve_map.new.map o inside in
     let same : dirty_count (shown m.assoc (get_or m.sets.items c.args.set o).entries)
     ≡ dirty_count old = ap (λ z. dirty_count (shown m.assoc z.entries))

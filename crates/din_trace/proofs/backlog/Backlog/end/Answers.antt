@@ -1,5 +1,5 @@
 use Rattle.std.proofs.Common.{false, []}
-use Rattle.din_trace.specs.Left.{Left}
+use Rattle.din_trace.specs.Remaining.{Remaining}
 use Rattle.din_trace.specs.Standing as words
 use Rattle.din_trace.specs.Backlog.{HasLeft, held}
 use Rattle.din_trace.proofs.Backlogs.{AfterEnd, after-end, held-none, reading-left}
@@ -7,7 +7,7 @@ use Rattle.din_trace.proofs.backlog.Backlog.end.Goals as goal
 use Rattle.din_trace.proofs.backlog.Backlog.end.Goals.{After-end}
 
 -- what the end left
-after : (c : After-end) (l : Left)
+after : (c : After-end) (l : Remaining)
     → HasLeft c.args.self.now (record { given = []; fails = false }) l → AfterEnd l c.end.result
 unfolding words.StandsFor words.HasNoFault words.bytes_of words.line_of words.begun_of
 after c l left =

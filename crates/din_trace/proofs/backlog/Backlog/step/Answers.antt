@@ -1,5 +1,5 @@
 use Rattle.std.proofs.Common.{◌+◌, ◌-◌, refl, sym, arith, take, drop, get_or}
-use Rattle.din_trace.specs.Left.{Left, Script}
+use Rattle.din_trace.specs.Remaining.{Remaining, Script}
 use Rattle.din_trace.specs.Standing as words
 use Rattle.din_trace.specs.Backlog.{HasLeft, held}
 use Rattle.din_trace.proofs.Backlogs.{AfterByte, after-byte, after-past, held-first}
@@ -8,7 +8,7 @@ use Rattle.din_trace.proofs.backlog.Backlog.step.Goals as goal
 use Rattle.din_trace.proofs.backlog.Backlog.step.Goals.{After-byte}
 
 -- what the byte left
-after : (c : After-byte) (script : Script) (l : Left) → HasLeft c.args.self.now script l
+after : (c : After-byte) (script : Script) (l : Remaining) → HasLeft c.args.self.now script l
     → AfterByte c.byte.new.self
     (take (c.args.self.now.filled - (c.args.self.now.at + 1))
     (drop

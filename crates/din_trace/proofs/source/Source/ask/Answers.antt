@@ -1,7 +1,7 @@
 use Rattle.std.proofs.Common.{◌≡◌, true, false, [], ◌++◌, length-append, ap, ◌∙◌, arith, subst}
 use Rattle.din_trace.specs.Device.{once_more}
 use Rattle.std.proofs.lemmas.List.{nil_from_length}
-use Rattle.din_trace.specs.Left.{Open, Ended, Failed}
+use Rattle.din_trace.specs.Remaining.{Open, Ended, Failed}
 use Rattle.din_trace.specs.Source as words
 use Rattle.din_trace.proofs.Scripts.{consumes-append, consumes-none, consumes-kept, left-regrouped}
 use Rattle.din_trace.proofs.Scripts.{left-closed}

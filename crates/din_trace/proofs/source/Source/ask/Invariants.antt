@@ -1,7 +1,7 @@
 use Rattle.std.proofs.Common.{◌-◌, ◌≡◌, ◌+◌, ◌++◌, ◌≤◌, List, ℕ, length}
 use Rattle.std.specs.Io.KnownBytes.{Consumes}
 use Rattle.din_trace.specs.declared.backlog.State.TheVariants as states
-use Rattle.din_trace.specs.Left.{Left, Script}
+use Rattle.din_trace.specs.Remaining.{Remaining, Script}
 use Rattle.din_trace.specs.Backlog.{HasLeft, taken, room}
 use Rattle.din_trace.proofs.source.Source.ask.Given as goal
 
@@ -16,7 +16,7 @@ invariant-asks g l = record {
   consumed : Consumes (g.R.ByteReader.remaining l.initial.self.reader)
       (g.R.ByteReader.remaining l.self.reader) given;
   count : taken l.self.backlog ≡ taken l.initial.self.backlog + length given;
-  left_same : (script : Script) (left : Left)
+  left_same : (script : Script) (left : Remaining)
       → HasLeft l.initial.self.backlog
       (record { given = given ++ script.given; fails = script.fails }) left
       → HasLeft l.self.backlog script left;

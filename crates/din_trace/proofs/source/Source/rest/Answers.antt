@@ -2,7 +2,7 @@ use Rattle.std.proofs.Common.{◌≡◌, ◌+◌, ◌<◌, [], ◌∷◌, ◌++�
 use Rattle.std.proofs.Common.{inl, inr}
 use Rattle.std.proofs.Common.{vec_len}
 use Rattle.din_trace.specs.declared.record.DinRecord.{DinRecord}
-use Rattle.din_trace.specs.Left.{Open, behind_first}
+use Rattle.din_trace.specs.Remaining.{Open, after_first}
 use Rattle.din_trace.specs.Source as words
 use Rattle.din_trace.specs.Source.{HasLeft, Takes, room_of}
 use Rattle.din_trace.proofs.Calls.{Calls, calls, no_calls}
@@ -23,7 +23,7 @@ composed g c =
 
 pub records-init : goal.records-init
 records-init g c = record {
-  few = omega (arith, c.new-records.ensures);
+  at_most = omega (arith, c.new-records.ensures);
   limit_same = refl;
   given = [];
   fate = Open;
@@ -42,7 +42,7 @@ records-preserved g c =
     let all = composed g c₁ in
     let now = c.records.invariant in
     record {
-      few =
+      at_most =
           let fall : room_of c.next.new.self < room_of c.records.self =
           (rw c.in-Some.is at c.in-Ok.ensures.records) refl in
           let longer : vec_len c.push.new.self ≡ vec_len c.records.records + 1 =
@@ -58,7 +58,7 @@ records-preserved g c =
           let after = c.next.ensures.reads.3 mid.0 last more.0 mid.2 more.2 in
           let pushed : c.push.new.self.items ≡ c.records.records.items ++ c.in-Some.next ∷ [] =
           rw c.if-is_err.ensures.negation at c.push.ensures.items in (
-            behind_first more.0,
+            after_first more.0,
             rw pushed
                 (rest-record c.records.records.items before more.0 c.next.result more.1 after.0
                 c.in-Some.next (c.in-Ok.is ∙ ap (λ (found : Option DinRecord). Ok found)

@@ -12,7 +12,7 @@ invariant_of-self g c =
     record {
       bounds =
           (let b = s.bounds in omega arith, s.bounds.1, let b = s.bounds in omega arith);
-      few = s.few;
+      at_most = s.at_most;
       kept = more.1;
     }
 

@@ -2,7 +2,7 @@ use Rattle.std.proofs.Common.{◌≡◌, ℕ, ◌*◌, List, [], ◌++◌, map, 
 use Rattle.cache_core.specs.History.{Rules, History, flush}
 use Rattle.cache_core.specs.Dirty.{dirty_blocks}
 use Rattle.cache_core.specs.Standing.{rules_of}
-use Rattle.stage_core.specs.Seen.{back, flush_all, parts_of}
+use Rattle.stage_core.specs.SecondLevel.{back, flush_all, parts_of}
 use Rattle.stage_core.specs.Streams.{answer}
 use Rattle.stage_core.specs.Standing.{cache_of, side_of, outbox_of}
 use Rattle.stage_core.specs.declared.message.Side.{Side}
@@ -10,7 +10,7 @@ use Rattle.stage_core.specs.declared.message.What.{What}
 use Rattle.stage_core.proofs.l1_stage.L1Stage.flush.Goals as goal
 
 abbrev written_back : Rules → History → List ℕ
-written_back r h = map (λ b. b * r.block_size) (dirty_blocks r h)
+written_back r h = map (λ b. b * r.bsize) (dirty_blocks r h)
 
 by_blocks : (r : Rules) (s : Side) (h : History) (place : ℕ) (none items : List ℕ)
     (part : List What) → none ≡ [] → items ≡ none ++ written_back r h → part ≡ flush_all s

@@ -3,7 +3,7 @@ use Rattle.std.proofs.lemmas.Result.{on_ok_weaker}
 use Rattle.cache_core.specs.History.{flush}
 use Rattle.cache_core.specs.declared.access.Class.TheVariants as class
 use Rattle.stage_core.specs.Events.{access_of}
-use Rattle.stage_core.specs.Seen.{read_as}
+use Rattle.stage_core.specs.SecondLevel.{read_as}
 use Rattle.stage_core.proofs.Stands.{one_what_more}
 use Rattle.stage_core.proofs.l2_stage.L2Stage.on.Goals as goal
 

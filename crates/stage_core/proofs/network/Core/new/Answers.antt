@@ -29,7 +29,7 @@ invariant_of-result c = λ ok.
         arith,
         ap length made,
         c.requires.short,
-        c.selections_make_few.ensures c.args.selection.now c.args.records.now,
+        c.selections_make_at_most_two.ensures c.args.selection.now c.args.records.now,
       );
       room = some-room c.args.config.now;
     }

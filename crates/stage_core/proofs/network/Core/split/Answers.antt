@@ -2,7 +2,7 @@ use Rattle.std.proofs.Common.{refl, IsSome, sym, ap, subst, ◌∙◌}
 use Rattle.stage_core.specs.Network.{Splitter}
 use Rattle.stage_core.specs.Network.Pushes.{IsPushed}
 use Rattle.stage_core.specs.Network.Cores.{CoreState, Sound, next_in}
-use Rattle.stage_core.proofs.network.Steps.{Steps, makes-event, on_ok_by}
+use Rattle.stage_core.proofs.network.Steps.{Steps, makes-step, on_ok_by}
 use Rattle.stage_core.proofs.network.SplitSteps.{with_push, split-steps}
 use Rattle.stage_core.proofs.network.Core.split.Goals as goal
 
@@ -27,5 +27,5 @@ invariant_of-self c = λ ok.
 
 pub returns-clause-made : goal.returns-clause-made
 returns-clause-made c =
-    makes-event (with_push c.self.inside _ _ _) c.push_to-sent.result _
+    makes-step (with_push c.self.inside _ _ _) c.push_to-sent.result _
     c.is_err-self-inside.ensures.value c.self.view_is (λ f. refl) (steps c) c.push_to-sent.ensures

@@ -18,5 +18,5 @@ invariant_of-self c = λ ok.
     let same = c.is_err-self-inside.ensures.value in
     (step_i-steps c.self.inside c.step-made.new.self _ sound
     (ap (λ n. stage_next n c.self.inside.i) (sym c.ring.ensures.ring)
-    ∙ on_ok_by c.step-made.result _ same ok made.event)
+    ∙ on_ok_by c.step-made.result _ same ok made.step)
     (on_ok_by c.step-made.result _ same ok made.stands) made.side made.rules).sound

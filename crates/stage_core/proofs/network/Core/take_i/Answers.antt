@@ -1,18 +1,18 @@
 use Rattle.std.proofs.Common.{◌++◌, List, option_to_list, ap, refl, subst, ◌∙◌}
 use Rattle.stage_core.specs.Network.{Merging}
 use Rattle.stage_core.specs.Merging.{wanted}
-use Rattle.stage_core.specs.Standing.{SecondStandsFor}
+use Rattle.stage_core.specs.Standing.{L2StandsFor}
 use Rattle.stage_core.specs.Network.Cores.{CoreState, Sound, network_of}
 use Rattle.stage_core.specs.declared.message.What.{What}
-use Rattle.stage_core.proofs.network.Steps.{Steps, room-above, makes-event, on_ok_by}
+use Rattle.stage_core.proofs.network.Steps.{Steps, room-above, makes-step, on_ok_by}
 use Rattle.stage_core.proofs.network.MergeSteps.{with_from_i, take_i-steps}
 use Rattle.stage_core.proofs.network.Core.take_i.Goals as goal
 
 steps : (c : goal.After-self-1)
-    → ((before : List What) → SecondStandsFor c.self.inside.u before
-    → SecondStandsFor c.serve-served.new.u (before ++ option_to_list c.take-what.result))
+    → ((before : List What) → L2StandsFor c.self.inside.u before
+    → L2StandsFor c.serve_l2-served.new.u (before ++ option_to_list c.take-what.result))
     → Steps Merging c.self.inside (with_from_i c.self.inside c.pop-message.new.self
-    c.take-what.new.self c.serve-served.new.u c.is_err-self-inside.result)
+    c.take-what.new.self c.serve_l2-served.new.u c.is_err-self-inside.result)
 steps c serves =
     let core = c.self.inside in
     let sound : Sound core = c.self.invariant (ap (λ (v : CoreState). v.failed) c.self.view_is
@@ -20,23 +20,23 @@ steps c serves =
     take_i-steps core c.pop-message.result _ _ _ _ sound
     (ap (λ (v : CoreState). wanted v.network.at) c.self.view_is ∙ c.requires.wants)
     c.pop-message.ensures c.take-what.ensures.stands
-    (subst (λ (ws : List What). SecondStandsFor c.serve-served.new.u
+    (subst (λ (ws : List What). L2StandsFor c.serve_l2-served.new.u
     ((network_of core).given ++ ws)) c.take-what.ensures.brings
     (serves (network_of core).given sound.caches.u))
-    c.serve-served.ensures.rules
+    c.serve_l2-served.ensures.rules
 
-pub serve-served-requires : goal.serve-served-requires
-serve-served-requires c =
-    room-above c.second_level_sees_few.ensures c.self.inside
+pub serve_l2-served-requires : goal.serve_l2-served-requires
+serve_l2-served-requires c =
+    room-above c.second_level_sees_at_most_two.ensures c.self.inside
     (c.self.invariant (ap (λ (v : CoreState). v.failed) c.self.view_is ∙ c.requires.works))
 
 pub invariant_of-self : goal.invariant_of-self
 invariant_of-self c = λ ok.
-    (steps c (on_ok_by c.serve-served.result _ c.is_err-self-inside.ensures.value ok
-    c.serve-served.ensures.stands)).sound
+    (steps c (on_ok_by c.serve_l2-served.result _ c.is_err-self-inside.ensures.value ok
+    c.serve_l2-served.ensures.stands)).sound
 
 pub returns-clause-made : goal.returns-clause-made
 returns-clause-made c =
-    makes-event (with_from_i c.self.inside _ _ _) c.serve-served.result _
+    makes-step (with_from_i c.self.inside _ _ _) c.serve_l2-served.result _
     c.is_err-self-inside.ensures.value c.self.view_is (λ f. refl) (steps c)
-    c.serve-served.ensures.stands
+    c.serve_l2-served.ensures.stands

@@ -22,6 +22,6 @@ invariant_of-self c = λ ok. (steps c).sound
 
 pub returns-clause-made : goal.returns-clause-made
 returns-clause-made c = record {
-  event = ap (λ (v : CoreState). next_in v Merging) (sym c.self.view_is) ∙ (steps c).event;
+  step = ap (λ (v : CoreState). next_in v Merging) (sym c.self.view_is) ∙ (steps c).step;
   works = works c;
 }

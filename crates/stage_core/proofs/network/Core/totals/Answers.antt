@@ -2,14 +2,14 @@ use Rattle.std.proofs.Common.{List, ap, sym, subst, ◌∙◌}
 use Rattle.cache_core.specs.Counts.{counts_of}
 use Rattle.cache_core.specs.History.{Rules}
 use Rattle.din_trace.specs.declared.record.DinRecord.{DinRecord}
-use Rattle.stage_core.specs.Seen.{Hierarchy, Parts, second_history, totals}
+use Rattle.stage_core.specs.SecondLevel.{Hierarchy, Parts, second_history, totals}
 use Rattle.stage_core.specs.Streams.{taken_in}
 use Rattle.stage_core.specs.Config.{hierarchy_of}
 use Rattle.stage_core.specs.Network.{IsFinished, Network}
 use Rattle.stage_core.specs.Network.Cores.{CoreState, Sound, network_of, parts_for}
 use Rattle.stage_core.specs.declared.message.Side.TheVariants as side
 use Rattle.stage_core.specs.declared.message.What.{What}
-use Rattle.stage_core.proofs.Told.{taken_in-to_side}
+use Rattle.stage_core.proofs.Messages.{taken_in-to_side}
 use Rattle.stage_core.proofs.network.Schedules.{given-done, to-done}
 use Rattle.stage_core.proofs.network.Core.totals.Goals as goal
 

@@ -1,6 +1,6 @@
 use Rattle.std.proofs.Common.{◌≡◌, ◌*◌, List, length, IfOk, arith, ap, subst, sym, ◌∙◌}
 use Rattle.stage_core.specs.Events.{events}
-use Rattle.stage_core.specs.Seen.{totals}
+use Rattle.stage_core.specs.SecondLevel.{totals}
 use Rattle.stage_core.specs.Config.{hierarchy_of, ring_of}
 use Rattle.stage_core.specs.Network.{Machine, messages}
 use Rattle.stage_core.specs.Network.Choices.{IsNamed}
@@ -19,8 +19,8 @@ run-requires-clause-short c =
     omega (
       arith,
       ap (λ (s : CoreState). messages (parts_for s.config) s.events) c.in_ok-core.ensures,
-      few-messages c.second_level_sees_few.ensures (hierarchy_of c.args.config.now) es,
-      c.selections_make_few.ensures c.args.selection.now c.args.records.now,
+      few-messages c.second_level_sees_at_most_two.ensures (hierarchy_of c.args.config.now) es,
+      c.selections_make_at_most_two.ensures c.args.selection.now c.args.records.now,
       c.requires.short,
     )
 
@@ -30,11 +30,11 @@ returns-clause-totals c =
     (λ answer. answer.0 ≡ totals (hierarchy_of s.config) s.events))
     c.in_ok-core.ensures c.run.ensures.totals
 
-pub returns-clause-events : goal.returns-clause-events
-returns-clause-events c =
+pub returns-clause-steps : goal.returns-clause-steps
+returns-clause-steps c =
     subst (λ (s : CoreState). IfOk c.run.result
     (λ answer. answer.1 ≡ 2 * messages (parts_for s.config) s.events))
-    c.in_ok-core.ensures c.run.ensures.events
+    c.in_ok-core.ensures c.run.ensures.steps
 
 pub returns-clause-schedule : goal.returns-clause-schedule
 returns-clause-schedule c =

@@ -2,12 +2,12 @@ use Rattle.std.proofs.Common.{◌≡◌, suc, ◌+◌, ◌*◌, ◌%◌, List, [
 use Rattle.std.proofs.Common.{slice_index, Some, arith, ap, refl, sym, subst, ◌∙◌, length-append}
 use Rattle.din_trace.specs.declared.record.DinRecord.{DinRecord}
 use Rattle.stage_core.specs.Config.{ring_of}
-use Rattle.stage_core.specs.Network.{Consistent, Machine, Network, enabled, events_made, messages}
+use Rattle.stage_core.specs.Network.{Consistent, Machine, Network, enabled, steps_made, messages}
 use Rattle.stage_core.specs.Network.{next, run, start as at_start}
 use Rattle.stage_core.specs.Network.Choices.{named, IsNamed, IsNamedFrom}
 use Rattle.stage_core.specs.Network.Cores.{CoreState, IsSameRun, enabled_in, parts_for}
 use Rattle.stage_core.specs.declared.config.Config.{Config}
-use Rattle.stage_core.proofs.network.Schedules.{events-bound, events-done}
+use Rattle.stage_core.proofs.network.Schedules.{steps-bound, steps-done}
 use Rattle.stage_core.proofs.network.Chosen.{run-more, named-more}
 use Rattle.stage_core.proofs.network.Steps.{driven, working}
 use Rattle.stage_core.proofs.network.schedule.run.Goals as goal
@@ -21,9 +21,9 @@ same-messages {old = old} {new = new} s =
 
 after : (c : goal.In_ok-step)
     → Consistent (parts_for c.run.core.config) c.run.core.events c.step.new.self.network
-    × (events_made c.step.new.self.network ≡ suc (events_made c.run.core.network))
+    × (steps_made c.step.new.self.network ≡ suc (steps_made c.run.core.network))
 after c =
-    let step = c.in_ok-step.ensures.event in
+    let step = c.in_ok-step.ensures.step in
     driven (c.enabled.ensures.consistent c.run.invariant.works) step.0 step.2
 
 -- the schedule so far, with the event that was made
@@ -38,13 +38,13 @@ longer c =
     let start = c.args.core.now in
     let old = c.run.core in
     let so_far = c.run.invariant.schedule in
-    let made = c.in_ok-step.ensures.event in
+    let made = c.in_ok-step.ensures.step in
     let parts = parts_for start.config in
     let capacity = ring_of start.config in
     let config = c.run.invariant.same.config in
     let moved : next parts capacity made.0 old.network ≡ Some c.step.new.self.network =
     subst (λ (x : Config). next (parts_for x) (ring_of x) made.0 old.network
-    ≡ Some c.step.new.self.network) config made.2.event in
+    ≡ Some c.step.new.self.network) config made.2.step in
     let can : enabled_in old ≡ enabled parts capacity old.network =
     working old c.run.invariant.works
     ∙ ap (λ (x : Config). enabled (parts_for x) (ring_of x) old.network) config in
@@ -67,7 +67,7 @@ pub run-init : goal.run-init
 run-init c = record {
   works = ap (λ (s : CoreState). s.failed) c.requires.start;
   same = record { config = refl; events = refl };
-  made = sym (ap (λ (s : CoreState). events_made s.network) c.requires.start);
+  made = sym (ap (λ (s : CoreState). steps_made s.network) c.requires.start);
   schedule = ([], refl, tt, refl);
 }
 
@@ -77,7 +77,7 @@ overflow_add-made c =
     omega (
       arith,
       c.run.invariant.made,
-      events-bound (parts_for old.config) old.events old.network
+      steps-bound (parts_for old.config) old.events old.network
           (c.enabled.ensures.consistent c.run.invariant.works),
       same-messages c.run.invariant.same,
       c.requires.short,
@@ -90,7 +90,7 @@ run-smaller c =
     omega (
       arith,
       a.1,
-      events-bound (parts_for old.config) old.events c.step.new.self.network a.0,
+      steps-bound (parts_for old.config) old.events c.step.new.self.network a.0,
       same-messages c.run.invariant.same,
       c.run.invariant.made,
     )
@@ -99,7 +99,7 @@ pub run-preserved : goal.run-preserved
 run-preserved c =
     let same = c.step.ensures.run in
     record {
-      works = c.in_ok-step.ensures.event.2.works;
+      works = c.in_ok-step.ensures.step.2.works;
       same = record {
         config = same.config ∙ c.run.invariant.same.config;
         events = same.events ∙ c.run.invariant.same.events;
@@ -114,12 +114,12 @@ totals-requires c = record {
   finished = c.enabled.ensures.goes_on c.run.invariant.works (omega (arith, c.run-test.false));
 }
 
-pub returns-clause-events : goal.returns-clause-events
-returns-clause-events c =
+pub returns-clause-steps : goal.returns-clause-steps
+returns-clause-steps c =
     let last = c.run.core in
     let works = c.run.invariant.works in
     c.run.invariant.made
-    ∙ events-done (parts_for last.config) last.events last.network
+    ∙ steps-done (parts_for last.config) last.events last.network
     (c.enabled.ensures.consistent works)
     (c.enabled.ensures.goes_on works (omega arith))
     ∙ ap (λ n. 2 * n) (same-messages c.run.invariant.same)

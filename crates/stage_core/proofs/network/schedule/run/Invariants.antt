@@ -1,6 +1,6 @@
 use Rattle.std.proofs.Common.{◌≡◌, ◌*◌, ◌-◌, false, List, length, Some}
 use Rattle.stage_core.specs.Config.{ring_of}
-use Rattle.stage_core.specs.Network.{Machine, events_made, messages, run}
+use Rattle.stage_core.specs.Network.{Machine, steps_made, messages, run}
 use Rattle.stage_core.specs.Network.Choices.{IsNamedFrom}
 use Rattle.stage_core.specs.Network.Cores.{parts_for, IsSameRun}
 use Rattle.stage_core.proofs.network.schedule.run.Given as goal
@@ -11,7 +11,7 @@ invariant-run l =
     record {
       works : l.core.failed ≡ false;
       same : IsSameRun start l.core;
-      made : l.made ≡ events_made l.core.network;
+      made : l.made ≡ steps_made l.core.network;
       schedule : (ms : List Machine)
           × (run (parts_for start.config) (ring_of start.config) ms start.network
           ≡ Some l.core.network)

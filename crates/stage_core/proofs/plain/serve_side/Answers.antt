@@ -3,16 +3,16 @@ use Rattle.std.proofs.Common.{append-nil}
 use Rattle.std.specs.List.{flat_map}
 use Rattle.std.proofs.lemmas.Result.{on_ok_weaker}
 use Rattle.cache_core.specs.Standing.{rules_of}
-use Rattle.stage_core.specs.Seen.{parts_of}
+use Rattle.stage_core.specs.SecondLevel.{parts_of}
 use Rattle.stage_core.specs.Streams.{reply}
 use Rattle.stage_core.specs.Merging.{what_in}
-use Rattle.stage_core.specs.Standing.{StageStandsFor, SecondStandsFor, cache_of, side_of}
+use Rattle.stage_core.specs.Standing.{StageStandsFor, L2StandsFor, cache_of, side_of}
 use Rattle.stage_core.specs.Plain.{after_answers, brought_from}
 use Rattle.stage_core.specs.declared.message.What.{What}
 use Rattle.stage_core.specs.declared.message.ToStage.{ToStage}
 use Rattle.stage_core.proofs.Stands.{same_stands}
 use Rattle.stage_core.proofs.Turns.{option-turn}
-use Rattle.stage_core.proofs.plain.serve.Goals as goal
+use Rattle.stage_core.proofs.plain.serve_side.Goals as goal
 
 pub drain-requires-clause-wanted : goal.drain-requires-clause-wanted
 drain-requires-clause-wanted c =
@@ -43,10 +43,10 @@ returns-clause-stands c =
 pub returns-clause-second : goal.returns-clause-second
 returns-clause-second c =
     let old = c.args.stage.now in
-    on_ok_weaker c.drain.result (λ above before whats st sw.
-    subst (λ (ws : List What). SecondStandsFor c.drain.new.u (whats ++ ws))
+    on_ok_weaker c.drain.result (λ above before requests st sw.
+    subst (λ (ws : List What). L2StandsFor c.drain.new.u (requests ++ ws))
     (ap (flat_map what_in) (c.in_ok-on.ensures.sent before st)
     ∙ sym
     (append-nil (flat_map what_in (reply (parts_of (rules_of (cache_of old))) (side_of old)
     before c.in-Some.message)))
-    ∙ ap (brought_from old before) (sym c.in-Some.is)) (above whats sw)) c.drain.ensures.second
+    ∙ ap (brought_from old before) (sym c.in-Some.is)) (above requests sw)) c.drain.ensures.second

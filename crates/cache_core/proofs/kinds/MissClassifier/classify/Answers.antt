@@ -1,6 +1,6 @@
 use Rattle.std.proofs.Common.{◌≡◌, Some, slice_get, sym, ap, subst, ◌∙◌}
 use Rattle.cache_core.proofs.Again.{last-is, first-there, first-stays, promoted-first, put-first}
-use Rattle.cache_core.proofs.kinds.Kinds.see.Goals as goal
+use Rattle.cache_core.proofs.kinds.MissClassifier.classify.Goals as goal
 
 pub returns-then-is_last-clause-in_shadow : goal.returns-then-is_last-clause-in_shadow
 returns-then-is_last-clause-in_shadow c =

@@ -1,5 +1,5 @@
 use Rattle.stage_core.proofs.Few.{few-events}
-use Rattle.stage_core.proofs.laws.selections_make_few.Goals as goal
+use Rattle.stage_core.proofs.laws.selections_make_at_most_two.Goals as goal
 
 pub returns : goal.returns
 returns c = few-events

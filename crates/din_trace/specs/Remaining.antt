@@ -10,25 +10,25 @@ use Rattle.din_trace.specs.Line.{Form, Blank, Din, Faulty, form}
 use Rattle.din_trace.specs.Text.{lines, ended_lines}
 
 -- records, and then a fault or the end
-pub record Left : Type 0 where
+pub record Remaining : Type 0 where
   pub records : List DinRecord
   pub fault : Option TraceFault
 
 -- a line of this form and number, and what is left behind it
-abbrev pub form_left : Form → ℕ → Left → Left
+abbrev pub form_left : Form → ℕ → Remaining → Remaining
 form_left Blank number others = others
 form_left (Din r) number others = record { records = r ∷ others.records; fault = others.fault }
 form_left (Faulty why) number others = record { records = []; fault = Some (Bad number why) }
 
 -- the records of the lines up to the first faulty one, and its fault or else another
-abbrev pub lines_left : ℕ → ℕ → List (List ℕ) → Option TraceFault → Left
+abbrev pub lines_left : ℕ → ℕ → List (List ℕ) → Option TraceFault → Remaining
 lines_left bound number [] otherwise = record { records = []; fault = otherwise }
 lines_left bound number (line ∷ lines) otherwise =
     form_left (form bound line) number (lines_left bound (number + 1) lines otherwise)
 
 -- what is left of a text, whose lines are numbered from this number, under a limit of bytes:
 -- where the reader fails behind the text, and where it ends there
-abbrev pub text_left : ℕ → ℕ → List ℕ → ℕ → Bool → Left
+abbrev pub text_left : ℕ → ℕ → List ℕ → ℕ → Bool → Remaining
 text_left bound number text limit fails =
     if nat_le (length text) limit then (
     if fails then lines_left bound number (ended_lines text) (Some Read)
@@ -47,12 +47,12 @@ records_answer [] fault = fault_answer fault
 records_answer (r ∷ records) fault = Ok (Some r)
 
 -- the first of what is left
-abbrev pub first_answer : Left → Result (Option DinRecord) TraceFault
+abbrev pub first_answer : Remaining → Result (Option DinRecord) TraceFault
 first_answer l = records_answer l.records l.fault
 
 -- what is left behind it: a record is taken off, the fault or the end stays
-abbrev pub behind_first : Left → Left
-behind_first l = record { records = drop 1 l.records; fault = l.fault }
+abbrev pub after_first : Remaining → Remaining
+after_first l = record { records = drop 1 l.records; fault = l.fault }
 
 -- what a reader will do: give these bytes, and then fail or end
 pub record Script : Type 0 where

@@ -1,15 +1,15 @@
--- Each dirty way was paid for by an access.
+-- Each dirty way is charged to an access.
 use Rattle.std.proofs.Common.{◌≡◌, ℕ, zero, suc, ◌+◌, ◌≤◌, Bool, true, false, cond, not, ◌&&◌, ◌||◌}
 use Rattle.std.proofs.Common.{List, [], ◌∷◌, ◌++◌, length, take, drop, map, filter, replicate}
 use Rattle.std.proofs.Common.{Option, Some, None, is_some, refl, sym, ap, subst, ◌∙◌, arith}
 use Rattle.std.proofs.lemmas.List.{take-append-drop}
 use borrow.Rule.Slice.PartMut.{put_mid}
 use Rattle.cache_core.specs.declared.ways.Way.{Way}
-use Rattle.cache_core.specs.Row.{shifted, leaving, changed, dirtied, is_dirty_way, first_of}
+use Rattle.cache_core.specs.Row.{shifted, leaving, changed, dirtied, is_dirty_way, block_addr_of}
 use Rattle.cache_core.specs.Row.{dirty_count, dirty_block, next_row, pushed_out, holds_block}
 use Rattle.cache_core.specs.Row.{empty_way}
 use Rattle.std.proofs.lemmas.Bool.{cond-true, cond-false}
-use Rattle.cache_core.proofs.RowStep.{held_way, next-hit, next-miss}
+use Rattle.cache_core.proofs.RowStep.{valid_way, next-hit, next-miss}
 use Rattle.cache_core.proofs.Steps.{out-hit, out-miss, out-none}
 
 abbrev one : Way → ℕ
@@ -48,7 +48,7 @@ dirty_count-changed p (x ∷ xs) =
 
 pushes : (w : Way) → ◌≡◌ {A = ℕ} (cond (is_some (dirty_block w)) 1 0) (one w)
 pushes w = (elim (is_dirty_way w) as (λ t.
-    ◌≡◌ {A = ℕ} (cond (is_some (cond t (Some w.first) None)) 1 0) (cond t 1 0))
+    ◌≡◌ {A = ℕ} (cond (is_some (cond t (Some w.block_addr) None)) 1 0) (cond t 1 0))
     [ true ↦ refl | false ↦ refl ])
 
 moved : (p : Way → Bool) (c : Way) (xs : List Way)
@@ -67,43 +67,46 @@ on-hit true false p c xs = omega arith
 on-hit false k p c xs = stays p c xs
 
 module _ (xs : List Way) where
-  abbrev IsPaid : List Way → Option ℕ → Type 0
-  IsPaid ys o = dirty_count ys + cond (is_some o) 1 0 ≤ dirty_count xs + 1
+  abbrev IsCharged : List Way → Option ℕ → Type 0
+  IsCharged ys o = dirty_count ys + cond (is_some o) 1 0 ≤ dirty_count xs + 1
 
   -- equal rows and equal blocks are paid alike
-  pub paid-by : (ys zs : List Way) (o u : Option ℕ) → ys ≡ zs → o ≡ u → IsPaid zs u → IsPaid ys o
-  paid-by ys zs o u e f h = subst (λ l. IsPaid l o) (sym e) (subst (λ v. IsPaid zs v) (sym f) h)
+  pub charged-by : (ys zs : List Way) (o u : Option ℕ) → ys ≡ zs → o ≡ u → IsCharged zs u
+      → IsCharged ys o
+  charged-by ys zs o u e f h = subst (λ l. IsCharged l o) (sym e)
+      (subst (λ v. IsCharged zs v) (sym f) h)
 
-  pushed : (p : Way → Bool) (c : Way) → IsPaid (shifted p c xs) (dirty_block (leaving p c xs))
+  pushed : (p : Way → Bool) (c : Way) → IsCharged (shifted p c xs) (dirty_block (leaving p c xs))
   pushed p c = let m = moved p c xs in let e = pushes (leaving p c xs) in omega arith
 
-  on-miss : (fifo wb a w : Bool) (first : ℕ) (t : Bool) → (not w || a) ≡ t
-      → IsPaid (next_row wb a first w xs None fifo) (pushed_out wb a first w xs None)
-  on-miss fifo wb a w first true e =
-      paid-by _ (shifted (holds_block first) (held_way first (wb && w)) xs) _
-      (dirty_block (leaving (holds_block first) (held_way first (wb && w)) xs))
-      (next-miss fifo wb a w first xs
-      ∙ cond-true (not w || a) _ _ e) (out-miss wb a w first xs e)
-      (pushed (holds_block first) (held_way first (wb && w)))
-  on-miss fifo wb a w first false e =
-      paid-by _ xs _ None (next-miss fifo wb a w first xs
-      ∙ cond-false (not w || a) _ _ e) (out-none wb a w first xs e) (omega arith)
+  on-miss : (fifo wb a w : Bool) (block_addr : ℕ) (t : Bool) → (not w || a) ≡ t
+      → IsCharged (next_row wb a block_addr w xs None fifo) (pushed_out wb a block_addr w xs None)
+  on-miss fifo wb a w block_addr true e =
+      charged-by _ (shifted (holds_block block_addr) (valid_way block_addr (wb && w)) xs) _
+      (dirty_block (leaving (holds_block block_addr) (valid_way block_addr (wb && w)) xs))
+      (next-miss fifo wb a w block_addr xs
+      ∙ cond-true (not w || a) _ _ e) (out-miss wb a w block_addr xs e)
+      (pushed (holds_block block_addr) (valid_way block_addr (wb && w)))
+  on-miss fifo wb a w block_addr false e =
+      charged-by _ xs _ None (next-miss fifo wb a w block_addr xs
+      ∙ cond-false (not w || a) _ _ e) (out-none wb a w block_addr xs e) (omega arith)
 
   -- an access to a row leaves dirty, and pushes out, at most one block more than was dirty
-  pub paid-row : (fifo wb a w : Bool) (first : ℕ) (seen : Option Way)
-      → IsPaid (next_row wb a first w xs seen fifo) (pushed_out wb a first w xs seen)
-  paid-row fifo wb a w first None = on-miss fifo wb a w first (not w || a) refl
-  paid-row fifo wb a w first (Some v) =
-      paid-by _ (cond fifo (cond (wb && w) (changed (holds_block first) dirtied xs) xs)
-      (shifted (holds_block first) (held_way first (wb && (w || v.dirty))) xs)) _ None
-      (next-hit fifo wb a w first xs v) (out-hit wb a w first xs v)
-      (on-hit fifo (wb && w) (holds_block first) (held_way first (wb && (w || v.dirty))) xs)
+  pub charged-row : (fifo wb a w : Bool) (block_addr : ℕ) (seen : Option Way)
+      → IsCharged (next_row wb a block_addr w xs seen fifo) (pushed_out wb a block_addr w xs seen)
+  charged-row fifo wb a w block_addr None = on-miss fifo wb a w block_addr (not w || a) refl
+  charged-row fifo wb a w block_addr (Some v) =
+      charged-by _ (cond fifo (cond (wb && w) (changed (holds_block block_addr) dirtied xs) xs)
+      (shifted (holds_block block_addr) (valid_way block_addr (wb && (w || v.dirty))) xs)) _ None
+      (next-hit fifo wb a w block_addr xs v) (out-hit wb a w block_addr xs v)
+      (on-hit fifo (wb && w) (holds_block block_addr) (valid_way block_addr (wb && (w || v.dirty)))
+      xs)
 
 -- so it is for all ways, where it is so for the part of them that was replaced
-pub paid-mid : (a k n : ℕ) (xs ys : List Way)
+pub charged-mid : (a k n : ℕ) (xs ys : List Way)
     → dirty_count ys + n ≤ dirty_count (take k (drop a xs)) + 1
     → dirty_count (put_mid a k xs ys) + n ≤ dirty_count xs + 1
-paid-mid a k n xs ys h =
+charged-mid a k n xs ys h =
     let e1 = dirty_count-append (take a xs) (ys ++ drop k (drop a xs)) in
     let e2 = dirty_count-append ys (drop k (drop a xs)) in
     let e3 : dirty_count (take a xs) + dirty_count (drop a xs) ≡ dirty_count xs =
@@ -116,10 +119,10 @@ paid-mid a k n xs ys h =
 
 -- the list of the dirty ways is as long as their number
 pub dirty_count-filter : (xs : List Way)
-    → length (map first_of (filter is_dirty_way xs)) ≡ dirty_count xs
+    → length (map block_addr_of (filter is_dirty_way xs)) ≡ dirty_count xs
 dirty_count-filter [] = refl
 dirty_count-filter (x ∷ xs) = (elim (is_dirty_way x) as (λ t.
-    length (map first_of (cond t (x ∷ filter is_dirty_way xs) (filter is_dirty_way xs)))
+    length (map block_addr_of (cond t (x ∷ filter is_dirty_way xs) (filter is_dirty_way xs)))
     ≡ cond t 1 0 + dirty_count xs) [
       | true ↦ let e = dirty_count-filter xs in omega arith
       | false ↦ let e = dirty_count-filter xs in omega arith

@@ -10,7 +10,7 @@ use Rattle.cache_core.specs.History.{Rules, History, Event, access, flush, block
 use Rattle.cache_core.specs.Dirty.{dirty_blocks}
 use Rattle.cache_core.specs.Parts.{outcome_of}
 use Rattle.cache_core.specs.Counts.{counts_of}
-use Rattle.stage_core.specs.Places.{over, one_if}
+use Rattle.stage_core.specs.Places.{flat_map_with_past, list_if}
 use Rattle.stage_core.specs.Events.{access_of, asked, newest_first, history}
 use Rattle.stage_core.specs.declared.message.Side.{Side}
 use Rattle.stage_core.specs.declared.message.Side.TheVariants as side
@@ -32,8 +32,8 @@ fetch_class side.D = class.Read
 abbrev pub access_parts : Side → ℕ → Access → Outcome → List What
 access_parts s first x o =
     map back (option_to_list o.back)
-    ++ one_if o.fetch (what.Fetch (fetch_class s) first)
-    ++ one_if o.through (what.Through x.addr)
+    ++ list_if o.fetch (what.Fetch (fetch_class s) first)
+    ++ list_if o.through (what.Through x.addr)
 
 -- a flush record flushes the second level once, behind D's write-backs
 abbrev pub flush_all : Side → List What
@@ -43,8 +43,8 @@ flush_all side.D = what.FlushAll ∷ []
 -- the parts of an event of a side's cache after a history; a flush writes the dirty blocks back,
 -- rising
 unfoldable pub parts_of : Rules → Side → History → Event → List What
-parts_of r s h (access x) = access_parts s (block_of r x * r.block_size) x (outcome_of r h x)
-parts_of r s h flush = map back (map (λ b. b * r.block_size) (dirty_blocks r h)) ++ flush_all s
+parts_of r s h (access x) = access_parts s (block_of r x * r.bsize) x (outcome_of r h x)
+parts_of r s h flush = map back (map (λ b. b * r.bsize) (dirty_blocks r h)) ++ flush_all s
 
 -- the shapes and policies of the three caches
 pub record Hierarchy : Type 0 where
@@ -69,10 +69,11 @@ parts_in c s h e = parts_of (rules_at c s) s h e
 abbrev pub sent_up : Parts → Side → List DinRecord → DinRecord → List What
 sent_up parts side before e = flat_map (parts side (history side before)) (asked side e)
 
--- what the second level sees: place by place I's parts, then D's
-abbrev pub seen : Parts → List DinRecord → List What
-seen parts events =
-    over (λ before e. sent_up parts side.I before e ++ sent_up parts side.D before e) events
+-- the requests to the second level: place by place I's parts, then D's
+abbrev pub second_level_requests : Parts → List DinRecord → List What
+second_level_requests parts events =
+    flat_map_with_past (λ before e. sent_up parts side.I before e ++ sent_up parts side.D before e)
+    events
 
 -- the access or the flush that this makes at the second level
 abbrev pub read_as : What → Event
@@ -90,5 +91,5 @@ abbrev pub totals : Hierarchy → List DinRecord → Totals
 totals c events = record {
   i = counts_of c.i (history side.I events);
   d = counts_of c.d (history side.D events);
-  u = counts_of c.u (second_history (seen (parts_in c) events));
+  u = counts_of c.u (second_history (second_level_requests (parts_in c) events));
 }
