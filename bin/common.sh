@@ -82,7 +82,7 @@ build() {
 # build_where_needed: proves and builds $program, unless it is that of the sources.
 build_where_needed() {
     ! is_current || return 0
-    complain 'proving and building, which takes some minutes once'
+    complain 'proving and building the program, once; this takes about ten minutes'
     local log
     log=$(mktemp)
     if ! build > "$log" 2>&1; then
