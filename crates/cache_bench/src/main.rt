@@ -1,7 +1,7 @@
 //! Serves the same generated references to caches of one size and 1, 8, 256 and 4,096 ways, and
-//! says what missed.
+//! prints the misses.
 //!
-//! Words: the number of references, and `time` where the time of one access is wanted.
+//! Arguments: the number of references, and `time` to print the time of one access too.
 #![tactic(auto)]
 
 use anyhow::{Context, bail};
@@ -26,8 +26,8 @@ fn next(state: u64) -> u64 {
         .wrapping_add(1_442_695_040_888_963_407)
 }
 
-/// The access that a state stands for: one in four writes, and three in four go to a sixteenth of
-/// all blocks.
+/// The access that a state of the generator gives: one in four is a write, and three in four go to
+/// a sixteenth of all blocks.
 fn access_from(state: u64) -> Access {
     let bits = state >> 32;
     let class = if bits % 4 == 0 {
@@ -42,7 +42,7 @@ fn access_from(state: u64) -> Access {
     }
 }
 
-/// Serves as many generated references.
+/// Serves this many generated references.
 fn serve_all(cache: &mut Cache, references: u64) -> Result<(), NoMemory> {
     let mut state = 1;
     for _ in 0..references {

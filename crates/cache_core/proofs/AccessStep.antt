@@ -1,4 +1,4 @@
--- What the parts of `Cache::access` tell, put together.
+-- The contracts of the calls in `Cache::access`, put together.
 use Rattle.std.proofs.Common.{◌≡◌, ◌≢◌, ℕ, zero, suc, pred, ◌*◌, ◌%◌, ◌<◌, Bool, cond, not, ◌&&◌}
 use Rattle.std.proofs.Common.{◌||◌, nat_eq, List, ◌∷◌, map, Option, is_some, refl, ap, ◌∙◌, arith}
 use Rattle.std.proofs.Common.{true, false, sym}

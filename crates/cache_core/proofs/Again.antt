@@ -1,4 +1,4 @@
--- A block that is used again at once.
+-- A block that is used twice in a row.
 use Rattle.std.proofs.Common.{◌≡◌, ℕ, ◌-◌, Bool, true, false, cond, ◌||◌, eqb, nat_eq, List, []}
 use Rattle.std.proofs.Common.{◌∷◌, take, slice_get, Option, Some, None, is_some, refl, sym, ap}
 use Rattle.std.proofs.Common.{subst, ◌∙◌}
@@ -31,7 +31,7 @@ first-stays [] b h = cc
 first-stays (e ∷ es) b h = let same : e ≡ (b, tt) = cc in let at : nat_eq b e.0 ≡ true =
     ap (λ z. nat_eq b z.0) same ∙ self b in rw at refl
 
--- a known block adds nothing
+-- a block that was accessed before adds nothing to the known blocks
 pub referenced-stays : (referenced : ℕ → Bool) (b q : ℕ) → referenced b ≡ true
     → referenced q ≡ (eqb b q || referenced q)
 referenced-stays referenced b q h =

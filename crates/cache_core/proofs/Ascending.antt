@@ -1,4 +1,4 @@
--- Rising lists are told by their members.
+-- Two strictly ascending lists with the same members are equal.
 use Rattle.std.proofs.Common.{◌≡◌, ℕ, zero, suc, ◌+◌, ◌*◌, ◌<◌, ◌≤◌, Bool, true, false, cond, ◌||◌}
 use Rattle.std.proofs.Common.{eqb, ltb, List, [], ◌∷◌, length, map, get_or, Contains, refl, sym, ap}
 use Rattle.std.proofs.Common.{subst, ◌∙◌, inl, inr, arith}
@@ -17,7 +17,7 @@ use Rattle.cache_core.specs.Laws.{IsBelow, Rises}
 use Rattle.cache_core.proofs.Reuse.{has}
 use Rattle.cache_core.proofs.Cases.{by_cases}
 
--- two tests that hold together are one
+-- two tests, each of which implies the other, are equal
 pub same_test : (a b : Bool) → (a ≡ true → b ≡ true) → (b ≡ true → a ≡ true) → a ≡ b
 same_test true b f g = sym (f refl)
 same_test false true f g = g refl
@@ -69,7 +69,7 @@ same-rising (x ∷ xs) (y ∷ ys) a b same =
     sym (ap (λ t. t || has xs z) e) ∙ whole ∙ ap (λ t. t || has ys z) other) in
     ap (λ v. v ∷ xs) head ∙ ap (λ l. y ∷ l) (same-rising xs ys a.1 b.1 tails)
 
--- the definition's list rises
+-- the list `rising` is strictly ascending
 below-place : (w x : ℕ) (ys : List ℕ) → w < x → IsBelow w ys → IsBelow w (place x ys)
 below-place w x [] l b = (l, tt)
 below-place w x (y ∷ ys) l b =
@@ -141,7 +141,7 @@ pub rises-times : (n : ℕ) (xs : List ℕ) → 0 < n → Rises xs → Rises (ma
 rises-times n [] p r = tt
 rises-times n (x ∷ xs) p r = (below-times n x xs p r.0, rises-times n xs p r.1)
 
--- between `has` and `Contains`
+-- `has` and `Contains` say the same
 contains-has : (xs : List ℕ) (z : ℕ) → has xs z ≡ true → Contains xs z
 contains-has [] z h = cc
 contains-has (x ∷ xs) z h = elim (or_cases (eqb x z) (has xs z) h) [
@@ -189,7 +189,7 @@ unfolding IsStrictlySortedBy
 rises-from [] s = tt
 rises-from (x ∷ xs) s = (below-from x xs s.0, rises-from xs s.1)
 
--- what a sort and `dedup` leave
+-- a sorted list is strictly ascending after `dedup`
 pub rises-dedup : (xs : List ℕ) → IsSorted nat_cmp xs → Rises (dedup eqb xs)
 rises-dedup xs s = rises-from (dedup eqb xs)
     (sorted_from_strictly_increasing (dedup eqb xs) (IsStrictlyIncreasing-dedup xs s))

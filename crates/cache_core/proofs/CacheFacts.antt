@@ -1,4 +1,4 @@
--- Facts on the fields of a cache.
+-- Facts about the fields of a cache.
 use Rattle.std.proofs.Common.{◌≡◌, ℕ, ◌+◌, ◌≤◌, Bool, true, false, ◌&&◌, refl, arith}
 use Rattle.cache_core.specs.declared.access.Access.{Access}
 use Rattle.cache_core.specs.declared.access.Outcome.{Outcome}
@@ -65,7 +65,7 @@ AreWithin-with_flush k c n le h = record {
   flushes = (let a = h.flushes in omega arith);
 }
 
--- a miss has one kind and a hit none
+-- a miss has exactly one kind, and a hit has none
 one_kind : (a b c m k : Bool) → one_if a + one_if b + one_if c ≡ one_if m
     → one_if (k && a) + one_if (k && b) + one_if (k && c) ≡ one_if (k && m)
 one_kind a b c m true h = h
@@ -75,7 +75,7 @@ one_class : (a b c m : ℕ) (i j k l : ℕ) → i + j + k ≡ l → a + b + c �
     → (i + a) + (j + b) + (k + c) ≡ l + m
 one_class a b c m i j k l h g = omega arith
 
--- what adds up in each class adds up in total
+-- counts that add up in each class add up in total
 pub in_total : (whole a b c : PerClass) → a.instr + b.instr + c.instr ≡ whole.instr
     → a.read + b.read + c.read ≡ whole.read
     → a.write + b.write + c.write ≡ whole.write → a.misc + b.misc + c.misc ≡ whole.misc

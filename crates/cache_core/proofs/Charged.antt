@@ -25,7 +25,7 @@ pub dirty_count-append : (xs ys : List Way)
 dirty_count-append [] ys = omega arith
 dirty_count-append (x ∷ xs) ys = let rest = dirty_count-append xs ys in omega arith
 
--- what comes in and what was there is what stays and what leaves
+-- the dirty ways before and the new one are the dirty ways after and the one that is removed
 dirty_count-shifted : (p : Way → Bool) (c : Way) (xs : List Way)
     → dirty_count (shifted p c xs) + one (leaving p c xs) ≡ dirty_count xs + one c
 dirty_count-shifted p c [] = refl

@@ -1,4 +1,4 @@
--- Sets that are kept as maps, as rows one after another.
+-- Sets that are kept as maps, seen as rows one after another.
 use Rattle.std.proofs.Common.{eqb, ◌≡◌, ◌≢◌, ℕ, zero, suc, ◌+◌, ◌*◌, ◌<◌, ◌≤◌, Bool, cond, List, []}
 use Rattle.std.proofs.Common.{◌∷◌, ◌++◌, length, take, drop, map, replicate, filter, true, false}
 use Rattle.std.proofs.Common.{get_or, slice_set, refl, sym, ap, ◌∙◌, arith}
@@ -118,7 +118,7 @@ flat-emptied n (m ∷ ms) = ap (λ l. l ++ flat n (map emptied ms)) (take-empty 
       more : (k : ℕ) → n + k * n ≡ suc k * n
       more k = omega arith
 
--- the dirty blocks of a set and of those after it, where it holds no more blocks than it has ways
+-- the dirty blocks of a set and of the sets after it, if the set has no more blocks than ways
 pub dirty-flat_cons : (n : ℕ) (m : Entered) (ms : List Entered) → length m.entries ≤ n
     → map block_addr_of (filter is_dirty_way (flat n (m ∷ ms)))
     ≡ dirty_keys_of m ++ map block_addr_of (filter is_dirty_way (flat n ms))
@@ -157,7 +157,7 @@ length-flat n [] = omega arith
 length-flat n (m ∷ ms) = let here = shown-long n m.entries in let all =
     length-append (shown n m.entries) (flat n ms) in let rest = length-flat n ms in omega arith
 
--- so many sets of so many ways, in either form
+-- the number of ways in all sets, in either form
 pub length-ways_in : (count assoc : ℕ) (sets : Sets) → has_shape count assoc sets ≡ true
     → length (ways_in sets) ≡ count * assoc
 length-ways_in count assoc (Rows v) h = sym v.ok.0 ∙ eqb-true v.len (count * assoc) h

@@ -1,4 +1,4 @@
--- What the parts of `Cache::flush` tell, put together.
+-- The contracts of the calls in `Cache::flush`, put together.
 use Rattle.std.proofs.Common.{◌≡◌, ℕ, ◌*◌, ◌<◌, List, length, map, filter, nat_eq, ◌∙◌, arith}
 use Rattle.std.specs.List.{dedup}
 use Rattle.std.specs.List.Sorted.{IsPermutation, IsSorted}

@@ -67,7 +67,7 @@ module _ {X : Type 0} (q : X → Bool) where
   any-row : (n t : ℕ) (xs : List X) → list_any q (row n t xs) ≡ true → list_any q xs ≡ true
   any-row n t xs h = any-drop (t * n) xs (any-take n (drop (t * n) xs) h)
 
-  -- of k rows one has it
+  -- if some way of all k rows passes, one row has a way that passes
   row-any : (n k : ℕ) (xs : List X) → length xs ≡ k * n → list_any q xs ≡ true
       → (t : ℕ) × (t < k) × (list_any q (row n t xs) ≡ true)
   row-any n zero [] l h = cc
@@ -125,7 +125,7 @@ times-has n z (x ∷ xs) h = elim (or_cases (eqb (x * n) z) (has (map (λ y. y *
       (rest.0, or_right (eqb x rest.0) (has xs rest.0) rest.1, rest.2)
 ]
 
--- the dirty ways of a row are those of its blocks
+-- the ways of a row that pass a test are those of its blocks, if an empty way does not pass
 module _ (f : ℕ → Way) (k : ℕ) (q : Way → Bool) (none : q empty_way ≡ false) where
   none-replicate : (n j : ℕ) → list_any q (take n (replicate j empty_way)) ≡ true → ⊥
   none-replicate zero j h = false≢true h
@@ -216,8 +216,8 @@ module _ (r : Rules) (pos : 0 < r.bsize) (setful : 0 < r.sets) (h : History) (xs
       any-dirty z xs ∙ any-row (holds_dirty z) r.assoc t xs
       (subst (λ l. list_any (holds_dirty z) l ≡ true) (sym (rows t (mod-lt b.0 setful))) shown)
 
-  -- sorted and without repetitions, the dirty ways' first bytes are those of the dirty blocks,
-  -- rising
+  -- the first bytes of the dirty ways, sorted and without repetitions, are those of the dirty
+  -- blocks in ascending order
   pub flushed-is : (ys : List ℕ) → IsPermutation block_addrs ys → IsSorted nat_cmp ys
       → dedup eqb ys ≡ wanted
   unfolding dirty_blocks

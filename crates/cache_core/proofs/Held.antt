@@ -1,4 +1,4 @@
--- The ways of a cache hold the residents of the history that it stands for.
+-- The ways of a cache hold the residents of its history.
 use Rattle.std.proofs.Common.{◌≡◌, ℕ, zero, suc, ◌*◌, List, [], ◌∷◌, ◌++◌, take, map, filter}
 use Rattle.std.proofs.Common.{replicate, refl, ap, ◌∙◌}
 use Rattle.cache_core.specs.declared.cache.Cache.{Cache}

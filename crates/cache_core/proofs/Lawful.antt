@@ -1,4 +1,4 @@
--- What a lawful geometry is.
+-- What follows if a geometry is accepted.
 use Rattle.std.proofs.Common.{◌≡◌, ℕ, zero, suc, ◌*◌, ◌/◌, ◌^◌, ◌<◌, ◌≤◌, Bool, true, false, cond}
 use Rattle.std.proofs.Common.{not, ◌||◌, ltb, Option, Some, None, refl, subst, arith}
 use Rattle.std.proofs.lemmas.Bool.{not-false, eqb-true, ltb-false, or_parts}
@@ -54,7 +54,7 @@ lawful_is size bsize assoc h =
       assoc_fits = ltb-false (size / bsize) assoc f.0;
     }
 
--- a power of two below 2 ^ 64, by its trailing zeros
+-- a power of two below 2 ^ 64 is 2 to the number of its trailing zeros
 pub power_of_zeros : (n : ℕ) → n < 2 ^ 64 → is_power_of_two n ≡ true
     → n ≡ 2 ^ count_trailing_zeros 64 n
 power_of_zeros n h p = power_is 64 n h (eqb-true (ones n) 1 p)
@@ -74,7 +74,7 @@ module _ (size bsize assoc : ℕ) (law : IsLawful size bsize assoc) where
   block_pos : 0 < bsize
   block_pos = let low = law.block_low in omega arith
 
-  -- a set is no longer than the cache
+  -- a set is no larger than the cache
   pub set_fits : bsize * assoc ≤ size
   set_fits = subst (λ n. n ≤ size) (mul_comm assoc bsize)
       ((le-div_iff_mul-le block_pos).0 law.assoc_fits)
@@ -97,7 +97,7 @@ module _ (size bsize assoc : ℕ) (law : IsLawful size bsize assoc) where
   pub blocks_pos : 0 < size / bsize
   blocks_pos = let fits = law.block_fits in le-div 1 size bsize block_pos (omega arith)
 
--- the facts that code uses
+-- the facts about a geometry that the code uses
 pub record IsSane (size bsize assoc : ℕ) : Type 0 where
   pub block_low : 4 ≤ bsize
   pub block_high : bsize ≤ 4096

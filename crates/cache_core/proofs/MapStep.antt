@@ -1,4 +1,4 @@
--- A set that is kept as a map takes the same step as a row.
+-- An access changes a set that is kept as a map as it changes a row.
 use Rattle.std.proofs.Common.{◌≡◌, ℕ, zero, suc, ◌-◌, ◌<◌, ◌≤◌, Bool, true, false, cond, not, ◌&&◌}
 use Rattle.std.proofs.Common.{◌||◌, eqb, nat_eq, List, [], ◌∷◌, ◌++◌, length, take, map, replicate}
 use Rattle.std.proofs.Common.{slice_get, Option, Some, None, is_some, refl, sym, ap, subst, ◌∙◌}
@@ -18,7 +18,7 @@ use Rattle.cache_core.proofs.MapEntries.{Entries, find-shown, shifted-shown, cha
 use Rattle.cache_core.proofs.MapEntries.{leaving-shown, removed-absent, set-absent, found-first}
 use Rattle.cache_core.proofs.MapEntries.{lookup-is, lookup-none, take-shown}
 
--- a use, as `get_mut` makes it
+-- a use of a block, as `get_mut` does it
 module _ (b : ℕ) (wb w : Bool) (es : Entries) where
   abbrev used : Option (ℕ × Bool) → Entries
   used o = option_map_or (λ e. (e.0, wb && (w || e.1)) ∷ remove_entry (nat_eq b) es) o es

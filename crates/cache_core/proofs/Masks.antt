@@ -1,4 +1,4 @@
--- Sets by a shift and a mask.
+-- The number of a set, computed by a shift and a mask.
 use Rattle.std.proofs.Common.{◌≡◌, ℕ, ◌+◌, ◌*◌, ◌-◌, ◌/◌, ◌%◌, ◌^◌, ◌<◌, ◌≤◌, None, sym, ap, ◌∙◌}
 use Rattle.std.proofs.Common.{inl, inr, arith}
 use Rattle.std.specs.Prelude.{bit_and}
@@ -26,7 +26,7 @@ module _ (size bsize assoc : ℕ) (ok : refusal_of size bsize assoc ≡ None) wh
   assoc_high : assoc ≤ 2 ^ 24
   assoc_high = let a = law.assoc_fits in let b = facts.blocks_high in omega arith
 
-  -- the bytes of a set are a power of two
+  -- the size of a set in bytes is a power of two
   pub set_is : bsize * assoc ≡ 2 ^ k
   set_is =
       let high = law.block_high in let low = assoc_high in
@@ -64,7 +64,7 @@ module _ (size bsize assoc : ℕ) (ok : refusal_of size bsize assoc ≡ None) wh
   masked b = ap (λ n. bit_and b (n - 1)) sets_is ∙ and_mask b (zeros size - k)
       ∙ ap (λ n. b % n) (sym sets_is)
 
-  -- the sets are all of the cache, and one set has all of its blocks
+  -- the size of all sets together is the size of the cache
   whole : size ≡ size / (bsize * assoc) * (bsize * assoc)
   whole =
       let sum : zeros size ≡ (zeros size - k) + k = let w = within in omega arith in

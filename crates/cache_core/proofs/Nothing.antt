@@ -1,4 +1,4 @@
--- A cache that holds nothing stands for no event.
+-- An empty cache stands for the empty history.
 use Rattle.std.proofs.Common.{◌≡◌, ℕ, zero, suc, ◌+◌, ◌-◌, ◌*◌, ◌<◌, ◌≤◌, true, false, cond, List}
 use Rattle.std.proofs.Common.{[], ◌∷◌, ◌++◌, take, map, replicate, refl, sym, ap, ◌∙◌, arith}
 use Rattle.std.proofs.Math.Nat.{mul-le-mul_right}

@@ -1,4 +1,4 @@
--- An LRU cache of one set is its own shadow, so it has no conflict miss.
+-- A fully associative LRU cache is its own shadow, so it has no conflict miss.
 use Rattle.std.proofs.Common.{◌≡◌, ℕ, ◌+◌, Bool, true, false, cond, ◌&&◌, ◌==◌, [], ◌∷◌, Some, None}
 use Rattle.std.proofs.Common.{refl, sym, ap, ◌∙◌, arith}
 use Rattle.std.specs.List.{list_any}

@@ -1,4 +1,4 @@
--- The last step of a pass over a row: the way at i passes.
+-- The last step of a pass over a row: the way at index i passes the test.
 use Rattle.std.proofs.Common.{◌≡◌, ℕ, ◌<◌, Bool, true, List, ◌++◌, length, take, drop, set, get_or}
 use Rattle.std.proofs.Common.{add-one}
 use Rattle.std.proofs.lemmas.List.{drop_more, set_split}

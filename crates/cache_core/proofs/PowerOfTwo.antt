@@ -1,4 +1,4 @@
--- A number with one digit set is a power of two, by its trailing zeros.
+-- A number with exactly one bit set is 2 to the number of its trailing zeros.
 use Rattle.std.proofs.Common.{◌≡◌, ℕ, zero, suc, ◌*◌, ◌/◌, ◌%◌, ◌^◌, ◌<◌, refl, subst, arith}
 use Rattle.std.proofs.Math.Nat.{pow-suc}
 use lib.Count.{ones, ones_step, count_trailing_zeros, under}

@@ -1,4 +1,4 @@
--- Each block that was renewed was referenced.
+-- Each block that was renewed was accessed.
 use Rattle.std.proofs.Common.{◌≡◌, ℕ, true, false, cond, ◌||◌, eqb, [], ◌∷◌, refl}
 use Rattle.std.proofs.lemmas.Bool.{or_right}
 use Rattle.cache_core.specs.History.{Rules, History, access, flush, block_of}

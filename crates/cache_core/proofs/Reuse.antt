@@ -1,5 +1,5 @@
--- Blocks by falling last use (or last load), cut at the number of ways, are the residents by reuse
--- distance.
+-- If the blocks of a set are ordered by last use (FIFO: by last load), the first ones, as many as
+-- there are ways, are the residents by reuse distance.
 use Rattle.std.proofs.Common.{◌≡◌, ℕ, zero, suc, ◌%◌, Bool, true, false, not, ◌&&◌, eqb, ltb, List}
 use Rattle.std.proofs.Common.{[], ◌∷◌, length, take, filter, refl, sym, ap, subst, ◌∙◌, arith}
 use Rattle.std.specs.List.{list_any}
@@ -71,7 +71,7 @@ module _ (r : Rules) where
   has-in_set ms b = has-filter (λ m. eqb (m % r.sets) (b % r.sets)) b
       (eq-eqb (b % r.sets) (b % r.sets) refl) ms
 
-  -- the law: they are the residents by reuse distance
+  -- the law itself
   pub has-ways_of : (ms : List ℕ) (b : ℕ) → has (ways_of r (b % r.sets) ms) b ≡ is_resident r ms b
   unfolding is_resident reuse_distance
   has-ways_of ms b = by_cases r.fifo

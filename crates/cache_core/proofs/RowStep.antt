@@ -1,4 +1,4 @@
--- The row of the set of an access, afterwards: the step that the code makes.
+-- The row of the set of an access after that access is the one that the code computes.
 use Rattle.std.proofs.Math.Bool.{or-false}
 use Rattle.std.proofs.Common.{◌≡◌, ℕ, ◌%◌, ◌*◌, ◌<◌, Bool, true, false, cond, not, ◌&&◌, ◌||◌, List}
 use Rattle.std.proofs.Common.{[], ◌∷◌, Some, None, refl, sym, ap, ◌∙◌}
@@ -89,7 +89,7 @@ module _ (r : Rules) (pos : 0 < r.bsize) (h : History) (x : Access) where
   pub uses-miss : hits r ms x ≡ false → uses r ms x ≡ (not w || r.walloc)
   uses-miss e = ap (λ t. not w || r.walloc || t) e ∙ or-false (not w || r.walloc)
 
-  -- the block's mark after a use
+  -- the dirty bit of the block after a use
   way-used : uses r ms x ≡ true → way_at r h' b
       ≡ valid_way block_addr (r.wback && (w || (hits r ms x && is_written r h b)))
   way-used u = ap (λ t. valid_way block_addr (r.wback && t)) (is_written-used r pos h x u)
@@ -153,6 +153,6 @@ module _ (r : Rules) (pos : 0 < r.bsize) (h : History) (x : Access) where
       (find-row_of r pos h b ∙ cond-false (hits r ms x) (Some (way_at r h b)) None e)
       ∙ next-miss r.fifo r.wback r.walloc w block_addr row)
 
-  -- the row after the access is what one step makes of the row before it
+  -- the row after the access is the row before it, changed by `next_row`
   pub row_of-next : row_of r h' s ≡ next
   row_of-next = by_cases (hits r ms x) (on-hit) (on-miss)

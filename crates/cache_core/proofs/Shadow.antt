@@ -71,7 +71,7 @@ module _ (b : ℕ) where
       (e.0, tt) ∷ remove_entry (nat_eq b) (map pair ys)) o ((b, tt) ∷ take (n - 1) (map pair ys)))
       (entry-found ys ∙ ap (λ t. cond t (Some (pair b)) None) h)
 
-  -- a front that has b, without it
+  -- the first members of a list, if b is one of them, without b
   pub take-without_there : (m : ℕ) (ys : List ℕ) → IsOnce ys → has (take (suc m) ys) b ≡ true
       → without b (take (suc m) ys) ≡ take m (without b ys)
   take-without_there m [] o h = cc
@@ -89,7 +89,7 @@ module _ (b : ℕ) where
         further again zero g = cc
         further again (suc k) g = ap (λ l. y ∷ l) (again k g)
 
-  -- a front that lacks b
+  -- the first members of a list, if b is not one of them
   pub take-without_absent : (m : ℕ) (ys : List ℕ) → has (take m ys) b ≡ false
       → take m (without b ys) ≡ take m ys
   take-without_absent zero ys h = refl
@@ -97,7 +97,7 @@ module _ (b : ℕ) where
   take-without_absent (suc m) (y ∷ ys) h = let parts = or_parts (eqb y b) (has (take m ys) b) h in
       rw parts.0 (ap (λ l. y ∷ l) (take-without_absent m ys parts.1))
 
--- what an access leaves of the first entries of a list, by the clause of `MissClassifier::classify`
+-- the entries of the shadow after an access, as a clause of `MissClassifier::classify` has them
 abbrev pub after_classify : ℕ → Bool → ℕ → List (ℕ × Unit {0}) → List (ℕ × Unit {0})
 after_classify b load cap es =
     let in_shadow = is_some (lookup (nat_eq b) es) in

@@ -1,4 +1,4 @@
--- A row of ways, the first in order first, and what one pass over it does.
+-- A row of ways in order, and what one pass over it does.
 use Rattle.std.proofs.Common.{◌≡◌, ℕ, zero, suc, ◌≤◌, Bool, true, false, cond, not, ◌||◌, eqb, ltb}
 use Rattle.std.proofs.Common.{List, [], ◌∷◌, ◌++◌, length, take, map, replicate, get_or, filter}
 use Rattle.std.proofs.Common.{Some, None, refl, sym, ap, subst, ◌∙◌, arith}
@@ -14,7 +14,7 @@ use Rattle.cache_core.proofs.Cases.{by_cases}
 abbrev pub without : ℕ → List ℕ → List ℕ
 without b ms = filter (λ n. not (eqb n b)) ms
 
--- no number stands twice
+-- no number is in the list twice
 abbrev pub IsOnce : List ℕ → Type 0
 IsOnce [] = Unit {0}
 IsOnce (m ∷ ms) = (has ms m ≡ false) × IsOnce ms
@@ -56,7 +56,7 @@ module _ {X : Type 0} (p : X → Bool) where
       (λ e. absurd (false≢true (sym h ∙ rw e refl)))
       (λ e. rw e (ap (λ l. x ∷ l) (changed-none g xs (sym (rw e refl) ∙ h))))
 
--- a row holds a way for each of some blocks, and then empty ones, cut at a length
+-- a row that has a way for each of some blocks, and then empty ways, up to a length
 module _ {X : Type 0} (f : ℕ → X) (empty : X) (k : ℕ) where
   -- a way for each of these blocks, and then k empty ones
   abbrev pub padded : List ℕ → List X
@@ -72,7 +72,7 @@ module _ {X : Type 0} (f : ℕ → X) (empty : X) (k : ℕ) where
     any-take-replicate (suc n) zero = refl
     any-take-replicate (suc n) (suc j) = rw none (any-take-replicate n j)
 
-    -- the row holds b just where b is among the first
+    -- the row holds b exactly if b is among the first blocks
     pub any-padded : (n : ℕ) (ms : List ℕ) → list_any p (take n (padded ms)) ≡ has (take n ms) b
     any-padded zero ms = refl
     any-padded (suc n) [] = any-take-replicate (suc n) k
@@ -127,7 +127,7 @@ module _ {X : Type 0} (f : ℕ → X) (empty : X) (k : ℕ) where
           (λ e. rw e (map-without ms))
           (λ e. rw (e, agree m e, map-without ms))
 
-      -- the row looks the same where b is not among the first
+      -- the row does not depend on the way of b if b is not among the first blocks
       pub padded-agree : (n : ℕ) (ms : List ℕ) → has (take n ms) b ≡ false
           → take n (padded' ms) ≡ take n (padded ms)
       padded-agree zero ms h = refl
@@ -138,7 +138,7 @@ module _ {X : Type 0} (f : ℕ → X) (empty : X) (k : ℕ) where
           (λ e. rw (agree m e) (ap (λ l. f m ∷ l)
           (padded-agree n ms (sym (rw e refl) ∙ h))))
 
-      -- a pass that changes b where it stands
+      -- a pass that changes the way of b in its place
       pub changed-padded : (g : X → X) → f' b ≡ g (f b) → (n : ℕ) (ms : List ℕ) → IsOnce (take n ms)
           → changed p g (take n (padded ms)) ≡ take n (padded' ms)
       changed-padded g same zero ms o = refl
@@ -162,7 +162,7 @@ has-filter_not p b fails (y ∷ ys) =
     (λ f. rw (e, f) (has-filter_not p b fails ys)))
     (λ e. rw e (has-filter_not p b fails ys))
 
--- what is absent stays absent in a filter and a front
+-- a number that is not in a list is not in a filter of it or among its first members
 pub has-filter_absent : (p : ℕ → Bool) (b : ℕ) (ys : List ℕ) → has ys b ≡ false
     → has (filter p ys) b ≡ false
 has-filter_absent p b [] h = refl

@@ -141,7 +141,7 @@ module _ (r : Rules) (pos : 0 < r.bsize) (m : ℕ) (size : r.assoc ≡ suc m) (h
       (λ e. ap (pushed_out r.wback r.walloc block_addr w here) (seen-is
       ∙ cond-false (hits r ms x) (Some (way_at r h b)) None e) ∙ back-miss e)
 
-  -- the answer, by the parts that the code has
+  -- the outcome by the definitions is the one that the code makes of its parts
   pub outcome-is : outcome_made r.wback r.walloc w (is_some seen)
       (pushed_out r.wback r.walloc block_addr w here seen)
       (list_any (λ t. nat_eq t b) (referenced_blocks r h))

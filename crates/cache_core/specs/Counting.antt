@@ -1,4 +1,4 @@
--- The code's side: the counts of a cache after one event more.
+-- Inside the crate: the counts of a cache after one more event.
 use Rattle.std.specs.Prelude.{ℕ, ◌+◌, ◌≤◌, Bool, true, ◌&&◌, not, Option, is_some}
 use Rattle.cache_core.specs.declared.access.Access.{Access}
 use Rattle.cache_core.specs.declared.access.Outcome.{Outcome}
@@ -10,7 +10,7 @@ use Rattle.cache_core.specs.History.{is_instr, is_read, is_write, is_misc}
 use Rattle.cache_core.specs.Kinds.{is_kind}
 use Rattle.cache_core.specs.Parts.{one_if}
 
--- one more in the class of this access, if it is counted
+-- the counts by class, with one more in the class of this access if the flag is true
 abbrev pub with_one : Access → Bool → PerClass → PerClass
 with_one x counted p = record {
   instr = one_if (is_instr x && counted) + p.instr;
@@ -19,7 +19,7 @@ with_one x counted p = record {
   misc = one_if (is_misc x && counted) + p.misc;
 }
 
--- the kinds of miss alone
+-- the counts with this access added to its kind of miss, if it has one
 abbrev pub with_kind : Access → Option MissKind → Counts → Counts
 with_kind x k c = record c {
   compulsory = with_one x (is_kind Compulsory k) c.compulsory;
@@ -27,7 +27,7 @@ with_kind x k c = record c {
   conflict = with_one x (is_kind Conflict k) c.conflict;
 }
 
--- the counts with this access and its outcome
+-- the counts after this access, which had this outcome
 abbrev pub with_access : Access → Outcome → Counts → Counts
 with_access x o c = record {
   fetches = with_one x true c.fetches;
@@ -41,18 +41,18 @@ with_access x o c = record {
   flushes = c.flushes;
 }
 
--- after a flush that wrote n blocks back
+-- the counts after a flush that wrote n blocks back
 abbrev pub with_flush : ℕ → Counts → Counts
 with_flush n c = record c { written_back = c.written_back + n; flushes = c.flushes + 1 }
 
--- no count of a class is above this number
+-- none of the four counts is above n
 pub record IsWithin (p : PerClass) (n : ℕ) : Type 0 where
   pub instr : p.instr ≤ n
   pub read : p.read ≤ n
   pub write : p.write ≤ n
   pub misc : p.misc ≤ n
 
--- no count is above n
+-- no count of a cache is above n
 pub record AreWithin (c : Counts) (n : ℕ) : Type 0 where
   pub fetches : IsWithin c.fetches n
   pub misses : IsWithin c.misses n

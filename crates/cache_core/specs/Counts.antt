@@ -1,4 +1,4 @@
--- Every count of a history.
+-- The counts that a cache has after a history.
 use Rattle.std.specs.Prelude.{◌≡◌, ℕ, ◌+◌, Bool, true, ◌&&◌, not, [], ◌∷◌, length, is_some}
 use Rattle.cache_core.specs.declared.access.Access.{Access}
 use Rattle.cache_core.specs.declared.access.MissKind.TheVariants.{Compulsory, Capacity, Conflict}
@@ -10,7 +10,7 @@ use Rattle.cache_core.specs.Dirty.{dirty_blocks}
 use Rattle.cache_core.specs.Kinds.{is_kind}
 use Rattle.cache_core.specs.Parts.{one_if, outcome_of}
 
--- how many accesses of a history pass a test, each with what was before it
+-- how many accesses of a history pass a test, which gets the history before the access too
 unfoldable pub tally : (History → Access → Bool) → History → ℕ
 tally test [] = 0
 tally test (flush ∷ h) = tally test h
@@ -32,12 +32,13 @@ flushes_in (flush ∷ h) = 1 + flushes_in h
 flushes_in (access x ∷ h) = flushes_in h
 
 module _ (r : Rules) where
-  -- how many blocks the flushes wrote back
+  -- how many blocks the flushes of a history wrote back
   unfoldable pub flushed_back : History → ℕ
   flushed_back [] = 0
   flushed_back (flush ∷ h) = length (dirty_blocks r h) + flushed_back h
   flushed_back (access x ∷ h) = flushed_back h
 
+  -- all counts: a definition of each line of the report
   unfoldable pub counts_of : History → Counts
   counts_of h = record {
     fetches = by_class (λ g x. true) h;
@@ -51,7 +52,7 @@ module _ (r : Rules) where
     flushes = flushes_in h;
   }
 
--- no access of any class
+-- zero in each class
 abbrev pub none_by_class : PerClass
 none_by_class = record { instr = 0; read = 0; write = 0; misc = 0 }
 
@@ -69,7 +70,7 @@ no_counts = record {
   flushes = 0;
 }
 
--- all classes together
+-- the sum over the classes
 abbrev pub total_of : PerClass → ℕ
 total_of p = p.instr + p.read + p.write + p.misc
 

@@ -1,4 +1,5 @@
--- Traces worked out by hand, as examples of the definitions. They stand oldest first.
+-- Examples of the definitions: traces, oldest event first, and outcomes that were worked out by
+-- hand.
 use Rattle.std.specs.Prelude.{◌≡◌, ℕ, true, false, List, [], ◌∷◌, reverse, Some, None}
 use Rattle.cache_core.specs.declared.access.Class.TheVariants.{Instr, Read, Write}
 use Rattle.cache_core.specs.declared.access.MissKind.{MissKind}
@@ -9,7 +10,7 @@ use Rattle.cache_core.specs.Dirty.{dirty_blocks}
 use Rattle.cache_core.specs.Parts.{outcome_of}
 use Rattle.cache_core.specs.Counts.{counts_of, none_by_class, no_counts}
 
--- a fetch of an instruction at this address
+-- an instruction fetch at this address
 abbrev pub instr : ℕ → Event
 instr a = access (record { class = Instr; addr = a })
 
@@ -33,11 +34,11 @@ data_cache = record {
   walloc = true;
 }
 
--- the same in four sets of one block
+-- the same size, direct-mapped: four sets of one block
 abbrev pub direct_mapped : Rules
 direct_mapped = record data_cache { sets = 4; assoc = 1 }
 
--- what the accesses of a trace answer, after a history
+-- the outcomes of the accesses of a trace, if it follows this history
 abbrev pub outcomes : Rules → History → List Event → List Outcome
 outcomes r h [] = []
 outcomes r h (flush ∷ es) = outcomes r (flush ∷ h) es
@@ -47,11 +48,11 @@ outcomes r h (access x ∷ es) = outcome_of r h x ∷ outcomes r (access x ∷ h
 abbrev pub hit : Outcome
 hit = record { hit = true; kind = None; back = None; fetch = false; through = false }
 
--- a miss that brings its block in
+-- a miss that loads its block
 abbrev pub missed : MissKind → Outcome
 missed k = record { hit = false; kind = Some k; back = None; fetch = true; through = false }
 
--- and writes the block at this address back
+-- a miss that loads its block, and writes back the dirty block at this address
 abbrev pub missed_back : MissKind → ℕ → Outcome
 missed_back k a = record (missed k) { back = Some a }
 
@@ -59,12 +60,12 @@ missed_back k a = record (missed k) { back = Some a }
 abbrev pub new : Outcome
 new = missed Compulsory
 
--- what small caches answer, worked out by hand
+-- the outcomes of small caches, worked out by hand
 pub record WorkedExamples : Type 0 where
-  -- 0 was used after 8, so 16 takes the place of 8
+  -- 0 was used after 8, so 16 replaces 8
   pub lru : outcomes data_cache [] (read 0 ∷ read 8 ∷ read 0 ∷ read 16 ∷ read 0 ∷ [])
       ≡ new ∷ new ∷ hit ∷ new ∷ hit ∷ []
-  -- 0 was loaded before 8, so 16 takes the place of 0
+  -- 0 was loaded before 8, so 16 replaces 0
   pub fifo : outcomes (record data_cache { fifo = true }) []
       (read 0 ∷ read 8 ∷ read 0 ∷ read 16 ∷ read 0 ∷ [])
       ≡ new ∷ new ∷ hit ∷ new ∷ missed Conflict ∷ []
@@ -73,16 +74,16 @@ pub record WorkedExamples : Type 0 where
   pub write_through : outcomes (record data_cache { wback = false }) []
       (write 2 ∷ write 2 ∷ [])
       ≡ record new { through = true } ∷ record hit { through = true } ∷ []
-  -- the shadow has no block of a write that missed without allocation
+  -- without write allocation, the write does not load its block into the shadow either
   pub no_allocation : outcomes (record data_cache { walloc = false }) [] (write 0 ∷ read 0 ∷ [])
       ≡ record new { fetch = false; through = true } ∷ missed Capacity ∷ []
   pub flushed : dirty_blocks data_cache (reverse (write 8 ∷ write 0 ∷ [])) ≡ 0 ∷ 2 ∷ []
-  -- the block is known, and the shadow is empty
+  -- the block was accessed before, and the flush emptied the shadow: a capacity miss
   pub after_flush : outcomes data_cache [] (read 0 ∷ flush ∷ read 0 ∷ [])
       ≡ new ∷ missed Capacity ∷ []
   pub conflict : outcomes direct_mapped [] (instr 0 ∷ instr 16 ∷ instr 0 ∷ [])
       ≡ new ∷ new ∷ missed Conflict ∷ []
-  -- 0 was written before it left, and is clean when it comes back
+  -- 0 was written before it was evicted, and is clean when it is loaded again
   pub clean_again : outcomes data_cache []
       (write 0 ∷ read 8 ∷ read 16 ∷ read 0 ∷ read 8 ∷ read 16 ∷ [])
       ≡ new ∷ new ∷ missed_back Compulsory 0

@@ -1,38 +1,38 @@
--- What a cache was given, and the rules that it keeps. These files define a cache by its whole
--- history: they count over lists, and know no ways, no marks and no order of a set.
+-- The history of a cache, and the rules that it follows. The definitions of a cache work on its
+-- whole history: they count over lists, and have no ways, no dirty bits and no order within a set.
 use Rattle.std.specs.Prelude.{ℕ, ◌/◌, Bool, true, false, List}
 use Rattle.cache_core.specs.declared.access.Access.{Access}
 use Rattle.cache_core.specs.declared.access.Class.TheVariants.{Instr, Read, Write, Misc}
 
--- one event of a cache
+-- one request to a cache
 pub data Event : Type 0 where
   access : Access → Event
   flush : Event
 
--- all that a cache was given, the newest event first
+-- all requests to a cache, the newest first
 abbrev pub History : Type 0
 History = List Event
 
 -- the shape and the policy of a cache
 pub record Rules : Type 0 where
-  -- the bytes of a block
+  -- the size of a block in bytes
   pub bsize : ℕ
   pub sets : ℕ
-  -- the blocks that a set holds, and those that the whole cache holds
+  -- how many blocks a set holds, and how many the whole cache holds
   pub assoc : ℕ
   pub blocks : ℕ
-  -- first in first out, in place of least recently used
+  -- replacement is FIFO (first in, first out) if true, LRU (least recently used) if false
   pub fifo : Bool
-  -- a write marks its block dirty, in place of being sent on
+  -- a write marks its block dirty if true, and is sent to the next level (write through) if false
   pub wback : Bool
-  -- a write that misses brings its block in
+  -- a write that misses loads its block
   pub walloc : Bool
 
 -- the number of the block that holds the address
 abbrev pub block_of : Rules → Access → ℕ
 block_of r x = x.addr / r.bsize
 
--- the access fetches an instruction
+-- the access is an instruction fetch
 abbrev pub is_instr : Access → Bool
 is_instr x = elim x.class as (λ _. Bool) [ Instr ↦ true | _ ↦ false ]
 
@@ -44,6 +44,6 @@ is_read x = elim x.class as (λ _. Bool) [ Read ↦ true | _ ↦ false ]
 abbrev pub is_write : Access → Bool
 is_write x = elim x.class as (λ _. Bool) [ Write ↦ true | _ ↦ false ]
 
--- the access is another reference to data, served as a read
+-- the access is another data reference, which acts as a read
 abbrev pub is_misc : Access → Bool
 is_misc x = elim x.class as (λ _. Bool) [ Misc ↦ true | _ ↦ false ]

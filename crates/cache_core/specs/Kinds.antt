@@ -8,26 +8,26 @@ use Rattle.cache_core.specs.declared.access.MissKind.TheVariants.{Compulsory, Ca
 use Rattle.cache_core.specs.History.{access, flush, History, Rules, block_of}
 use Rattle.cache_core.specs.Residents.{hits, renewals}
 
--- the shadow: one LRU set of as many blocks as the cache has, with the same write allocation
+-- the shadow: a fully associative LRU cache with as many blocks and the same write allocation
 abbrev pub shadow_of : Rules → Rules
 shadow_of r = record r { sets = 1; assoc = r.blocks; fifo = false }
 
 module _ (r : Rules) where
-  -- the blocks of all accesses, those before a flush too
+  -- the blocks of all accesses so far, also of those before a flush
   unfoldable pub referenced_blocks : History → List ℕ
   referenced_blocks [] = []
   referenced_blocks (flush ∷ h) = referenced_blocks h
   referenced_blocks (access x ∷ h) = block_of r x ∷ referenced_blocks h
 
-  -- a miss is compulsory at a block that was never accessed, capacity where the shadow misses too,
-  -- else conflict
+  -- a miss is compulsory if its block was never accessed before; otherwise it is a capacity miss if
+  -- the shadow misses too, and a conflict miss if the shadow hits
   unfoldable pub kind_of_miss : History → Access → MissKind
   kind_of_miss h x =
       if list_any (λ b. b == block_of r x) (referenced_blocks h)
       then (if hits (shadow_of r) (renewals (shadow_of r) h) x then Conflict else Capacity)
       else Compulsory
 
--- whether there is a kind, and it is k
+-- whether this is the kind k; a hit has no kind
 abbrev pub is_kind : MissKind → Option MissKind → Bool
 is_kind k None = false
 is_kind Compulsory (Some j) = elim j as (λ _. Bool) [ Compulsory ↦ true | _ ↦ false ]

@@ -1,4 +1,4 @@
--- Which geometries are lawful.
+-- Which geometries are accepted, and which fault is answered for the others.
 use Rattle.std.specs.Prelude.{ℕ, ◌/◌, ◌^◌, Bool, not, ◌||◌, if◌then◌else◌, nat_lt, Option, Some}
 use Rattle.std.specs.Prelude.{None}
 use Rattle.std.specs.Int.{is_power_of_two}
@@ -12,7 +12,7 @@ use Rattle.cache_core.specs.declared.geometry.GeometryFault.TheVariants.{AssocTo
 abbrev pub is_outside : ℕ → ℕ → ℕ → Bool
 is_outside low high n = nat_lt n low || nat_lt high n
 
--- the first rule that a size, a block's size and an associativity break
+-- the first rule that a size, a block size and an associativity break, if any
 unfoldable pub refusal_of : ℕ → ℕ → ℕ → Option GeometryFault
 refusal_of size bsize assoc =
     if not (is_power_of_two size) then Some SizeNotPower

@@ -1,4 +1,4 @@
--- Laws over the definitions.
+-- Laws: properties that follow from the definitions alone.
 use Rattle.std.specs.Prelude.{◌≡◌, ◌≢◌, ℕ, ◌+◌, ◌%◌, ◌<◌, ◌≤◌, ◌==◌}
 use Rattle.std.specs.Prelude.{true, false, List, [], ◌∷◌}
 use Rattle.std.specs.Prelude.{length, Some}
@@ -11,54 +11,54 @@ use Rattle.cache_core.specs.Order.{residents_of}
 use Rattle.cache_core.specs.Dirty.{is_dirty, dirty_blocks}
 use Rattle.cache_core.specs.Parts.{one_if, outcome_of, part_count}
 
--- the blocks of a set by falling last use (FIFO: by falling load), cut at its ways, are its
--- residents
+-- if the blocks of a set are ordered by last use (FIFO: by last load), the latest first, the
+-- residents of the set are the first ones, as many as it has ways
 abbrev pub OrderedWaysAreResidents : Type 0
 OrderedWaysAreResidents = (r : Rules) (h : History) (b : ℕ) →
     list_any (λ m. m == b) (residents_of r h (b % r.sets)) ≡ is_resident r (renewals r h) b
 
--- at most one block leaves at an access
+-- an access evicts at most one block
 abbrev pub AtMostOneLeaves : Type 0
 AtMostOneLeaves = (r : Rules) (h : History) (x : Access) (a b : ℕ) →
     leaves r h x a ≡ true → leaves r h x b ≡ true → a ≡ b
 
--- one LRU set of all blocks
+-- the cache is fully associative (one set of all blocks) and LRU
 pub record IsOneLruSet (r : Rules) : Type 0 where
   pub one_set : r.sets ≡ 1
   pub all_blocks : r.assoc ≡ r.blocks
   pub lru : r.fifo ≡ false
 
--- an LRU cache of one set has no conflict miss
+-- a fully associative LRU cache has no conflict miss
 abbrev pub OneLruSetHasNoConflict : Type 0
 OneLruSetHasNoConflict = (r : Rules) → IsOneLruSet r → (h : History) (x : Access) →
     (outcome_of r h x).kind ≢ Some Conflict
 
--- the parts of an access and the blocks that are dirty after it are at most one more than the
--- blocks dirty before it, or two more where it writes
+-- the parts that an access sends and the dirty blocks after it are together at most one more than
+-- the dirty blocks before it, or two more if it is a write
 abbrev pub WriteBacksAreCharged : Type 0
 WriteBacksAreCharged = (r : Rules) (h : History) (x : Access) →
     part_count (outcome_of r h x) + length (dirty_blocks r (access x ∷ h))
     ≤ length (dirty_blocks r h) + (1 + one_if (is_write x))
 
--- after a flush nothing is dirty
+-- after a flush no block is dirty
 abbrev pub FlushesLeaveNoneDirty : Type 0
 FlushesLeaveNoneDirty = (r : Rules) (h : History) → dirty_blocks r (flush ∷ h) ≡ []
 
--- the number is below all of these
+-- the number is below all numbers of the list
 abbrev pub IsBelow : ℕ → List ℕ → Type 0
 IsBelow x [] = Unit {0}
 IsBelow x (y ∷ ys) = (x < y) × IsBelow x ys
 
--- each number is below all that stand behind it
+-- each number of the list is below all that follow it
 abbrev pub Rises : List ℕ → Type 0
 Rises [] = Unit {0}
 Rises (x ∷ xs) = IsBelow x xs × Rises xs
 
--- the list of the dirty blocks rises, so that none stands in it twice
+-- the list of the dirty blocks is strictly ascending, so no block is in it twice
 abbrev pub DirtyBlocksRise : Type 0
 DirtyBlocksRise = (r : Rules) (h : History) → Rises (dirty_blocks r h)
 
--- and it has the blocks that are dirty, and no other
+-- the list of the dirty blocks has exactly the blocks that are dirty
 abbrev pub DirtyBlocksAreDirty : Type 0
 DirtyBlocksAreDirty = (r : Rules) (h : History) (b : ℕ) →
     list_any (λ m. m == b) (dirty_blocks r h) ≡ is_dirty r h b

@@ -1,17 +1,17 @@
--- The residents of a set in order.
+-- The residents of a set, in order of last use (FIFO: of last load).
 use Rattle.std.specs.Prelude.{ℕ, List, take, if◌then◌else◌}
 use Rattle.cache_core.specs.History.{Rules, History}
 use Rattle.cache_core.specs.Residents.{in_set, distinct, renewals}
 
 module _ (r : Rules) where
-  -- the renewed blocks of set s by falling last use (FIFO: by falling load)
+  -- the blocks of set s in the list, by last use (FIFO: by last load), the latest first
   abbrev pub ranked : ℕ → List ℕ → List ℕ
   ranked s ms = if r.fifo then in_set r s ms else distinct (in_set r s ms)
 
-  -- cut at the number of ways
+  -- the first of them, as many as a set has ways
   abbrev pub ways_of : ℕ → List ℕ → List ℕ
   ways_of s ms = take r.assoc (ranked s ms)
 
-  -- so, after a history
+  -- the residents of set s after a history
   abbrev pub residents_of : History → ℕ → List ℕ
   residents_of h s = ways_of s (renewals r h)

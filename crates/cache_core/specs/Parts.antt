@@ -1,4 +1,4 @@
--- What one access answers, and so what it sends to the next level.
+-- The outcome of one access, which includes what it sends to the next level.
 use Rattle.std.specs.Prelude.{ℕ, ◌+◌, ◌*◌, Bool, ◌&&◌, ◌||◌, not, if◌then◌else◌, Option, Some, None}
 use Rattle.std.specs.Prelude.{is_some}
 use Rattle.cache_core.specs.declared.access.Access.{Access}
@@ -13,14 +13,14 @@ abbrev pub one_if : Bool → ℕ
 one_if b = if b then 1 else 0
 
 module _ (r : Rules) where
-  -- the first byte of the block that leaves, if it was dirty
+  -- the first byte of the evicted block, if there is one and it is dirty
   abbrev pub dirty_victim : History → Option ℕ → Option ℕ
   dirty_victim h None = None
   dirty_victim h (Some b) = if is_dirty r h b then Some (b * r.bsize) else None
 
-  -- The parts that go to the next level are, in this order, `back`, `fetch` and `through`: a dirty
-  -- victim is written back, a load fetches its block, and a write is sent on under write through
-  -- and where it misses without allocation.
+  -- The parts that go to the next level are, in this order: `back`, a dirty victim is written back;
+  -- `fetch`, a load fetches its block; `through`, a write is sent on under write through, and if it
+  -- misses without write allocation.
   unfoldable pub outcome_of : History → Access → Outcome
   outcome_of h x = record {
     hit = hits r (renewals r h) x;

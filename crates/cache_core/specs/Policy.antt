@@ -1,4 +1,4 @@
--- What a policy says.
+-- The replacement of a policy.
 use Rattle.std.specs.Prelude.{Bool, true, false}
 use Rattle.cache_core.specs.declared.policy.Policy.{Policy}
 use Rattle.cache_core.specs.declared.policy.Repl.TheVariants.{Lru, Fifo}

@@ -1,4 +1,4 @@
--- The code's side: a set as a row of ways, and what a pass over it does.
+-- Inside the crate: a set as a row of ways, and what one pass over it does.
 use Rattle.std.specs.Prelude.{ℕ, ◌+◌, ◌*◌, take, drop, map, replicate, Bool, true, false, ◌&&◌}
 use Rattle.std.specs.Prelude.{◌||◌, not, ◌==◌, cond, if◌then◌else◌, List, [], ◌∷◌, ◌++◌, Option}
 use Rattle.std.specs.Prelude.{Some, None, is_some}
@@ -16,11 +16,11 @@ use Rattle.cache_core.specs.Order.{ranked}
 abbrev pub holds_block : ℕ → Way → Bool
 holds_block b w = w.valid && w.block_addr == b
 
--- the s-th of the rows of n that lie one after another
+-- row number s of a list that has rows of length n, one after another
 abbrev pub row : {X : Type 0} → ℕ → ℕ → List X → List X
 row n s xs = take n (drop (s * n) xs)
 
--- a way that holds nothing
+-- an empty way
 abbrev pub empty_way : Way
 empty_way = record { block_addr = 0; valid = false; dirty = false }
 
@@ -50,6 +50,7 @@ dirty_count [] = 0
 dirty_count (w ∷ ws) = one_if (is_dirty_way w) + dirty_count ws
 
 module _ (r : Rules) where
+  -- the way that holds block b after a history
   abbrev pub way_at : History → ℕ → Way
   way_at h b = record {
     block_addr = b * r.bsize;
@@ -58,19 +59,19 @@ module _ (r : Rules) where
         r.wback && is_written r h b;
   }
 
-  -- the ways of a set after a history: its residents in order, each with its mark, and then empty
-  -- ways
+  -- the ways of set s after a history: its residents in order, each with its dirty bit, and then
+  -- empty ways
   unfoldable pub row_of : History → ℕ → List Way
   row_of h s = take r.assoc (map (way_at h) (ranked r s (renewals r h))
       ++ replicate r.assoc empty_way)
 
 module _ {X : Type 0} (p : X → Bool) where
-  -- c goes first and each way moves one place back, up to the one that passes, or up to the last
+  -- c is put first, and each way moves back by one, up to the first that passes, or else the last
   abbrev pub shifted : X → List X → List X
   shifted c [] = []
   shifted c (w ∷ ws) = c ∷ cond (p w) ws (shifted w ws)
 
-  -- the way that leaves: the one that passes, or else the last
+  -- the way that is removed: the first that passes, or else the last
   abbrev pub leaving : X → List X → X
   leaving c [] = c
   leaving c (w ∷ ws) = cond (p w) w (leaving w ws)
@@ -80,12 +81,14 @@ module _ {X : Type 0} (p : X → Bool) where
   changed g [] = []
   changed g (w ∷ ws) = cond (p w) (g w ∷ ws) (w ∷ changed g ws)
 
--- one access to the row of its set, in which the block was seen or not
+-- one access to the row of its set; `seen` is the way that held its block, if there was one
 module _ (wback walloc : Bool) (b : ℕ) (write : Bool) (row : List Way) (seen : Option Way)
   where
+    -- whether the access uses its block
     abbrev is_used : Bool
     is_used = not write || walloc || is_some seen
 
+    -- the way of the block after an LRU access or a load
     abbrev front : Way
     front = record {
       block_addr = b;
@@ -94,6 +97,7 @@ module _ (wback walloc : Bool) (b : ℕ) (write : Bool) (row : List Way) (seen :
           wback && (write || option_map_or (λ w. w.dirty) seen false);
     }
 
+    -- the row after the access, under FIFO if true
     abbrev pub next_row : Bool → List Way
     next_row fifo =
         if is_used
@@ -102,12 +106,13 @@ module _ (wback walloc : Bool) (b : ℕ) (write : Bool) (row : List Way) (seen :
         else shifted (holds_block b) front row)
         else row
 
+    -- the first byte of the dirty block that the access evicts, if it does
     abbrev pub pushed_out : Option ℕ
     pushed_out = if is_used && not (is_some seen) then dirty_block
         (leaving (holds_block b) front row) else None
 
--- what an access answers: by whether it writes and hits, what its set pushed out, and whether its
--- block was known and is in the shadow
+-- the outcome of an access, by whether it writes and hits, the dirty block that it evicts, and
+-- whether its block was accessed before and is in the shadow
 abbrev pub outcome_made : Bool → Bool → Bool → Bool → Option ℕ → Bool → Bool → Outcome
 outcome_made wback walloc write hit back referenced in_shadow = record {
   hit = hit;

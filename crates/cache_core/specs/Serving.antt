@@ -1,4 +1,4 @@
--- The code's side: one access to the row of its set.
+-- Inside the crate: one access to the row of its set.
 use Rattle.std.specs.Prelude.{◌≡◌, ℕ, Bool, List, is_some}
 use Rattle.std.specs.List.{find}
 use Rattle.cache_core.specs.declared.policy.Policy.{Policy}
@@ -7,7 +7,7 @@ use Rattle.cache_core.specs.declared.ways.Served.{Served}
 use Rattle.cache_core.specs.Policy.{is_fifo}
 use Rattle.cache_core.specs.Row.{holds_block, next_row, pushed_out}
 
--- the row before and after an access to the block with this first byte, and what was answered
+-- how an access to the block with this first byte changes the row, and what is answered
 pub record ServesRow (p : Policy) (block_addr : ℕ) (write : Bool) (old new : List Way)
     (served : Served) : Type 0 where
   pub row : new ≡ next_row p.wback p.walloc block_addr write old (find (holds_block block_addr) old)

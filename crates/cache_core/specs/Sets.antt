@@ -1,4 +1,4 @@
--- The code's side: all sets, as rows or as maps.
+-- Inside the crate: all sets, as rows or as maps.
 use Rattle.std.specs.Prelude.{ℕ, ◌*◌, Bool, ◌&&◌, ◌==◌, vec_len, List}
 use Rattle.cache_core.specs.declared.ways.Way.{Way}
 use Rattle.cache_core.specs.declared.sets.Sets.{Sets}
@@ -9,7 +9,7 @@ use Rattle.cache_core.specs.Mapped.{flat}
 abbrev pub ways_in : Sets → List Way
 ways_in s = elim s as (λ _. List Way) [ Rows v ↦ v.items | Maps m ↦ flat m.assoc m.sets.items ]
 
--- there are so many sets of so many ways
+-- the cache has `count` sets of `assoc` ways
 abbrev pub has_shape : ℕ → ℕ → Sets → Bool
 has_shape count assoc s =
     elim s as (λ _. Bool) [

@@ -1,4 +1,4 @@
--- What a cache has to do with a history: the one bridge from the definitions to the code.
+-- How the state of a cache relates to its history: the one link from the definitions to the code.
 use Rattle.std.specs.Prelude.{◌≡◌, ℕ, ◌*◌, ◌%◌, ◌<◌, Bool, false, ◌==◌, nat_eq, List, length, map}
 use Rattle.std.specs.Prelude.{filter}
 use Rattle.std.specs.List.{list_any}
@@ -41,7 +41,7 @@ served_of c = c.served
 unfoldable pub counts_kept : Cache → Counts
 counts_kept c = c.counts
 
--- whether a call was refused memory
+-- whether an allocation failed
 unfoldable pub has_failed : Cache → Bool
 has_failed c = c.failed
 
@@ -53,13 +53,14 @@ held_in c s = map block_addr_of (filter is_valid (row (assoc_of c.geometry) s (w
 abbrev with_unit : ℕ → ℕ × Unit {0}
 with_unit b = (b, tt)
 
--- the cache has not failed, and what it keeps is what the history gives
+-- the cache stands for the history: it has not failed, and its state is what the history gives
 pub record StandsFor (c : Cache) (h : History) : Type 0 where
   pub working : has_failed c ≡ false
-  -- each set: its residents by falling last use (FIFO: by falling load), each with its mark
+  -- each set has its residents by last use (FIFO: by last load), the latest first, with their dirty
+  -- bits
   pub rows : (s : ℕ) → s < (rules_of c).sets →
       row (rules_of c).assoc s (ways_in c.sets) ≡ row_of (rules_of c) h s
-  -- the shadow: its residents by falling last use
+  -- the shadow has its residents by last use, the latest first
   pub shadow : c.classifier.shadow.entries
       ≡ map with_unit (residents_of (shadow_of (rules_of c)) h 0)
   pub referenced : (b : ℕ) →
@@ -68,11 +69,11 @@ pub record StandsFor (c : Cache) (h : History) : Type 0 where
   pub counts : counts_kept c ≡ counts_of (rules_of c) h
   pub served : served_of c ≡ length h
 
--- the ways of each set hold its residents and nothing else, in order
+-- the ways of each set hold exactly its residents, in order
 pub record HoldsResidents (c : Cache) (h : History) : Type 0 where
   pub in_order : (s : ℕ) → s < (rules_of c).sets →
       held_in c s ≡ map (λ b. b * (rules_of c).bsize) (residents_of (rules_of c) h s)
-  -- which are those by reuse distance
+  -- the residents in order are the residents by reuse distance
   pub residents : (b : ℕ) →
       list_any (λ m. m == b) (residents_of (rules_of c) h (b % (rules_of c).sets))
       ≡ is_resident (rules_of c) (renewals (rules_of c) h) b

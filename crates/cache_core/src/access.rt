@@ -1,4 +1,4 @@
-//! What a cache is asked, and what it answers.
+//! An access to a cache, and its outcome.
 
 ghost use Rattle.std.specs.Prelude.{◌≡◌};
 ghost use Rattle.cache_core.specs.History.{is_write};
@@ -6,46 +6,49 @@ ghost use Rattle.cache_core.specs.History.{is_write};
 /// What an access is for.
 #[derive(Clone, Copy, Debug, PartialEq, Eq)]
 pub enum Class {
-    /// The fetch of an instruction.
+    /// An instruction fetch.
     Instr,
-    /// A read of data.
+    /// A data read.
     Read,
-    /// A write of data.
+    /// A data write.
     Write,
-    /// Any other reference, which acts as a read.
+    /// Another data reference, which acts as a read.
     Misc,
 }
 
-/// One access. It touches the one block that holds its address.
+/// One access. It touches only the block that holds its address.
 #[derive(Clone, Copy, Debug, PartialEq, Eq)]
 pub struct Access {
+    /// What the access is for.
     pub class: Class,
+    /// The address of a byte.
     pub addr: u64,
 }
 
-/// Why an access missed, by Hill.
+/// Why an access missed: Hill's three kinds of miss.
 #[derive(Clone, Copy, Debug, PartialEq, Eq)]
 pub enum MissKind {
-    /// Its block was never accessed before, flushes notwithstanding.
+    /// Its block was never accessed before. A flush does not change that.
     Compulsory,
-    /// A fully associative LRU cache of the same size misses too.
+    /// Not compulsory, and a fully associative LRU cache of the same size misses too.
     Capacity,
-    /// That cache hits.
+    /// Not compulsory, and that fully associative cache hits.
     Conflict,
 }
 
-/// What one access did. `back`, `fetch` and `through` are its parts for the next level, in this
+/// What one access did. The parts `back`, `fetch` and `through` go to the next level, in this
 /// order.
 #[derive(Clone, Copy, Debug, PartialEq, Eq)]
 pub struct Outcome {
+    /// Whether the block was in the cache.
     pub hit: bool,
     /// Why it missed; `None` for a hit.
     pub kind: Option<MissKind>,
-    /// The first byte of a dirty block that left, and is written back.
+    /// The address of the first byte of the dirty block that is evicted and written back, if any.
     pub back: Option<u64>,
-    /// Whether the access's block is fetched.
+    /// Whether the block of the access is fetched from the next level.
     pub fetch: bool,
-    /// Whether the write is sent on, at its own address.
+    /// Whether the access is a write that is sent on to the next level, with its own address.
     pub through: bool,
 }
 

@@ -19,14 +19,15 @@ use crate::sets::{Sets, clear_sets, dirty_block_addrs, empty_sets, serve_set};
 use crate::ways::Served;
 use std::alloc::Global;
 
-/// How many accesses and flushes one cache serves.
+/// How many accesses and flushes one cache serves at most.
 pub const MAX_EVENTS: u64 = 1 << 44;
 
-/// Memory was refused.
+/// An allocation failed, in this call or an earlier one.
 #[derive(Clone, Copy, Debug, PartialEq, Eq)]
 pub struct NoMemory;
 
-/// A cache that serves accesses and flushes, one by one. After a refusal of memory it has failed.
+/// A cache that serves accesses and flushes, one by one. After a failed allocation, every later
+/// access or flush answers `NoMemory`.
 #[derive(Drop)]
 pub struct Cache {
     alloc: Global,
@@ -58,7 +59,7 @@ fn miss_kind(prior: Prior) -> MissKind
     }
 }
 
-/// What an access answers, from what its set and the history of blocks told.
+/// The outcome of an access, from what its set answered and what was known of its block.
 fn outcome_from(policy: Policy, write: bool, served: Served, prior: Prior) -> Outcome
     ensures { result ≡ outcome_made policy.wback policy.walloc write
         served.hit served.back prior.referenced prior.in_shadow }
@@ -89,7 +90,7 @@ impl Cache {
     ghost use Rattle.cache_core.specs.Standing.{StandsFor, HoldsResidents, rules_of, rules_from};
     ghost use Rattle.cache_core.specs.Standing.{served_of, counts_kept, has_failed};
 
-    /// A cache that holds nothing and has counted nothing.
+    /// An empty cache, with all counts zero.
     pub fn new(alloc: Global, geometry: Geometry, policy: Policy) -> Result<Cache, NoMemory>
         ensures rules { IfOk result (λ cache. rules_of cache ≡ rules_from geometry policy) }
         ensures stands { IfOk result (λ cache. StandsFor cache []) }
@@ -115,7 +116,7 @@ impl Cache {
         })
     }
 
-    /// The counts of all accesses and flushes that succeeded, also after a refusal.
+    /// The counts of all accesses and flushes that succeeded, also after a failure.
     pub fn counts(&self) -> Counts
         ensures kept { result ≡ counts_kept self.now }
         ensures counted { (h : History) → StandsFor self.now h →
@@ -144,13 +145,14 @@ impl Cache {
     }
 
     /// Serves one access.
+    /// After an error the counts are unchanged, and the cache has failed.
     pub fn access(&mut self, access: Access) -> Result<Outcome, NoMemory>
         requires { served_of self.old < MAX_EVENTS }
         ensures outcome { IfOk result (λ outcome. (h : History) → StandsFor self.old h →
             outcome ≡ outcome_of (rules_of self.old) h access) }
         ensures stands { OnOk result ((h : History) → StandsFor self.old h →
             StandsFor self.new (accessed access ∷ h)) }
-        // What the ways hold, by last use or last load, are the residents by reuse distance.
+        // The ways hold, in order of last use or last load, the residents by reuse distance.
         ensures residents { OnOk result ((h : History) → StandsFor self.old h →
             HoldsResidents self.new (accessed access ∷ h)) }
         ensures served { OnOk result (served_of self.new ≡ served_of self.old + 1) }
@@ -192,8 +194,9 @@ impl Cache {
         Ok(outcome)
     }
 
-    /// Appends the first bytes of the dirty blocks, rising, and empties the cache and its shadow.
-    /// Which blocks were ever accessed stays known.
+    /// Empties the cache and its shadow, and appends the addresses of the first bytes of the dirty
+    /// blocks to `out`, in ascending order. The blocks that were ever accessed stay known. After an
+    /// error the counts and `out` are unchanged, and the cache has failed.
     pub fn flush(&mut self, out: &mut Vec<u64>) -> Result<(), NoMemory>
         requires { served_of self.old < MAX_EVENTS }
         ensures appends { OnOk result ((h : History) → StandsFor self.old h →
@@ -202,7 +205,7 @@ impl Cache {
             (dirty_blocks (rules_of self.old) h)) }
         ensures stands { OnOk result ((h : History) → StandsFor self.old h →
             StandsFor self.new (flushed ∷ h)) }
-        // Known without a history too: no more than the cache has ways.
+        // This holds without a history too: a flush appends at most one address for each way.
         ensures at_most { OnOk result (length out.new.items ≤ length out.old.items + 2 ^ 24) }
         ensures served { OnOk result (served_of self.new ≡ served_of self.old + 1) }
         ensures works { OnOk result (has_failed self.new ≡ false) }

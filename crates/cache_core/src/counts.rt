@@ -10,28 +10,33 @@ use crate::access::{Access, Class, MissKind, Outcome};
 /// A count for each class of access.
 #[derive(Clone, Copy, Debug, Default, PartialEq, Eq)]
 pub struct PerClass {
+    /// Instruction fetches.
     pub instr: u64,
+    /// Data reads.
     pub read: u64,
+    /// Data writes.
     pub write: u64,
+    /// Other data references.
     pub misc: u64,
 }
 
 /// All counts of one cache.
 #[derive(Clone, Copy, Debug, Default, PartialEq, Eq)]
 pub struct Counts {
-    /// The accesses.
+    /// All accesses, hits and misses.
     pub fetches: PerClass,
-    /// The accesses that missed, and these by their kind.
+    /// The accesses that missed. The next three counts divide them by kind.
     pub misses: PerClass,
     pub compulsory: PerClass,
     pub capacity: PerClass,
     pub conflict: PerClass,
-    /// The blocks that were brought in.
+    /// The blocks that were loaded.
     pub loaded: u64,
-    /// The dirty blocks that were written back, at flushes too.
+    /// The dirty blocks that were written back, those that a flush writes included.
     pub written_back: u64,
-    /// The writes that were sent on.
+    /// The writes that were sent on to the next level.
     pub sent_on: u64,
+    /// The flushes.
     pub flushes: u64,
 }
 
@@ -48,7 +53,7 @@ impl PerClass {
     }
 }
 
-/// One more of the class of the access, where `counted`.
+/// Adds one in the class of the access, if `counted`.
 fn count(per_class: &mut PerClass, access: Access, counted: bool)
     requires { IsWithin per_class.old (2 ^ 44) }
     ensures { per_class.new ≡ with_one access counted per_class.old }
@@ -63,7 +68,7 @@ fn count(per_class: &mut PerClass, access: Access, counted: bool)
     }
 }
 
-/// Counts an access that missed by its kind.
+/// Counts the miss by its kind. A hit has no kind, and is not counted here.
 fn count_kind(counts: &mut Counts, access: Access, kind: Option<MissKind>)
     requires compulsory { IsWithin counts.old.compulsory (2 ^ 44) }
     requires capacity { IsWithin counts.old.capacity (2 ^ 44) }
@@ -78,7 +83,7 @@ fn count_kind(counts: &mut Counts, access: Access, kind: Option<MissKind>)
     }
 }
 
-/// Counts an access.
+/// Counts an access, which had this outcome.
 pub(crate) fn count_access(counts: &mut Counts, access: Access, outcome: Outcome)
     requires { AreWithin counts.old (2 ^ 44) }
     ensures { counts.new ≡ with_access access outcome counts.old }
@@ -91,7 +96,7 @@ pub(crate) fn count_access(counts: &mut Counts, access: Access, outcome: Outcome
     counts.sent_on += outcome.through as u64;
 }
 
-/// Counts a flush that wrote some blocks back.
+/// Counts a flush, which wrote this many blocks back.
 pub(crate) fn count_flush(counts: &mut Counts, written: u64)
     requires room { counts.old.written_back + written < 2 ^ 64 }
     requires flushes { counts.old.flushes < 2 ^ 44 }

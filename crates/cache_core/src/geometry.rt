@@ -3,21 +3,25 @@
 ghost use Rattle.std.specs.Prelude.{◌≡◌, Some, None, OnOk, IfErr};
 ghost use Rattle.cache_core.specs.Lawful.{refusal_of};
 
-/// Why a geometry is refused: the first rule that is broken. Zero is no power of two.
+/// Why a geometry is refused: the first broken rule, in the order below. Zero is not a power of
+/// two.
 #[derive(Clone, Copy, Debug, PartialEq, Eq)]
 pub enum GeometryFault {
+    /// The size is not a power of two.
     SizeNotPower,
     /// The size is not from 4 to 2^24 bytes.
     SizeRange,
+    /// The block size is not a power of two.
     BlockNotPower,
-    /// The block is not from 4 to 4,096 bytes, or longer than the cache.
+    /// The block is not from 4 to 4,096 bytes, or is larger than the cache.
     BlockRange,
+    /// The number of ways is not a power of two.
     AssocNotPower,
-    /// More ways than the cache has blocks.
+    /// There are more ways than the cache has blocks.
     AssocTooLarge,
 }
 
-/// The size of a cache and of its blocks in bytes, and the number of ways of each set.
+/// The shape of a cache: its size and its block size in bytes, and the number of ways of a set.
 #[derive(Clone, Copy, Debug)]
 pub struct Geometry {
     size: u64,
@@ -31,7 +35,8 @@ impl Geometry {
     ghost use Rattle.std.specs.Prelude.{◌≡◌, ◌≤◌, ◌-◌, ◌*◌, ◌/◌, ◌%◌, ◌^◌, IfOk};
     ghost use Rattle.cache_core.specs.Geometry.{IsMadeOf, bsize_of, assoc_of, sets_of, blocks_of};
 
-    /// The geometry of these three numbers, or the first rule that they break.
+    /// The geometry with this size and block size in bytes and this number of ways, or the first
+    /// rule that they break.
     pub fn new(size: u64, bsize: u64, assoc: u64) -> Result<Geometry, GeometryFault>
         ensures made { IfOk result (λ geometry. IsMadeOf geometry size bsize assoc) }
         ensures lawful { OnOk result (refusal_of size bsize assoc ≡ None) }
@@ -65,7 +70,7 @@ impl Geometry {
         addr >> self.bsize.trailing_zeros()
     }
 
-    /// The number of the set of a block.
+    /// The number of the set that a block belongs to.
     pub fn set(&self, block: u64) -> u64
         ensures { result ≡ block % sets_of self.now }
     {

@@ -1,4 +1,4 @@
-//! What tells the kinds of miss apart.
+//! Tells the kinds of miss apart.
 
 ghost use Rattle.std.specs.Prelude.{◌≡◌, ◌<◌, ◌==◌, ◌||◌, ◌&&◌, not, ℕ, [], nat_eq, false};
 ghost use Rattle.std.specs.Prelude.{if◌then◌else◌, is_some, IfOk, OnOk};
@@ -18,19 +18,20 @@ use std::num::NonZeroUsize;
 pub(crate) struct MissClassifier {
     shadow: LruCache<u64, ()>,
     referenced: HashSet<u64>,
-    /// The block that was used last, if the shadow has it first.
+    /// The block at the front of the shadow, if the last access put it there.
     last: Option<u64>,
     ghost recent: { IsFirst last shadow.entries },
 }
 
-/// What was known of a block before an access.
+/// What is known of a block before an access: whether it was ever accessed (`known`), and whether
+/// it is in the shadow.
 #[derive(Clone, Copy, Debug, PartialEq, Eq)]
 pub(crate) struct Prior {
     pub referenced: bool,
     pub in_shadow: bool,
 }
 
-/// Whether a block is the last one.
+/// Whether this is the block that was used last.
 fn is_last(last: Option<u64>, block: u64) -> bool
     ensures { result ≡ option_map_or (λ b. b == block) last false }
 {
@@ -40,7 +41,8 @@ fn is_last(last: Option<u64>, block: u64) -> bool
     }
 }
 
-/// Notes that a block is accessed, and answers whether it was known before. One that hits was.
+/// Notes that a block is accessed, and answers whether it was accessed before. A block that hits
+/// was, and needs no look-up.
 fn note_block(referenced: &mut HashSet<u64>, block: u64, hit: bool) -> Result<bool, AllocError>
     ensures referenced { IfOk result (λ was. was ≡ (hit || contains nat_eq referenced.old block)) }
     ensures adds { OnOk result ((q : ℕ) → contains nat_eq referenced.new q
@@ -56,7 +58,7 @@ fn note_block(referenced: &mut HashSet<u64>, block: u64, hit: bool) -> Result<bo
 }
 
 impl MissClassifier {
-    /// Nothing was accessed.
+    /// An empty shadow of this many blocks, and no block accessed yet.
     pub fn new(alloc: Global, blocks: u64) -> Result<MissClassifier, AllocError>
         requires { 0 < blocks }
         ensures shadow { IfOk result (λ classifier. classifier.shadow ≡ lru_cache [] blocks) }
@@ -71,8 +73,9 @@ impl MissClassifier {
         })
     }
 
-    /// Notes an access, which hit the cache or not. The shadow takes the block in if it has it, or
-    /// if the access may `load`. A block that is used again at once needs no look-up.
+    /// Notes an access. `load` says whether it loads its block if it misses, `hit` whether it hit
+    /// the cache. If the shadow does not have the block, it loads it only if `load`. A block that
+    /// is used twice in a row needs no look-up in the shadow.
     pub fn classify(&mut self, block: u64, load: bool, hit: bool) -> Result<Prior, AllocError>
         ensures referenced { IfOk result (λ prior. prior.referenced
             ≡ (hit || contains nat_eq self.old.referenced block)) }
@@ -121,7 +124,7 @@ impl MissClassifier {
         })
     }
 
-    /// Empties the shadow. What was ever accessed stays known.
+    /// Empties the shadow. The blocks that were ever accessed stay known.
     pub fn forget_shadow(&mut self)
         ensures shadow { self.new.shadow ≡ lru_cache [] self.old.shadow.cap }
         ensures referenced { self.new.referenced ≡ self.old.referenced }

@@ -1,4 +1,4 @@
-//! Laws over the definitions. Each is a function that does nothing, whose contract is the law.
+//! Laws of the definitions. Each is a function that does nothing; its contract is the law.
 
 ghost use Rattle.std.specs.Prelude.{◌≡◌, ◌^◌};
 ghost use Rattle.cache_core.specs.Examples.{WorkedExamples};
@@ -9,43 +9,43 @@ ghost use Rattle.cache_core.specs.Laws.{OrderedWaysAreResidents};
 
 use crate::cache::MAX_EVENTS;
 
-/// The stack property of LRU (Mattson and others), and its like for FIFO: blocks ordered by last
-/// use (by last load) and cut at the number of ways are the residents by reuse distance, writes
-/// without allocation included.
+/// The stack property of LRU (Mattson and others), and the same for FIFO: if the blocks of a set
+/// are ordered by last use (FIFO: by last load), the first ones, as many as there are ways, are the
+/// residents by reuse distance. This also holds without write allocation.
 pub fn ordered_ways_are_residents()
     ensures { OrderedWaysAreResidents }
 {}
 
-/// Two blocks that are resident before an access and not after it are one.
+/// An access evicts at most one block.
 pub fn at_most_one_block_leaves()
     ensures { AtMostOneLeaves }
 {}
 
-/// An LRU cache of one set is its own shadow.
+/// A fully associative LRU cache has no conflict miss: it acts as its own shadow.
 pub fn one_lru_set_has_no_conflict()
     ensures { OneLruSetHasNoConflict }
 {}
 
-/// Each block that is written back is charged to a write of its own. So the parts that a cache
-/// sends are at most two for each write and one for each other access, those of its flushes
-/// included.
+/// Each write-back can be charged to a distinct earlier write. So a cache sends at most two parts
+/// for each write and one for each other access, the write-backs of its flushes included.
 pub fn write_backs_are_charged()
     ensures accesses { WriteBacksAreCharged }
     ensures flushes { FlushesLeaveNoneDirty }
 {}
 
-/// The list of the dirty blocks rises, each once, and has those that are dirty and no other.
+/// The list of the dirty blocks has exactly the blocks that are dirty, each once, in ascending
+/// order.
 pub fn dirty_blocks_are_the_dirty_ones()
     ensures rises { DirtyBlocksRise }
     ensures dirty { DirtyBlocksAreDirty }
 {}
 
-/// How many events a cache serves, as a number: more than any trace within the limits makes.
+/// The value of `MAX_EVENTS`: more events than any trace within the limits makes.
 pub fn a_cache_serves_as_many_events()
     ensures { MAX_EVENTS ≡ 2 ^ 44 }
 {}
 
-/// What the definitions say of small traces, each worked out by hand.
+/// The definitions give the outcomes of small traces that were worked out by hand.
 pub fn definitions_meet_worked_examples()
     ensures { WorkedExamples }
 {}

@@ -1,16 +1,16 @@
 //! One cache of a simulated hierarchy, as Dinero IV has them: LRU or FIFO replacement, write back
 //! or write through, with or without write allocation, and Hill's three kinds of miss.
 //!
-//! A [`Geometry`] is a lawful shape, a [`Cache`] serves accesses and flushes one by one and counts
-//! what they did. It keeps its sets as rows of ways (`ways`), or as maps in order where a set has
-//! many ways (`maps`), a fully associative LRU shadow and all blocks that were ever accessed
-//! (`kinds`), and its counts (`counts`).
+//! A [`Geometry`] is a valid shape of a cache. A [`Cache`] serves accesses and flushes one by one
+//! and counts what they did. It keeps each set as a row of ways (`ways`), or as an ordered map if
+//! the set has many ways (`maps`). To tell the kinds of miss apart it keeps a fully associative LRU
+//! shadow and all blocks that were ever accessed (`kinds`).
 //!
-//! Proved, for every history that a cache stands for: each answer, the list of each flush and all
-//! counts are those of the definitions in `specs/`, which count over the whole history by reuse
-//! distance and know no ways. After a refusal of memory the cache has failed, keeps its counts and
-//! answers the refusal for ever. `laws` has what holds of the definitions themselves. Nothing here
-//! grows with the length of a trace but the set of blocks ever accessed.
+//! Proved for every history of a cache: each outcome, the list of each flush and all counts are
+//! those of the definitions in `specs/`, which work on the whole history by reuse distance and have
+//! no ways. If an allocation fails, the cache keeps its counts, and every later access or flush
+//! answers `NoMemory`. `laws` has properties of the definitions themselves. Only the set of blocks
+//! ever accessed grows with the trace.
 #![tactic(auto)]
 
 mod access;

@@ -1,5 +1,6 @@
-//! Sets of many ways: each a map in order from the first byte of a block to its dirty mark, the
-//! block that was used last (FIFO: loaded last) first. An access takes no longer for more ways.
+//! Sets of many ways. Each is an ordered map from the first byte of a block to its dirty bit, the
+//! block that was used last (FIFO: loaded last) first. The time of an access does not depend on the
+//! number of ways.
 
 ghost use Rattle.std.specs.Prelude.{◌≡◌, ◌≢◌, ◌<◌, ◌≤◌, ◌+◌, ◌*◌, ◌&&◌, ◌||◌, ℕ, None, true};
 ghost use Rattle.std.specs.Prelude.{is_some, nat_eq, length, map, filter, replicate, vec_len, []};
@@ -21,14 +22,14 @@ use lru::LruCache;
 use std::alloc::{AllocError, Global};
 use std::num::NonZeroUsize;
 
-/// The mark of a block that was used.
+/// The dirty bit of a block after a use.
 fn mark_of(wback: bool, write: bool, dirty: bool) -> bool
     ensures { result ≡ (wback && (write || dirty)) }
 {
     wback && (write || dirty)
 }
 
-/// Uses a block, if it is there.
+/// Moves a block to the front and updates its dirty bit, if it is there. Answers whether it is.
 fn use_block(map: &mut LruCache<u64, bool>, block_addr: u64, wback: bool, write: bool) -> bool
     ensures hit { result ≡ is_some (lookup (nat_eq block_addr) map.old.entries) }
     ensures map { map.new
@@ -41,7 +42,7 @@ fn use_block(map: &mut LruCache<u64, bool>, block_addr: u64, wback: bool, write:
     false
 }
 
-/// Marks a block where it stands, if it is there.
+/// Marks a block dirty without moving it, if it is there. Answers whether it is.
 fn mark_block(map: &mut LruCache<u64, bool>, block_addr: u64) -> bool
     ensures hit { result ≡ is_some (lookup (nat_eq block_addr) map.old.entries) }
     ensures map { map.new
@@ -54,7 +55,8 @@ fn mark_block(map: &mut LruCache<u64, bool>, block_addr: u64) -> bool
     false
 }
 
-/// Notes an access to a block, if it is there.
+/// Updates the order and the dirty bit for an access to a block, if it is there. Answers whether it
+/// is.
 fn touch(map: &mut LruCache<u64, bool>, policy: Policy, block_addr: u64, write: bool) -> bool
     ensures hit { result ≡ is_some (lookup (nat_eq block_addr) map.old.entries) }
     ensures map { map.new ≡ lru_cache
@@ -73,7 +75,7 @@ fn touch(map: &mut LruCache<u64, bool>, policy: Policy, block_addr: u64, write: 
     }
 }
 
-/// The block of the entry that left, if it was dirty.
+/// The block of the evicted entry, if it was dirty.
 fn dirty_left(left: Option<(u64, bool)>) -> Option<u64>
     ensures { result ≡ option_map_or dirty_entry left None }
 {
@@ -83,7 +85,7 @@ fn dirty_left(left: Option<(u64, bool)>) -> Option<u64>
     }
 }
 
-/// Loads a block, and answers the dirty block that it pushed out.
+/// Loads a block, and answers the dirty block that it evicts, if any.
 fn load_block(
     map: &mut LruCache<u64, bool>,
     block_addr: u64,
@@ -147,7 +149,7 @@ fn dirty_keys(alloc: Global, set: &LruCache<u64, bool>) -> Result<Vec<u64>, Allo
         .collect(alloc)
 }
 
-/// Sets that hold nothing.
+/// Empty sets.
 fn empty_maps(
     alloc: Global,
     count: usize,
@@ -202,7 +204,7 @@ pub(crate) struct Maps {
 }
 
 impl Maps {
-    /// Sets that hold nothing.
+    /// Empty sets.
     pub fn new(alloc: Global, count: usize, assoc: usize) -> Result<Maps, AllocError>
         requires { 0 < assoc }
         ensures empty { IfOk result (λ m. flat m.assoc m.sets.items
@@ -243,7 +245,7 @@ impl Maps {
         Ok(served)
     }
 
-    /// The first bytes of the dirty blocks, as they lie.
+    /// The first bytes of the dirty blocks, set by set.
     pub fn dirty(&self, alloc: Global) -> Result<Vec<u64>, AllocError>
         ensures { IfOk result (λ v.
             v.items
@@ -252,7 +254,7 @@ impl Maps {
         dirty_in_maps(alloc, self.assoc, &self.sets)
     }
 
-    /// Lets all blocks go.
+    /// Empties all sets.
     pub fn clear(&mut self)
         ensures empty { flat self.new.assoc self.new.sets.items
             ≡ replicate (vec_len self.old.sets * self.old.assoc) empty_way }

@@ -2,7 +2,7 @@
 
 ghost use Rattle.std.specs.Prelude.{◌≡◌, ◌||◌, not};
 
-/// Which block of a full set gives way to a new one.
+/// Which block of a full set a new block replaces.
 #[derive(Clone, Copy, Debug, PartialEq, Eq)]
 pub enum Repl {
     /// The block that was used longest ago.
@@ -14,14 +14,15 @@ pub enum Repl {
 /// How a cache replaces and writes.
 #[derive(Clone, Copy, Debug, PartialEq, Eq)]
 pub struct Policy {
+    /// The replacement.
     pub repl: Repl,
-    /// A write marks its block dirty, in place of being sent on.
+    /// Write back: a write marks its block dirty. If false, each write is sent on (write through).
     pub wback: bool,
-    /// A write that misses brings its block in.
+    /// Write allocation: a write that misses loads its block. If false, it is only sent on.
     pub walloc: bool,
 }
 
-/// Whether an access that misses loads its block.
+/// Whether an access loads its block if it misses.
 pub(crate) fn may_load(write: bool, policy: Policy) -> bool
     ensures { result ≡ (not write || policy.walloc) }
 {

@@ -15,19 +15,19 @@ use crate::policy::Policy;
 use crate::ways::{Served, Way, clear_ways, dirty_ways, empty_ways, serve_ways};
 use std::alloc::{AllocError, Global};
 
-/// The most ways that a set has as a row. Measured: up to here the scan of a row is no slower than
-/// a look-up in a map.
+/// The most ways of a set that is kept as a row. By measurement, up to this number the scan of a
+/// row is no slower than a look-up in a map.
 const MOST_IN_A_ROW: usize = 64;
 
-/// The sets of a cache: rows of few ways that lie one after another, or a map for each set of many
-/// ways.
+/// The sets of a cache: rows of ways, one after another, if a set has few ways, or else a map for
+/// each set.
 #[derive(Drop)]
 pub(crate) enum Sets {
     Rows(Vec<Way>),
     Maps(Maps),
 }
 
-/// Sets that hold nothing.
+/// `count` empty sets of `assoc` ways.
 pub(crate) fn empty_sets(alloc: Global, count: usize, assoc: usize) -> Result<Sets, AllocError>
     requires ways { 0 < assoc }
     requires fits { count * assoc < 2 ^ 64 }
@@ -42,7 +42,7 @@ pub(crate) fn empty_sets(alloc: Global, count: usize, assoc: usize) -> Result<Se
     Ok(Sets::Maps(maps))
 }
 
-/// One access to a set.
+/// Serves one access to a set. `first` is the first byte of its block.
 pub(crate) fn serve_set(
     sets: &mut Sets,
     set: usize,
@@ -69,7 +69,7 @@ pub(crate) fn serve_set(
     }
 }
 
-/// The first bytes of the dirty blocks, as they lie.
+/// The first bytes of the dirty blocks, in the order of the ways.
 fn dirty_in(alloc: Global, sets: &Sets) -> Result<Vec<u64>, AllocError>
     ensures { IfOk result
         (λ v. v.items ≡ map block_addr_of (filter is_dirty_way (ways_in sets.now))) }
@@ -80,7 +80,7 @@ fn dirty_in(alloc: Global, sets: &Sets) -> Result<Vec<u64>, AllocError>
     }
 }
 
-/// The first bytes of the dirty blocks, rising.
+/// The first bytes of the dirty blocks, in ascending order, each once.
 pub(crate) fn dirty_block_addrs(alloc: Global, sets: &Sets) -> Result<Vec<u64>, AllocError>
     ensures block_addrs { IfOk result (λ v. (ys : List ℕ)
         × IsPermutation (map block_addr_of (filter is_dirty_way (ways_in sets.now))) ys
@@ -95,7 +95,7 @@ pub(crate) fn dirty_block_addrs(alloc: Global, sets: &Sets) -> Result<Vec<u64>, 
     Ok(block_addrs)
 }
 
-/// Lets all blocks go.
+/// Empties all sets.
 pub(crate) fn clear_sets(sets: &mut Sets)
     ensures empty { (count assoc : ℕ) → has_shape count assoc sets.old ≡ true →
         ways_in sets.new ≡ replicate (count * assoc) empty_way }

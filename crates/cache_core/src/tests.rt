@@ -1,4 +1,4 @@
-//! Traces that were worked out by hand, served by a cache one access at a time.
+//! Traces whose outcomes were worked out by hand, served one access at a time.
 
 use crate::{
     Access, Cache, Class, Counts, Geometry, MAX_EVENTS, MissKind, Outcome, PerClass, Policy, Repl,
@@ -21,7 +21,7 @@ const HIT: Outcome = Outcome {
     through: false,
 };
 
-/// A block's first miss, which brings it in.
+/// The first access to a block: a compulsory miss, which loads it.
 const NEW: Outcome = Outcome {
     hit: false,
     kind: Some(MissKind::Compulsory),
@@ -46,7 +46,7 @@ const FIFO: Policy = Policy {
     walloc: true,
 };
 
-/// A miss that brings its block in.
+/// A miss that loads its block.
 fn missed(kind: MissKind) -> Outcome {
     Outcome {
         hit: false,
@@ -57,7 +57,7 @@ fn missed(kind: MissKind) -> Outcome {
     }
 }
 
-/// A miss that brings its block in and pushes a dirty one out.
+/// A miss that loads its block and evicts a dirty one.
 fn missed_back(kind: MissKind, first: u64) -> Outcome {
     Outcome {
         back: Some(first),
@@ -91,7 +91,7 @@ fn cache_of(rt: &impl Abort, alloc: Global, shape: (u64, u64, u64), policy: Poli
     Cache::new(alloc, geometry, policy).expect(rt, "memory")
 }
 
-/// Two sets of two blocks of four bytes.
+/// A cache of two sets of two blocks of four bytes.
 fn data_cache(rt: &impl Abort, alloc: Global, policy: Policy) -> Cache {
     cache_of(rt, alloc, (16, 4, 2), policy)
 }
@@ -101,7 +101,7 @@ fn serve(rt: &impl Abort, cache: &mut Cache, class: Class, addr: u64) -> Outcome
     cache.access(Access { class, addr }).expect(rt, "memory")
 }
 
-/// Serves accesses of one class, each of which must have its outcome.
+/// Serves accesses of one class. Each has to have the outcome next to it.
 fn expect(rt: &impl Abort, cache: &mut Cache, class: Class, trace: &[(u64, Outcome)]) {
     for (addr, want) in trace {
         assert_eq!(rt; serve(rt, cache, class, *addr), *want, "at {addr}");
@@ -117,7 +117,7 @@ fn flush(rt: &impl Abort, cache: &mut Cache, out: &mut Vec<u64>) {
     cache.flush(out).expect(rt, "memory");
 }
 
-/// Flushes the cache, which must write these blocks back.
+/// Flushes the cache, which has to write these blocks back.
 fn expect_flush(rt: &impl Abort, alloc: Global, cache: &mut Cache, blocks: &[u64]) {
     let mut out = Vec::new(alloc);
     flush(rt, cache, &mut out);

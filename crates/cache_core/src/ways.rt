@@ -1,5 +1,5 @@
-//! Sets of few ways: each a row of ways in order, the block that was used last (FIFO: loaded last)
-//! first, and empty ways behind the blocks. The rows lie one after another.
+//! Sets of few ways. Each is a row of ways in order: the block that was used last (FIFO: loaded
+//! last) is first, and empty ways come after the blocks. The rows of all sets are in one vector.
 
 ghost use Rattle.std.specs.Prelude.{◌≡◌, ◌≢◌, ◌≤◌, ◌+◌, ◌*◌, ℕ, length, is_some, true, false};
 ghost use Rattle.std.specs.Prelude.{None, IfOk};
@@ -14,7 +14,7 @@ ghost use Rattle.cache_core.specs.Serving.{ServesRow};
 use crate::policy::{Policy, Repl};
 use std::alloc::{AllocError, Global};
 
-/// One way of a set: a block that it holds, by its first byte, or nothing.
+/// One way of a set. If `held`, it holds the block whose first byte is `first`; else it is empty.
 #[derive(Clone, Copy, Debug, PartialEq, Eq)]
 pub(crate) struct Way {
     pub block_addr: u64,
@@ -22,14 +22,14 @@ pub(crate) struct Way {
     pub dirty: bool,
 }
 
-/// What an access to a set found, and the first byte of the dirty block that it pushed out.
+/// Whether an access hit its set, and the first byte of the dirty block that it evicted, if any.
 #[derive(Clone, Copy, Debug, PartialEq, Eq)]
 pub(crate) struct Served {
     pub hit: bool,
     pub back: Option<u64>,
 }
 
-/// A way that holds nothing.
+/// An empty way.
 fn no_way() -> Way
     ensures { result ≡ empty_way }
 {
@@ -40,14 +40,14 @@ fn no_way() -> Way
     }
 }
 
-/// Ways that hold nothing.
+/// `count` empty ways.
 pub(crate) fn empty_ways(alloc: Global, count: usize) -> Result<Vec<Way>, AllocError>
     ensures { IfOk result (λ v. (v.items ≡ replicate count empty_way) × (vec_len v ≡ count)) }
 {
     vec![in alloc; no_way(); count]
 }
 
-/// The way that holds the block.
+/// The way that holds the block, if there is one.
 fn find_way(row: &[Way], block_addr: u64) -> Option<Way>
     ensures { result ≡ find (holds_block block_addr) row.now }
 {
@@ -56,6 +56,7 @@ fn find_way(row: &[Way], block_addr: u64) -> Option<Way>
         .find(|way| way.valid && way.block_addr == block_addr)
 }
 
+/// Whether the way that was found is dirty.
 fn was_dirty(found: Option<Way>) -> bool
     ensures { result ≡ option_map_or (λ w. w.dirty) found false }
 {
@@ -65,8 +66,8 @@ fn was_dirty(found: Option<Way>) -> bool
     }
 }
 
-/// Puts `front` first and moves each way one place back, up to the one that holds the block, or up
-/// to the last. The way that leaves is the answer. Out of line, each move is of a whole way.
+/// Puts `front` first and moves each way back by one, up to the way that holds the block, or else
+/// the last. Answers the way that is removed. Not inlined, so that each way is moved as a whole.
 #[inline(never)]
 fn bring_front(row: &mut [Way], block_addr: u64, front: Way) -> Way
     ensures row { row.new ≡ shifted (holds_block block_addr) front row.old }
@@ -85,7 +86,7 @@ fn bring_front(row: &mut [Way], block_addr: u64, front: Way) -> Way
     carried
 }
 
-/// Marks the block's way.
+/// Marks the block dirty, where it is.
 fn mark_dirty(row: &mut [Way], block_addr: u64)
     ensures { row.new ≡ changed (holds_block block_addr) dirtied row.old }
 {
@@ -97,7 +98,8 @@ fn mark_dirty(row: &mut [Way], block_addr: u64)
     }
 }
 
-/// One access to the row of its set, if the block stands first in it. A hit there moves nothing.
+/// Serves one access to the row of its set if its block is first there, and answers whether it was.
+/// Such a hit moves nothing.
 fn serve_front(row: &mut [Way], policy: Policy, block_addr: u64, write: bool) -> bool
     ensures serves { result ≡ true → ServesRow policy block_addr write row.old row.new
         (record { hit = true; back = None }) }
@@ -117,7 +119,7 @@ fn serve_front(row: &mut [Way], policy: Policy, block_addr: u64, write: bool) ->
     true
 }
 
-/// One access to the row of its set.
+/// Serves one access to the row of its set.
 fn serve_row(row: &mut [Way], policy: Policy, block_addr: u64, write: bool) -> Served
     ensures { ServesRow policy block_addr write row.old row.new result }
 {
@@ -167,7 +169,7 @@ fn serve_row(row: &mut [Way], policy: Policy, block_addr: u64, write: bool) -> S
     }
 }
 
-/// One access to a set.
+/// Serves one access to a set.
 pub(crate) fn serve_ways(
     ways: &mut [Way],
     set: usize,
@@ -188,7 +190,7 @@ pub(crate) fn serve_ways(
     serve_row(&mut ways[start..end], policy, block_addr, write)
 }
 
-/// The first bytes of the dirty blocks, as they lie.
+/// The first bytes of the dirty blocks, in the order of the ways.
 pub(crate) fn dirty_ways(alloc: Global, ways: &[Way]) -> Result<Vec<u64>, AllocError>
     ensures { IfOk result (λ v. v.items ≡ map block_addr_of (filter is_dirty_way ways.now)) }
 {
@@ -198,7 +200,7 @@ pub(crate) fn dirty_ways(alloc: Global, ways: &[Way]) -> Result<Vec<u64>, AllocE
         .collect(alloc)
 }
 
-/// Lets all blocks go.
+/// Empties all ways.
 pub(crate) fn clear_ways(ways: &mut [Way])
     ensures { ways.new ≡ replicate (length ways.old) empty_way }
 {

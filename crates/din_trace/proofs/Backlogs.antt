@@ -25,7 +25,7 @@ use Rattle.din_trace.proofs.Cuts.{cut-ended, cut-longer, open_line-open}
 use Rattle.din_trace.proofs.Lefts.{text_left-longer, text_left-line, text_left-past}
 use Rattle.din_trace.proofs.Lefts.{text_left-failed, text_left-ended}
 
--- what the answer of a line reader leaves
+-- what is left after the answer of the line reader to one byte
 abbrev pub AfterByte : LineReader → List ℕ → ℕ → Script → Remaining
     → Result (Option DinRecord) TraceFault → Type 0
 AfterByte reader held limit script l (Ok None) = ReadingLeft reader held limit script l
@@ -53,7 +53,7 @@ OnOk-map : (result : Result (Option DinRecord) TraceFault) (P Q : Type 0) → (P
 OnOk-map (Ok found) P Q f p = f p
 OnOk-map (Err e) P Q f p = tt
 
--- the text so far with an LF: a line more, and nothing of the next
+-- after an LF there is one line more, and nothing of the next line was read
 ended-left : (reader : LineReader) (text held : List ℕ) (limit number : ℕ) (script : Script)
     → number ≡ length (cut text).ended + 1 → Stands reader (text ++ 10 ∷ [])
     → ReadingLeft reader held limit script
@@ -179,12 +179,12 @@ module _ (at : State) (is : at
       → HasLeftIn at reader held limit script l
   left-reading left = rw is left
 
--- an empty end of a list
+-- no bytes are held between two equal indexes
 pub held-none : (buffer : List ℕ) (at filled : ℕ) → at ≡ filled
     → take (filled - at) (drop at buffer) ≡ []
 held-none buffer at filled e = let none : filled - at ≡ 0 = omega arith in rw none refl
 
--- what the end of the last line leaves
+-- what is left after the end of the last line
 abbrev pub AfterEnd : Remaining → Result (Option DinRecord) TraceFault → Type 0
 AfterEnd l (Ok found) = (Ok found ≡ first_answer l)
     × (after_first l ≡ record { records = []; fault = None })

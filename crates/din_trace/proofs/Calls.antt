@@ -48,7 +48,7 @@ module _ {R : Type 0} (remaining : R → Option (List ℕ)) (failures : R
       }
 
 module _ {R : Type 0} (remaining : R → Option (List ℕ)) (failures : R → ℕ) where
-  -- calls that asked nothing of the reader
+  -- calls that did not ask the reader
   pub asks_nothing : (a b : Source R) → reader_of b ≡ reader_of a → taken_by b ≡ taken_by a
       → Takes remaining failures a b [] Open
   unfolding Settles
@@ -63,14 +63,14 @@ module _ {R : Type 0} (remaining : R → Option (List ℕ)) (failures : R → �
   pub no_calls : (a : Source R) → Takes remaining failures a a [] Open
   no_calls a = asks_nothing a a refl refl
 
-  -- what `next` says of its reader and its answer
+  -- the clause `reads` of `next`
   abbrev pub Answers : Source R → Source R → Result (Option DinRecord) TraceFault → Type 0
   Answers old new answer = (given : List ℕ) × (fate : Fate)
       × Takes remaining failures old new given fate
       × ((before later : Script) (l : Remaining) → Follows fate given before later
       → HasLeft old before l → (answer ≡ first_answer l) × HasLeft new later (after_first l))
 
-  -- an answer at hand is an answer of `next`
+  -- an answer of `at_hand` is an answer of `next`
   pub answers-at_hand : (a b : Source R) (answer : Result (Option DinRecord) TraceFault)
       → Takes remaining failures a b [] Open
       → ((script : Script) (l : Remaining) → HasLeft a script l
@@ -82,7 +82,7 @@ module _ {R : Type 0} (remaining : R → Option (List ℕ)) (failures : R → �
     λ before later l is has. left later l (subst (λ script. HasLeft a script l) is has),
   )
 
-  -- and so is that of a `next` behind it, where none was at hand
+  -- if `at_hand` gave none, the answer of a `next` after it is an answer of `next` from the start
   pub answers-asked : (a b c : Source R) (answer : Result (Option DinRecord) TraceFault)
       → Takes remaining failures a b [] Open
       → ((script : Script) (l : Remaining) → HasLeft a script l → HasLeft b script l)

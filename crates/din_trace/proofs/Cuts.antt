@@ -37,7 +37,7 @@ with_first-longer : (byte last : ℕ) (ended : List (List ℕ)) (rest : List ℕ
 with_first-longer byte last [] rest = refl
 with_first-longer byte last (line ∷ ended) rest = refl
 
--- another byte makes it longer
+-- any other byte makes the line longer
 pub cut-longer : (text : List ℕ) (last : ℕ) → eqb last 10 ≡ false
     → cut (text ++ last ∷ [])
     ≡ record { ended = (cut text).ended; rest = (cut text).rest ++ last ∷ [] }
@@ -121,7 +121,7 @@ open_line-open (byte ∷ text) =
       | inr e ↦ rw e (with_first-open byte (cut text).ended (cut text).rest e (open_line-open text))
     ]
 
--- lines with a fault behind them have one
+-- if a fault is given for the case that no line is faulty, there is always a fault
 pub first_fault-some : (bound : ℕ) (f : TraceFault) (number : ℕ) (ls : List (List ℕ))
     → first_fault bound number ls (Some f) ≡ None → ⊥
 first_fault-some bound f number [] none = cc

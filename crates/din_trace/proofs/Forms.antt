@@ -16,7 +16,7 @@ use Rattle.din_trace.proofs.Runs.{after-append, front-append, after-each, front-
 use Rattle.din_trace.proofs.Runs.{Each-front, StopsAt-after, prefix_of, prefix_of-append}
 use Rattle.din_trace.proofs.Runs.{after_prefix-append}
 
--- a digit 0 to 4 is no blank
+-- a digit 0 to 4 is not a blank
 pub label_not_blank : (byte : ℕ) → is_label byte ≡ true → is_blank byte ≡ false
 unfolding is_label is_blank
 label_not_blank byte h = grind (arith, nat_tests)
@@ -54,7 +54,7 @@ form-addressed bound line digit digits rest a =
     (after_prefix-append a.prefix (digits ++ rest) a.prefixed)
     ∙ address_form-digits bound (label_of digit) digits rest a.hex a.all_hex
 
--- the form of digits that have one, by what follows them
+-- the form of a line with at least one digit, by the digits and what follows them
 digits_form-range : (bound : ℕ) (l : Label) (digits rest : List ℕ) → bound < hex_value digits
     → digits_form bound l digits rest ≡ Faulty why.Range
 digits_form-range bound l [] rest h = absurd (omega arith)
@@ -71,7 +71,7 @@ tail_form-tail : (r : DinRecord) (rest : List ℕ) → IsComment rest → tail_f
 tail_form-tail r [] t = refl
 tail_form-tail r (byte ∷ rest) t = rw t refl
 
--- what has a form has the one found from left to right
+-- if a line has a form, it is the one found from left to right
 pub form_is : (bound : ℕ) (line : List ℕ) (other : Form) → HasForm bound line other
     → other ≡ form bound line
 unfolding form
@@ -95,7 +95,7 @@ form_is bound line (Faulty why.Tail) (digit, digits, rest, a, n, fits, byte, mor
     sym (form-addressed bound line digit digits rest a
     ∙ digits_form-fits bound (label_of digit) digits rest n fits ∙ rw (is, not_blank) refl)
 
--- The form found from left to right is had.
+-- A line has the form found from left to right.
 
 has-tail : (bound : ℕ) (line : List ℕ) (digit : ℕ) (digits rest : List ℕ)
     → HasParts line digit digits rest → 0 < length digits → hex_value digits ≤ bound
@@ -120,7 +120,7 @@ has-digits bound line digit (d ∷ digits) rest a =
           (ltb-false bound (hex_value (d ∷ digits)) e))
     ]
 
--- an address text is a prefix, digits and a rest
+-- the text of an address is a prefix, digits and a rest
 has-address : (bound : ℕ) (line : List ℕ) (digit : ℕ) (gap text : List ℕ)
     → Begins line digit (gap ++ text) → is_label digit ≡ true → Each is_blank gap → 0 < length gap
     → StopsAt is_blank text

@@ -1,4 +1,4 @@
--- What a text leaves after a byte of it.
+-- What is left of a text after one byte of it.
 use Rattle.std.proofs.Common.{◌≡◌, ℕ, suc, ◌+◌, ◌-◌, ◌<◌, ◌≤◌, leb, Bool, true, false, cond, List}
 use Rattle.std.proofs.Common.{[], ◌∷◌, ◌++◌, length, take, Some, None, refl, ap, ◌∙◌, append_assoc}
 use Rattle.std.proofs.Common.{length-append, arith, inl, inr}
@@ -54,7 +54,7 @@ module _ (bound number : ℕ) (w : List ℕ) (is_open : IsOpen w) where
             leb-false _ _ e in rw e (lt-leb _ _ (simp length-append (omega arith)))
       ]
 
-  -- the LF of a line
+  -- the LF that ends a line
   pub text_left-line : (rest : List ℕ) (room : ℕ) (fails : Bool)
       → text_left bound number (w ++ 10 ∷ rest) (length w + suc room) fails
       ≡ form_left (form bound w) number (text_left bound (number + 1) rest room fails)

@@ -36,7 +36,7 @@ consumes-kept (Some all) None new xs h k = absurd h
 consumes-kept (Some all) (Some some) None xs h k = absurd k
 consumes-kept (Some all) (Some some) (Some rest) xs h k = rw k h
 
--- one failure more is another count
+-- one more failure changes the count
 pub once_more-differs : (count : ℕ) → once_more count ≡ count → ⊥
 once_more-differs count same = omega arith
 
@@ -56,7 +56,7 @@ module _ (b : Backlog) (fails : Bool) (l : Remaining) where
       subst (λ bytes. HasLeft b (record { given = bytes; fails = fails }) l)
       (sym (append-nil xs)) closed
 
--- a script that begins so
+-- a script under which the reader gives these bytes, and goes on by the last script
 script_before : Fate → List ℕ → Script → Script
 script_before Open given last = record { given = given ++ last.given; fails = last.fails }
 script_before Ended given last = record { given = given; fails = false }
@@ -69,7 +69,7 @@ script_before-follows Open given last = refl
 script_before-follows Ended given last = refl
 script_before-follows Failed given last = refl
 
--- one call after another
+-- two calls of a reader, one after the other, act as one
 pub record Composed (f₁ f₂ : Fate) (g₁ g₂ : List ℕ) (old new : Option (List ℕ)) (before after : ℕ)
     (state : State) (size₀ size₂ : ℕ) : Type 0 where
   pub given : List ℕ
@@ -171,7 +171,7 @@ records-fault [] None f e = absurd cc
 records-fault [] (Some g) f e = (refl, cc)
 records-fault (q ∷ rs) fault f e = absurd cc
 
--- what the first answer says of what is left
+-- if the next answer is a record, what is left begins with it
 pub first_record : (l : Remaining) (r : DinRecord) → Ok (Some r) ≡ first_answer l
     → l.records ≡ r ∷ drop 1 l.records
 first_record l r = records-first l.records l.fault r
@@ -191,7 +191,7 @@ behind-not_nil : (items rs : List DinRecord) (r : DinRecord) → items ++ r ∷ 
 behind-not_nil [] rs r e = absurd cc
 behind-not_nil (q ∷ items) rs r e = absurd cc
 
--- records, and what is left behind them
+-- what is left is these records, and then what is left after them
 module _ (items : List DinRecord) (before more : Remaining)
     (result : Result (Option DinRecord) TraceFault)
     (is : before ≡ record { records = items ++ more.records; fault = more.fault }) (answer : result
@@ -226,7 +226,7 @@ module _ (items : List DinRecord) (before more : Remaining)
       let none = first_fault-is more f (sym was ∙ answer) in
       (ap (λ (l : Remaining). l.fault) is ∙ none.1, rw (none.0, none.1) refl)
 
--- a reader whose bytes are known, and that did not fail, does what its bytes say
+-- a script that a reader followed, if its bytes are known and it did not fail
 pub known-script : (fate : Fate) (all : List ℕ) (new : Option (List ℕ)) (given : List ℕ)
     (before after : ℕ)
     → FateIs fate (Some all) given new before after → after ≡ before

@@ -1,4 +1,4 @@
--- What a line reader stands for after one more byte.
+-- Which bytes a line reader has read after one more byte.
 use Rattle.std.proofs.Common.{◌≡◌, ◌≢◌, ℕ, ◌+◌, List, [], ◌∷◌, ◌++◌, Option, None, Ok, Err, refl}
 use Rattle.std.proofs.Common.{sym, ap, ◌∙◌, append_assoc, length-append, arith}
 use Rattle.std.proofs.lemmas.Bool.{ne_eqb}
@@ -32,7 +32,7 @@ stands-longer old new text byte other unfaulted line next begun_is s =
       goes_on = λ rest. rw append_assoc (s.goes_on (byte ∷ rest) ∙ next rest);
     })
 
--- what is answered at the end of a line
+-- the answer at the end of a line that is not faulty
 pub answered : (f : Form) (number : ℕ) (found : Option DinRecord) → form_answer f ≡ Ok found
     → (form_result number f ≡ Ok found) × (form_fault f 0 None ≡ None)
 answered Blank number found e = (cc, refl)
@@ -45,7 +45,7 @@ refused Blank number why e = absurd cc
 refused (Din r) number why e = absurd cc
 refused (Faulty w) number why e = cc
 
--- the line so far has the form that the reader makes of its end
+-- the form of the line so far is the one that the reader gives it if it ends here
 pub stands-form : (r : LineReader) (text : List ℕ) → Stands r text
     → form ADDRESS_MAX (open_line text) ≡ form_from ADDRESS_MAX r.so_far []
 stands-form r text s = ap (form ADDRESS_MAX) (sym (append-nil (open_line text))) ∙ s.goes_on []

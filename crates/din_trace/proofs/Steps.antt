@@ -1,4 +1,4 @@
--- What one more byte makes of a line.
+-- The form of a line after one more byte.
 use Rattle.std.proofs.Common.{◌≡◌, ℕ, ◌+◌, ◌*◌, ◌<◌, ◌≤◌, true, false, cond, List, [], ◌∷◌, refl}
 use Rattle.std.proofs.Common.{arith}
 use Rattle.std.specs.Prelude.{nat_lt}
@@ -27,7 +27,7 @@ module _ (bound byte : ℕ) (tail : List ℕ) where
   unfolding form
   form-other h k = rw (h, k) refl
 
--- a `0` that begins no prefix is a digit
+-- a `0` that no `x` or `X` follows is a digit
 pub zero_is_digit : (bound : ℕ) (l : Label) (byte : ℕ) (tail : List ℕ) → (byte ≡ 120 → ⊥)
     → (byte ≡ 88 → ⊥)
     → form_from bound (so_far.Zero l) (byte ∷ tail)
@@ -35,7 +35,7 @@ pub zero_is_digit : (bound : ℕ) (l : Label) (byte : ℕ) (tail : List ℕ) →
 unfolding is_hex
 zero_is_digit bound l byte tail h k = rw (ne_eqb byte 120 h, ne_eqb byte 88 k) refl
 
--- more digits don't make a value smaller
+-- more digits do not make a value smaller
 pub more_digits-le : (value : ℕ) (digits : List ℕ) → value ≤ more_digits value digits
 more_digits-le value [] = omega arith
 more_digits-le value (digit ∷ digits) =

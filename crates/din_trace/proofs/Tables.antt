@@ -8,12 +8,12 @@ use Rattle.std.proofs.lemmas.Bool.{false≢true}
 use Rattle.din_trace.specs.declared.digits.TheConstants.{DIGITS}
 use Rattle.din_trace.specs.Line.{is_hex}
 
--- a test passes at each number below
+-- each smaller number passes the test
 abbrev all_below : (ℕ → Bool) → ℕ → Bool
 all_below test zero = true
 all_below test (suc n) = if test n then all_below test n else false
 
--- the table is right at a byte
+-- the entry of the table for this byte is right
 abbrev is_right : ℕ → Bool
 is_right byte =
     if nat_lt

@@ -1,4 +1,4 @@
--- What a text leaves.
+-- What is left of a whole text.
 use Rattle.std.proofs.Common.{◌≡◌, ℕ, ◌+◌, ◌<◌, Bool, true, false, List, [], ◌∷◌, ◌++◌, length}
 use Rattle.std.proofs.Common.{take, Option, Some, None, refl, sym, ap, ◌∙◌, inl, inr}
 use Rattle.std.specs.Prelude.{nat_le, if◌then◌else◌}
@@ -44,7 +44,7 @@ lines_left-records bound number (line ∷ ls) none =
     (lines_left-records bound (number + 1) ls
     (others_none (form bound line) number (first_fault bound (number + 1) ls None) none))
 
--- a fault of no line is that of what comes behind the lines
+-- a fault that is not that of a line comes from what follows the lines
 module _ (f : TraceFault) (no_line : (number : ℕ) (why : Why) → Bad number why ≡ f → ⊥) where
   fault_behind : (of : Form) (number : ℕ) (others : Option TraceFault)
       → form_fault of number others ≡ Some f → others ≡ Some f
@@ -76,7 +76,7 @@ module _ (bound : ℕ) (text : List ℕ) (limit : ℕ) where
             (first_fault-some bound TooLong 1 (ended_lines (take limit text)) (rw e at none))
       ]
 
-  -- a fault of no line: what the text leaves behind its lines
+  -- such a fault is the one that follows the lines of the text
   behind_lines : (fails : Bool) (f : TraceFault)
       → ((number : ℕ) (why : Why) → Bad number why ≡ f → ⊥)
       → (text_left bound 1 text limit fails).fault ≡ Some f

@@ -1,4 +1,4 @@
--- What a run over a reader that tells its text comes to.
+-- What a run over a reader answers, if the bytes of the reader are known.
 use Rattle.std.proofs.Common.{◌≡◌, ℕ, ◌<◌, true, false, List, [], ◌++◌, length}
 use Rattle.std.proofs.Common.{Option, Some, None, refl, ap, sym, ◌∙◌, subst, inl, inr, arith}
 use Rattle.std.proofs.Common.{length-append}
@@ -13,7 +13,7 @@ use Rattle.din_trace.specs.Remaining.{Remaining, Script, Fate, Open, Ended, Fail
 use Rattle.din_trace.specs.Remaining.{text_left}
 use Rattle.din_trace.proofs.Texts.{text_left-fault, text_left-records, leaves_text}
 
--- a text that is too long leaves what its front leaves that is too long
+-- of a text that is too long, only the first bytes past the limit matter
 text_left-front : (given rest : List ℕ) (limit : ℕ) → limit < length given
     → text_left ADDRESS_MAX 1 (given ++ rest) limit false ≡ text_left ADDRESS_MAX 1 given limit true
 text_left-front given rest limit long =
@@ -26,7 +26,7 @@ text_left-front given rest limit long =
 
 module _ {R : Type 0} (remaining : R → Option (List ℕ)) (failures : R → ℕ) (reader last : R)
     (text : List ℕ) (limit : ℕ) where
-  -- this may be left of a reader that tells the text
+  -- this may be left of a reader that will give the text
   pub record MayBeLeft (l : Remaining) : Type 0 where
     pub no_fault : l.fault ≡ None
         → (fault ADDRESS_MAX text limit ≡ None) × (l.records ≡ records ADDRESS_MAX text)
@@ -60,7 +60,7 @@ module _ {R : Type 0} (remaining : R → Option (List ℕ)) (failures : R → �
         ];
       }
 
-  -- a script that such a reader may have had, and what it leaves
+  -- a script that such a reader may follow, and what is left under it
   pub script_of_told : (fate : Fate) (given : List ℕ) (new : Option (List ℕ))
       → remaining last ≡ new
       → FateIs fate (Some text) given new (failures reader) (failures last)

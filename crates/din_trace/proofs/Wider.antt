@@ -1,4 +1,4 @@
--- What is read under a bound on addresses is read alike under a greater one.
+-- A line that is not faulty under a bound on addresses has the same form under a greater bound.
 use Rattle.std.proofs.Common.{◌≡◌, ℕ, ◌+◌, ◌≤◌, List, [], ◌∷◌, length, take, Option, None}
 use Rattle.std.proofs.Common.{refl, sym, inl, inr, arith}
 use Rattle.std.specs.Prelude.{nat_le}

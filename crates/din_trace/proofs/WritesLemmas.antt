@@ -4,7 +4,7 @@ use Rattle.std.proofs.Common.{append_assoc}
 use Rattle.std.specs.Io.KnownBytes.{Appends}
 use Rattle.din_trace.specs.Device.{Writes, once_more}
 
--- bytes appended twice
+-- two appends in a row are one append
 pub appends_twice : (x y z : Option (List ℕ)) (a b : List ℕ) → Appends x y a → Appends y z b
     → Appends x z (a ++ b)
 appends_twice None y z a b h k = tt
@@ -14,7 +14,7 @@ appends_twice (Some x) (Some y) (Some z) a b h k = rw (k, h, append_assoc)
 
 module _ {W S E F : Type 0} {contents : W → Option (List ℕ)} {failures : W
     → ℕ} {old mid new : W} where
-  -- a call that answered `Ok`, and then another
+  -- a call that answered `Ok`, and another after it, act as one call
   pub writes_then : {T : Type 0} {x : T} (s : Result S F) (a b : List ℕ)
       → Writes {E = E} contents failures old mid (Ok x) a → Writes contents failures mid new s b
       → Writes contents failures old new s (a ++ b)
@@ -29,7 +29,7 @@ module _ {W S E F : Type 0} {contents : W → Option (List ℕ)} {failures : W
       record { ok = tt; kept = tt; failed = k.failed ∙ ap once_more h.kept }
 
 module _ {W S F : Type 0} {contents : W → Option (List ℕ)} {failures : W → ℕ} {old new : W} where
-  -- the same text, in other words
+  -- the text may be replaced by an equal one
   pub writes_as : (s : Result S F) (a b : List ℕ) → a ≡ b → Writes contents failures old new s a
       → Writes contents failures old new s b
   writes_as s a b e h = rw (← e) h

@@ -1,4 +1,4 @@
--- What the bytes that a source holds leave, if its reader goes on by a script.
+-- What a source still has to answer, from the bytes that it holds and what its reader will do.
 use Rattle.std.specs.Prelude.{◌≡◌, ℕ, ◌+◌, ◌-◌, List, [], ◌++◌, length, take, drop, Some, None}
 use Rattle.din_trace.specs.declared.backlog.Backlog.{Backlog}
 use Rattle.din_trace.specs.declared.backlog.State.{State}
@@ -10,7 +10,7 @@ use Rattle.din_trace.specs.Text.{open_line}
 use Rattle.din_trace.specs.Standing.{Stands}
 use Rattle.din_trace.specs.Remaining.{Remaining, Script, text_left}
 
--- the bytes that are held
+-- the bytes that came from the reader and are not judged yet
 abbrev pub held : Backlog → List ℕ
 held b = take (b.filled - b.at) (drop b.at b.buffer.bytes)
 
@@ -18,7 +18,8 @@ held b = take (b.filled - b.at) (drop b.at b.buffer.bytes)
 abbrev pub taken : Backlog → ℕ
 taken b = b.lines.bytes + (b.filled - b.at)
 
--- a byte of room for each, and one for the line that has begun
+-- how many more records a source in this state can give: each takes at least one byte below the
+-- limit, and one more may come from the line that has begun
 abbrev pub room_in : State → LineReader → ℕ → ℕ
 room_in state.Reading reader limit = limit - reader.bytes + begun reader.so_far
 room_in state.Ended reader limit = 0
@@ -28,14 +29,14 @@ room_in (state.Failed f) reader limit = 0
 abbrev pub room : Backlog → ℕ
 room b = room_in b.state b.lines b.limit
 
--- what a line reader leaves, under the limit, of the held bytes and then of what the script gives:
--- what follows the text that it stands for
+-- what is left under the limit, if the line reader goes on with the held bytes and then with what
+-- the script gives
 abbrev pub ReadingLeft : LineReader → List ℕ → ℕ → Script → Remaining → Type 0
 ReadingLeft reader held limit script l = (text : List ℕ) × Stands reader text
     × (l ≡ text_left ADDRESS_MAX reader.line (open_line text ++ (held ++ script.given))
     (length (open_line text) + (limit - reader.bytes)) script.fails)
 
--- what is left of a source that reads on, has ended or has failed
+-- what is left of a source in this state
 abbrev pub HasLeftIn : State → LineReader → List ℕ → ℕ → Script → Remaining → Type 0
 HasLeftIn state.Reading reader held limit script l = ReadingLeft reader held limit script l
 HasLeftIn state.Ended reader held limit script l = l ≡ record { records = []; fault = None }

@@ -1,22 +1,22 @@
--- Which faults a run over a reader may answer.
+-- Which faults a run that reads a trace may answer.
 use Rattle.std.specs.Prelude.{◌≡◌, ◌⊎◌, ◌≤◌, ℕ, List, ◌++◌, length, Option, Some}
 use Rattle.din_trace.specs.declared.fault.TraceFault.{TraceFault}
 use Rattle.din_trace.specs.Device.{once_more}
 use Rattle.din_trace.specs.Line.{ADDRESS_MAX}
 use Rattle.din_trace.specs.Text.{fault, failed_fault}
 
--- the reader came to fail once, after it gave this front of its text
+-- the reader failed once, after it gave these first bytes of its text
 pub record FailedBehind {R : Type 0} (remaining : R → Option (List ℕ)) (failures : R → ℕ)
     (reader : R) (text given : List ℕ) : Type 0 where
   pub rest : List ℕ
   pub whole : text ≡ given ++ rest
-  -- the reader as it then was, which tells the rest
+  -- the reader after the failure, which still has the rest
   pub last : R
   pub told : remaining last ≡ Some rest
   pub failed : failures last ≡ once_more (failures reader)
 
--- the fault of the reader's text under the limit, or that of a reader which failed behind a front
--- of it
+-- the fault of the reader's text under the limit, or the fault of a reader that failed after it
+-- gave some first bytes of the text
 abbrev pub IsFaultOf : {R : Type 0} → (R → Option (List ℕ)) → (R → ℕ) → R → List ℕ → ℕ
     → TraceFault → Type 0
 IsFaultOf remaining failures reader text limit met =

@@ -64,24 +64,24 @@ IsComment (byte ∷ rest) = is_blank byte ≡ true
 
 -- Parts of a line.
 
--- behind its leading blanks the line begins with this byte, which the rest follows: `B* byte rest`
+-- the line is leading blanks, this byte, and the rest: `B* byte rest`
 pub record Begins (line : List ℕ) (byte : ℕ) (rest : List ℕ) : Type 0 where
   pub lead : List ℕ
   pub blanks : Each is_blank lead
   pub whole : line ≡ lead ++ byte ∷ rest
 
--- the line is a label, a gap, a prefix or none, digits and a rest, each part taken as far as it
--- goes: `B* label B+ P H rest`
+-- the line is leading blanks, a label, a gap, an optional prefix, digits and a rest, each part as
+-- long as it can be: `B* label B+ P H rest`
 pub record HasParts (line : List ℕ) (digit : ℕ) (digits rest : List ℕ) : Type 0 where
   pub gap : List ℕ
   pub prefix : List ℕ
   pub begins : Begins line digit (gap ++ (prefix ++ (digits ++ rest)))
   pub labeled : is_label digit ≡ true
-  -- the gap is all the blanks behind the label, and there is one
+  -- the gap is all the blanks after the label, at least one
   pub blanks : Each is_blank gap
   pub some : 0 < length gap
   pub all_blanks : StopsAt is_blank (prefix ++ (digits ++ rest))
-  -- the prefix is `0x` or `0X` where the address text begins so, and else nothing
+  -- the prefix is `0x` or `0X` if the text of the address begins so, and otherwise empty
   pub prefixed : prefix ≡ (
       if has_prefix (prefix ++ (digits ++ rest)) then take 2 (prefix ++ (digits ++ rest)) else [])
   -- the digits are all the hexadecimal digits that follow
@@ -90,13 +90,13 @@ pub record HasParts (line : List ℕ) (digit : ℕ) (digits rest : List ℕ) : T
 
 -- Forms.
 
--- the seven forms: a line of blanks, a record, and five faults
+-- the seven forms of a line: blanks alone, a record, and five faults
 pub data Form : Type 0 where
   Blank : Form
   Din : DinRecord → Form
   Faulty : Why → Form
 
--- the line has this form, where addresses go up to the bound
+-- the line has this form, if the greatest address is the bound
 abbrev pub HasForm : ℕ → List ℕ → Form → Type 0
 -- blanks alone
 HasForm bound line Blank = Each is_blank line
@@ -110,7 +110,7 @@ HasForm bound line (Faulty why.Label) = (byte : ℕ) × (rest : List ℕ)
 -- a label, then nothing, or a byte that is no blank
 HasForm bound line (Faulty why.Gap) = (digit : ℕ) × (rest : List ℕ)
     × Begins line digit rest × (is_label digit ≡ true) × StopsAt is_blank rest
--- no digit
+-- a label and a gap, and then no hexadecimal digit
 HasForm bound line (Faulty why.Address) = (digit : ℕ) × (rest : List ℕ)
     × HasParts line digit [] rest
 -- digits of a value above the bound, whatever follows
@@ -121,51 +121,51 @@ HasForm bound line (Faulty why.Tail) = (digit : ℕ) × (digits rest : List ℕ)
     × HasParts line digit digits rest × (0 < length digits) × (hex_value digits ≤ bound)
     × (byte : ℕ) × (more : List ℕ) × (rest ≡ byte ∷ more) × (is_blank byte ≡ false)
 
--- The form of a line, found from left to right. A law says that each line has this form alone.
+-- The form of a line, found from left to right. A law says that it is the only one the line has.
 
--- the longest front whose bytes pass the test
+-- the bytes at the start that pass the test, up to the first that does not
 abbrev pub front : (ℕ → Bool) → List ℕ → List ℕ
 front test [] = []
 front test (byte ∷ rest) = if test byte then byte ∷ front test rest else []
 
--- what follows that front
+-- the bytes from the first one on that does not pass the test
 abbrev pub after : (ℕ → Bool) → List ℕ → List ℕ
 after test [] = []
 after test (byte ∷ rest) = if test byte then after test rest else byte ∷ rest
 
--- what follows the prefix, if there is one
+-- the text without `0x` or `0X` at its start
 abbrev pub after_prefix : List ℕ → List ℕ
 after_prefix text = if has_prefix text then drop 2 text else text
 
--- the form, by the record that was read and what follows it
+-- the form of a line that begins with this record, by what follows the digits
 abbrev pub tail_form : DinRecord → List ℕ → Form
 tail_form r [] = Din r
 tail_form r (byte ∷ rest) = if is_blank byte then Din r else Faulty why.Tail
 
--- by the label, the digits of the address and what follows them
+-- the form of a line, by its label, the digits of the address and what follows them
 abbrev pub digits_form : ℕ → Label → List ℕ → List ℕ → Form
 digits_form bound l [] rest = Faulty why.Address
 digits_form bound l (digit ∷ digits) rest =
     if nat_lt bound (hex_value (digit ∷ digits)) then Faulty why.Range
     else tail_form (record { label = l; addr = hex_value (digit ∷ digits) }) rest
 
--- by the label, and what follows the gap and the prefix
+-- the form of a line, by its label and what follows the gap and the prefix
 abbrev pub address_form : ℕ → Label → List ℕ → Form
 address_form bound l text = digits_form bound l (front is_hex text) (after is_hex text)
 
--- by the label, and what follows it
+-- the form of a line, by its label and what follows the label
 abbrev pub gap_form : ℕ → Label → List ℕ → Form
 gap_form bound l [] = Faulty why.Gap
 gap_form bound l (byte ∷ rest) =
     if is_blank byte then address_form bound l (after_prefix (after is_blank rest))
     else Faulty why.Gap
 
--- by what follows the leading blanks
+-- the form of a line, by what follows the leading blanks
 abbrev pub label_form : ℕ → List ℕ → Form
 label_form bound [] = Blank
 label_form bound (digit ∷ rest) =
     if is_label digit then gap_form bound (label_of digit) rest else Faulty why.Label
 
--- the form of a line, where addresses go up to the bound
+-- the form of a line, if the greatest address is the bound
 unfoldable pub form : ℕ → List ℕ → Form
 form bound line = label_form bound (after is_blank line)

@@ -1,4 +1,4 @@
--- The form of a line, by the part of it that was read.
+-- The form of a line, from what was read of it and the bytes that follow.
 use Rattle.std.specs.Prelude.{ℕ, ◌+◌, ◌*◌, nat_lt, if◌then◌else◌, List, ◌∷◌, Option, Some, None}
 use Rattle.std.specs.Prelude.{Result, Ok, Err, fold}
 use Rattle.std.specs.Char.{digit_value}
@@ -11,17 +11,17 @@ use Rattle.din_trace.specs.declared.line.LineSoFar.TheVariants as so_far
 use Rattle.din_trace.specs.Line.{Form, Blank, Din, Faulty, is_blank, is_hex, front, after}
 use Rattle.din_trace.specs.Line.{after_prefix, form, gap_form, address_form, tail_form}
 
--- by the label, the value of the digits and what follows them
+-- the form of a line, by its label, the value of the digits and what follows them
 abbrev pub value_form : ℕ → Label → ℕ → List ℕ → Form
 value_form bound l value rest =
     if nat_lt bound value then Faulty why.Range
     else tail_form (record { label = l; addr = value }) rest
 
--- the value so far, if these digits follow it
+-- the value of an address, from its value so far and the digits that follow
 abbrev pub more_digits : ℕ → List ℕ → ℕ
 more_digits value digits = fold (λ value digit. 16 * value + digit_value digit) value digits
 
--- the form that the line will have, if these bytes follow what was read of it, and then its end
+-- the form of the line, if these bytes follow what was read of it, and it ends after them
 abbrev pub form_from : ℕ → LineSoFar → List ℕ → Form
 form_from bound so_far.Empty rest = form bound rest
 form_from bound so_far.Blanks rest = form bound rest
@@ -34,13 +34,13 @@ form_from bound (so_far.Digits r) rest =
 form_from bound (so_far.Record r) rest = Din r
 form_from bound (so_far.Faulty w) rest = Faulty w
 
--- what a line of this form holds, or what is wrong with it
+-- the record of a line of this form, if it holds one, or what is wrong with it
 abbrev pub form_answer : Form → Result (Option DinRecord) Why
 form_answer Blank = Ok None
 form_answer (Din r) = Ok (Some r)
 form_answer (Faulty w) = Err w
 
--- 1 if a byte of the line was read, else 0
+-- 1 if some byte of the line was read, else 0
 abbrev pub begun : LineSoFar → ℕ
 begun so_far.Empty = 0
 begun so_far.Blanks = 1

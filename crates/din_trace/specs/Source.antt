@@ -1,4 +1,4 @@
--- What contracts see of a source: its reader, how many bytes it took, and what it has left.
+-- What the contracts say of a source: its reader, how many bytes it took, and what it has left.
 use Rattle.std.specs.Prelude.{◌≡◌, ℕ, ◌+◌, false, List, length, Option}
 use Rattle.din_trace.specs.declared.source.Source.{Source}
 use Rattle.din_trace.specs.declared.backlog.State.TheVariants as state
@@ -6,7 +6,7 @@ use Rattle.din_trace.specs.Remaining.{Remaining, Script, Fate, FateIs}
 use Rattle.din_trace.specs.State.{is_reading, Closes}
 use Rattle.din_trace.specs.Backlog as backlog
 
--- its reader
+-- the reader of a source
 unfoldable pub reader_of : {R : Type 0} → Source R → R
 reader_of source = source.reader
 
@@ -22,7 +22,7 @@ taken_by source = backlog.taken source.backlog
 unfoldable pub room_of : {R : Type 0} → Source R → ℕ
 room_of source = backlog.room source.backlog
 
--- what it has left, if its reader does what the script says
+-- what it has left to answer, if its reader acts by the script
 unfoldable pub HasLeft : {R : Type 0} → Source R → Script → Remaining → Type 0
 HasLeft source script l = backlog.HasLeft source.backlog script l
 
@@ -30,16 +30,16 @@ HasLeft source script l = backlog.HasLeft source.backlog script l
 unfoldable pub IsSettled : {R : Type 0} → Source R → Type 0
 IsSettled source = is_reading source.backlog.state ≡ false
 
--- it goes on, and holds no byte that it has not read: it has to ask its reader
+-- it is reading, and has judged every byte that it holds: it has to ask its reader
 unfoldable pub MustAsk : {R : Type 0} → Source R → Type 0
 MustAsk source =
     (source.backlog.state ≡ state.Reading) × (source.backlog.at ≡ source.backlog.filled)
 
--- a reader that ended or failed settles it
+-- if the reader has ended or failed, the source is settled
 unfoldable pub Settles : {R : Type 0} → Fate → Source R → Type 0
 Settles fate source = Closes fate source.backlog.state
 
--- calls took these bytes from the reader, and left it open, ended or failed
+-- some calls took these bytes from the reader, and left the reader open, ended or failed
 pub record Takes {R : Type 0} (remaining : R → Option (List ℕ)) (failures : R → ℕ)
     (old new : Source R) (given : List ℕ) (fate : Fate) : Type 0 where
   pub reader : FateIs fate (remaining (reader_of old)) given (remaining (reader_of new))

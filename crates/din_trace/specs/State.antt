@@ -1,23 +1,23 @@
--- Whether a source goes on.
+-- Whether a source is reading, or has ended or failed.
 use Rattle.std.specs.Prelude.{◌≡◌, Bool, true, false, Option, is_none, ⊤}
 use Rattle.din_trace.specs.declared.fault.Why.{Why}
 use Rattle.din_trace.specs.declared.backlog.State.{State}
 use Rattle.din_trace.specs.declared.backlog.State.TheVariants as state
 use Rattle.din_trace.specs.Remaining.{Fate, Open, Ended, Failed}
 
--- a source that goes on has met no faulty line
+-- a source that is reading has found no faulty line
 abbrev pub is_sound : State → Option Why → Bool
 is_sound state.Reading fault = is_none fault
 is_sound state.Ended fault = true
 is_sound (state.Failed f) fault = true
 
--- the source goes on
+-- the source is reading
 abbrev pub is_reading : State → Bool
 is_reading state.Reading = true
 is_reading state.Ended = false
 is_reading (state.Failed f) = false
 
--- a source whose reader ended or failed goes on no more
+-- after its reader has ended or failed, a source is no longer reading
 abbrev pub Closes : Fate → State → Type 0
 Closes Open state = ⊤
 Closes Ended state = is_reading state ≡ false

@@ -6,12 +6,12 @@ use Rattle.din_trace.specs.declared.fault.TraceFault.{TraceFault}
 use Rattle.din_trace.specs.declared.fault.TraceFault.TheVariants.{Bad, TooLong, Read}
 use Rattle.din_trace.specs.Line.{Form, Blank, Din, Faulty, form}
 
--- the lines that an LF ends, without it, and what follows the last LF
+-- a text, cut at its LFs: the lines that an LF ends, without that LF, and what follows the last LF
 pub record CutText : Type 0 where
   pub ended : List (List ℕ)
   pub rest : List ℕ
 
--- a byte in front of a text that was cut so
+-- the cut of a text with one byte more in front, which is no LF
 abbrev pub with_first : ℕ → List (List ℕ) → List ℕ → CutText
 with_first byte [] rest = record { ended = []; rest = byte ∷ rest }
 with_first byte (line ∷ ended) rest = record { ended = (byte ∷ line) ∷ ended; rest = rest }
@@ -23,15 +23,15 @@ cut (byte ∷ text) =
     if byte == 10 then record { ended = [] ∷ (cut text).ended; rest = (cut text).rest }
     else with_first byte (cut text).ended (cut text).rest
 
--- the lines whose LF is in the text
+-- the lines of a text that an LF ends
 abbrev pub ended_lines : List ℕ → List (List ℕ)
 ended_lines text = (cut text).ended
 
--- what follows the last LF
+-- what follows the last LF of a text
 abbrev pub open_line : List ℕ → List ℕ
 open_line text = (cut text).rest
 
--- a last line without LF, which counts if it is not empty
+-- the last line, if no LF ends it: it counts only if it is not empty
 abbrev pub last_line : List ℕ → List (List ℕ)
 last_line [] = []
 last_line (byte ∷ rest) = (byte ∷ rest) ∷ []
@@ -51,39 +51,41 @@ abbrev pub line_records : ℕ → List (List ℕ) → List DinRecord
 line_records bound [] = []
 line_records bound (line ∷ lines) = form_records (form bound line) ++ line_records bound lines
 
--- the records of a text, where addresses go up to the bound
+-- the records of a text, if the greatest address is the bound
 abbrev pub records : ℕ → List ℕ → List DinRecord
 records bound text = line_records bound (lines text)
 
--- the fault of a line of this form and number, or else that of others
+-- the fault of a line of this form and number; if it has none, that of the lines after it
 abbrev pub form_fault : Form → ℕ → Option TraceFault → Option TraceFault
 form_fault Blank number others = others
 form_fault (Din r) number others = others
 form_fault (Faulty why) number others = Some (Bad number why)
 
--- the fault of the first faulty one of the lines, numbered from this number, or else another
+-- the fault of the first faulty line, if the lines are numbered from this number; if no line is
+-- faulty, the given one
 abbrev pub first_fault : ℕ → ℕ → List (List ℕ) → Option TraceFault → Option TraceFault
 first_fault bound number [] otherwise = otherwise
 first_fault bound number (line ∷ lines) otherwise =
     form_fault (form bound line) number (first_fault bound (number + 1) lines otherwise)
 
--- the fault of a text: within the limit that of its lines, and else that of the lines whose LF is
--- within the limit, or `TooLong`
+-- the fault of a text: the first fault of its lines; if the text is longer than the limit, only the
+-- lines that end within the limit are judged, and if none is faulty the fault is `TooLong`
 abbrev pub fault : ℕ → List ℕ → ℕ → Option TraceFault
 fault bound text limit =
     if nat_le (length text) limit then first_fault bound 1 (lines text) None
     else first_fault bound 1 (ended_lines (take limit text)) (Some TooLong)
 
--- the fault of a reader that failed after it gave the text, which is within the limit
+-- the fault if the reader failed after it gave this text, which is within the limit: that of the
+-- first faulty line that ended, or `Read`
 abbrev pub failed_fault : ℕ → List ℕ → Option TraceFault
 failed_fault bound text = first_fault bound 1 (ended_lines text) (Some Read)
 
--- what the end of a line of this form and number gives: its record, nothing, or its fault
+-- what the end of a line of this form and number answers: its record, `None`, or its fault
 abbrev pub form_result : ℕ → Form → Result (Option DinRecord) TraceFault
 form_result number Blank = Ok None
 form_result number (Din r) = Ok (Some r)
 form_result number (Faulty why) = Err (Bad number why)
 
--- what the end of this line gives
+-- what the end of this line answers
 abbrev pub line_result : ℕ → ℕ → List ℕ → Result (Option DinRecord) TraceFault
 line_result bound number line = form_result number (form bound line)

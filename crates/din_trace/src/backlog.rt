@@ -1,4 +1,4 @@
-//! The bytes that came from a reader and were not judged yet.
+//! What a source keeps besides its reader: the bytes that are not judged yet, and its state.
 
 ghost use Rattle.std.specs.Prelude.{◌≡◌, ℕ, ◌+◌, ◌-◌, ◌<◌, ◌≤◌, ◌^◌, List, [], ◌++◌, true};
 ghost use Rattle.std.specs.Prelude.{false, length, IfSome, IfNone, IfOk, OnOk, OnErr};
@@ -18,14 +18,14 @@ use crate::line_reader::LineReader;
 use crate::plain::plain_line;
 use crate::record::DinRecord;
 
-/// Whether a source goes on.
+/// Whether a source is reading, or has ended or failed.
 #[derive(Clone, Copy, Debug)]
 pub enum State {
-    /// It reads.
+    /// It is reading.
     Reading,
     /// Its reader has ended, and the last line was judged.
     Ended,
-    /// It has met this fault.
+    /// It has found this fault.
     Failed(TraceFault),
 }
 
@@ -34,7 +34,7 @@ pub enum State {
 pub struct Backlog {
     /// The most bytes that the trace may have.
     limit: u64,
-    /// The lines, up to the bytes that wait.
+    /// Has read the trace up to the bytes that wait.
     lines: LineReader,
     buffer: Buffer,
     /// The bytes of the buffer that wait are those from `at` to `filled`.
@@ -54,7 +54,7 @@ impl Backlog {
     ghost use Rattle.din_trace.specs.Backlog.{HasLeft, held, taken, room};
     ghost use Rattle.din_trace.specs.declared.backlog.State.{State};
 
-    /// What a source holds before it has asked its reader.
+    /// The backlog of a source that has not asked its reader yet.
     pub fn new(limit: u64) -> Backlog
         requires { limit ≤ 2 ^ 40 }
         ensures left { (script : Script)
@@ -73,7 +73,7 @@ impl Backlog {
         }
     }
 
-    /// Takes the next byte that is held.
+    /// Takes the next held byte. The answer is `None` if more bytes are needed for one.
     fn step(&mut self) -> Option<Result<Option<DinRecord>, TraceFault>>
         requires reading { self.old.state ≡ State.Reading }
         requires some { self.old.at < self.old.filled }
@@ -109,7 +109,7 @@ impl Backlog {
         }
     }
 
-    /// The next answer that needs no further byte, if there is one. Else no byte is held.
+    /// The next answer, if the held bytes decide it. After `None`, no byte is held.
     #[inline(always)]
     pub fn answer(&mut self) -> Option<Result<Option<DinRecord>, TraceFault>>
         ensures answer { IfSome result (λ answer. (script : Script) (l : Remaining)
@@ -140,7 +140,7 @@ impl Backlog {
         }
     }
 
-    /// The record of the next line, where that line is plain and is held whole.
+    /// The record of the next line, if that line is plain and completely held.
     #[inline(always)]
     fn plain(&mut self) -> Option<DinRecord>
         requires reading { self.old.state ≡ State.Reading }
@@ -168,7 +168,7 @@ impl Backlog {
         }
     }
 
-    /// The next answer that the held bytes give, if they give one, read byte by byte.
+    /// The next answer, if the held bytes decide it, read byte by byte.
     fn answer_held(&mut self) -> Option<Result<Option<DinRecord>, TraceFault>>
         requires reading { self.old.state ≡ State.Reading }
         ensures answer { IfSome result (λ answer. (script : Script) (l : Remaining)
@@ -192,7 +192,7 @@ impl Backlog {
         None
     }
 
-    /// The answer where the reader has ended.
+    /// The answer if the reader has ended.
     pub fn end(&mut self) -> Result<Option<DinRecord>, TraceFault>
         requires reading { self.old.state ≡ State.Reading }
         requires empty { self.old.at ≡ self.old.filled }
@@ -217,7 +217,7 @@ impl Backlog {
         }
     }
 
-    /// The answer where the reader has failed.
+    /// The answer if the reader has failed.
     pub fn fail(&mut self) -> Result<Option<DinRecord>, TraceFault>
         requires reading { self.old.state ≡ State.Reading }
         requires empty { self.old.at ≡ self.old.filled }
@@ -234,7 +234,7 @@ impl Backlog {
         Err(TraceFault::Read)
     }
 
-    /// Asks the reader for bytes, of which none is held: 0 is its end.
+    /// Asks the reader for bytes when none is held. `Ok(0)` means the end.
     pub fn refill<R: ByteReader>(&mut self, reader: &mut R) -> Result<usize, DeviceFailed>
         requires reading { self.old.state ≡ State.Reading }
         requires empty { self.old.at ≡ self.old.filled }
@@ -269,7 +269,7 @@ impl Backlog {
         }
     }
 
-    /// Gives up for want of memory, and repeats that.
+    /// Ends the source after a failed allocation: it answers `Memory` from now on.
     pub fn exhaust(&mut self)
         ensures left { (script : Script)
             → HasLeft self.new script (record { records = []; fault = Some TraceFault.Memory }) }

@@ -1,4 +1,4 @@
-//! The room in which a source holds bytes of its reader.
+//! The buffer of a source.
 
 ghost use Rattle.std.specs.Prelude.{◌≡◌, ◌<◌, ◌≤◌, take, length, IfOk, OnOk, OnErr};
 ghost use Rattle.std.specs.Io.KnownBytes.{Consumes, Keeps, IsAtEnd};
@@ -9,17 +9,17 @@ use crate::device::{ByteReader, DeviceFailed};
 use std::fmt;
 use std::fmt::{Debug, Formatter, Write};
 
-/// How many bytes a source holds at most.
+/// The size of the buffer in bytes.
 pub const ROOM: usize = 16 * 1024;
 
-/// Room for the bytes of one call of a reader.
+/// The bytes that one call of a reader gave.
 #[derive(Drop)]
 pub struct Buffer {
     pub bytes: [u8; ROOM],
 }
 
 impl Buffer {
-    /// Asks the reader for at most `room` bytes, which come to stand at the front.
+    /// Asks the reader for at most `room` bytes, and puts them at the start of the buffer.
     pub fn fill<R: ByteReader>(
         &mut self,
         reader: &mut R,
@@ -40,7 +40,7 @@ impl Buffer {
     }
 }
 
-/// Its bytes are not for people.
+/// Leaves out the bytes.
 impl Debug for Buffer {
     fn fmt<W: Write>(&self, f: &mut Formatter<W>) -> fmt::Result {
         f.debug_struct("Buffer").finish_non_exhaustive()

@@ -1,4 +1,4 @@
-//! Where bytes come from, and where they go.
+//! Readers and writers of bytes.
 
 ghost use Rattle.std.specs.Prelude.{◌≡◌, ℕ, Option, List, [], None};
 ghost use Rattle.din_trace.specs.Device.{once_more, Reads, Writes, unread_bytes, read_failures};
@@ -6,11 +6,11 @@ ghost use Rattle.din_trace.specs.Device.{held_bytes, write_failures};
 
 use std::io::{Read, Write};
 
-/// The device has failed.
+/// A call of a reader or writer failed.
 #[derive(Clone, Copy, Debug, PartialEq, Eq)]
 pub struct DeviceFailed;
 
-/// Counts one failure more.
+/// Counts one more failure.
 fn counted(failures: &mut u64) -> DeviceFailed
     ensures { failures.new ≡ once_more failures.old }
 {
@@ -18,7 +18,7 @@ fn counted(failures: &mut u64) -> DeviceFailed
     DeviceFailed
 }
 
-/// A reader of bytes.
+/// A reader of bytes, like `std::io::Read`, that also counts its failures for the contracts.
 pub trait ByteReader {
     /// The bytes that it will give, where they are known.
     ghost remaining: { Self → Option (List ℕ) } = { λ _. None };
@@ -26,13 +26,14 @@ pub trait ByteReader {
     /// How many times it has failed, counted in 64 bits.
     ghost failures: { Self → ℕ };
 
-    /// Puts bytes at the front of the buffer, and says how many: none for a buffer that is not
-    /// empty is the end. No reader can say more than the buffer holds: each one proves that bound.
+    /// Puts the next bytes at the start of the buffer and returns how many. For a buffer that is
+    /// not empty, 0 means the end. An implementation has to prove that it returns at most the
+    /// buffer's length.
     fn fill(&mut self, buffer: &mut [u8]) -> Result<usize, DeviceFailed>
         ensures { Reads remaining failures self.old self.new result buffer.new };
 }
 
-/// A reader made from one of std's. Any error of that one is `DeviceFailed`.
+/// A `ByteReader` made from a reader of std. Any error of std's reader is `DeviceFailed`.
 #[derive(Debug, Drop)]
 pub struct FromRead<R> {
     inner: R,
@@ -41,7 +42,7 @@ pub struct FromRead<R> {
 
 #[tactic(auto, unfolding(crate::specs::Device::unread_bytes, crate::specs::Device::read_failures))]
 impl<R: Read> FromRead<R> {
-    /// A reader of these bytes, which has not failed yet.
+    /// Wraps this reader, with no failure counted yet.
     pub fn new(inner: R) -> FromRead<R>
         ensures remaining { unread_bytes R.remaining result ≡ R.remaining inner }
         ensures failures { read_failures result ≡ 0 }
@@ -64,24 +65,24 @@ impl<R: Read> ByteReader for FromRead<R> {
     }
 }
 
-/// A writer of bytes.
+/// A writer of bytes, like `std::io::Write`, that also counts its failures for the contracts.
 pub trait ByteWriter {
-    /// The bytes that it holds, where they are known.
+    /// The bytes that were written to it so far, where they are known.
     ghost contents: { Self → Option (List ℕ) } = { λ _. None };
 
     /// How many times it has failed, counted in 64 bits.
     ghost failures: { Self → ℕ };
 
-    /// Appends the bytes. How many of them a writer that fails took is open.
+    /// Appends the bytes. After a failure it is not known how many of them were written.
     fn put(&mut self, bytes: &[u8]) -> Result<(), DeviceFailed>
         ensures { Writes contents failures self.old self.new result bytes.now };
 
-    /// Hands on the bytes that it holds back.
+    /// Passes on all bytes that it has buffered.
     fn flush(&mut self) -> Result<(), DeviceFailed>
         ensures { Writes contents failures self.old self.new result [] };
 }
 
-/// A writer made from one of std's. Any error of that one is `DeviceFailed`.
+/// A `ByteWriter` made from a writer of std. Any error of std's writer is `DeviceFailed`.
 #[derive(Debug, Drop)]
 pub struct FromWrite<W> {
     inner: W,
@@ -90,7 +91,7 @@ pub struct FromWrite<W> {
 
 #[tactic(auto, unfolding(crate::specs::Device::held_bytes, crate::specs::Device::write_failures))]
 impl<W: Write> FromWrite<W> {
-    /// A writer that holds what this one holds, and has not failed yet.
+    /// Wraps this writer, with no failure counted yet.
     pub fn new(inner: W) -> FromWrite<W>
         ensures contents { held_bytes W.contents result ≡ W.contents inner }
         ensures failures { write_failures result ≡ 0 }

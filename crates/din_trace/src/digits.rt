@@ -4,7 +4,7 @@ ghost use Rattle.std.specs.Prelude.{◌≡◌, ◌<◌, ◌≤◌, true, false, 
 ghost use Rattle.std.specs.Char.{digit_value};
 ghost use Rattle.din_trace.specs.Line.{is_hex};
 
-/// The values of the hexadecimal digits, and 255 at other bytes.
+/// For each byte, the value of that hexadecimal digit, or 255 if it is none.
 static DIGITS: [u8; 256] = [
     255, 255, 255, 255, 255, 255, 255, 255, 255, 255, 255, 255, 255, 255, 255, 255, 255, 255, 255,
     255, 255, 255, 255, 255, 255, 255, 255, 255, 255, 255, 255, 255, 255, 255, 255, 255, 255, 255,
@@ -22,14 +22,14 @@ static DIGITS: [u8; 256] = [
     255, 255, 255,
 ];
 
-/// What a table has for a byte.
+/// The entry of a table for a byte.
 fn entry(table: &[u8; 256], byte: u8) -> u8
     ensures { result ≡ slice_index_or table.now byte 0 }
 {
     table[byte as usize]
 }
 
-/// The value of a hexadecimal digit. Else at least 16.
+/// The value of a hexadecimal digit, or at least 16 if the byte is none.
 pub fn digit(byte: u8) -> u8
     ensures digit { result < 16 → (is_hex byte ≡ true) × (digit_value byte ≡ result) }
     ensures other { 16 ≤ result → is_hex byte ≡ false }

@@ -1,15 +1,21 @@
 //! Reads traces in the din format: from bytes to records, or to the first fault with its line.
 //!
-//! A line is a label, a gap of blanks and a hexadecimal address; what follows behind a blank is
-//! a comment. `LineReader` reads a trace byte by byte, and stores no line. `Source` reads one from
-//! any `ByteReader`, and holds one buffer of it: `next` answers, and `at_hand` answers as long as
-//! the reader need not be asked. The rooms: `device` has the readers and writers, `line` one line
-//! as it is read, `plain` the plain lines of which most traces consist, read in one go, `buffer`
-//! the room of a source, `backlog` the bytes that wait there, and `text` a trace in memory.
+//! A line is a label, a gap of blanks and a hexadecimal address. Text after the address is a
+//! comment, if a blank comes before it. There are three ways to read a trace:
 //!
-//! Proved, of every trace and however its reader cuts it: the records and the fault are those that
-//! `specs/Line` and `specs/Text` define of the bytes. A fault is repeated for ever, no more than
-//! one byte past the limit is asked for, and none while a line that was given whole is unanswered.
+//! - `read_all` reads a trace in memory;
+//! - `Source` reads from any `ByteReader` through one buffer: `next` answers the next record,
+//!   `at_hand` does so only if that needs no further byte, and `rest` answers all that are left;
+//! - `LineReader` takes a trace byte by byte, and stores no line.
+//!
+//! The modules: `device` has the readers and writers, `line` the state of one line as it is read,
+//! `plain` a fast path for complete lines, `buffer` the buffer of a source, `backlog` the bytes
+//! that wait in it, and `text` the reader of a trace in memory.
+//!
+//! Proved for every trace, however its reader cuts it into pieces: the records and the fault are
+//! those that `specs/Line` and `specs/Text` define. After a fault, every later call answers the
+//! same fault. At most one byte past the limit is read, and the reader is asked for more bytes only
+//! when every complete line has been answered.
 #![tactic(auto)]
 
 ghost use Rattle.din_trace.specs.Laws.{EachLineHasOneForm, WiderAddressesKeepRecords};
@@ -41,12 +47,13 @@ pub fn each_line_has_one_form()
     ensures { EachLineHasOneForm }
 {}
 
-/// Law: a text without fault has none under a greater bound on addresses, and the same records.
+/// Law: a text without a fault has no fault under a greater bound on addresses, and the same
+/// records.
 pub fn wider_addresses_keep_records()
     ensures { WiderAddressesKeepRecords }
 {}
 
-/// Law: what a source has left of a text are the records and the fault of that text.
+/// Law: what a source has left to answer of a whole text is that text's records and its fault.
 pub fn source_has_its_text_left()
     ensures { SourceHasItsTextLeft }
 {}

@@ -1,4 +1,4 @@
-//! One line, byte by byte.
+//! One line, read byte by byte.
 
 ghost use Rattle.std.specs.Prelude.{◌≡◌, ◌<◌, ℕ, true, false, List, [], ◌∷◌, MatchOption};
 ghost use Rattle.std.specs.Char.{digit_value};
@@ -10,33 +10,33 @@ use crate::digits::digit;
 use crate::fault::Why;
 use crate::record::{DinRecord, Label};
 
-/// The part of a line that was read, as far as it decides the line's form.
+/// What was read of a line, as far as it decides the line's form.
 #[derive(Clone, Copy, Debug, PartialEq, Eq)]
 pub enum LineSoFar {
     /// Nothing.
     Empty,
-    /// Blanks.
+    /// Leading blanks.
     Blanks,
     /// Up to the label.
     Labeled(Label),
-    /// Up to the blanks behind the label.
+    /// Up to a blank of the gap after the label.
     Gap(Label),
-    /// Up to a `0` behind the gap, which may begin a prefix.
+    /// Up to a `0` right after the gap, which may begin `0x`.
     Zero(Label),
-    /// Up to the prefix.
+    /// Up to `0x` or `0X`.
     Prefixed(Label),
-    /// Up to a digit of the address. The line holds this record if it ends here.
+    /// Up to a digit of the address. If the line ends here, it holds this record.
     Digits(DinRecord),
-    /// Up to a blank behind the address. The line holds this record, whatever follows.
+    /// Up to a blank after the address. Whatever follows, the line holds this record.
     Record(DinRecord),
-    /// Up to a byte that makes the line faulty, whatever follows.
+    /// Up to a byte that makes the line faulty, or beyond it.
     Faulty(Why),
 }
 
-/// An address from here on has no room for one more digit.
+/// An address of this size or more cannot take one more digit: it would exceed 64 bits.
 const FULL: u64 = 1 << 60;
 
-/// A space, a tab or a CR.
+/// Whether the byte is a space, a tab or a CR.
 #[tactic(auto, unfolding(crate::specs::Line::is_blank))]
 pub fn is_blank(byte: u8) -> bool
     ensures { result ≡ is_blank byte }
@@ -44,7 +44,7 @@ pub fn is_blank(byte: u8) -> bool
     matches!(byte, b' ' | b'\t' | b'\r')
 }
 
-/// The label that a digit 0 to 4 writes.
+/// The label of a digit 0 to 4, or `None` for any other byte.
 #[tactic(auto, unfolding(crate::specs::Line::is_label, crate::specs::Line::label_of))]
 pub fn label(byte: u8) -> Option<Label>
     ensures { MatchOption result (is_label byte ≡ false)
@@ -60,7 +60,7 @@ pub fn label(byte: u8) -> Option<Label>
     }
 }
 
-/// The value of a hexadecimal digit.
+/// The value of a hexadecimal digit, or `None` for any other byte.
 #[tactic(auto, unfolding(crate::specs::Line::is_hex))]
 fn hex_digit(byte: u8) -> Option<u32>
     ensures { MatchOption result (is_hex byte ≡ false)
@@ -70,7 +70,7 @@ fn hex_digit(byte: u8) -> Option<u32>
     if value < 16 { Some(value as u32) } else { None }
 }
 
-/// A leading blank, or the first byte behind these.
+/// The state after a leading blank, or after the first byte that follows the leading blanks.
 fn at_start(byte: u8) -> LineSoFar
     ensures form { (rest : List ℕ) → form_from ADDRESS_MAX LineSoFar.Blanks (byte ∷ rest)
         ≡ form_from ADDRESS_MAX result rest }
@@ -85,7 +85,7 @@ fn at_start(byte: u8) -> LineSoFar
     }
 }
 
-/// The first byte of the digits, behind a prefix or none.
+/// The state after the byte that has to be the first digit of the address.
 fn at_address(label: Label, byte: u8) -> LineSoFar
     ensures form { (rest : List ℕ) → form_from ADDRESS_MAX (LineSoFar.Prefixed label) (byte ∷ rest)
         ≡ form_from ADDRESS_MAX result rest }
@@ -100,7 +100,7 @@ fn at_address(label: Label, byte: u8) -> LineSoFar
     }
 }
 
-/// A byte behind a digit.
+/// The state after a byte that follows a digit of the address.
 fn at_digit(last: DinRecord, byte: u8) -> LineSoFar
     ensures form { (rest : List ℕ) → form_from ADDRESS_MAX (LineSoFar.Digits last) (byte ∷ rest)
         ≡ form_from ADDRESS_MAX result rest }
@@ -127,7 +127,7 @@ fn at_digit(last: DinRecord, byte: u8) -> LineSoFar
     }
 }
 
-/// The line with one more byte, which is no LF.
+/// The state of the line after one more byte, which is not an LF.
 pub fn next(so_far: LineSoFar, byte: u8) -> LineSoFar
     ensures form { (rest : List ℕ) → form_from ADDRESS_MAX so_far (byte ∷ rest)
         ≡ form_from ADDRESS_MAX result rest }
@@ -166,7 +166,7 @@ pub fn next(so_far: LineSoFar, byte: u8) -> LineSoFar
     }
 }
 
-/// What the line holds if it ends here, or what is wrong with it.
+/// The record of the line if it ends here, `None` if it is blank, or what is wrong with it.
 #[tactic(auto, unfolding(crate::specs::Line::form, crate::specs::Line::is_hex))]
 pub fn judge(so_far: LineSoFar) -> Result<Option<DinRecord>, Why>
     ensures { result ≡ form_answer (form_from ADDRESS_MAX so_far []) }

@@ -1,4 +1,4 @@
-//! A trace, byte by byte.
+//! A trace, read byte by byte.
 
 ghost use Rattle.std.specs.Prelude.{◌≡◌, ◌≢◌, ℕ, length, ◌+◌, ◌≤◌, ◌<◌, ◌^◌, List, [], ◌∷◌, ◌++◌};
 ghost use Rattle.std.specs.Prelude.{None, OnOk, OnErr, IfOk, IsSome, IfErr, IsTrue};
@@ -13,7 +13,8 @@ use crate::record::DinRecord;
 /// The most bytes that a trace may have: `2^40`.
 pub const MAX_LIMIT: u64 = 1 << 40;
 
-/// Reads a trace byte by byte, and stores no line. After a fault it answers that fault for ever.
+/// Reads a trace byte by byte, and stores no line. After a fault, every later call of `byte` or
+/// `end` answers the same fault.
 #[derive(Debug, Drop)]
 pub struct LineReader {
     bytes: u64,
@@ -48,19 +49,20 @@ impl LineReader {
         }
     }
 
-    /// How many bytes were read, up to the LF that met the first fault.
+    /// How many bytes were read. If a line is faulty, only the bytes up to its end are counted.
     pub fn bytes(&self) -> u64
         ensures bytes { result ≡ bytes_of self.now }
-        // So `byte` counts the next one.
+        // A reader that stands for a text has no fault, so `byte` counts the next byte.
         ensures no_fault { (text : List ℕ) → StandsFor self.now text → HasNoFault self.now }
     {
         self.bytes
     }
 
-    /// The number of the line that is read, from 1; after a fault, of the faulty line.
+    /// The number of the line that is being read, from 1. After a fault, the number of the faulty
+    /// line.
     pub fn line(&self) -> u64
         ensures line { result ≡ line_of self.now }
-        // One more than the LFs, none of which ended a faulty line.
+        // One more than the number of LFs so far, none of which ended a faulty line.
         ensures number { (text : List ℕ) → StandsFor self.now text
             → (result ≡ length (ended_lines text) + 1)
             × (first_fault ADDRESS_MAX 1 (ended_lines text) None ≡ None) }
@@ -70,14 +72,14 @@ impl LineReader {
         self.line
     }
 
-    /// Whether no byte of the line was read.
+    /// Whether no byte of the current line was read.
     pub(crate) fn is_empty(&self) -> bool
         ensures { IsTrue result → begun_of self.now ≡ 0 }
     {
         matches!(self.so_far, LineSoFar::Empty)
     }
 
-    /// Passes over a line that holds a record, and takes this many bytes with its LF.
+    /// Skips a complete line that was judged elsewhere. With its LF it has this many bytes.
     pub(crate) fn pass(&mut self, count: u64)
         requires empty { begun_of self.old ≡ 0 }
         requires some { 0 < count }
@@ -92,8 +94,8 @@ impl LineReader {
         self.line = line;
     }
 
-    /// Takes the next byte. An LF ends the line, and is answered by the line's record, if it holds
-    /// one, or by its fault; every other byte is answered by `None`.
+    /// Takes the next byte. An LF ends the line: the answer is the line's record, `None` if it is
+    /// blank, or its fault. For every other byte the answer is `None`.
     pub fn byte(&mut self, byte: u8) -> Result<Option<DinRecord>, TraceFault>
         requires { bytes_of self.old < MAX_LIMIT }
         ensures inside { byte ≢ 10 → (text : List ℕ) → StandsFor self.old text
@@ -106,7 +108,7 @@ impl LineReader {
         ensures refused { IfErr result (HasFailed self.new) }
         ensures repeated { (fault : TraceFault) → HasFailed self.old fault
             → (result ≡ Err fault) × (self.new ≡ self.old) }
-        // A record leaves an empty line behind.
+        // After a record, nothing of the next line was read.
         ensures begun { begun_of self.new ≤ 1 }
         ensures record { IfOk result (λ found. IsSome found → begun_of self.new ≡ 0) }
     {
@@ -125,7 +127,8 @@ impl LineReader {
         }
     }
 
-    /// Does what an LF does, where the last line has none: an empty line is no line.
+    /// Ends the last line as an LF would. If nothing of that line was read, this does nothing and
+    /// the answer is `None`.
     pub fn end(&mut self) -> Result<Option<DinRecord>, TraceFault>
         ensures empty { (text : List ℕ) → StandsFor self.old text → open_line text ≡ []
             → (result ≡ Ok None) × (self.new ≡ self.old) }
@@ -151,7 +154,7 @@ impl LineReader {
         self.end_line()
     }
 
-    /// Judges the line, and goes on to the next one or keeps the fault.
+    /// Judges the line. Then the next line begins, or the fault is kept.
     fn end_line(&mut self) -> Result<Option<DinRecord>, TraceFault>
         requires room { line_of self.old ≤ bytes_of self.old }
         requires no_fault { HasNoFault self.old }

@@ -1,4 +1,5 @@
-//! Lines that hold a record and are held whole, each read in one go. Most traces consist of these.
+//! A fast path for plain lines: those that hold a record and are completely in the buffer. Most
+//! lines of most traces are plain.
 
 ghost use Rattle.std.specs.Prelude.{◌≡◌, ℕ, ◌+◌, ◌<◌, ◌≤◌, List, ◌++◌, IfSome, length, drop};
 ghost use Rattle.std.specs.Prelude.{slice_index_or};
@@ -9,12 +10,12 @@ use crate::digits::digit;
 use crate::line::{is_blank, label};
 use crate::record::DinRecord;
 
-/// The most bytes of an address and of the byte behind it: a prefix, 16 digits, and this byte.
+/// The most bytes that an address and the byte after it take: `0x`, 16 digits, and that byte.
 const WINDOW: usize = 19;
 
-/// The record of the line at the front, and how many bytes the line takes with its LF, where it is
-/// a label, blanks, `0x` or not, up to 16 digits, and nothing or a comment. `None` for other lines,
-/// and where too few bytes are held.
+/// The record of the line at the start, and how many bytes that line has with its LF. The line has
+/// to be a label, blanks, an optional `0x`, up to 16 digits, and an optional comment. The answer is
+/// `None` for any other line, and if too few bytes are held.
 #[inline(always)]
 pub fn plain_line(bytes: &[u8]) -> Option<(DinRecord, usize)>
     ensures line { IfSome result (λ found. BeginsWithLine bytes.now found.0 found.1) }
@@ -36,7 +37,7 @@ pub fn plain_line(bytes: &[u8]) -> Option<(DinRecord, usize)>
     Some((DinRecord { label, addr }, lf + 1))
 }
 
-/// Where the blanks behind the label end, if there is one and room for an address behind them.
+/// Where the blanks after the label end. `None` if there is no blank, or if too few bytes follow.
 fn gap_end(bytes: &[u8]) -> Option<usize>
     requires { 21 ≤ length bytes.now }
     ensures blanks { IfSome result (λ gap. Blanks bytes.now 1 gap) }
@@ -54,7 +55,7 @@ fn gap_end(bytes: &[u8]) -> Option<usize>
     }
 }
 
-/// Where the blanks end that stand in a row from a place on.
+/// Where the blanks end that begin at `start`.
 fn blanks_end(bytes: &[u8], start: usize) -> usize
     requires { start ≤ length bytes.now }
     ensures blanks { Blanks bytes.now start result }
@@ -67,7 +68,7 @@ fn blanks_end(bytes: &[u8], start: usize) -> usize
     at
 }
 
-/// Where the digits start, behind `0x` where that stands at the place.
+/// Where the digits of the address start: after `0x` or `0X`, if that is at `at`, and else at `at`.
 fn digits_start(bytes: &[u8], at: usize) -> usize
     requires { at + 2 ≤ length bytes.now }
     ensures prefix { (prefix : List ℕ) × IsPrefix prefix × (result ≡ at + length prefix)
@@ -81,7 +82,7 @@ fn digits_start(bytes: &[u8], at: usize) -> usize
     }
 }
 
-/// The address that the digits from a place on write, and where these end, or the first 16 of them.
+/// The address whose digits begin at `start`, and where they end. At most 16 digits are taken.
 #[inline(always)]
 fn address(bytes: &[u8], start: usize) -> (u64, usize)
     requires { start + 17 ≤ length bytes.now }
@@ -102,7 +103,7 @@ fn address(bytes: &[u8], start: usize) -> (u64, usize)
     (addr, at)
 }
 
-/// Where the LF stands that ends the line, behind nothing or a comment from a place on.
+/// The index of the LF that ends the line, if nothing or a comment is between `start` and it.
 fn line_end(bytes: &[u8], start: usize) -> Option<usize>
     requires { start < length bytes.now }
     ensures comment { IfSome result (λ lf. (comment : Others bytes.now start lf)
@@ -121,7 +122,7 @@ fn line_end(bytes: &[u8], start: usize) -> Option<usize>
     }
 }
 
-/// Where the first LF stands from a place on.
+/// The index of the first LF from `start` on.
 fn first_lf(bytes: &[u8], start: usize) -> Option<usize>
     requires { start ≤ length bytes.now }
     ensures before { IfSome result (λ lf. Others bytes.now start lf) }

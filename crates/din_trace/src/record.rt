@@ -15,11 +15,11 @@ pub enum Label {
     Flush,
 }
 
-/// What one line of a trace holds.
+/// One reference of a trace: what a line with a record holds.
 #[derive(Clone, Copy, Debug, PartialEq, Eq)]
 pub struct DinRecord {
     /// What the reference does.
     pub label: Label,
-    /// The byte that it touches. A flush has one too, which nobody reads.
+    /// The address of the byte that it touches. A flush has an address too, which has no effect.
     pub addr: u64,
 }

@@ -1,4 +1,4 @@
-//! A trace from any reader, record by record.
+//! A trace from any reader, read record by record.
 
 ghost use Rattle.std.specs.Prelude.{◌≡◌, ◌≢◌, ◌⊎◌, ℕ, true, None, Some, ◌+◌, ◌<◌, ◌≤◌, List};
 ghost use Rattle.std.specs.Prelude.{[], MatchResult, MatchOption, IfOk, IfSome, IfNone, IsSome};
@@ -16,8 +16,8 @@ use crate::line_reader::MAX_LIMIT;
 use crate::record::DinRecord;
 use std::alloc::Global;
 
-/// Reads a trace from a reader, and holds no more of it than one buffer of fixed size. It repeats
-/// the end, or the fault that it met, for ever.
+/// Reads a trace from a reader through one buffer of fixed size. After the end or a fault, every
+/// later call of `next` or `at_hand` answers the same.
 #[derive(Debug, Drop)]
 pub struct Source<R> {
     reader: R,
@@ -26,7 +26,7 @@ pub struct Source<R> {
 
 #[tactic(auto, unfolding(crate::specs::Source::reader_of, crate::specs::Source::limit_of, crate::specs::Source::taken_by, crate::specs::Source::room_of, crate::specs::Source::HasLeft, crate::specs::Source::IsSettled, crate::specs::Source::MustAsk, crate::specs::Source::Settles))]
 impl<R: ByteReader> Source<R> {
-    /// The trace that this reader gives, of at most `limit` bytes.
+    /// A source of the trace that this reader gives. A trace of more than `limit` bytes is faulty.
     pub fn new(reader: R, limit: u64) -> Source<R>
         requires { limit ≤ MAX_LIMIT }
         ensures reader { reader_of result ≡ reader }
@@ -42,18 +42,18 @@ impl<R: ByteReader> Source<R> {
         }
     }
 
-    /// What `next` would answer, where the bytes that are held decide it. `None` where `next` would
-    /// ask the reader, which this call never does.
+    /// The answer of `next`, if the bytes in the buffer decide it. `None` if `next` would have to
+    /// ask the reader; this call never asks it.
     #[inline(always)]
     pub fn at_hand(&mut self) -> Option<Result<Option<DinRecord>, TraceFault>>
-        // An answer is the first of what was left, and the others stay left. With none, all stays.
+        // An answer is the first of what was left, and is removed from it. `None` removes nothing.
         ensures reads { Takes R.remaining R.failures self.old self.new [] Open
             × ((script : Script) (l : Remaining) → HasLeft self.old script l
             → MatchOption result (HasLeft self.new script l)
             (λ answer. (answer ≡ first_answer l) × HasLeft self.new script (after_first l))) }
         ensures reader { reader_of self.new ≡ reader_of self.old }
-        // With no answer no line that the reader gave whole has one left: if the reader failed now,
-        // nothing would be left but that.
+        // After `None`, every complete line has been answered: if the reader failed now, that
+        // failure would be the only answer left.
         ensures asks { IfNone result (MustAsk self.new) }
         ensures lazy { IfNone result ((l : Remaining)
             → HasLeft self.old (record { given = []; fails = true }) l
@@ -70,28 +70,28 @@ impl<R: ByteReader> Source<R> {
         self.backlog.answer()
     }
 
-    /// The next record, `None` at the end, or the fault. `TraceFault::Memory` is answered only
-    /// where an earlier `rest` answered it.
+    /// The next record, `None` at the end, or the fault. The fault is `TraceFault::Memory` only if
+    /// an earlier call of `rest` answered that.
     pub fn next(&mut self) -> Result<Option<DinRecord>, TraceFault>
-        // Whatever the reader does, this is the first of what was left, and the others stay left.
+        // Whatever the reader does, the answer is the first of what was left, and is removed.
         ensures reads { (given : List ℕ) × (fate : Fate)
             × Takes R.remaining R.failures self.old self.new given fate
             × ((before later : Script) (l : Remaining)
             → Follows fate given before later → HasLeft self.old before l
             → (result ≡ first_answer l) × HasLeft self.new later (after_first l)) }
-        // The reader is asked only where no line that it gave whole has an answer left: if it
-        // failed at once, nothing would be left but that.
+        // The reader is asked only when every complete line has been answered: if it failed at
+        // once, that failure would be the only answer left.
         ensures lazy { (reader_of self.new ≡ reader_of self.old)
             ⊎ ((l : Remaining) → HasLeft self.old (record { given = []; fails = true }) l
             → l ≡ record { records = []; fault = Some TraceFault.Read }) }
-        // The same of each further time that it is asked: any of them may fail, and a failure is
-        // met only where nothing but that is left to answer.
+        // This also covers the second and later times that one call asks the reader: a failure
+        // there is the answer, so no complete line was left unanswered.
         ensures failed { (R.failures (reader_of self.new) ≡ R.failures (reader_of self.old))
             ⊎ (result ≡ Err TraceFault.Read) }
         ensures settled { IsSettled self.old → self.new ≡ self.old }
         ensures limit { limit_of self.new ≡ limit_of self.old }
         ensures bound { taken_by self.new ≤ limit_of self.new + 1 }
-        // So no more than `limit` records are answered, whatever the reader tells.
+        // So at most `limit` records are answered, whatever the reader does.
         ensures records { IfOk result (λ found. IsSome found
             → room_of self.new < room_of self.old) }
         ensures room { room_of self.old ≤ MAX_LIMIT }
@@ -99,7 +99,7 @@ impl<R: ByteReader> Source<R> {
     {
         match self.at_hand() {
             Some(answer) => answer,
-            // A value of its own: else a record at hand would go through memory too.
+            // Bound to a name first: otherwise a record at hand would go through memory too.
             None => {
                 let answer = self.ask();
                 answer
@@ -107,7 +107,7 @@ impl<R: ByteReader> Source<R> {
         }
     }
 
-    /// The answer of `next` where the reader has to be asked for it.
+    /// The answer of `next`, if the reader has to be asked for it.
     #[inline(never)]
     fn ask(&mut self) -> Result<Option<DinRecord>, TraceFault>
         requires asks { MustAsk self.old }
@@ -139,10 +139,10 @@ impl<R: ByteReader> Source<R> {
         }
     }
 
-    /// All records that are left, or the fault. A fault that is met before a growth is refused is
-    /// the answer; after a refused growth the source repeats `TraceFault::Memory`.
+    /// All records that are left, or the fault. If an allocation fails before that, the answer is
+    /// `TraceFault::Memory`, and the source answers that from then on.
     pub fn rest(&mut self, alloc: Global) -> Result<Vec<DinRecord>, TraceFault>
-        // Memory is wanted only where a record is left to be stored, or where it was wanted before.
+        // `Memory` is new only if there was a record to store; else it was the fault before.
         ensures reads { (given : List ℕ) × (fate : Fate)
             × Takes R.remaining R.failures self.old self.new given fate
             × ((before later : Script) (l : Remaining)

@@ -31,7 +31,8 @@ impl ByteReader for Text<'_> {
     }
 }
 
-/// The records of a text, of which at most `limit` bytes are allowed, or its fault.
+/// The records of a text, or its fault. A text of more than `limit` bytes is faulty. If an
+/// allocation fails, the answer is `TraceFault::Memory`.
 pub fn read_all(alloc: Global, text: &[u8], limit: u64) -> Result<Vec<DinRecord>, TraceFault>
     requires { limit ≤ MAX_LIMIT }
     ensures ok { IfOk result (λ found. (fault ADDRESS_MAX text.now limit ≡ None)

@@ -1,4 +1,4 @@
--- One option after another.
+-- Options that are read one after another.
 use Rattle.std.proofs.Common.{◌≡◌, Bool, true, false, List, [], ◌∷◌, ◌++◌, Some, None, Result}
 use Rattle.std.proofs.Common.{Ok, Err, Option, Bor, is_some, unwrap_or, refl, sym, ap, subst, inl}
 use Rattle.std.proofs.Common.{inr, ◌∙◌}
@@ -37,7 +37,7 @@ module _ {A : Type 0} (rows : List Row) (a : A) where
   unfolding if_readable
   none_left = refl
 
--- what a function that reads texts answers at a reference to this one
+-- the answer of a function that reads texts, called with a reference to this text
 abbrev pub Reads : {A : Type 0} → (Text → Option A) → Text → Option A → Type 0
 Reads read text answer = (p : Bor Text) × (answer ≡ read p.now) × (p.now ≡ text)
 
@@ -54,22 +54,22 @@ module _ {A : Type 0} (rows : List Row) (x : Opt) (read : Text → Option A)
   unfolding is_readable
   unreadable e = rw (reads (text_of rows x), e) refl
 
-  -- the value that was read is that of the option
+  -- the value that was read is the value of the option
   pub value_is : (v d : A) → Reads read (text_of rows x) (Some v)
       → v ≡ unwrap_or (read (text_of rows x)) d
   value_is v d h = rw (is_read (Some v) h) refl
 
-  -- an option that was read leaves it to the next ones
+  -- after an option that was read, the next ones decide
   pub passes : {B : Type 0} (xs : List Opt) (b : B) (v : A) → Reads read (text_of rows x) (Some v)
       → if_readable rows (x ∷ xs) b ≡ if_readable rows xs b
   passes xs b v h = readable_first rows x xs b (readable v (is_read (Some v) h))
 
-  -- an option that was not read is refused
+  -- an option that could not be read is refused
   pub stops : {B : Type 0} (xs : List Opt) (b : B) → Reads read (text_of rows x) None
       → if_readable rows (x ∷ xs) b ≡ Err (refusal_by_option x)
   stops xs b h = unreadable_first rows x xs b (unreadable (is_read None h))
 
--- an option's kind says how its text is read
+-- the kind of an option says how its text is read
 module _ (x : Opt) where
   pub reads_size : kind_of_option x ≡ Size
       → (t : Text) → reads_as (kind_of_option x) t ≡ is_some (size_value t)
@@ -92,7 +92,7 @@ module _ (x : Opt) where
   reads_choice k t = rw k refl
 
 module _ {A B : Type 0} (rows : List Row) (a : A) (b : B) (ys : List Opt) where
-  -- an option that can't be read stays the first
+  -- the first option that cannot be read stays the first if more options follow
   pub refusal_stays : (xs : List Opt) (e : WordsFault) → if_readable rows xs a ≡ Err e
       → if_readable rows (xs ++ ys) b ≡ Err e
   refusal_stays [] e h = let n = none_left rows a in cc
@@ -107,7 +107,7 @@ module _ {A B : Type 0} (rows : List Row) (a : A) (b : B) (ys : List Opt) where
           let same : refusal_by_option x ≡ e = cc in
           unreadable_first rows x (xs ++ ys) b g ∙ ap Err same
 
-  -- options that can be read leave it to the rest
+  -- after options that can be read, the rest decides
   pub rest_decides : (xs : List Opt) (v : A) → if_readable rows xs a ≡ Ok v
       → (v ≡ a) × (if_readable rows (xs ++ ys) b ≡ if_readable rows ys b)
   rest_decides [] v h = let n = none_left rows a in (cc, refl)
@@ -122,20 +122,20 @@ module _ {A B : Type 0} (rows : List Row) (a : A) (b : B) (ys : List Opt) where
       go false g rest = let f = unreadable_first rows x xs a g in cc
 
 module _ {A B : Type 0} (rows : List Row) (a : A) (b : B) (xs : List Opt) where
-  -- the same options refuse alike, whatever they are read for
+  -- the same options give the same fault, whatever value they are read for
   pub refuses_alike : (e : WordsFault) → if_readable rows xs a ≡ Err e
       → if_readable rows xs b ≡ Err e
   refuses_alike e h = ap (λ ys. if_readable rows ys b) (sym (append-nil xs))
       ∙ refusal_stays rows a b [] xs e h
 
-  -- where these options can be read, the value is there, for whatever they are read
+  -- if these options can be read, the answer is the value, whatever value they are read for
   pub reads_alike : (v : A) → if_readable rows xs a ≡ Ok v
       → (v ≡ a) × (if_readable rows xs b ≡ Ok b)
   reads_alike v h =
       let p = rest_decides rows a b [] xs v h in
       (p.0, ap (λ ys. if_readable rows ys b) (sym (append-nil xs)) ∙ p.1 ∙ none_left rows b)
 
--- clap took the words
+-- clap accepted the words
 pub answers_matches : (a : App) (words : List Text) (m : ArgMatches) (r : Result (Config
     × Selection) WordsFault) → a ≡ command_app
     → is_simple command_app ≡ true → is_simple_and_free command_app ≡ true
@@ -151,7 +151,7 @@ answers_matches a words m r e simple free matches kinds is =
     ∙ ap (λ x. matches_of x words) e in
     inr (inl (none, subst (λ x. AnswersRows x r) rows is))
 
--- clap answers_refusal the words
+-- clap refused the words
 pub answers_refusal : (a : App) (words : List Text) (x : Error) (f : WordsFault) → a ≡ command_app
     → is_simple_and_free command_app ≡ true
     → (takes a words ≡ true → kind_of x ≡ kind.OutOfMemory)

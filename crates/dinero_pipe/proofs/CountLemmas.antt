@@ -1,4 +1,4 @@
--- A number read digit by digit.
+-- A number that is read digit by digit.
 use Rattle.std.proofs.Common.{◌≡◌, ℕ, ◌+◌, ◌-◌, ◌*◌, ◌<◌, ◌≤◌, ◌^◌, Bool, true, false, List, length}
 use Rattle.std.proofs.Common.{take, get_or, arith, refl}
 use Rattle.std.specs.List.{list_all}
@@ -34,7 +34,7 @@ below_end i v h k =
     let more = pow-le-pow_right {n = 10} (omega arith) {i = i} {j = 12} (omega arith) in
     omega arith
 
--- one more digit
+-- the value after one more digit
 pub one_more : (ds : List ℕ) (i v x : ℕ) → list_all is_ascii_digit ds ≡ true → i < length ds
     → v ≡ digits_value 10 (take i ds) → v < 10 ^ i
     → x ≡ get_or ds i 0 - 48 → (v * 10 + x ≡ digits_value 10 (take (i + 1) ds))

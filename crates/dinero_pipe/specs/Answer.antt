@@ -1,4 +1,4 @@
--- What the words of the command line come to.
+-- The answer to the words of the command line.
 use Rattle.std.specs.Prelude.{◌≡◌, ◌⊎◌, ℕ, Bool, true, false, not, List, [], find, Option, Some}
 use Rattle.std.specs.Prelude.{None, is_some, option_map, unwrap_or, Result, Ok, Err}
 use Rattle.std.specs.Option.{option_map_or}
@@ -28,7 +28,7 @@ use Rattle.dinero_pipe.specs.declared.settings.Settings.{Settings}
 use Rattle.dinero_pipe.specs.declared.words.WordsFault.{WordsFault}
 use Rattle.dinero_pipe.specs.declared.words.WordsFault.TheVariants as fault
 
--- the text that clap's matches have for an option: the one given, or its default
+-- the text of an option in clap's matches: the one that was given, or its default
 abbrev pub text_of : List Row → Opt → Text
 text_of rows x = unwrap_or (first_of (id_of x) rows) []
 
@@ -40,7 +40,7 @@ reads_as Bounded text = is_some (bounded_value text)
 reads_as Replacement text = is_some (replacement_value text)
 reads_as Choice text = is_some (choice_value text)
 
--- the refusal of an option of this kind
+-- the fault if the value of an option of this kind cannot be read
 abbrev pub refusal_by : Kind → Opt → WordsFault
 refusal_by Size x = fault.Number x
 refusal_by Count x = fault.Number x
@@ -48,7 +48,7 @@ refusal_by Bounded x = fault.Number x
 refusal_by Replacement x = fault.Choice x
 refusal_by Choice x = fault.Choice x
 
--- the refusal of an option whose text can't be read
+-- the fault if the value of this option cannot be read
 abbrev pub refusal_by_option : Opt → WordsFault
 refusal_by_option x = refusal_by (kind_of_option x) x
 
@@ -56,36 +56,36 @@ refusal_by_option x = refusal_by (kind_of_option x) x
 unfoldable pub is_readable : List Row → Opt → Bool
 is_readable rows x = reads_as (kind_of_option x) (text_of rows x)
 
--- the first of these options whose text can't be read
+-- the first of these options whose text cannot be read, if any
 abbrev pub first_unreadable : List Row → List Opt → Option Opt
 first_unreadable rows xs = find (λ x. not (is_readable rows x)) xs
 
--- the value, unless one of these options can't be read
+-- the value, or the fault of the first of these options that cannot be read
 unfoldable pub if_readable : {A : Type 0} → List Row → List Opt → A → Result A WordsFault
 if_readable rows xs a = option_map_or
     (λ x. Err (refusal_by_option x)) (first_unreadable rows xs) (Ok a)
 
--- the size that an option sets; 0 where its text can't be read
+-- the size that an option sets, in bytes; 0 if its text cannot be read
 abbrev pub size_at : List Row → Opt → ℕ
 size_at rows x = unwrap_or (size_value (text_of rows x)) 0
 
--- the count that an option sets; 0 where its text can't be read
+-- the count that an option sets; 0 if its text cannot be read
 abbrev pub count_at : List Row → Opt → ℕ
 count_at rows x = unwrap_or (count_value (text_of rows x)) 0
 
--- the count of at most 2 ^ 40 that an option sets; 0 where its text can't be read
+-- the count of at most 2 ^ 40 that an option sets; 0 if its text cannot be read
 abbrev pub bounded_at : List Row → Opt → ℕ
 bounded_at rows x = unwrap_or (bounded_value (text_of rows x)) 0
 
--- the replacement that an option sets; LRU where its text can't be read
+-- the replacement that an option sets; LRU if its text cannot be read
 abbrev pub replacement_at : List Row → Opt → Repl
 replacement_at rows x = unwrap_or (replacement_value (text_of rows x)) Lru
 
--- the choice that an option sets; never where its text can't be read
+-- the choice that an option sets: always is true, never is false; false if its text cannot be read
 abbrev pub choice_at : List Row → Opt → Bool
 choice_at rows x = unwrap_or (choice_value (text_of rows x)) false
 
--- write back and write allocation; both are true where a cache has no options for them
+-- write back and write allocation; both are true if a cache has no options for them
 abbrev pub write_choices : List Row → Option (Opt × Opt) → Bool × Bool
 write_choices rows None = (true, true)
 write_choices rows (Some pair) = (choice_at rows pair.0, choice_at rows pair.1)
@@ -103,7 +103,7 @@ cache_at rows c = record {
   };
 }
 
--- which references are simulated, and where flushes are put in
+-- which references are simulated, and where flushes are inserted
 abbrev pub selection_at : List Row → Selection
 selection_at rows = record {
   skip = bounded_at rows o.Skipcount;
@@ -111,7 +111,7 @@ selection_at rows = record {
   every = bounded_at rows o.Flushcount;
 }
 
--- all that the words ask for
+-- all settings that the words ask for
 abbrev pub settings_at : List Row → Settings
 settings_at rows = record {
   i = cache_at rows instruction_options;
@@ -121,37 +121,37 @@ settings_at rows = record {
   selection = selection_at rows;
 }
 
--- the configuration is what was asked for
+-- the configuration has these settings
 pub record IsConfigOf (c : Config) (w : Settings) : Type 0 where
   pub i : IsCacheOf c cache_name.I w.i
   pub d : IsCacheOf c cache_name.D w.d
   pub u : IsCacheOf c cache_name.U w.u
   pub ring : ring_of c ≡ w.ring
 
--- what was asked for, where it is lawful, or the first rule that it breaks
+-- the configuration and the selection of these settings, or the first rule that they break
 abbrev pub Configures : Settings → Result (Config × Selection) WordsFault → Type 0
 Configures w (Ok p) = (refusal_of w.i w.d w.u w.ring ≡ None) × IsConfigOf p.0 w
     × (p.1 ≡ w.selection)
 Configures w (Err f) = option_map fault.Config (refusal_of w.i w.d w.u w.ring) ≡ Some f
 
--- the refusal of an option, or else what comes of what was asked for
+-- the fault of an option, or else the answer to the settings
 abbrev pub Follows : Result Settings WordsFault → Result (Config × Selection) WordsFault → Type 0
 Follows (Err f) r = r ≡ Err f
 Follows (Ok w) r = Configures w r
 
--- what clap's matches come to: the refusal of the first option that can't be read, or else what
--- comes of all that the words ask for
+-- the answer to clap's matches: the fault of the first option that cannot be read, or else the
+-- answer to the settings
 abbrev pub AnswersRows : List Row → Result (Config × Selection) WordsFault → Type 0
 AnswersRows rows r = Follows (if_readable rows options (settings_at rows)) r
 
--- what a refusal of clap comes to
+-- the fault if clap refuses the words for this reason
 abbrev pub refusal_by_kind : ErrorKind → WordsFault
 refusal_by_kind kind.DisplayHelp = fault.Help
 refusal_by_kind kind.OutOfMemory = fault.Memory
 refusal_by_kind _ = fault.Words
 
--- what the words come to: memory was refused; or clap takes them, and the answer is that of their
--- matches; or clap does not take them, and refuses them for one of the faults that it lists
+-- the answer to the words: `Memory`; or the answer to clap's matches, if clap accepts the words; or
+-- else the fault for one of the reasons for which clap refuses them
 abbrev pub AnswersWords : List Text → Result (Config × Selection) WordsFault → Type 0
 AnswersWords words r = (r ≡ Err fault.Memory)
     ⊎ (((fault_of command_app words ≡ []) × AnswersRows (matches_of command_app words) r)

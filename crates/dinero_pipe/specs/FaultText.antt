@@ -19,7 +19,7 @@ use Rattle.dinero_pipe.specs.declared.words.WordsFault.TheVariants as words
 use Rattle.dinero_pipe.specs.declared.fault.Fault.{Fault}
 use Rattle.dinero_pipe.specs.declared.fault.Fault.TheVariants.{Run, Words}
 
--- the word for a faulty line
+-- the word that says what is wrong with a faulty line
 abbrev pub why_word : Why → List ℕ
 why_word why.Label = codes "label"
 why_word why.Gap = codes "gap"
@@ -27,7 +27,7 @@ why_word why.Address = codes "address"
 why_word why.Range = codes "range"
 why_word why.Tail = codes "tail"
 
--- the words for a faulty trace
+-- the message for a fault of the trace
 abbrev pub trace_fault_text : TraceFault → List ℕ
 trace_fault_text (trace.Bad line why) = codes "line " ++
     (decimal line ++ (codes ": " ++ why_word why))
@@ -35,7 +35,7 @@ trace_fault_text trace.TooLong = codes "trace too long"
 trace_fault_text trace.Read = codes "trace read failed"
 trace_fault_text trace.Memory = codes "out of memory"
 
--- the words for a run without a report
+-- the message for a failed run
 abbrev pub run_fault_text : RunFault → List ℕ
 run_fault_text (run.Trace fault) = trace_fault_text fault
 run_fault_text run.Memory = codes "out of memory"
@@ -43,13 +43,13 @@ run_fault_text run.Threads = codes "no thread"
 run_fault_text run.Cut = codes "pipeline cut"
 run_fault_text run.Write = codes "report write failed"
 
--- a cache's name, as in the report
+-- the name of a cache, as in the report
 abbrev pub cache_name_text : CacheName → List ℕ
 cache_name_text cache.I = codes "l1-icache"
 cache_name_text cache.D = codes "l1-dcache"
 cache_name_text cache.U = codes "l2-ucache"
 
--- the words for an unlawful geometry
+-- the message for a refused geometry
 abbrev pub geometry_fault_text : GeometryFault → List ℕ
 geometry_fault_text geometry.SizeNotPower = codes "size is not a power of two"
 geometry_fault_text geometry.SizeRange = codes "size is out of range"
@@ -58,14 +58,14 @@ geometry_fault_text geometry.BlockRange = codes "block is out of range"
 geometry_fault_text geometry.AssocNotPower = codes "associativity is not a power of two"
 geometry_fault_text geometry.AssocTooLarge = codes "associativity is too large"
 
--- the words for an unlawful configuration
+-- the message for a refused configuration
 abbrev pub config_fault_text : ConfigFault → List ℕ
 config_fault_text (config.Geometry which fault) = cache_name_text which ++
     (codes ": " ++ geometry_fault_text fault)
 config_fault_text config.BlockOrder = codes "l2 block is shorter than an l1 block"
 config_fault_text config.Ring = codes "ring is not from 1 to 65536"
 
--- the words for a refused command line; none for help
+-- the message for a refused command line; empty for help
 abbrev pub words_fault_text : WordsFault → List ℕ
 words_fault_text words.Words = codes "command line refused, try --help"
 words_fault_text (words.Number option) = name_of option ++ codes ": not a number"
@@ -74,7 +74,7 @@ words_fault_text (words.Config fault) = config_fault_text fault
 words_fault_text words.Help = []
 words_fault_text words.Memory = codes "out of memory"
 
--- the words for a fault
+-- the message for a fault
 abbrev pub message_of : Fault → List ℕ
 message_of (Run fault) = run_fault_text fault
 message_of (Words fault) = words_fault_text fault
@@ -84,20 +84,20 @@ abbrev pub asks_for_help : Fault → Bool
 asks_for_help (Words words.Help) = true
 asks_for_help _ = false
 
--- the whole line: the program's name, the words, the end of a line; help has no line
+-- the whole line: the program's name, the message and the end of a line; nothing for help
 abbrev pub fault_line : Fault → List ℕ
 fault_line fault =
     if asks_for_help fault then []
     else codes "dinero_pipe: " ++ (message_of fault ++ 10 ∷ [])
 
--- the status of a faulty trace
+-- the exit status for a fault of the trace
 abbrev pub trace_status : TraceFault → ℕ
 trace_status (trace.Bad line why) = 1
 trace_status trace.TooLong = 1
 trace_status trace.Read = 4
 trace_status trace.Memory = 3
 
--- the status of a run without a report
+-- the exit status for a failed run
 abbrev pub run_status : RunFault → ℕ
 run_status (run.Trace fault) = trace_status fault
 run_status run.Memory = 3
@@ -105,13 +105,13 @@ run_status run.Threads = 3
 run_status run.Cut = 3
 run_status run.Write = 4
 
--- the status of a refused command line
+-- the exit status for a refused command line; 0 for help
 abbrev pub words_status : WordsFault → ℕ
 words_status words.Help = 0
 words_status words.Memory = 3
 words_status _ = 2
 
--- the exit status
+-- the exit status for a fault
 abbrev pub status_of : Fault → ℕ
 status_of (Run fault) = run_status fault
 status_of (Words fault) = words_status fault

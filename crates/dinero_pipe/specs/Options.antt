@@ -1,4 +1,4 @@
--- The options of the command line, and the command that clap reads them by.
+-- The options of the command line, and the command that clap parses them with.
 use Rattle.std.specs.Prelude.{◌≡◌, ⊤, List, [], ◌∷◌, ◌++◌, fold, codes, true, Option, Some, None}
 use Rattle.std.specs.Prelude.{is_none}
 use Rattle.std.specs.Option.{option_map_or}
@@ -14,7 +14,7 @@ use Rattle.dinero_pipe.specs.declared.opt.Opt.TheVariants.{L1Dwback, L1Dwalloc, 
 use Rattle.dinero_pipe.specs.declared.opt.Opt.TheVariants.{L2Uassoc, L2Urepl, L2Uwback, L2Uwalloc}
 use Rattle.dinero_pipe.specs.declared.opt.Opt.TheVariants.{Ring, Skipcount, Maxcount, Flushcount}
 
--- the options of the instruction cache, which has none for writes
+-- the options of the instruction cache, which has no options for writes
 abbrev pub instruction_options : CacheOptions
 instruction_options = record {
   size = L1Isize;
@@ -112,12 +112,12 @@ kind_of_option Skipcount = Bounded
 kind_of_option Maxcount = Bounded
 kind_of_option Flushcount = Bounded
 
--- the options for writes, if there are any, are choices
+-- the options for writes, if there are any, have the kind `Choice`
 abbrev pub HaveChoices : Option (Opt × Opt) → Type 0
 HaveChoices None = ⊤
 HaveChoices (Some pair) = (kind_of_option pair.0 ≡ Choice) × (kind_of_option pair.1 ≡ Choice)
 
--- each option of a cache has the kind of its value
+-- each option of a cache has the kind that its place needs
 pub record HasTheirKinds (c : CacheOptions) : Type 0 where
   pub size : kind_of_option c.size ≡ Size
   pub bsize : kind_of_option c.bsize ≡ Size
@@ -125,7 +125,7 @@ pub record HasTheirKinds (c : CacheOptions) : Type 0 where
   pub repl : kind_of_option c.repl ≡ Replacement
   pub write : HaveChoices c.write
 
--- the value of an option of this kind that is not given; none: the option is required
+-- the default of an option of this kind; an option without a default is required
 abbrev pub default_by : Kind → Option Text
 default_by Size = None
 default_by Count = Some (codes "1")
@@ -133,12 +133,12 @@ default_by Bounded = Some (codes "0")
 default_by Replacement = Some (codes "l")
 default_by Choice = Some (codes "a")
 
--- the value of an option that is not given
+-- the default of an option; an option without a default is required
 abbrev pub default_of : Opt → Option Text
 default_of Ring = Some (codes "64")
 default_of option = default_by (kind_of_option option)
 
--- an option as clap sees it: one value, with its default or else required
+-- the option as clap knows it: it takes one value, and has a default or is required
 abbrev pub rule_of_option : Opt → Rule
 rule_of_option option = record (new_rule (id_of option)) {
   long = Some (id_of option);
@@ -147,7 +147,7 @@ rule_of_option option = record (new_rule (id_of option)) {
   required = is_none (default_of option);
 }
 
--- a command without options, whose words begin behind the program's name
+-- a command without options; its words do not include the program's name
 abbrev pub bare_app : App
 bare_app = let app = new_app (codes "dinero_pipe") in record app {
   top = record app.top {

@@ -15,35 +15,35 @@ use Rattle.cache_core.specs.declared.policy.Repl.TheVariants.{Lru, Fifo}
 abbrev pub is_count : Text → Bool
 is_count text = nat_le 1 (length text) && (nat_le (length text) 12 && list_all is_ascii_digit text)
 
--- the number that a count gives
+-- the number that a text gives if it is a count
 abbrev pub count_value : Text → Option ℕ
 count_value text = if is_count text then Some (digits_value 10 text) else None
 
--- a count of at most 2 ^ 40
+-- the number that a text gives if it is a count of at most 2 ^ 40
 abbrev pub bounded_value : Text → Option ℕ
 bounded_value text = option_and_then (λ n. if nat_le n (2 ^ 40) then Some n else None)
     (count_value text)
 
--- what the last byte of a size multiplies by: k and K (107 and 75), m and M (109 and 77)
+-- the factor of a unit: k and K (107 and 75) are 1024, m and M (109 and 77) are 1024 * 1024
 abbrev pub unit_value : ℕ → Option ℕ
 unit_value byte =
     if byte == 107 || byte == 75 then Some 1024
     else (if byte == 109 || byte == 77 then Some 1048576 else None)
 
--- a size: a count, or a count and one unit behind it
+-- the number of bytes that a text gives if it is a size: a count, or a count with a unit after it
 abbrev pub size_value : Text → Option ℕ
 size_value text = option_map_or
     (λ unit. option_map (λ n. n * unit) (count_value (take (length text - 1) text)))
     (unit_value (slice_index text (length text - 1)))
     (count_value text)
 
--- the one of two that a letter stands for
+-- the replacement that a letter means: l is LRU, f is FIFO
 abbrev pub replacement_value : Text → Option Repl
 replacement_value text =
     if bytes_eq text (codes "l") then Some Lru
     else (if bytes_eq text (codes "f") then Some Fifo else None)
 
--- always or never
+-- the choice that a letter means: a (always) is true, n (never) is false
 abbrev pub choice_value : Text → Option Bool
 choice_value text =
     if bytes_eq text (codes "a") then Some true

@@ -1,4 +1,4 @@
-//! The command that clap reads the words by, and its help.
+//! The command that clap parses the words with, and its help.
 
 ghost use Rattle.std.specs.Prelude.{◌≡◌, IfOk, false};
 ghost use Rattle.clap.specs.Words.{app_of, rule_of};
@@ -9,11 +9,11 @@ use crate::opt::Opt;
 use clap::{Arg, Command};
 use std::alloc::{AllocError, Global};
 
-/// A growth of memory was refused.
+/// An allocation failed.
 #[derive(Clone, Copy, Debug, PartialEq, Eq)]
 pub struct NoMemory;
 
-/// The option as clap sees it.
+/// The option as clap knows it.
 fn argument<'a>(alloc: Global, option: Opt) -> Arg<'a>
     ensures rule { rule_of result ≡ rule_of_option option }
     ensures local { result.global ≡ false }
@@ -44,7 +44,7 @@ pub(crate) fn command<'a>(alloc: Global) -> Result<Command<'a>, AllocError>
     Ok(command)
 }
 
-/// The help, as clap lays it out. The contract says nothing of the text.
+/// The text of the help, laid out by clap. The contract says nothing about the text.
 pub fn help_text(alloc: Global) -> Result<String, NoMemory> {
     let Ok(mut command) = command(alloc) else {
         return Err(NoMemory);

@@ -1,4 +1,4 @@
-//! What went wrong with a run or with the words: the line that is printed, and the exit status.
+//! The faults of the program, with the line that is printed and the exit status of each.
 
 ghost use Rattle.std.specs.Prelude.{◌≡◌};
 ghost use Rattle.din_trace.specs.Device.{Writes};
@@ -25,8 +25,9 @@ pub enum Fault {
     Words(WordsFault),
 }
 
-/// The exit status: 0 if help was asked for, 1 for a faulty trace, 2 for a refused command line, 3
-/// if memory or a thread was refused or a stage was cut off, 4 if a device failed.
+/// The exit status for a fault: 0 if help was asked for, 1 for a faulty or too long trace, 2 for a
+/// refused command line, 3 if an allocation or the start of a thread failed or a thread was cut
+/// off, 4 if reading the trace or writing the report failed.
 pub fn status(fault: &Fault) -> u8
     ensures { result ≡ status_of fault.now }
 {
@@ -152,7 +153,7 @@ fn is_help(fault: &Fault) -> bool
     matches!(fault, Fault::Words(WordsFault::Help))
 }
 
-/// Writes the one line of a fault. Help has none.
+/// Writes the line of a fault. For help, this writes nothing.
 pub fn fault_text<W: ByteWriter>(fault: &Fault, writer: &mut W) -> Result<(), DeviceFailed>
     ensures { Writes W.contents W.failures writer.old writer.new result (fault_line fault.now) }
 {

@@ -1,14 +1,15 @@
 //! The command line of the simulator: reads a din trace from standard input, and writes the report
 //! of two levels of cache to standard output.
 //!
-//! `opt` names the options, and `help` says what each one sets. `command` hands them to clap.
-//! `values` reads a size, a count or a letter. `settings` reads the options in their order, and
-//! `words` goes from the words to a lawful configuration and a selection. `fault` has the line and
-//! the exit status of each fault.
+//! The modules: `opt` has the names of the options, and `help` says what each one sets. `command`
+//! gives them to clap. `values` reads a size, a count or a letter. `settings` reads the options in
+//! their order, and `words` turns the words into a valid configuration and a selection. `fault` has
+//! the line and the exit status of each fault.
 //!
-//! Proved: the words give what `specs/Answer` says of clap's own matches of them. A refusal is the
-//! first one by those definitions, or out of memory. A fault's line and status are those of
-//! `specs/FaultText`. Only tested: the text of the help, and that `main` joins the right streams.
+//! Proved: the answer to the words is the one that `specs/Answer` defines, with clap's contracts
+//! for the matches. If the words are refused, the fault is the first one by those definitions, or
+//! out of memory. The line and the status of a fault are those of `specs/FaultText`. Only tested:
+//! the text of the help, and that `main` passes the right streams.
 #![tactic(auto)]
 
 mod command;
@@ -37,7 +38,8 @@ use std::process::ExitCode;
 use std::sync::Wait;
 use std::thread::Threads;
 
-/// Simulates the trace that `input` gives, and writes its report to `output`, in one write.
+/// Simulates the trace that `input` gives, and writes its report to `output` in one write, through
+/// a buffer.
 fn report<H: Threads + Wait + Sync, R: Read + Drop, W: Write + Drop>(
     rt: &H,
     alloc: Global,
@@ -78,7 +80,7 @@ fn write_help(rt: &HostRuntime) -> Result<(), Fault> {
     }
 }
 
-/// The fault of arguments that can't be read: memory was refused, or one of them is not UTF-8.
+/// The fault if the arguments cannot be read: an allocation failed, or one is not UTF-8.
 fn words_fault_of(kind: ErrorKind) -> WordsFault {
     match kind {
         ErrorKind::OutOfMemory => WordsFault::Memory,
@@ -86,7 +88,7 @@ fn words_fault_of(kind: ErrorKind) -> WordsFault {
     }
 }
 
-/// Reads the program's arguments.
+/// The configuration and the selection that the program's arguments ask for.
 fn parse_args(rt: &HostRuntime) -> Result<(Config, Selection), Fault>
     ensures { IfOk result (λ parsed. IsBounded parsed.1) }
 {
@@ -105,7 +107,8 @@ fn parse_args(rt: &HostRuntime) -> Result<(Config, Selection), Fault>
     }
 }
 
-/// Prints the line of a fault, and answers its status, even if the line can't be printed.
+/// Prints the line of a fault to standard error, and returns its exit status. If the line cannot be
+/// printed, the status is the same.
 fn refuse(rt: &HostRuntime, fault: Fault) -> ExitCode {
     let mut errors = FromWrite::new(rt.stderr());
     let _ = fault_text(&fault, &mut errors);

@@ -4,8 +4,8 @@ ghost use Rattle.std.specs.Prelude.{◌≡◌, option_map};
 ghost use Rattle.dinero_pipe.specs.Options.{default_of, id_of, kind_of_option, name_of};
 
 /// An option. The variants are in the order in which the options are read: those of the instruction
-/// cache, of the data cache and of the second level, the rings' capacity, and the selection. All
-/// names but `--ring` are Dinero IV's, with two hyphens.
+/// cache, of the data cache and of the second level, the capacity of the rings, and the selection.
+/// All names except `--ring` are those of Dinero IV, with two hyphens.
 #[derive(Clone, Copy, Debug, PartialEq, Eq)]
 pub enum Opt {
     L1Isize,
@@ -31,7 +31,7 @@ pub enum Opt {
 }
 
 impl Opt {
-    /// All of them, in their order.
+    /// All options, in their order.
     pub(crate) const ALL: [Opt; 20] = [
         Opt::L1Isize,
         Opt::L1Ibsize,
@@ -96,7 +96,7 @@ impl Opt {
         self.long().strip_prefix("--").unwrap_or("")
     }
 
-    /// What its value is.
+    /// The kind of its value.
     pub(crate) fn kind(self) -> Kind
         ensures { result ≡ kind_of_option self }
     {
@@ -114,7 +114,7 @@ impl Opt {
         }
     }
 
-    /// The value of an option that is not given. None: the option is required.
+    /// The default of the option. An option without a default is required.
     pub(crate) fn default<'a>(self) -> Option<&'a str>
         ensures { option_map (λ s. s.now) result ≡ default_of self }
     {
@@ -129,11 +129,12 @@ impl Opt {
     }
 }
 
-/// What the value of an option is.
+/// The kind of an option's value, which says how its text is read.
 #[derive(Clone, Copy, Debug, PartialEq, Eq)]
 pub enum Kind {
-    /// A number of bytes.
+    /// A number of bytes, with or without a unit.
     Size,
+    /// A number of 1 to 12 decimal digits.
     Count,
     /// A count of references, at most 2^40.
     Bounded,
@@ -150,7 +151,7 @@ pub struct CacheOptions {
     pub bsize: Opt,
     pub assoc: Opt,
     pub repl: Opt,
-    /// Write back and write allocation; none at the instruction cache, which receives no write.
+    /// Write back and write allocation. `None` for the instruction cache, which gets no write.
     pub write: Option<(Opt, Opt)>,
 }
 

@@ -1,4 +1,4 @@
-//! What the words set, read from clap's matches option by option.
+//! The settings that the words ask for, read from clap's matches option by option.
 
 ghost use Rattle.std.specs.Prelude.{◌≡◌, IfErr, IfOk, None, Some};
 ghost use Rattle.std.specs.Fn.{FnOnceReturnsAt};
@@ -16,7 +16,7 @@ use cache_core::Policy;
 use clap::ArgMatches;
 use stage_core::{CacheSpec, Selection};
 
-/// What the words set. The caches and the rings may still break a rule.
+/// All settings that the words ask for. The caches and the rings may still break a rule.
 #[derive(Clone, Copy, Debug, PartialEq, Eq)]
 pub struct Settings {
     pub i: CacheSpec,
@@ -26,7 +26,7 @@ pub struct Settings {
     pub selection: Selection,
 }
 
-/// The refusal of an option whose text can't be read.
+/// The fault of an option whose text cannot be read.
 fn refusal(option: Opt) -> WordsFault
     ensures { result ≡ refusal_by_option option }
 {
@@ -36,6 +36,7 @@ fn refusal(option: Opt) -> WordsFault
     }
 }
 
+/// The text of an option: the one that was given, or its default.
 fn text_in<'a>(matches: &ArgMatches<'a>, option: Opt) -> &'a str
     ensures { result.now ≡ text_of (rows_of (found_of matches.now)) option }
 {
@@ -45,7 +46,7 @@ fn text_in<'a>(matches: &ArgMatches<'a>, option: Opt) -> &'a str
     }
 }
 
-/// What `read` makes of the option's text.
+/// The value that `read` gives for the text of an option, or the fault of that option.
 fn value_in<T, F: FnOnce(&str) -> Option<T>>(
     matches: &ArgMatches,
     option: Opt,
@@ -64,8 +65,8 @@ fn value_in<T, F: FnOnce(&str) -> Option<T>>(
     }
 }
 
-/// Write back and write allocation. A cache without options for them is given no write, and both
-/// are true.
+/// Write back and write allocation. Both are true for a cache without options for them, which gets
+/// no write.
 fn read_write_choices(
     matches: &ArgMatches,
     write: Option<(Opt, Opt)>,
@@ -118,7 +119,7 @@ fn read_selection(matches: &ArgMatches) -> Result<Selection, WordsFault>
     Ok(Selection { skip, max, every })
 }
 
-/// Reads the options in their order, up to the first that can't be read.
+/// Reads the options in their order, up to the first that cannot be read.
 pub(crate) fn read_settings(matches: &ArgMatches) -> Result<Settings, WordsFault>
     ensures value { let rows = rows_of (found_of matches.now) in
         result ≡ if_readable rows options (settings_at rows) }

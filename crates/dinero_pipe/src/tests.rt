@@ -1,4 +1,4 @@
-//! Tests of the words, the values, the fault lines and refused memory.
+//! Tests of the words, the values, the fault lines and failing allocations.
 
 mod faults;
 mod memory;

@@ -1,4 +1,4 @@
-//! How the value of an option is read: sizes, counts and letters.
+//! Reads the value of an option: a size, a count or a letter.
 
 ghost use Rattle.std.specs.Prelude.{◌≡◌, ◌<◌, ◌≤◌, ◌^◌, IfSome};
 ghost use Rattle.std.specs.Char.{is_ascii_digit};
@@ -40,7 +40,7 @@ pub(crate) fn read_bounded(text: &str) -> Option<u64>
     if count <= 1 << 40 { Some(count) } else { None }
 }
 
-/// What a letter after the digits multiplies by.
+/// The factor of the unit after the digits.
 fn unit(byte: u8) -> Option<u64>
     ensures { result ≡ unit_value byte }
 {
@@ -57,6 +57,7 @@ fn are_digits(bytes: &[u8]) -> bool
     bytes.iter().all(|b| b.is_ascii_digit())
 }
 
+/// The value of 1 to 12 decimal digits.
 fn count_of(digits: &[u8]) -> Option<u64>
     ensures value { result ≡ count_value digits.now }
     ensures bound { IfSome result (λ n. n < 10 ^ 12) }
@@ -71,7 +72,7 @@ fn count_of(digits: &[u8]) -> Option<u64>
     Some(value)
 }
 
-/// Reads which block is replaced: `l` or `f`.
+/// Reads `l` for LRU or `f` for FIFO.
 pub(crate) fn read_replacement(text: &str) -> Option<Repl>
     ensures { result ≡ replacement_value text.now }
 {
@@ -82,7 +83,7 @@ pub(crate) fn read_replacement(text: &str) -> Option<Repl>
     }
 }
 
-/// Reads `a` for always or `n` for never.
+/// Reads `a` (always) as true, or `n` (never) as false.
 pub(crate) fn read_choice(text: &str) -> Option<bool>
     ensures { result ≡ choice_value text.now }
 {

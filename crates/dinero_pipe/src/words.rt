@@ -1,4 +1,4 @@
-//! From the words behind the program's name to a configuration and a selection.
+//! From the words after the program's name to a configuration and a selection.
 
 ghost use Rattle.std.specs.Prelude.{◌≡◌, IfOk, map, string_bytes};
 ghost use Rattle.clap.specs.Words.{found_of, rows_of};
@@ -13,8 +13,9 @@ use clap::error::ErrorKind;
 use stage_core::{Config, ConfigFault, Selection};
 use std::alloc::Global;
 
-/// Why the words give no configuration. If several things are wrong, it is what clap refuses, then
-/// the first option whose value can't be read, then the first rule that the configuration breaks.
+/// Why the words give no configuration. If several things are wrong, a refusal of clap comes first,
+/// then the first option whose value cannot be read, then the first rule that the configuration
+/// breaks.
 #[derive(Clone, Copy, Debug, PartialEq, Eq)]
 pub enum WordsFault {
     /// clap refused the words: an unknown option, one given twice or without a value, or one that
@@ -24,14 +25,15 @@ pub enum WordsFault {
     Number(Opt),
     /// The value of the option is not one of its two letters.
     Choice(Opt),
+    /// The configuration breaks a rule.
     Config(ConfigFault),
     /// Help was asked for.
     Help,
-    /// A growth of memory was refused.
+    /// An allocation failed.
     Memory,
 }
 
-/// The configuration and the selection of what clap found.
+/// The configuration and the selection that clap's matches ask for.
 fn answer(matches: &ArgMatches) -> Result<(Config, Selection), WordsFault>
     ensures value { AnswersRows (rows_of (found_of matches.now)) result }
     ensures bound { IfOk result (λ p. IsBounded p.1) }
@@ -43,7 +45,7 @@ fn answer(matches: &ArgMatches) -> Result<(Config, Selection), WordsFault>
     }
 }
 
-/// The fault for a refusal of clap.
+/// The fault if clap refuses the words for this reason.
 fn refusal(kind: ErrorKind) -> WordsFault
     ensures { result ≡ refusal_by_kind kind }
 {
@@ -54,8 +56,8 @@ fn refusal(kind: ErrorKind) -> WordsFault
     }
 }
 
-/// Reads the words behind the program's name. Each number of the selection is at most 2^40.
-/// `Memory` may take the place of any answer.
+/// Reads the words after the program's name. Each number of the selection is at most 2^40. If an
+/// allocation fails, the answer is `Memory`.
 pub fn parse_words(alloc: Global, words: &[String]) -> Result<(Config, Selection), WordsFault>
     ensures answer { AnswersWords (map string_bytes words.now) result }
     ensures bound { IfOk result (λ p. IsBounded p.1) }

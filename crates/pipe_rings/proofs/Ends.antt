@@ -1,4 +1,4 @@
--- An end stays the end of its ring from call to call, and the two ends of one ring stay that.
+-- Each call leaves an end the end of the same ring, so two ends of one ring stay that.
 use Rattle.pipe_rings.specs.declared.tx.Tx.{Tx}
 use Rattle.pipe_rings.specs.declared.rx.Rx.{Rx}
 use Rattle.pipe_rings.specs.Rings.{AreEnds, SameTx, SameRx}

@@ -1,15 +1,15 @@
--- What a contract sees of the two ends of a ring: which ring, what was sent, what was received.
+-- What contracts say of the two ends of a ring: which ring it is, what was sent, what was received.
 use Rattle.std.specs.Prelude.{◌≡◌, ◌⊎◌, ℕ, ◌-◌, ◌<◌, List, [], ◌++◌, length, take, drop}
 use Rattle.rtrb.specs.Ring as ring
 use Rattle.pipe_rings.specs.declared.tx.Tx.{Tx}
 use Rattle.pipe_rings.specs.declared.rx.Rx.{Rx}
 
 module _ {T : Type 0} where
-  -- the items in a sender's outbox: they were posted, and are not yet in the ring
+  -- the items that were posted and are still in the outbox, not yet in the ring
   unfoldable pub posted : Tx T → List T
   posted tx = drop tx.first tx.outbox.items
 
-  -- every item sent so far, oldest first: those that went into the ring, then those in the outbox
+  -- all items sent so far, oldest first: those that went into the ring, then those in the outbox
   unfoldable pub sent : Tx T → List T
   sent tx = ring.sent tx.end ++ drop tx.first tx.outbox.items
 
@@ -17,24 +17,24 @@ module _ {T : Type 0} where
   unfoldable pub HasRoom : Tx T → Type 0
   HasRoom tx = length tx.outbox.items < tx.room
 
-  -- what was posted was published, as far as the sender knows of free places in the ring
+  -- either the outbox is empty, or the sender knows of no free place in the ring
   unfoldable pub LookedForRoom : Tx T → Type 0
   LookedForRoom tx = (posted tx ≡ []) ⊎ (ring.known_free tx.end ≡ 0)
 
-  -- every item received so far, oldest first: those that came out of the ring, without the ones
-  -- that are left of the batch
+  -- all items received so far, the oldest first: those that were taken out of the ring, without the
+  -- ones that still wait in the batch
   unfoldable pub received : Rx T → List T
   received rx = take (length (ring.received rx.end) - rx.left) (ring.received rx.end)
 
-  -- the receiver knows of no item that it could receive, in the ring or left of the batch
+  -- the batch is empty, and the receiver knows of no item in the ring
   unfoldable pub LookedForItem : Rx T → Type 0
   LookedForItem rx = (rx.left ≡ 0) × (ring.known_items rx.end ≡ [])
 
-  -- for how many items the ring of this end has room
+  -- the capacity of the ring, in items
   abbrev pub capacity_of : Tx T → ℕ
   capacity_of tx = ring.producer_capacity tx.end
 
-  -- for how many items the outbox of this end has room
+  -- the capacity of the outbox, in items
   abbrev pub outbox_of : Tx T → ℕ
   outbox_of tx = tx.room
 
@@ -42,11 +42,11 @@ module _ {T : Type 0} where
   abbrev pub AreEnds : Tx T → Rx T → Type 0
   AreEnds tx rx = ring.IsPair tx.end rx.end
 
-  -- the sending end of the same ring
+  -- both are the sending end of the same ring
   abbrev pub SameTx : Tx T → Tx T → Type 0
   SameTx was now = ring.SameProducer was.end now.end
 
-  -- the receiving end of the same ring
+  -- both are the receiving end of the same ring
   abbrev pub SameRx : Rx T → Rx T → Type 0
   SameRx was now = ring.SameConsumer was.end now.end
 

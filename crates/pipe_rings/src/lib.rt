@@ -1,21 +1,22 @@
-//! Carries items from one thread to another, through a ring with room for a fixed number of them.
+//! Carries items from one thread to another through a ring: a queue of fixed capacity.
 //!
-//! [`ring`] makes the two ends. [`Tx`] sends, and waits where the ring is full; [`Rx`] receives,
-//! and waits where it is empty; and [`settle`] counts what is still on its way once both ends are
-//! in one thread again. The ring itself is rtrb's: one producer, one consumer, no lock.
+//! [`ring`] makes the two ends. [`Tx`] sends, and waits if the ring is full. [`Rx`] receives, and
+//! waits if the ring is empty. Once both ends are in one thread again, [`settle`] counts the items
+//! that were sent and not received. The ring itself is that of the crate `rtrb`: one producer, one
+//! consumer, no lock.
 //!
-//! Items go through in bulk. A sender may post items into an outbox, which takes no waiting, and
-//! publish them together; a receiver takes a batch out of the ring at a time. A thread that has
-//! nothing to do sleeps until the other end wakes it by its [`Bell`]; [`ring_from`] is for a thread
-//! that waits at several rings. The rooms: `tx` and `rx` the ends, `wait` how one end waits for the
-//! other.
+//! Items can be moved in bulk. A sender may post items into an outbox, which never waits, and
+//! publish them together. A receiver takes several items out of the ring at once. A thread that
+//! waits sleeps until the other end wakes it by its [`Bell`]. A thread that waits at several rings
+//! makes them with [`ring_from`]. The modules: `tx` and `rx` are the ends, `wait` is how they wait.
 //!
-//! Proved: what was sent and what was received are lists that only grow at their end, by the item
-//! of the call and by no other; what is posted counts as sent, and publishing changes nothing of
-//! it; an item that is handed back was not sent; what was sent is what was received, followed by
-//! as many items as `settle` counts; and a ring has the room that was asked for, and keeps it.
-//! Tested only: that an end is told to be gone only where it was dropped, that an end which sleeps
-//! is woken, and that memory for a ring is granted.
+//! Proved: a successful call appends its item to the list of sent or received items, and nothing
+//! else changes these lists. Posted items count as sent, so publishing does not change the list. An
+//! item that is handed back was not sent. The sent items are the received ones, followed by as many
+//! items as `settle` counts. A ring has the capacity that was asked for.
+//!
+//! Only tested: that `send` and `recv` report a lost peer only if it was dropped, that a sleeping
+//! end is woken, and that the allocations for a ring succeed.
 #![tactic(auto)]
 
 mod rx;
@@ -36,11 +37,11 @@ pub use tx::{Gone, OUTBOX, Tx};
 pub use wait::Bell;
 use wait::Patience;
 
-/// The memory for a ring was refused.
+/// An allocation failed.
 #[derive(Debug, Clone, Copy, PartialEq, Eq)]
 pub struct NoMemory;
 
-/// The two ends of one new ring with room for `capacity` items, all of whose memory is taken here.
+/// Makes a ring with room for `capacity` items, and returns its two ends. No later call allocates.
 pub fn ring<T: Copy>(alloc: Global, capacity: usize) -> Result<(Tx<T>, Rx<T>), NoMemory>
     requires { (1 ≤ capacity) × (capacity ≤ 65536) }
     ensures one { IfOk result (λ r. AreEnds r.0 r.1) }
@@ -50,9 +51,9 @@ pub fn ring<T: Copy>(alloc: Global, capacity: usize) -> Result<(Tx<T>, Rx<T>), N
     ring_from(alloc, capacity, OUTBOX, &Bell::new(alloc)?)
 }
 
-/// The same, with an outbox that has room for so many items: for one at least, and for [`OUTBOX`]
-/// at most. The bell is that of the sender, which may wait at several rings at a time: whoever
-/// receives from one of them rings it.
+/// Like [`ring`], with an outbox that has room for `outbox` items; a number below 1 acts as 1, and
+/// one above [`OUTBOX`] as [`OUTBOX`]. `sender` is the bell of the sending thread. A thread that
+/// waits at several rings uses one bell for all of them, and each of the receivers rings it.
 #[tactic(auto, unfolding(crate::specs::Rings::sent, crate::specs::Rings::received))]
 pub fn ring_from<T: Copy>(
     alloc: Global,
@@ -98,7 +99,7 @@ pub fn ring_from<T: Copy>(
     Ok((tx, rx))
 }
 
-/// How many items were sent and not yet received.
+/// How many items were sent and not yet received, those in the outbox and the batch included.
 #[tactic(auto, unfolding(crate::specs::Rings::sent, crate::specs::Rings::received, crate::specs::Rings::posted))]
 pub fn settle<T: Copy>(tx: &mut Tx<T>, rx: &mut Rx<T>) -> usize
     requires { AreEnds tx.old rx.old }

@@ -1,4 +1,4 @@
-//! The end of a ring that receives, with its batch.
+//! The receiving end of a ring. It takes items out of the ring in batches.
 
 ghost use Rattle.std.specs.Prelude.{◌≡◌, ◌-◌, ◌≤◌, length, take, drop};
 ghost use Rattle.rtrb.specs.Ring as ring;
@@ -7,19 +7,19 @@ use crate::wait::{Bell, Patience};
 use rtrb::Consumer;
 use std::sync::Wait;
 
-/// How many items an end takes out of the ring at most at a time.
+/// How many items a receiver takes out of the ring at once, at most.
 pub(crate) const BATCH: usize = 64;
 
-/// The end of a ring that receives. It can move to another thread.
+/// The receiving end of a ring. It can move to another thread.
 pub struct Rx<T: Copy> {
     pub(crate) end: Consumer<T>,
-    // What came out of the ring last: `count` items, of which the last `left` are still to be
-    // received.
+    // The items that came out of the ring last. There are `count` of them, and the last `left` are
+    // not received yet.
     pub(crate) batch: Vec<T>,
     pub(crate) count: usize,
     pub(crate) left: usize,
     pub(crate) patience: Patience,
-    // What this end sleeps by, and what wakes the other one.
+    // The bell that wakes this end, and the one that wakes the other end.
     pub(crate) own: Bell,
     pub(crate) peer: Bell,
     ghost bounds: { (left ≤ count) × (count ≤ length batch.items)
@@ -29,7 +29,7 @@ pub struct Rx<T: Copy> {
         ≡ drop (length (ring.received end) - left) (ring.received end) },
 }
 
-/// The sender was dropped, and all that it published was received.
+/// The sender was dropped, and all items that it published were received.
 #[derive(Debug, Clone, Copy, PartialEq, Eq)]
 pub struct SenderGone;
 
@@ -38,7 +38,7 @@ impl<T: Copy> Rx<T> {
     ghost use Rattle.std.specs.Prelude.{◌≡◌, ◌<◌, [], ◌∷◌, ◌++◌, IfOk, IfSome, OnErr, IsNone};
     ghost use Rattle.pipe_rings.specs.Rings.{received, SameRx, LookedForItem};
 
-    /// Receives the next item, once there is one.
+    /// Receives the next item. Waits until there is one, or until the sender is gone.
     #[inline]
     pub fn recv<R: Wait>(&mut self, rt: &R) -> Result<T, SenderGone>
         ensures ring { SameRx self.old self.new }
@@ -62,7 +62,7 @@ impl<T: Copy> Rx<T> {
                 return Ok(item);
             }
             if self.is_cut() {
-                // What was published between these two looks is still there.
+                // An item may have been published between these two looks.
                 return self.try_recv().ok_or(SenderGone);
             }
             self.pause(rt);
@@ -70,7 +70,7 @@ impl<T: Copy> Rx<T> {
         unreachable!()
     }
 
-    /// Receives the next item, if one was published.
+    /// Receives the next item, if there is one in the batch or the ring. Never waits.
     #[inline]
     pub fn try_recv(&mut self) -> Option<T>
         ensures ring { SameRx self.old self.new }
@@ -84,7 +84,7 @@ impl<T: Copy> Rx<T> {
         self.look()
     }
 
-    // Looks into the ring, and receives the first item that is there.
+    // Receives the first item of the ring, if there is one.
     #[inline(never)]
     fn look(&mut self) -> Option<T>
         requires { self.old.left ≡ 0 }
@@ -103,7 +103,7 @@ impl<T: Copy> Rx<T> {
         Some(self.next_left())
     }
 
-    /// Whether the sender was dropped. What it published before is still there.
+    /// Whether the sender was dropped. The items that it published can still be received.
     pub fn is_cut(&mut self) -> bool
         ensures ring { SameRx self.old self.new }
         ensures same { received self.new ≡ received self.old }
@@ -111,7 +111,8 @@ impl<T: Copy> Rx<T> {
         self.end.is_abandoned()
     }
 
-    /// Waits a while between two looks at the ring, the longer the more looks were in vain.
+    /// Waits between two looks at the ring: for a short time at first, and asleep after several
+    /// looks that found nothing.
     pub fn pause<R: Wait>(&mut self, rt: &R)
         ensures ring { SameRx self.old self.new }
         ensures same { received self.new ≡ received self.old }
@@ -119,7 +120,7 @@ impl<T: Copy> Rx<T> {
         self.patience.wait(rt, &self.own);
     }
 
-    // The next item of those that came out of the ring.
+    // Receives the next item of the batch.
     #[inline(always)]
     fn next_left(&mut self) -> T
         requires { 0 < self.old.left }
@@ -131,7 +132,8 @@ impl<T: Copy> Rx<T> {
         item
     }
 
-    // Receives the first item of all, which also fills the batch's room.
+    // Receives the first item ever, and fills the batch with it: only now is there an item to fill
+    // it with.
     fn first(&mut self) -> Option<T>
         requires { self.old.left ≡ 0 }
         ensures ring { SameRx self.old self.new }
@@ -144,12 +146,12 @@ impl<T: Copy> Rx<T> {
         };
         self.count = 0;
         self.found();
-        // The room was taken when the ring was made, so this is never refused.
+        // The memory was allocated when the ring was made, so this cannot fail.
         let _ = self.batch.resize(BATCH, item);
         Some(item)
     }
 
-    // The sender has free places to see.
+    // Notes that an item was found, and wakes the sender: the ring has free places again.
     fn found(&mut self)
         ensures ring { SameRx self.old self.new }
         ensures same { received self.new ≡ received self.old }
@@ -161,7 +163,7 @@ impl<T: Copy> Rx<T> {
         self.peer.ring();
     }
 
-    // Takes out of the ring what is there, as far as the batch has room.
+    // Takes as many items out of the ring as the batch has room for.
     fn refill(&mut self)
         requires { self.old.left ≡ 0 }
         ensures ring { SameRx self.old self.new }

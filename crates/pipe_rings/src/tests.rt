@@ -32,8 +32,8 @@ fn what_was_sent_is_received_though_the_sender_is_gone(rt: HostRuntime) -> Resul
     Ok(())
 }
 
-/// Sends the numbers below `count` through a ring from one thread to another. Says how many were
-/// sent, how many came in their turn, and what came last.
+/// Sends the numbers below `count` through a ring from one thread to another. Returns how many were
+/// sent, how many came in order, and what came last.
 fn carry<R: Threads + Wait + Sync>(
     rt: &R,
     (tx, rx): (Tx<u64>, Rx<u64>),

@@ -1,4 +1,4 @@
-//! The end of a ring that sends, with its outbox.
+//! The sending end of a ring, with its outbox.
 
 ghost use Rattle.std.specs.Prelude.{◌≡◌, ◌≤◌, length, vec_capacity};
 
@@ -6,19 +6,19 @@ use crate::wait::{Bell, Patience};
 use rtrb::Producer;
 use std::sync::Wait;
 
-/// How many items an outbox has room for at most.
+/// The greatest capacity of an outbox, in items.
 pub const OUTBOX: usize = 512;
 
-/// The end of a ring that sends. It can move to another thread.
+/// The sending end of a ring. It can move to another thread.
 pub struct Tx<T: Copy> {
     pub(crate) end: Producer<T>,
-    // What was posted and is not yet in the ring: the items from `first` on.
+    // The items from `first` on were posted and are not yet in the ring.
     pub(crate) outbox: Vec<T>,
     pub(crate) first: usize,
-    // How many items the outbox has room for.
+    // The capacity of the outbox, in items.
     pub(crate) room: usize,
     pub(crate) patience: Patience,
-    // What this end sleeps by, and what wakes the other one.
+    // The bell that wakes this end, and the one that wakes the other end.
     pub(crate) own: Bell,
     pub(crate) peer: Bell,
     ghost bounds: { (first ≤ length outbox.items) × (length outbox.items ≤ room) },
@@ -26,7 +26,7 @@ pub struct Tx<T: Copy> {
     ghost reserved: { room ≤ vec_capacity outbox },
 }
 
-/// The receiver was dropped, and the item comes back.
+/// The receiver was dropped. The item that was not sent comes back.
 #[derive(Debug, Clone, Copy, PartialEq, Eq)]
 pub struct Gone<T> {
     pub item: T,
@@ -38,8 +38,8 @@ impl<T: Copy> Tx<T> {
     ghost use Rattle.std.specs.Prelude.{length, ◌+◌};
     ghost use Rattle.pipe_rings.specs.Rings.{sent, posted, SameTx, HasRoom, LookedForRoom};
 
-    /// Sends the item, once there is a free place for it behind all that was posted. Where the
-    /// receiver was dropped before the call, the item comes back though there is a free place.
+    /// Sends the item after all posted items. Waits until the ring has room for them. If the
+    /// receiver is gone, the item comes back, even if the ring has room.
     pub fn send<R: Wait>(&mut self, rt: &R, item: T) -> Result<(), Gone<T>>
         ensures ring { SameTx self.old self.new }
         ensures ok { OnOk result (sent self.new ≡ sent self.old ++ item ∷ []) }
@@ -73,7 +73,8 @@ impl<T: Copy> Tx<T> {
         self.outbox.len() - self.first
     }
 
-    /// Sends the item into the outbox: the receiver sees it once it is published.
+    /// Puts the item into the outbox. It counts as sent, but the receiver gets it only after a
+    /// `publish` or `send`.
     #[inline]
     pub fn post(&mut self, item: T)
         requires { HasRoom self.old }
@@ -84,8 +85,7 @@ impl<T: Copy> Tx<T> {
         self.outbox.push_reserved(item);
     }
 
-    /// Moves what was posted into the ring, as far as that has free places, and never waits.
-    /// Answers how many items the receiver sees more.
+    /// Moves posted items into the ring, as many as fit, and returns how many. Never waits.
     pub fn publish(&mut self) -> usize
         ensures ring { SameTx self.old self.new }
         ensures sent { sent self.new ≡ sent self.old }
@@ -101,7 +101,7 @@ impl<T: Copy> Tx<T> {
         count
     }
 
-    // Moves the items that were posted first, in one store.
+    // Moves the oldest posted items into the ring, all in one call of the ring.
     fn move_posted(&mut self) -> usize
         ensures ring { SameTx self.old self.new }
         ensures sent { sent self.new ≡ sent self.old }
@@ -131,7 +131,8 @@ impl<T: Copy> Tx<T> {
         self.end.is_abandoned()
     }
 
-    /// Waits a while between two looks at the ring, the longer the more looks were in vain.
+    /// Waits between two looks at the ring: for a short time at first, and asleep after several
+    /// looks that found nothing.
     pub fn pause<R: Wait>(&mut self, rt: &R)
         ensures ring { SameTx self.old self.new }
         ensures sent { sent self.new ≡ sent self.old }
@@ -141,7 +142,7 @@ impl<T: Copy> Tx<T> {
         self.patience.wait(rt, &self.own);
     }
 
-    // The receiver has something new to see.
+    // Notes that the ring had room, and wakes the receiver: there is something new.
     fn found(&mut self)
         ensures ring { SameTx self.old self.new }
         ensures sent { sent self.new ≡ sent self.old }
@@ -153,7 +154,7 @@ impl<T: Copy> Tx<T> {
         self.peer.ring();
     }
 
-    // Publishes what was posted, and then sends the item, if there is a free place for it.
+    // Publishes the posted items, and then sends the item if there is room for it.
     fn push(&mut self, item: T) -> bool
         ensures ring { SameTx self.old self.new }
         ensures pushed { IsTrue result → sent self.new ≡ sent self.old ++ item ∷ [] }

@@ -6,24 +6,23 @@ use std::sync::atomic::{AtomicU64, Ordering};
 use std::sync::{Arc, Wait};
 use std::time::Duration;
 
-/// The thread is awake, and need not be woken.
+/// The thread is awake.
 const AWAKE: u64 = 0;
 
-/// The thread sleeps, or looks a last time before it does.
+/// The thread sleeps, or looks for the last time before it sleeps.
 const ASLEEP: u64 = 1;
 
-/// How many steps a thread takes between two looks while it stays awake.
+/// How many atomic additions a thread makes between two looks while it stays awake.
 const STEPS: u32 = 64;
 
-/// How often a thread looks at most before it sleeps.
+/// How often a thread looks before it sleeps, at most.
 const MOST_LOOKS: u32 = 64;
 
-/// How many milliseconds a thread sleeps at most. The other end wakes it before, if it has a
-/// reason.
+/// How many milliseconds a thread sleeps at most, if the other end does not wake it.
 const LONGEST_SLEEP: u64 = 100;
 
-/// What a thread sleeps by, and what the threads at the other ends wake it with. Ends at which one
-/// thread waits at the same time share a bell.
+/// Wakes one thread. That thread sleeps until its bell is rung, and the threads at the other ends
+/// of its rings ring it. All ends at which one thread waits at the same time share one bell.
 #[derive(Drop)]
 pub struct Bell {
     word: Arc<AtomicU64, Global>,
@@ -38,7 +37,7 @@ impl Bell {
         }
     }
 
-    /// Another hold on the same bell. It takes no memory.
+    /// Another handle of the same bell. This allocates nothing.
     pub fn share(&self) -> Result<Bell, NoMemory> {
         match Arc::try_clone(&self.word) {
             Ok(word) => Ok(Bell { word }),
@@ -60,8 +59,8 @@ impl Bell {
         self.word.wake_one();
     }
 
-    // Sleeps up to the bell. The first call only says that the thread is about to: the next look
-    // sees all that the other end did before it could see that, so no bell is missed.
+    // Sleeps until the bell is rung. The first call only marks the thread as asleep, and the caller
+    // then looks once more. So what the other end did before it could see the mark is not missed.
     fn sleep<R: Wait>(&self, rt: &R) {
         if self.word.load(Ordering::SeqCst) == AWAKE {
             self.word.store(ASLEEP, Ordering::SeqCst);
@@ -72,7 +71,7 @@ impl Bell {
     }
 }
 
-/// How often a thread has looked in vain at an end, and how often it looks before it sleeps.
+/// How often a thread has looked without success, and how often it looks before it sleeps.
 #[derive(Drop)]
 pub(crate) struct Patience {
     turn: u32,
@@ -80,13 +79,13 @@ pub(crate) struct Patience {
 }
 
 impl Patience {
-    /// Nothing was looked for yet.
+    /// No look yet.
     pub(crate) fn new() -> Patience {
         Patience { turn: 0, looks: 1 }
     }
 
-    /// Something was found. Where that was before the thread had to sleep, it stays awake longer
-    /// the next time, and else less long.
+    /// Notes a successful look. If the thread had not slept before it, it will look twice as often
+    /// the next time before it sleeps; else half as often.
     pub(crate) fn renew(&mut self) {
         if self.turn > 0 {
             self.looks = if self.turn <= self.looks {
@@ -98,10 +97,10 @@ impl Patience {
         }
     }
 
-    /// Waits between two looks: awake at first, and then asleep.
+    /// Waits between two looks: awake the first times, and then asleep.
     pub(crate) fn wait<R: Wait>(&mut self, rt: &R, bell: &Bell) {
         if self.turn < self.looks {
-            // Nobody else has this word, so that a step disturbs no other core.
+            // No other thread uses this word, so the additions disturb no other core.
             let own = AtomicU64::new(0);
             for _ in 0..STEPS {
                 own.fetch_add(1, Ordering::Relaxed);

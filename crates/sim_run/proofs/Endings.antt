@@ -1,4 +1,4 @@
--- What a run over a source comes to, from what its splitter and its other threads came to.
+-- The result of a run over a source, from the results of its threads.
 use Rattle.std.proofs.Common.{◌≡◌, List, [], None, Option, Result, Ok, Err, refl, sym}
 use Rattle.std.proofs.Common.{◌++◌, true, false, ◌∙◌, ℕ, ◌⊎◌, inl, inr, Some, subst, append-nil}
 use Rattle.std.specs.Prelude.{OnOk, IfOk, IfErr, IsOk, option_map}
@@ -22,8 +22,8 @@ use Rattle.sim_run.specs.Faults.{MayAnswer, fault_of_stop}
 use Rattle.sim_run.specs.Threads.{HasSentAll, LeavesRest, SplitUp, at_end}
 use Rattle.sim_run.specs.Runs.{HasRun, RunsOver}
 
--- what holds of the records that are left, whatever a reader did, holds of the records of some
--- text, where no fault is left
+-- if a property holds for the records that are left, whatever the reader did, and no fault is left,
+-- it holds for the records of some text
 module _ (limit : ℕ) (P : List DinRecord → Type 0) where
   abbrev LeavesGood : Script → Type 0
   LeavesGood script =
@@ -51,7 +51,7 @@ module _ (limit : ℕ) (P : List DinRecord → Type 0) where
       let good = left (record { given = given; fails = true }) end refl in
       absurd ((leaves_text ADDRESS_MAX given limit).fails good.0)
 
--- what holds of the fault of the splitter, of want of memory and of a gone end holds of the gravest
+-- a property of the splitter's fault, of `Memory` and of `Cut` is one of the fault of lowest rank
 module _ (P : RunFault → Type 0) (memory : P Memory) (cut : P Cut) (result : RunFault) where
   of-fault_of_stop : (end : Option Stop) → option_map fault_of_stop end ≡ Some result → P result
   of-fault_of_stop None is = cc
@@ -71,7 +71,7 @@ module _ (P : RunFault → Type 0) (memory : P Memory) (cut : P Cut) (result : R
     ]
   ]
 
--- of a source that was not read all is left
+-- a source that was not read still has everything left
 pub leaves-all : (l : Remaining) (HasLeft : Remaining → Type 0) → HasLeft l → LeavesRest l HasLeft
 leaves-all l HasLeft left = record {
   gone = [];
@@ -104,7 +104,7 @@ runs-over ring c selection l HasLeft ends (Err f) (Ok settled) up fine whole ans
 runs-over ring c selection l HasLeft ends (Err f) (Err why) up fine whole answers =
     (answers l.fault up.0, up.1)
 
--- the same where no thread was fed
+-- the result if the threads could not all be started
 pub runs-refused : (ring : ℕ) (c : Hierarchy) (selection : Selection) (l : Remaining)
     (HasLeft : Remaining → Type 0) (why : RunFault) → (why ≡ Memory) ⊎ (why ≡ Threads) → HasLeft l
     → RunsOver ring c selection l HasLeft (Err why)

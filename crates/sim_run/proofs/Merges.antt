@@ -1,4 +1,4 @@
--- One message more through the merge's thread.
+-- The merge's thread after one more message.
 use Rattle.std.proofs.Common.{◌≡◌, List, [], ◌∷◌, ◌++◌, refl, ap, sym, ◌∙◌, subst, append-nil}
 use Rattle.pipe_rings.specs.Rings.{received, SameRx}
 use Rattle.pipe_rings.proofs.Ends.{rx_stays}
@@ -116,7 +116,7 @@ is-end LastI e = cc
 is-end LastD e = cc
 is-end AtEnd e = refl
 
--- a merge that wants nothing is at its end
+-- a merge that wants no message is at its end
 pub merges-end : (began : L2Stage) (start : MergeEnds) (at : MergeState) (u : L2Stage)
     (now : MergeEnds)
     → HasMerged at began start u now → want.Nothing ≡ wanted at → HasMerged AtEnd began start u now

@@ -1,4 +1,4 @@
--- One message more through the merge.
+-- The rule of the merge after one more message.
 use Rattle.std.proofs.Common.{◌≡◌, List, [], ◌∷◌, ◌++◌, refl, ap, sym, ◌∙◌}
 use Rattle.stage_core.specs.Merging.{MergeState, AtOrder, AtI, AtD, AtBoth, LastI, LastD, AtEnd}
 use Rattle.stage_core.specs.Merging.{wanted, after_turn, after_end, after_message, what_in, Merged}
@@ -11,13 +11,13 @@ use Rattle.stage_core.specs.declared.message.Want.TheVariants as want
 use Rattle.stage_core.specs.declared.message.FromStage.{FromStage}
 use Rattle.stage_core.specs.declared.message.FromStage.TheVariants.{Part, Done, Finish}
 
--- Where the rule used its lists up and wants a message of this kind, it uses the message up too:
--- it takes these requests more, and stands there.
+-- If the rule has used all messages and wants one of this kind, it uses the new message too: it
+-- takes these requests, and goes to the given state.
 abbrev Goes : Want → List What → (MergeState → MergeState) → Merged → Merged → Type 0
 Goes wants more next was now = (ws : List What) (at : MergeState) → was ≡ all_used ws at
     → wanted at ≡ wants → now ≡ all_used (ws ++ more) (next at)
 
--- what follows a what that was taken
+-- the requests after the first one that was taken
 taken-first : (w : What) (m : Merged) (ws : List What) (at : MergeState)
     → with_what w m ≡ all_used ws at → (us : List What) × (ws ≡ w ∷ us) × (m ≡ all_used us at)
 taken-first w m ws at is = (
@@ -34,7 +34,7 @@ module _ (wants : Want) (more : List What) (next : MergeState → MergeState) wh
       ap (with_what w) (goes behind.0 at behind.2 wanting)
       ∙ ap (λ us. all_used (us ++ more) (next at)) (sym behind.1)
 
-  -- a side's messages up to their end, where the message more is not that side's
+  -- the messages of a side up to their end, if the new message is not that side's
   goes-up_to_end : (ms : List FromStage) (stopped stopped' : Merged)
       (then then' : List FromStage → Merged)
       → Goes wants more next stopped stopped'
@@ -47,14 +47,14 @@ module _ (wants : Want) (more : List What) (next : MergeState → MergeState) wh
   goes-up_to_end (Done place parts ∷ ms) stopped stopped' then then' s t = t ms
   goes-up_to_end (Finish ∷ ms) stopped stopped' then then' s t = t ms
 
-  -- a rule that stops elsewhere wants no such message
+  -- a rule that stops for another reason does not want such a message
   goes-elsewhere : (here : MergeState) (turns turns' : List Turn) (is is' ds ds' : List FromStage)
       → (wanted here ≡ wants → ⊥)
       → Goes wants more next (stops here turns is ds) (stops here turns' is' ds')
   goes-elsewhere here turns turns' is is' ds ds' other ws at e wanting =
       absurd (other (ap (λ (x : Merged). wanted x.at) e ∙ wanting))
 
--- where nothing was left, and nothing was taken
+-- if no message was left, no request was taken
 used-nothing : (here at : MergeState) (ws : List What) → ws ≡ [] → here ≡ at
     → all_used [] (after_end here) ≡ all_used (ws ++ []) (after_end at)
 used-nothing here at ws none same =
@@ -76,7 +76,7 @@ ends-turn here [] (i ∷ is) ds then behind ws at e =
 ends-turn here [] [] (d ∷ ds) then behind ws at e =
     let none = ap (λ (x : Merged). x.from_d) e in cc
 
--- the message more is of the side whose messages are taken
+-- the new message is of the side whose messages are taken
 module _ (wants : Want) (m : FromStage) where
   abbrev Takes : Merged → Merged → Type 0
   Takes was now = Goes wants (what_in m) (λ at. after_message at m) was now
@@ -111,7 +111,7 @@ took-nothing : (here : MergeState) (turns : List Turn) (is ds : List FromStage) 
     (at : MergeState) → stops here turns is ds ≡ all_used ws at → ws ≡ []
 took-nothing here turns is ds ws at e = sym (ap (λ (x : Merged). x.taken) e)
 
--- one turn more
+-- one more turn
 module _ (t : Turn) where
   abbrev Turns : Merged → Merged → Type 0
   Turns was now = Goes want.Order [] (λ at. after_turn t) was now
@@ -166,7 +166,7 @@ turn-more t (turn.Finish ∷ turns) is ds =
     (λ is'. through-turn t ds _ _ _ _ (elsewhere-turn t LastD turns is' [] (λ e. cc))
     (λ ds'. elsewhere-turn t AtEnd turns is' ds' (λ e. cc)))
 
--- one message of I more
+-- one more message from I
 module _ (m : FromStage) where
   abbrev TakesI : Merged → Merged → Type 0
   TakesI was now = Takes want.I m was now
@@ -211,7 +211,7 @@ module _ (m : FromStage) where
       (λ is'. through-d ds _ _ _ _ (elsewhere-i LastD turns is' [] (λ e. cc))
       (λ ds'. elsewhere-i AtEnd turns is' ds' (λ e. cc)))
 
--- one message of D more
+-- one more message from D
 module _ (m : FromStage) where
   abbrev TakesD : Merged → Merged → Type 0
   TakesD was now = Takes want.D m was now

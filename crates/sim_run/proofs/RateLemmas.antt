@@ -1,4 +1,4 @@
--- How wide a rate is written.
+-- How many characters a rate takes.
 use Rattle.std.proofs.Common.{◌≡◌, ℕ, ◌+◌, ◌-◌, ◌/◌, ◌%◌, ◌<◌, ◌++◌, ◌∷◌, length, replicate}
 use Rattle.std.proofs.Common.{refl, arith, length-append}
 use Rattle.std.proofs.Math.ListN.{length-replicate}
@@ -11,7 +11,7 @@ length-four_digits n h =
     let short = length-decimal-le 4 n (omega arith) (omega arith) (omega arith) in
     rw (length-append, length-replicate) (omega arith)
 
--- a rate's column is filled by the width of the digits before its point
+-- how far a rate's column is filled depends on the number of digits before its point
 pub rate_column : (q : ℕ)
     → replicate (7 - length (decimal (q / 10000))) 32
     ++ (decimal (q / 10000) ++ 46 ∷ four_digits (q % 10000)) ≡ column (rate_text q)

@@ -1,4 +1,4 @@
--- One record more through the splitter.
+-- The splitter after one more record.
 use Rattle.std.proofs.Common.{◌≡◌, ◌⊎◌, ℕ, ◌+◌, ◌*◌, ◌≤◌, ◌^◌, List, [], ◌∷◌, ◌++◌, map, drop}
 use Rattle.std.proofs.Common.{Option, Some, None, Result, Ok, Err, option_to_list}
 use Rattle.std.proofs.Common.{refl, ap, sym, ◌∙◌, subst, append_assoc, append-nil, arith}
@@ -43,7 +43,7 @@ ends-stay a b c s t = record {
   to_d = tx_stays a.to_d b.to_d c.to_d s.to_d t.to_d;
 }
 
--- ends that have sent the same have sent the messages of the same events
+-- ends that have sent the same messages have sent those of the same events
 pub sent-same : (es : List DinRecord) (place : ℕ) (was now : SplitterEnds) → SentSame was now
     → HasSent es place was → HasSent es place now
 sent-same es place was now same going = record {
@@ -53,7 +53,7 @@ sent-same es place was now same going = record {
   to_d = same.to_d ∙ going.to_d;
 }
 
--- the messages of one event more
+-- the splitter after the messages of one more event
 pub sends-event : (es : List DinRecord) (e : DinRecord) (place next : ℕ) (routed : Routed)
     (was now : SplitterEnds) → HasSent es place was → next ≡ place + 1
     → routed.turn ≡ turn_of e.label
@@ -75,7 +75,7 @@ sends-event es e place next routed was now going is_next turn i d sends = record
       ∙ sym (flat_map_with_past-more (messages_to side.D) es e);
 }
 
--- the messages of the end
+-- the splitter after the messages of the end
 pub sends-end : (es : List DinRecord) (place : ℕ) (routed : Routed) (was now : SplitterEnds)
     → HasSent es place was → routed.turn ≡ turn.Finish → routed.i ≡ Some to_stage.Finish
     → routed.d ≡ Some to_stage.Finish → Sends was routed now → HasSentAll es now
@@ -88,8 +88,8 @@ sends-end es place routed was now going turn i d sends = record {
       ∙ ap (λ o. flat_map_with_past (messages_to side.D) es ++ option_to_list o) d;
 }
 
--- the splitter has read these records of a source, and sent all messages of what is selected of
--- them
+-- the splitter has read these records of a source, and sent all messages of the events that are
+-- selected from them
 pub record Splits {R : Type 0} (remaining : R → Option (List ℕ)) (failures : R → ℕ)
     (selection : Selection) (start : Source R) (began : SplitterEnds) (offers : Offers) (place : ℕ)
     (now : Source R) (ends : SplitterEnds) : Type 0 where
@@ -102,7 +102,7 @@ pub record Splits {R : Type 0} (remaining : R → Option (List ℕ)) (failures :
       × (rest.fault ≡ l.fault) × HasLeft now last rest
   pub chosen : offers.selection ≡ selection
   pub offered : WasOffered offers past
-  -- there is room for the records of the source
+  -- the records read and those that the source can still give are at most 2 ^ 40
   pub room : (offers.records ≡ 0) ⊎ (offers.records + room_of now ≤ 2 ^ 40)
   pub at_most : place ≤ 2 * offers.records
   pub rings : SameSplitterEnds began ends
@@ -195,7 +195,7 @@ module _ {R : Type 0} (remaining : R → Option (List ℕ)) (failures : R → �
         left = none.2;
       }
 
--- where the last call answered nothing, what was left before it is left still
+-- if the last call gave no answer, nothing was removed from what was left
 pub rest-cut : {R : Type 0} (remaining : R → Option (List ℕ)) (failures : R → ℕ)
     (selection : Selection) (start : Source R) (began : SplitterEnds) (offers : Offers) (place : ℕ)
     (now : Source R) (ends : SplitterEnds)
@@ -218,7 +218,7 @@ rest-cut remaining failures selection start began offers place now ends going ne
       left = keeps mid.0 last rest.0 mid.2 rest.3;
     }
 
--- what a run answers for the fault of its source
+-- a run may answer the fault of its source
 pub answers-fault : (left : Option TraceFault) (f : TraceFault) → left ≡ Some f
     → MayAnswer left (source_fault f)
 answers-fault left (Bad line why) is = is

@@ -1,4 +1,4 @@
--- Where the threads stand when they wait.
+-- The threads keep the rules for waiting.
 use Rattle.std.proofs.Common.{◌≡◌, ℕ, false, List, [], ◌∷◌, ◌++◌, ap, sym, ◌∙◌, append-nil}
 use Rattle.pipe_rings.specs.Rings.{sent, received}
 use Rattle.din_trace.specs.declared.record.DinRecord.{DinRecord}
@@ -41,7 +41,7 @@ events-whole es place ends going = (
   },
 )
 
--- a stage that took a message in has answered, with the answer that it has still to send
+-- a stage has answered a message that it received, if its outbox is counted too
 pub taken-answers : (began : L1Stage) (start : StageEnds) (stage : L1Stage) (was : StageEnds)
     (m : ToStage) (next : L1Stage) (now : StageEnds)
     → HasServed began start stage was

@@ -1,4 +1,4 @@
--- From what each thread did, and rings that are settled, to the whole run.
+-- If each thread did its part and all messages were received, the whole run is as `HasRun` says.
 use Rattle.std.proofs.Common.{◌≡◌, ℕ, List, [], ◌∷◌, ◌++◌, refl, ap, sym, ◌∙◌}
 use Rattle.pipe_rings.specs.Rings.{sent, received, capacity_of}
 use Rattle.pipe_rings.proofs.Ends.{ends_stay}
@@ -39,7 +39,7 @@ use Rattle.sim_run.specs.Threads.{HasSentAll, HasServed, HasMerged}
 use Rattle.sim_run.specs.Machines.{AreNew, IsNew, rules_in}
 use Rattle.sim_run.specs.Runs.{HasRun}
 
--- the ends that come back are still paired
+-- the ends that come back from the threads are still the two ends of each ring
 pub paired-after : (was now : Rings) → ArePaired was → SameSplitterEnds was.splitter now.splitter
     → SameStageEnds was.i now.i → SameStageEnds was.d now.d → SameMergeEnds was.merge now.merge
     → ArePaired now
@@ -56,7 +56,7 @@ paired-after was now paired splitter i d merge = record {
       merge.from_d paired.from_d;
 }
 
--- rings keep their capacity: fed by the splitter, served by the stages, and settled
+-- rings keep their capacity in the splitter, in the stages, and when they are checked at the end
 pub capacity-fed : (n : ℕ) (rings : Rings) (splitter : SplitterEnds) → HaveCapacity n rings
     → SameSplitterEnds rings.splitter splitter
     → HaveCapacity n (record rings { splitter = splitter })
@@ -88,14 +88,14 @@ capacity-settled n was now room same = record {
   from_d = same.d.to_merge.1 ∙ room.from_d;
 }
 
--- a ring whose list sent is this, and was received
+-- if exactly these messages were sent on a ring and all were received, the ring is whole
 carried-whole : {M : Type 0} (c : Carried M) (xs : List M) → c.received ≡ c.sent → c.sent ≡ xs
     → c ≡ whole xs
 carried-whole c xs all is =
     ap (λ r. record { sent = c.sent; received = r }) (all ∙ is)
     ∙ ap (λ s. record { sent = s; received = xs }) is
 
--- a stage answers with the parts of its own cache
+-- the answers of a stage depend only on the parts of its own cache
 own-parts : (c : Hierarchy) (s : Side) (before es : List DinRecord)
     → flat_map_after (answered (parts_of (rules_at c s)) s) before es
     ≡ flat_map_after (answered (parts_in c) s) before es
@@ -103,7 +103,7 @@ own-parts c s before [] = refl
 own-parts c s before (e ∷ es) =
     ap (λ l. answered (parts_in c) s before e ++ l) (own-parts c s (before ++ e ∷ []) es)
 
--- what a stage that was sent its whole stream has sent, and what it counts
+-- a stage that was sent its whole stream: what it has sent, and its counts
 module _ (law : StagesAnswerTheirStreams) (c : Hierarchy) (s : Side) (es : List DinRecord)
     (began : L1Stage) (start : StageEnds) (stage : L1Stage) (now : StageEnds)
     (new : IsNew s began) (own : rules_of (cache_of began) ≡ rules_at c s)

@@ -7,20 +7,20 @@ use Rattle.sim_run.specs.declared.fault.Stop.TheVariants as stop
 use Rattle.sim_run.specs.declared.fault.RunFault.{RunFault}
 use Rattle.sim_run.specs.declared.fault.RunFault.TheVariants.{Trace, Memory, Threads, Cut, Write}
 
--- what a run answers for a fault of its source
+-- the fault of a run whose source has this fault
 abbrev pub source_fault : TraceFault → RunFault
 source_fault (trace.Bad line why) = Trace (trace.Bad line why)
 source_fault trace.TooLong = Trace trace.TooLong
 source_fault trace.Read = Trace trace.Read
 source_fault trace.Memory = Memory
 
--- what a run answers for a thread that stopped so
+-- the fault of a run if a thread stopped for this reason
 abbrev pub fault_of_stop : Stop → RunFault
 fault_of_stop stop.Memory = Memory
 fault_of_stop stop.Cut = Cut
 
--- the order in which faults are answered: a fault of the trace, want of memory, a thread that was
--- not granted, an end that was gone; the writer comes after all of them
+-- of several faults, the one of lowest rank is answered: a fault of the trace, a failed allocation,
+-- a thread that could not be started, a lost peer, a failed writer
 abbrev pub rank : RunFault → ℕ
 rank (Trace why) = 0
 rank Memory = 1
@@ -28,7 +28,7 @@ rank Threads = 2
 rank Cut = 3
 rank Write = 4
 
--- a fault of the trace is the one that is left of the source
+-- if a run answers a fault of the trace, it is the fault that is left of the source
 abbrev pub MayAnswer : Option TraceFault → RunFault → Type 0
 MayAnswer left (Trace why) = left ≡ Some why
 MayAnswer left Memory = ⊤
@@ -36,7 +36,8 @@ MayAnswer left Threads = ⊤
 MayAnswer left Cut = ⊤
 MayAnswer left Write = ⊤
 
--- what the threads of a run may meet: no failed write, and want of memory under its own name
+-- the faults that the threads of a run may have: no failed write, and `Memory` for a failed
+-- allocation of the source
 abbrev pub IsMet : RunFault → Type 0
 IsMet (Trace why) = why ≢ trace.Memory
 IsMet Memory = ⊤

@@ -1,4 +1,4 @@
--- The machines that go into threads, and a run whose threads were started.
+-- The machines that are moved into threads, and a run whose threads were started.
 use Rattle.std.specs.Prelude.{◌≡◌, []}
 use Rattle.cache_core.specs.Standing.{rules_of}
 use Rattle.stage_core.specs.SecondLevel.{Hierarchy}
@@ -11,13 +11,13 @@ use Rattle.sim_run.specs.declared.ends.Rings.{Rings}
 use Rattle.sim_run.specs.declared.pipeline.Machines.{Machines}
 use Rattle.sim_run.specs.declared.pipeline.Started.{Started}
 
--- a stage of this side that took nothing in
+-- a stage of this side that has received nothing
 pub record IsNew (s : Side) (stage : L1Stage) : Type 0 where
   pub side : side_of stage ≡ s
   pub ready : IsReady stage
   pub stands : StageStandsFor stage []
 
--- none of the machines has begun
+-- none of the machines has received anything
 pub record AreNew (m : Machines) : Type 0 where
   pub i : IsNew side.I m.i
   pub d : IsNew side.D m.d
@@ -31,7 +31,7 @@ rules_in m = record {
   u = rules_of (l2_cache m.u);
 }
 
--- the machines as the threads began with them
+-- the machines with which the threads began
 abbrev pub machines_at : Started → Machines
 machines_at s = record {
   i = s.i.promise.machine.value;
@@ -39,7 +39,7 @@ machines_at s = record {
   u = s.merge.promise.machine.value;
 }
 
--- the ends as the threads began with them, and the splitter's as they are
+-- the ends with which the threads began, and the splitter's ends as they are now
 abbrev pub rings_at : Started → Rings
 rings_at s = record {
   splitter = s.splitter;

@@ -8,41 +8,41 @@ use Rattle.cache_core.specs.declared.counts.Counts.{Counts}
 use Rattle.cache_core.specs.Counts.{total_of}
 use Rattle.stage_core.specs.declared.totals.Totals.{Totals}
 
--- 32 is a space, 46 a point, 48 the digit 0 and 10 the end of a line
+-- Codes: 32 is a space, 46 a point, 48 the digit 0 and 10 the end of a line.
 
--- a name stands left in 18 places
+-- a name, filled on the right to 18 characters
 abbrev pub name_field : List ℕ → List ℕ
 name_field name = name ++ replicate (18 - length name) 32
 
--- a column stands right in 12 places, and takes more where it is longer
+-- a column, filled on the left to 12 characters; a longer text is not cut
 abbrev pub column : List ℕ → List ℕ
 column text = replicate (12 - length text) 32 ++ text
 
--- a line is its name, its columns and the end of a line
+-- a line: its name, its columns and the end of a line
 unfoldable pub line : List ℕ → List (List ℕ) → List ℕ
 line name columns = name_field name ++ (flat_map column columns ++ 10 ∷ [])
 
--- five numbers of a line: the total, then the classes
+-- the five numbers of a line: the total, then the four classes
 abbrev pub five : PerClass → List ℕ
 five p = total_of p ∷ p.instr ∷ p.read ∷ p.write ∷ p.misc ∷ []
 
--- the rate of `misses` in `fetches` in ten-thousandths, rounded down; 0 where nothing was fetched
+-- the miss rate in ten-thousandths, rounded down; 0 if there were no fetches
 abbrev pub ten_thousandths : ℕ → ℕ → ℕ
 ten_thousandths misses fetches = if fetches == 0 then 0 else misses * 10000 / fetches
 
--- a number below 10000 in four digits
+-- a number below 10000, written with four digits
 abbrev pub four_digits : ℕ → List ℕ
 four_digits n = replicate (4 - length (decimal n)) 48 ++ decimal n
 
--- ten-thousandths written with a point and four decimals
+-- a number of ten-thousandths, written with a point and four decimals
 abbrev pub rate_text : ℕ → List ℕ
 rate_text q = decimal (q / 10000) ++ 46 ∷ four_digits (q % 10000)
 
--- the rate of `misses` in `fetches` as it is written
+-- the miss rate as it is written
 abbrev pub rate : ℕ → ℕ → List ℕ
 rate misses fetches = rate_text (ten_thousandths misses fetches)
 
--- the five rates of a line
+-- the five rates of a line: the total, then the four classes
 abbrev pub five_rates : PerClass → PerClass → List (List ℕ)
 five_rates misses fetches =
     rate (total_of misses) (total_of fetches) ∷ rate misses.instr fetches.instr
@@ -77,12 +77,12 @@ block name c = concat (
     ∷ count_line (codes "Flushes") c.flushes
     ∷ [])
 
--- the name of one of the three caches
+-- the text is the name of one of the three caches
 abbrev pub IsCacheName : List ℕ → Type 0
 IsCacheName name =
     (name ≡ codes "l1-icache") ⊎ ((name ≡ codes "l1-dcache") ⊎ (name ≡ codes "l2-ucache"))
 
--- the whole report: three blocks, with an empty line between two of them
+-- the whole report: three blocks, separated by empty lines
 unfoldable pub report : Totals → List ℕ
 report t =
     block (codes "l1-icache") t.i

@@ -1,4 +1,4 @@
--- What a whole run comes to.
+-- The result of a whole run.
 use Rattle.std.specs.Prelude.{◌≡◌, ℕ, List, None, Result, Ok, Err}
 use Rattle.din_trace.specs.Line.{ADDRESS_MAX}
 use Rattle.din_trace.specs.Text.{records}
@@ -20,31 +20,31 @@ use Rattle.sim_run.specs.Threads.{LeavesRest, at_end}
 use Rattle.sim_run.specs.declared.fault.RunFault.{RunFault}
 use Rattle.sim_run.specs.declared.pipeline.Settled.{Settled}
 
--- the report of a trace: the counts that the definitions give over its selected events
+-- the report of a trace: the counts that the definitions give for its selected events
 unfoldable pub report_of : Config → Selection → List ℕ → List ℕ
 report_of config selection text =
     report (totals (hierarchy_of config) (events selection (records ADDRESS_MAX text)))
 
--- the threads of a run, over rings of this capacity, have worked these events off, to the end
+-- the threads of a run, with rings of this capacity, have simulated exactly these events
 pub record HasRun (ring : ℕ) (c : Hierarchy) (es : List DinRecord) (s : Settled) : Type 0 where
   pub capacity : HaveCapacity ring s.rings
-  -- each ring has carried its whole stream, which ends with its only Finish (stage_core's law
-  -- `finish_ends_each_stream`): the list received is the list sent
+  -- each ring has carried its whole stream, and all of it was received; the only `Finish` of a
+  -- stream is its last message (by the law `finish_ends_each_stream` of stage_core)
   pub paired : ArePaired s.rings
   pub order : on_order s.rings ≡ whole (streams.order es)
   pub to_i : on_to_i s.rings ≡ whole (streams.to_side side.I es)
   pub to_d : on_to_d s.rings ≡ whole (streams.to_side side.D es)
   pub from_i : on_from_i s.rings ≡ whole (streams.from_side (parts_in c) side.I es)
   pub from_d : on_from_d s.rings ≡ whole (streams.from_side (parts_in c) side.D es)
-  -- the merge's rule takes all that the second level is to see out of what was received, by place,
-  -- and is at its end
+  -- the rule of the merge, applied to the received messages, gives the second level exactly its
+  -- requests in the order of the trace, and comes to its end
   pub merged : rule.merged (on_order s.rings).received (on_from_i s.rings).received
       (on_from_d s.rings).received
       ≡ rule.all_used (second_level_requests (parts_in c) es) rule.AtEnd
   -- the counts are those of the definitions
   pub counted : s.totals ≡ totals c es
 
--- what a run over a source that had this left comes to, and what is left of it then
+-- the result of a run over a source that had this left, and what the source has left after it
 abbrev pub RunsOver : ℕ → Hierarchy → Selection → Remaining → (Remaining → Type 0)
     → Result Settled RunFault → Type 0
 RunsOver ring c selection l HasLeft (Ok settled) =

@@ -1,4 +1,4 @@
--- What each of the four threads has done with its ends.
+-- What each of the four threads has sent and received.
 use Rattle.std.specs.Prelude.{◌≡◌, ℕ, false, List, [], ◌∷◌, ◌++◌, map, length, option_to_list}
 use Rattle.std.specs.Prelude.{Some, None, Result, Ok, Err}
 use Rattle.std.specs.List.{list_any}
@@ -32,32 +32,32 @@ use Rattle.sim_run.specs.declared.fault.RunFault.{RunFault}
 use Rattle.sim_run.specs.Faults.{MayAnswer}
 use Rattle.sim_run.specs.Ends.{SameStageEnds, SameMergeEnds}
 
--- the messages of one event, or those of the end, were sent
+-- the splitter sent the messages of one event, or those of the end
 pub record Sends (was : SplitterEnds) (routed : Routed) (now : SplitterEnds) : Type 0 where
   pub order : sent now.order ≡ sent was.order ++ routed.turn ∷ []
   pub to_i : sent now.to_i ≡ sent was.to_i ++ option_to_list routed.i
   pub to_d : sent now.to_d ≡ sent was.to_d ++ option_to_list routed.d
 
--- these are the messages of the end
+-- these are the messages of the end: `Finish` on each ring
 pub record IsEnd (routed : Routed) : Type 0 where
   pub turn : routed.turn ≡ turn.Finish
   pub i : routed.i ≡ Some to_stage.Finish
   pub d : routed.d ≡ Some to_stage.Finish
 
--- the splitter has sent all messages of these events, the last of which has this place
+-- the splitter has sent all messages of these events; `place` is how many they are
 pub record HasSent (events : List DinRecord) (place : ℕ) (ends : SplitterEnds) : Type 0 where
   pub last : place ≡ length events
   pub order : sent ends.order ≡ map (λ e. turn_of e.label) events
   pub to_i : sent ends.to_i ≡ flat_map_with_past (messages_to side.I) events
   pub to_d : sent ends.to_d ≡ flat_map_with_past (messages_to side.D) events
 
--- and the messages of the end too
+-- the splitter has sent all messages of these events and those of the end
 pub record HasSentAll (events : List DinRecord) (ends : SplitterEnds) : Type 0 where
   pub order : sent ends.order ≡ streams.order events
   pub to_i : sent ends.to_i ≡ streams.to_side side.I events
   pub to_d : sent ends.to_d ≡ streams.to_side side.D events
 
--- records were taken off what a source had left; what it then has left is the rest
+-- a source has answered some of the records that it had left; what it has left now is the rest
 pub record LeavesRest (l : Remaining) (HasLeft : Remaining → Type 0) : Type 0 where
   pub gone : List DinRecord
   pub rest : Remaining
@@ -65,11 +65,11 @@ pub record LeavesRest (l : Remaining) (HasLeft : Remaining → Type 0) : Type 0 
   pub fault : rest.fault ≡ l.fault
   pub left : HasLeft rest
 
--- nothing is left of a source, and it has met no fault
+-- nothing is left of a source, and there was no fault
 abbrev pub at_end : Remaining
 at_end = record { records = []; fault = None }
 
--- the splitter has split up what a source had left, to its end, or stopped somewhere
+-- the splitter has sent all messages of what a source had left, or has stopped before the end
 abbrev pub SplitUp : Selection → Remaining → (Remaining → Type 0) → SplitterEnds
     → Result (Unit {0}) RunFault
     → Type 0
@@ -77,13 +77,13 @@ SplitUp selection l HasLeft ends (Ok done) =
     (l.fault ≡ None) × HasSentAll (events selection l.records) ends × HasLeft at_end
 SplitUp selection l HasLeft ends (Err why) = MayAnswer l.fault why × LeavesRest l HasLeft
 
--- one Finish stands in these messages, as the last
+-- these messages have exactly one `Finish`, which is the last
 pub record EndInFinish (messages : List ToStage) : Type 0 where
   pub before : List ToStage
   pub last : messages ≡ before ++ to_stage.Finish ∷ []
   pub only : list_any is_finish before ≡ false
 
--- a stage that began so has sent what it answers to what it received
+-- a stage, compared with its start: it has sent the answers to what it has received
 pub record HasServed (began : L1Stage) (was : StageEnds) (stage : L1Stage) (now : StageEnds)
     : Type 0 where
   pub rings : SameStageEnds was now
@@ -93,14 +93,14 @@ pub record HasServed (began : L1Stage) (was : StageEnds) (stage : L1Stage) (now 
   pub answered : sent now.to_merge
       ≡ replies (parts_of (rules_of (cache_of began))) (side_of began) (received now.from_splitter)
 
--- it has ended well
+-- a stage has served its whole stream, up to `Finish`
 pub record StageEnded (began : L1Stage) (was : StageEnds) (stage : L1Stage) (now : StageEnds)
     : Type 0 where
   pub served : HasServed began was stage now
   pub finish : EndInFinish (received now.from_splitter)
 
--- the merge's rule has used up what was received and stands there, and the second level has served
--- what the rule took
+-- the rule of the merge has used all messages that were received and is now in state `at`, and the
+-- second level has served all requests that the rule took
 pub record HasMerged (at : MergeState) (began : L2Stage) (was : MergeEnds) (u : L2Stage)
     (now : MergeEnds) : Type 0 where
   pub rings : SameMergeEnds was now
@@ -110,7 +110,7 @@ pub record HasMerged (at : MergeState) (began : L2Stage) (was : MergeEnds) (u : 
       ≡ all_used requests at
   pub stands : L2StandsFor u requests
 
--- a stage that began so has ended well, and counts this
+-- a stage has served its whole stream, and these are its counts
 pub record StageCounted (began : L1Stage) (was : StageEnds) (counts : Counts) (now : StageEnds)
     : Type 0 where
   pub stage : L1Stage
@@ -118,7 +118,7 @@ pub record StageCounted (began : L1Stage) (was : StageEnds) (counts : Counts) (n
   pub counted : (messages : List ToStage) → StageStandsFor stage messages
       → counts ≡ counts_of (rules_of (cache_of stage)) (taken_in messages)
 
--- a merge is at its end, and the second level that began so counts this
+-- the merge is at its end, and these are the counts of the second level
 pub record MergeCounted (began : L2Stage) (was : MergeEnds) (counts : Counts) (now : MergeEnds)
     : Type 0 where
   pub u : L2Stage

@@ -1,4 +1,4 @@
--- Where a thread may wait, with its machine and its ends as they are.
+-- When a thread may wait, in terms of its machine and its ends.
 use Rattle.std.specs.Prelude.{◌≡◌, ℕ, ◌+◌, Bool, List, length}
 use Rattle.pipe_rings.specs.Rings as ring
 use Rattle.pipe_rings.specs.Rings.{received, LookedForRoom}
@@ -20,7 +20,7 @@ use Rattle.sim_run.specs.declared.ends.SplitterEnds.{SplitterEnds}
 use Rattle.sim_run.specs.declared.ends.StageEnds.{StageEnds}
 use Rattle.sim_run.specs.declared.ends.MergeEnds.{MergeEnds}
 
--- a sending end
+-- what stage_core's rules need to know of a sending end
 abbrev pub sender : {Message : Type 0} → Tx Message → Sender Message
 sender tx = record { posted = ring.sent tx; held = ring.posted tx }
 
@@ -29,7 +29,7 @@ abbrev pub sender_to : SplitterEnds → Side → Sender ToStage
 sender_to ends side.I = sender ends.to_i
 sender_to ends side.D = sender ends.to_d
 
--- the splitter, which has posted these events
+-- the splitter, which has posted the messages of these events, and those of the end if `closed`
 abbrev pub splitter_at : List DinRecord → Bool → SplitterEnds → SplitterThread
 splitter_at es closed ends = record {
   events = es;
@@ -38,27 +38,27 @@ splitter_at es closed ends = record {
   to = sender_to ends;
 }
 
--- it has posted all messages of some events, and perhaps those of the end, and no others
+-- what the splitter has posted is all messages of some events, or also those of the end
 abbrev pub PostedWhole : SplitterEnds → Type 0
 PostedWhole ends = (es : List DinRecord) × (closed : Bool) × HasPosted (splitter_at es closed ends)
 
--- with these ends the splitter may wait
+-- a splitter with these ends may wait
 abbrev pub SplitterMay : SplitterEnds → Type 0
 SplitterMay ends =
     (es : List DinRecord) × (closed : Bool) × SplitterMayWait (splitter_at es closed ends)
 
--- how many messages it has posted that are not published
+-- how many messages the splitter has posted that are not published yet
 abbrev pub held : SplitterEnds → ℕ
 held ends = length (ring.posted ends.order) + length (ring.posted ends.to_i)
     + length (ring.posted ends.to_d)
 
--- what it has posted was published, as far as it knows of room in any of the three rings
+-- for each of the three rings: all posted messages are published, or it has no known free place
 pub record LookedEverywhere (ends : SplitterEnds) : Type 0 where
   pub order : LookedForRoom ends.order
   pub to_i : LookedForRoom ends.to_i
   pub to_d : LookedForRoom ends.to_d
 
--- this holds of a stage and its ends
+-- a rule of stage_core holds for this stage with these ends
 abbrev pub OfStage : (Parts → Side → StageThread → Type 0) → L1Stage → StageEnds → Type 0
 OfStage Rule stage ends = Rule (parts_of (rules_of (cache_of stage))) (side_of stage) record {
   received = received ends.from_splitter;
@@ -66,12 +66,12 @@ OfStage Rule stage ends = Rule (parts_of (rules_of (cache_of stage))) (side_of s
   unposted = outbox_of stage;
 }
 
--- the merge
+-- the messages that the merge has received from a side
 abbrev pub received_from : MergeEnds → Side → List FromStage
 received_from ends side.I = received ends.from_i
 received_from ends side.D = received ends.from_d
 
--- the merge, which stands there and has given this to the second level
+-- the merge in state `at`, which has given these requests to the second level
 abbrev pub merge_at : MergeState → List What → MergeEnds → MergeThread
 merge_at at given ends = record {
   turns = received ends.order;
@@ -80,6 +80,6 @@ merge_at at given ends = record {
   given = given;
 }
 
--- its rule has used up what was received, and stands there
+-- the rule of the merge has used all messages that were received, and is now in state `at`
 abbrev pub MergeUsed : MergeState → MergeEnds → Type 0
 MergeUsed at ends = (given : List What) × HasMerged (merge_at at given ends)

@@ -9,7 +9,7 @@ use stage_core::{FromStage, Routed, ToStage, Turn};
 use std::alloc::Global;
 use std::sync::Wait;
 
-/// What the splitter sends on.
+/// The ends of the splitter: the order of turns to the merge, and a ring to each stage.
 #[derive(Drop)]
 pub struct SplitterEnds {
     pub order: Tx<Turn>,
@@ -23,7 +23,7 @@ impl SplitterEnds {
     ghost use Rattle.sim_run.specs.Threads.{Sends};
     ghost use Rattle.sim_run.specs.Waits.{LookedEverywhere, held};
 
-    /// Whether the messages of one event more may be posted.
+    /// Whether there is room to post the messages of one more event.
     #[inline]
     pub(crate) fn have_room(&self) -> bool
         ensures { IsTrue result → HaveRoom self.now }
@@ -47,8 +47,8 @@ impl SplitterEnds {
         }
     }
 
-    /// Publishes what was posted, as far as there are free places in each of the three rings.
-    /// Answers whether the other threads see more.
+    /// Publishes posted messages, as many as fit into each of the three rings. Answers whether any
+    /// was published.
     pub(crate) fn publish(&mut self) -> bool
         ensures rings { SameSplitterEnds self.old self.new }
         ensures sent { SentSame self.old self.new }
@@ -63,7 +63,7 @@ impl SplitterEnds {
         order > 0 || to_i > 0 || to_d > 0
     }
 
-    /// Whether all that was posted is published.
+    /// Whether all posted messages are published.
     pub(crate) fn are_published(&self) -> bool
         ensures { IsTrue result ↔ (held self.now ≡ 0) }
     {
@@ -87,7 +87,7 @@ pub struct StageEnds {
     pub to_merge: Tx<FromStage>,
 }
 
-/// What the merge receives from.
+/// The ends of the merge: the order of turns from the splitter, and a ring from each stage.
 #[derive(Drop)]
 pub struct MergeEnds {
     pub order: Rx<Turn>,
@@ -95,7 +95,7 @@ pub struct MergeEnds {
     pub from_d: Rx<FromStage>,
 }
 
-/// Both ends of every ring of a run. Clauses see what each ring has carried.
+/// Both ends of all five rings of a run. The contracts say what each ring has carried.
 #[derive(Drop)]
 pub struct Rings {
     pub(crate) splitter: SplitterEnds,
@@ -104,7 +104,7 @@ pub struct Rings {
     pub(crate) merge: MergeEnds,
 }
 
-// Whether all that was sent on one ring was received.
+// Whether every message that was sent on a ring was received.
 fn is_settled<T: Copy>(tx: &mut Tx<T>, rx: &mut Rx<T>) -> bool
     requires { AreEnds tx.old rx.old }
     ensures sender { SameTx tx.old tx.new × (sent tx.new ≡ sent tx.old) }
@@ -116,8 +116,8 @@ fn is_settled<T: Copy>(tx: &mut Tx<T>, rx: &mut Rx<T>) -> bool
 }
 
 impl Rings {
-    /// Five new rings, each with room for `capacity` messages, and an outbox before each, with room
-    /// for `outbox`.
+    /// Makes five rings, each with room for `capacity` messages. Each sender has an outbox with
+    /// room for `outbox` messages.
     pub(crate) fn new(alloc: Global, capacity: usize, outbox: usize) -> Result<Rings, NoMemory>
         requires { (0 < capacity) × (capacity ≤ 65536) }
         ensures paired { IfOk result (λ rings. ArePaired rings) }
@@ -154,7 +154,7 @@ impl Rings {
         })
     }
 
-    /// Whether all that was sent was received.
+    /// Whether every message that was sent was received.
     pub(crate) fn are_settled(&mut self) -> bool
         requires { ArePaired self.old }
         ensures same { SameRings self.old self.new }

@@ -5,35 +5,35 @@ ghost use Rattle.sim_run.specs.Faults.{source_fault, fault_of_stop, rank};
 
 use din_trace::TraceFault;
 
-/// Why a run gave no report. With all but `Write` nothing was written.
+/// Why a run gave no report. Except for `Write`, nothing was written.
 #[derive(Clone, Copy, Debug, PartialEq, Eq)]
 pub enum RunFault {
-    /// The trace is faulty, too long or could not be read. It never carries `TraceFault::Memory`.
+    /// The trace is faulty, too long or could not be read. Never holds `TraceFault::Memory`.
     Trace(TraceFault),
-    /// Memory was refused.
+    /// An allocation failed.
     Memory,
-    /// A thread was not granted.
+    /// A thread could not be started.
     Threads,
-    /// A stage met the end of another that was gone.
+    /// A thread was cut off: the other end of one of its rings was dropped.
     Cut,
-    /// The writer failed; how much of the report it took is open.
+    /// The writer failed. It is not known how much of the report was written.
     Write,
 }
 
 /// Why a thread stopped before its end.
 #[derive(Clone, Copy, Debug, PartialEq, Eq)]
 pub enum Stop {
-    /// Memory was refused.
+    /// An allocation failed.
     Memory,
-    /// The other end of a ring was gone.
+    /// The other end of a ring was dropped, or more messages came than a run can have.
     Cut,
 }
 
-/// A thread was not granted. What it was to own was dropped.
+/// A thread could not be started. The values that were to be moved into it were dropped.
 #[derive(Drop)]
 pub struct NoThread;
 
-/// What a run answers for a fault of its source: want of memory has a name of its own.
+/// The fault of a run whose source has this fault. `TraceFault::Memory` becomes `RunFault::Memory`.
 pub fn fault_of_source(fault: TraceFault) -> RunFault
     ensures { result ≡ source_fault fault }
 {
@@ -43,7 +43,7 @@ pub fn fault_of_source(fault: TraceFault) -> RunFault
     }
 }
 
-/// The fault that a run answers where a thread stopped so.
+/// The fault of a run if a thread stopped for this reason.
 fn fault_of_stop(stop: Stop) -> RunFault
     ensures { result ≡ fault_of_stop stop }
 {
@@ -53,7 +53,7 @@ fn fault_of_stop(stop: Stop) -> RunFault
     }
 }
 
-/// Where a fault stands in the order in which faults are answered.
+/// The rank of a fault. Of several faults, the one of lowest rank is answered.
 fn rank(fault: RunFault) -> u8
     ensures { result ≡ rank fault }
 {
@@ -66,7 +66,7 @@ fn rank(fault: RunFault) -> u8
     }
 }
 
-/// The one that goes before the other, of a fault and what a thread came to.
+/// The fault of lower rank: the given one, or that of a thread that stopped.
 fn graver(fault: RunFault, end: Option<Stop>) -> RunFault
     ensures one { (result ≡ fault) ⊎ (option_map fault_of_stop end ≡ Some result) }
     ensures fault { rank result ≤ rank fault }
@@ -83,8 +83,8 @@ fn graver(fault: RunFault, end: Option<Stop>) -> RunFault
     }
 }
 
-/// What a run that came to no end answers: the gravest of what its splitter met, or met in its
-/// place, and of why each other thread stopped that did not come to its end.
+/// The fault of a failed run, over all four threads: the fault of lowest rank among the one of the
+/// splitter and those of the threads that stopped before their end.
 pub fn gravest(
     splitter: RunFault,
     i: Option<Stop>,

@@ -1,4 +1,4 @@
-//! A caller's hold on the threads of a run.
+//! Lets a caller hold the threads of a run, for tests.
 
 ghost use Rattle.std.specs.Prelude.{◌≡◌, ◌+◌, ◌<◌, ◌≤◌, IfOk, IfErr};
 ghost use Rattle.sim_run.specs.declared.fault.Stop.{Stop};
@@ -7,30 +7,34 @@ use crate::fault::Stop;
 use cache_core::MAX_EVENTS;
 use std::sync::Wait;
 
-/// One of the four that handle messages or records.
+/// One of the four threads of a run.
 #[derive(Clone, Copy, Debug, PartialEq, Eq)]
 pub enum Who {
+    /// The splitter, in the caller's thread.
     Splitter,
+    /// The stage of the instruction cache.
     I,
+    /// The stage of the data cache.
     D,
     /// The merge, with the second level in its thread.
     Merge,
 }
 
-/// What each of the four passes before it handles a message that it received, or a record that it
-/// read. They are numbered from 1 at each of the four.
+/// A gate that each of the four threads passes before it handles a message that it received, or a
+/// record that it read. Each thread numbers these from 1.
 pub trait Gate: Sync {
-    /// Returns once this one may go on.
+    /// Called by the thread `who` before its message or record number `nth`. Returns when the
+    /// thread may go on.
     fn arrive<H: Wait>(&self, rt: &H, who: Who, nth: u64);
 
-    /// Whether it never holds anyone. At any other gate a thread first lets its neighbours see all
-    /// that it has sent.
+    /// Whether the gate never holds a thread. Before any other gate, a thread publishes all
+    /// messages that it has sent.
     fn is_open(&self) -> bool {
         false
     }
 }
 
-/// A gate at which nobody waits.
+/// A gate that never holds a thread.
 #[derive(Clone, Copy, Debug)]
 pub struct OpenGate;
 
@@ -42,8 +46,8 @@ impl Gate for OpenGate {
     }
 }
 
-/// Counts one message more and passes the gate with it. A thread can't know that what it receives
-/// is lawful, so it stops where the count would reach `MAX_EVENTS`: what passes is below it.
+/// Counts one more message and passes the gate with it. The contract of a thread does not say how
+/// many messages it will receive, so the thread stops if the count would reach `MAX_EVENTS`.
 #[inline]
 pub fn pass<H: Wait, G: Gate>(rt: &H, gate: &G, who: Who, received: u64) -> Result<u64, Stop>
     ensures counted { IfOk result (λ nth. nth ≡ received + 1) }

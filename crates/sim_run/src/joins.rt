@@ -1,4 +1,4 @@
-//! Joins the threads of a run, and says what they came to.
+//! Joins the threads of a run, and collects their results.
 
 ghost use Rattle.std.specs.Prelude.{◌≡◌, ◌⊎◌, None, IsNone, IfOk, IfErr, IsOk, Ok};
 ghost use Rattle.sim_run.specs.Threads.{StageCounted, MergeCounted};
@@ -10,7 +10,7 @@ use crate::stage_thread::StageHandle;
 use cache_core::Counts;
 use std::thread::{Promise, PromisedHandle, Threads};
 
-/// Joins a thread that may have stopped before its end, and says why it did.
+/// Joins a thread. Answers why it stopped, if it stopped before its end.
 pub fn why_stopped<H: Threads, T: Drop, P: Promise<Result<T, Stop>>>(
     rt: &H,
     handle: PromisedHandle<Result<T, Stop>, P>,
@@ -18,7 +18,7 @@ pub fn why_stopped<H: Threads, T: Drop, P: Promise<Result<T, Stop>>>(
     handle.join(rt).err()
 }
 
-// Why a stage's thread stopped before its end, if it was started and did.
+// Joins the thread of a stage, if it was started. Answers why it stopped, if it did.
 fn stop_of<H: Threads>(rt: &H, stage: Option<StageHandle>) -> Option<Stop>
     ensures { IsNone stage → result ≡ None }
 {
@@ -28,8 +28,8 @@ fn stop_of<H: Threads>(rt: &H, stage: Option<StageHandle>) -> Option<Stop>
     }
 }
 
-/// Joins the stages' threads that were started before another was not granted. The ends that feed
-/// them must be gone.
+/// Joins the threads of the stages that were started before another one could not be, and answers
+/// the fault of the run. The ends that feed them have to be dropped before.
 pub fn wind_up<H: Threads>(rt: &H, i: Option<StageHandle>, d: Option<StageHandle>) -> RunFault
     ensures met { (result ≡ RunFault.Memory) ⊎ (result ≡ RunFault.Threads) }
     ensures none { IsNone i → IsNone d → result ≡ RunFault.Threads }
@@ -39,7 +39,7 @@ pub fn wind_up<H: Threads>(rt: &H, i: Option<StageHandle>, d: Option<StageHandle
     gravest(RunFault::Threads, i, d, None)
 }
 
-/// Joins a stage's thread: what the stage has counted, and its ends.
+/// Joins the thread of a stage. Answers the counts of the stage and its ends.
 pub fn join_stage<H: Threads>(rt: &H, handle: StageHandle) -> Result<(Counts, StageEnds), Stop>
     ensures { IfOk result (λ r. StageCounted handle.promise.machine.value
         handle.promise.ends.value r.0 r.1) }
@@ -48,7 +48,7 @@ pub fn join_stage<H: Threads>(rt: &H, handle: StageHandle) -> Result<(Counts, St
     Ok((stage.counts(), ends))
 }
 
-/// Joins the merge's thread: what the second level has counted, and the merge's ends.
+/// Joins the thread of the merge. Answers the counts of the second level and the merge's ends.
 pub fn join_merge<H: Threads>(rt: &H, handle: MergeHandle) -> Result<(Counts, MergeEnds), Stop>
     ensures { IfOk result (λ r. MergeCounted handle.promise.machine.value
         handle.promise.ends.value r.0 r.1) }
@@ -57,7 +57,7 @@ pub fn join_merge<H: Threads>(rt: &H, handle: MergeHandle) -> Result<(Counts, Me
     Ok((u.counts(), ends))
 }
 
-/// What all three threads came to. Where one stopped before its end, the gravest of why they did.
+/// The results of all three threads. If one stopped before its end, the fault of lowest rank.
 pub fn all_ended<A: Drop, B: Drop, C: Drop>(
     i: Result<A, Stop>,
     d: Result<B, Stop>,

@@ -1,4 +1,4 @@
-//! The thread of the merge, with the second level.
+//! The thread of the merge and the second level.
 
 ghost use Rattle.std.specs.Prelude.{◌≡◌, ◌≤◌, ◌⊎◌, [], ◌∷◌, ◌++◌, List, IfOk, OnOk, IfErr};
 ghost use Rattle.pipe_rings.specs.Rings.{received, SameRx};
@@ -23,10 +23,10 @@ use std::snapshot::Snapshot;
 use std::sync::Wait;
 use std::thread::{Promise, PromisedHandle, Scope, Threads};
 
-/// What the merge's thread comes to.
+/// The result of the merge's thread.
 pub type MergeEnd = Result<(L2Stage, MergeEnds), Stop>;
 
-/// What the thread of a merge that began so promises of it.
+/// What the thread of the merge promises about its result, given the values that it began with.
 #[derive(Drop)]
 pub struct MergePromise {
     pub machine: Snapshot<L2Stage>,
@@ -37,10 +37,10 @@ impl Promise<MergeEnd> for MergePromise {
     ghost kept_by = { λ p r. IfOk r (λ t. HasMerged AtEnd p.machine.value p.ends.value t.0 t.1) };
 }
 
-/// The merge's thread that is still to be joined.
+/// The merge's thread, which is still to be joined.
 pub type MergeHandle = PromisedHandle<MergeEnd, MergePromise>;
 
-// The merge takes a side's message, and the second level serves what it brings.
+// The merge takes a message of a side, and the second level serves the request in it, if any.
 #[inline(always)]
 fn take_and_serve(merge: &mut Merge, u: &mut L2Stage, message: FromStage) -> Result<(), Stop>
     requires { (wanted merge.old ≡ want.I) ⊎ (wanted merge.old ≡ want.D) }
@@ -77,7 +77,7 @@ fn next_turn<H: Wait>(rt: &H, merge: &Merge, ends: &mut MergeEnds) -> Result<Tur
     }
 }
 
-// The next message of I.
+// The next message from the I stage.
 #[inline(always)]
 fn next_from_i<H: Wait>(rt: &H, merge: &Merge, ends: &mut MergeEnds) -> Result<FromStage, Stop>
     requires used { MergeUsed merge.now ends.old }
@@ -94,7 +94,7 @@ fn next_from_i<H: Wait>(rt: &H, merge: &Merge, ends: &mut MergeEnds) -> Result<F
     }
 }
 
-// The next message of D.
+// The next message from the D stage.
 #[inline(always)]
 fn next_from_d<H: Wait>(rt: &H, merge: &Merge, ends: &mut MergeEnds) -> Result<FromStage, Stop>
     requires used { MergeUsed merge.now ends.old }
@@ -111,7 +111,7 @@ fn next_from_d<H: Wait>(rt: &H, merge: &Merge, ends: &mut MergeEnds) -> Result<F
     }
 }
 
-// Passes the gate with a side's message, and the merge takes it.
+// Passes the gate with a message of a side, and then serves it.
 #[inline(always)]
 fn take_in<H: Wait, G: Gate>(
     rt: &H,
@@ -132,7 +132,7 @@ fn take_in<H: Wait, G: Gate>(
     Ok(count)
 }
 
-// Takes in what the rings bring, always from the one that the merge wants, up to its end.
+// Receives messages, each from the ring that the merge wants next, until the merge is at its end.
 fn merge_all<H: Wait, G: Gate>(
     rt: &H,
     gate: &G,
@@ -172,7 +172,7 @@ fn merge_all<H: Wait, G: Gate>(
     unreachable!()
 }
 
-/// Merges all that the rings bring. Where it stops before the end, its ends are dropped.
+/// Merges all messages of the rings. If it stops before the end, its ends are dropped.
 pub fn run_merge<H: Wait, G: Gate>(
     rt: &H,
     gate: &G,
@@ -189,7 +189,7 @@ pub fn run_merge<H: Wait, G: Gate>(
     Ok((u, ends))
 }
 
-/// Starts the thread of the merge. Where it isn't granted, the second level and the ends are
+/// Starts the thread of the merge. If it cannot be started, the second level and the ends are
 /// dropped.
 pub fn start_merge<'s, E, H: Threads + Wait + Sync, G: Gate>(
     scope: &Scope<'s, E>,

@@ -1,4 +1,4 @@
-//! The run of threads: the stages are started, fed, joined and settled.
+//! The run in four threads: starts the threads, feeds them, joins them and checks the rings.
 
 ghost use Rattle.std.specs.Prelude.{◌≡◌, ◌⊎◌, List, ℕ, Option, None, IfOk, IfErr, IsOk};
 ghost use Rattle.std.specs.Prelude.{OnOk, Ok, Err};
@@ -33,14 +33,14 @@ use std::sync::Wait;
 use std::thread;
 use std::thread::{Promise, PromisedHandle, Scope, Threads};
 
-/// What a run that came to its end has left: the counts, and the rings that carried its messages.
+/// The result of a successful run: the counts, and the rings that carried its messages.
 #[derive(Drop)]
 pub struct Settled {
     pub totals: Totals,
     pub rings: Rings,
 }
 
-/// The machines that go into threads of their own.
+/// The machines that are moved into threads of their own.
 #[derive(Drop)]
 pub struct Machines {
     pub i: L1Stage,
@@ -64,7 +64,7 @@ impl Machines {
     }
 }
 
-// The rings and the machines of a run, before it begins. Each outbox has room for so many messages.
+// Makes the rings and the machines of a run. Each outbox has room for `outbox` messages.
 pub(crate) fn prepare(
     alloc: Global,
     config: &Config,
@@ -83,7 +83,7 @@ pub(crate) fn prepare(
     Ok((machines, rings))
 }
 
-/// A run whose threads were started, and the ends that feed them.
+/// A run whose threads were started, with the ends that feed them.
 #[derive(Drop)]
 pub struct Started {
     pub splitter: SplitterEnds,
@@ -92,7 +92,8 @@ pub struct Started {
     pub merge: MergeHandle,
 }
 
-// Lets go of what the rest of a run was to own, and only then joins what was started of it.
+// Drops what the threads that were not started were to own, and only then joins those that were
+// started: they end when their peers are gone.
 fn give_up<H: Threads, L: Drop>(
     rt: &H,
     left: L,
@@ -105,8 +106,8 @@ fn give_up<H: Threads, L: Drop>(
     wind_up(rt, i, d)
 }
 
-// Starts the three threads. Where one isn't granted, all ends are dropped, so that those which were
-// started end too.
+// Starts the three threads. If one cannot be started, all ends are dropped, so that the threads
+// that were started end too.
 fn start<'s, E, H: Threads + Wait + Sync, G: Gate>(
     scope: &Scope<'s, E>,
     rt: &'s H,
@@ -139,7 +140,7 @@ fn start<'s, E, H: Threads + Wait + Sync, G: Gate>(
     })
 }
 
-// Hands the counts and the rings of a run out, where all that was sent was received.
+// The result of a run, if every message that was sent was received.
 fn settle(totals: Totals, rings: Rings) -> Result<Settled, RunFault>
     requires { ArePaired rings }
     ensures settled { IfOk result (λ settled. (settled.totals ≡ totals)
@@ -155,7 +156,7 @@ fn settle(totals: Totals, rings: Rings) -> Result<Settled, RunFault>
     }
 }
 
-// Joins the threads of a run, whose splitter came to this, and settles its rings.
+// Joins the threads of a run and checks its rings. `fed` is the result of the splitter.
 fn finish<H: Threads>(
     rt: &H,
     started: Started,
@@ -205,7 +206,7 @@ fn finish<H: Threads>(
     settle(totals, rings)
 }
 
-// Runs what the source gives through the machines.
+// Runs the records of the source through the machines, inside a scope of threads.
 pub(crate) fn run_in<'s, E, H: Threads + Wait + Sync, R: ByteReader + Drop, G: Gate>(
     scope: &Scope<'s, E>,
     rt: &'s H,
@@ -235,10 +236,10 @@ pub(crate) fn run_in<'s, E, H: Threads + Wait + Sync, R: ByteReader + Drop, G: G
     (source, finish(rt, started, fed))
 }
 
-/// Runs what a source gives, as far as it is selected, through four threads: the splitter in the
-/// caller's, and one for each first-level stage and for the merge with the second level. It comes
-/// back when all of them have ended. The source is handed back with either answer. Each number of
-/// the selection is at most 2^40.
+/// Simulates the selected records of a source in four threads: the splitter runs in the caller's
+/// thread, and the other three are one for each first-level stage and one for the merge with the
+/// second level. Returns when all of them have ended. The source comes back with the result. Each
+/// number of the selection is at most 2^40.
 pub fn run_pipeline<H: Threads + Wait + Sync, R: ByteReader + Drop, G: Gate>(
     rt: &H,
     alloc: Global,
@@ -248,11 +249,11 @@ pub fn run_pipeline<H: Threads + Wait + Sync, R: ByteReader + Drop, G: Gate>(
     gate: &G,
 ) -> (Source<R>, Result<Settled, RunFault>)
     requires bounded { IsBounded selection.now }
-    // A fault of the trace is never want of memory, and no writer can have failed.
+    // `Trace` never holds `TraceFault::Memory`, and `Write` is never answered.
     ensures met { IfErr result.1 IsMet }
-    // Whatever the reader did: `Ok` is for a source that has ended without a fault, all of whose
-    // records have gone their way. After a refusal the records that are left are the last of those
-    // that were.
+    // Whatever the reader did, `Ok` means that the source ended without a fault, and that all of
+    // its selected events were simulated. After an error, the records that are left are the last of
+    // those that were left before.
     ensures reads { (given : List ℕ) × (fate : Fate)
         × Takes R.remaining R.failures source result.0 given fate
         × ((before later : Script) (l : Remaining)

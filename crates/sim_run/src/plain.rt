@@ -1,4 +1,4 @@
-//! The run on one thread.
+//! The run on one thread, from the bytes of a trace to the bytes of its report.
 
 ghost use Rattle.std.specs.Prelude.{◌≡◌, ◌≢◌, ℕ, List, Some, None, ◌≤◌, OnOk, IfErr};
 ghost use Rattle.std.specs.Io.KnownBytes.{Appends};
@@ -15,9 +15,9 @@ use din_trace::{ByteReader, ByteWriter, MAX_LIMIT, Source, TraceFault};
 use stage_core::{Config, Selection, run_plain};
 use std::alloc::Global;
 
-/// Reads a trace of at most `limit` bytes to its end, simulates what is selected of it event by
-/// event, writes the report and flushes the writer. The whole trace is kept in memory. Each number
-/// of the selection is at most 2^40.
+/// Reads a trace of at most `limit` bytes to its end, simulates the selected records one by one,
+/// writes the report and flushes the writer. All records of the trace are kept in memory. Each
+/// number of the selection is at most 2^40.
 pub fn simulate_plain<R: ByteReader + Drop, W: ByteWriter>(
     alloc: Global,
     config: &Config,
@@ -28,7 +28,8 @@ pub fn simulate_plain<R: ByteReader + Drop, W: ByteWriter>(
 ) -> Result<(), RunFault>
     requires limit { limit ≤ MAX_LIMIT }
     requires bounded { IsBounded selection.now }
-    // Of a reader that tells its bytes: `Ok` is for a text without fault, and wrote its report.
+    // If the bytes of the reader are known, `Ok` means that the text has no fault, and that its
+    // report was written.
     ensures report { (text : List ℕ) → R.remaining reader ≡ Some text → OnOk result
         ((fault ADDRESS_MAX text limit ≡ None)
         × Appends (W.contents writer.old) (W.contents writer.new)

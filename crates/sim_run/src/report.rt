@@ -1,4 +1,4 @@
-//! The report, written piece by piece: no line is put together first, so no memory is asked for.
+//! Writes the report, piece by piece, without an allocation.
 
 ghost use Rattle.std.specs.Prelude.{◌<◌, ◌≤◌, ◌^◌, ◌∷◌, [], IsOkUnless, replicate, decimal};
 ghost use Rattle.std.specs.Prelude.{codes};
@@ -14,12 +14,13 @@ use din_trace::{ByteWriter, DeviceFailed};
 use itoa::{Buffer, Integer};
 use stage_core::Totals;
 
-/// Spaces for the widest filling that a field can need.
+/// The most spaces that a field can need.
 static SPACES: [u8; 18] = [b' '; 18];
 
-/// Zeros for the widest filling that four decimals can need.
+/// The most zeros that four decimals can need.
 static ZEROS: [u8; 4] = [b'0'; 4];
 
+/// Writes this many spaces.
 fn put_spaces<W: ByteWriter>(writer: &mut W, count: usize) -> Result<(), DeviceFailed>
     requires { count ≤ 18 }
     ensures { Writes W.contents W.failures writer.old writer.new result (replicate count 32) }
@@ -27,7 +28,7 @@ fn put_spaces<W: ByteWriter>(writer: &mut W, count: usize) -> Result<(), DeviceF
     writer.put(&SPACES[..count])
 }
 
-/// A name, left in 18 places.
+/// Writes a name, filled on the right to 18 characters.
 fn put_name<W: ByteWriter>(writer: &mut W, name: &str) -> Result<(), DeviceFailed>
     ensures { Writes W.contents W.failures writer.old writer.new result (name_field name.now) }
 {
@@ -35,7 +36,7 @@ fn put_name<W: ByteWriter>(writer: &mut W, name: &str) -> Result<(), DeviceFaile
     put_spaces(writer, 18usize.saturating_sub(name.len()))
 }
 
-/// A column, right in 12 places.
+/// Writes a column, filled on the left to 12 characters.
 fn put_column<W: ByteWriter>(writer: &mut W, text: &[u8]) -> Result<(), DeviceFailed>
     ensures { Writes W.contents W.failures writer.old writer.new result (column text.now) }
 {
@@ -43,6 +44,7 @@ fn put_column<W: ByteWriter>(writer: &mut W, text: &[u8]) -> Result<(), DeviceFa
     writer.put(text)
 }
 
+/// Writes a column with a number in decimal.
 fn put_number<W: ByteWriter>(writer: &mut W, number: u128) -> Result<(), DeviceFailed>
     ensures { Writes W.contents W.failures writer.old writer.new result (column (decimal number)) }
 {
@@ -50,7 +52,7 @@ fn put_number<W: ByteWriter>(writer: &mut W, number: u128) -> Result<(), DeviceF
     put_column(writer, digits.format(number).as_bytes())
 }
 
-/// A number below 10000, filled to four digits.
+/// Writes a number below 10000 with four digits.
 fn put_four_digits<W: ByteWriter>(writer: &mut W, number: u128) -> Result<(), DeviceFailed>
     requires { number < 10000 }
     ensures { Writes W.contents W.failures writer.old writer.new result (four_digits number) }
@@ -61,7 +63,7 @@ fn put_four_digits<W: ByteWriter>(writer: &mut W, number: u128) -> Result<(), De
     writer.put(text)
 }
 
-/// A column with a rate, given in ten-thousandths.
+/// Writes a column with a rate, which is given in ten-thousandths.
 fn put_ten_thousandths<W: ByteWriter>(writer: &mut W, rate: u128) -> Result<(), DeviceFailed>
     ensures { Writes W.contents W.failures writer.old writer.new result (column (rate_text rate)) }
 {
@@ -73,6 +75,7 @@ fn put_ten_thousandths<W: ByteWriter>(writer: &mut W, rate: u128) -> Result<(), 
     put_four_digits(writer, rate % 10_000)
 }
 
+/// Writes a column with the rate `misses / fetches`, or 0.0000 if there were no fetches.
 fn put_rate<W: ByteWriter>(writer: &mut W, misses: u128, fetches: u128) -> Result<(), DeviceFailed>
     requires { misses < 2 ^ 66 }
     ensures { Writes W.contents W.failures writer.old writer.new result
@@ -86,7 +89,7 @@ fn put_rate<W: ByteWriter>(writer: &mut W, misses: u128, fetches: u128) -> Resul
     put_ten_thousandths(writer, rate)
 }
 
-/// The first line of a block.
+/// Writes the first line of a block.
 fn put_heads<W: ByteWriter>(writer: &mut W, name: &str) -> Result<(), DeviceFailed>
     ensures { Writes W.contents W.failures writer.old writer.new result (line name.now heads) }
 {
@@ -99,7 +102,7 @@ fn put_heads<W: ByteWriter>(writer: &mut W, name: &str) -> Result<(), DeviceFail
     writer.put(b"\n")
 }
 
-/// A line of counts by class.
+/// Writes a line of counts by class.
 fn put_classes<W: ByteWriter>(
     writer: &mut W,
     name: &str,
@@ -117,7 +120,7 @@ fn put_classes<W: ByteWriter>(
     writer.put(b"\n")
 }
 
-/// The line of rates.
+/// Writes the line of miss rates.
 fn put_rates<W: ByteWriter>(
     writer: &mut W,
     misses: &PerClass,
@@ -135,7 +138,7 @@ fn put_rates<W: ByteWriter>(
     writer.put(b"\n")
 }
 
-/// A line of one count.
+/// Writes a line of one count.
 fn put_count<W: ByteWriter>(writer: &mut W, name: &str, count: u64) -> Result<(), DeviceFailed>
     ensures { Writes W.contents W.failures writer.old writer.new result
         (count_line name.now count) }
@@ -145,7 +148,7 @@ fn put_count<W: ByteWriter>(writer: &mut W, name: &str, count: u64) -> Result<()
     writer.put(b"\n")
 }
 
-/// The lines of a block that have a column for each class.
+/// Writes the lines of a block that have a column for each class.
 fn put_by_class<W: ByteWriter>(
     writer: &mut W,
     name: &str,
@@ -170,7 +173,7 @@ fn put_by_class<W: ByteWriter>(
     put_classes(writer, "Conflict", &counts.conflict)
 }
 
-/// The lines of a block that have one count.
+/// Writes the lines of a block that have one count.
 fn put_single<W: ByteWriter>(writer: &mut W, counts: &Counts) -> Result<(), DeviceFailed>
     ensures { Writes W.contents W.failures writer.old writer.new result (concat (
         count_line (codes "Blocks Fetched") counts.now.loaded
@@ -185,7 +188,7 @@ fn put_single<W: ByteWriter>(writer: &mut W, counts: &Counts) -> Result<(), Devi
     put_count(writer, "Flushes", counts.flushes)
 }
 
-/// The eleven lines of a cache's block.
+/// Writes the eleven lines of a cache's block.
 fn put_block<W: ByteWriter>(writer: &mut W, name: &str, counts: &Counts) -> Result<(), DeviceFailed>
     ensures { Writes W.contents W.failures writer.old writer.new result
         (block name.now counts.now) }
@@ -194,7 +197,7 @@ fn put_block<W: ByteWriter>(writer: &mut W, name: &str, counts: &Counts) -> Resu
     put_single(writer, counts)
 }
 
-/// A block behind another: an empty line stands between the two.
+/// Writes an empty line and then a block.
 fn put_next_block<W: ByteWriter>(
     writer: &mut W,
     name: &str,
@@ -207,6 +210,7 @@ fn put_next_block<W: ByteWriter>(
     put_block(writer, name, counts)
 }
 
+/// Writes the whole report, and flushes the writer.
 fn put_report<W: ByteWriter>(writer: &mut W, totals: &Totals) -> Result<(), DeviceFailed>
     ensures { Writes W.contents W.failures writer.old writer.new result (report totals.now) }
 {
@@ -216,8 +220,8 @@ fn put_report<W: ByteWriter>(writer: &mut W, totals: &Totals) -> Result<(), Devi
     writer.flush()
 }
 
-/// Writes the block of one cache, whose name is `l1-icache`, `l1-dcache` or `l2-ucache`. It does
-/// not flush the writer. Where the writer fails, how much of the block it took is open.
+/// Writes the block of one cache, whose name is `l1-icache`, `l1-dcache` or `l2-ucache`. Does not
+/// flush the writer. After an error it is not known how much of the block was written.
 pub fn write_block<W: ByteWriter>(
     name: &str,
     counts: &Counts,
@@ -232,8 +236,8 @@ pub fn write_block<W: ByteWriter>(
 }
 
 /// Writes the whole report: the blocks of the instruction cache, the data cache and the second
-/// level, with an empty line between two of them. Then it flushes the writer. Where the writer
-/// fails, how much of the report it took is open.
+/// level, separated by empty lines. Then flushes the writer. After an error it is not known how
+/// much of the report was written.
 pub fn write_report<W: ByteWriter>(totals: &Totals, writer: &mut W) -> Result<(), RunFault>
     ensures written { Writes W.contents W.failures writer.old writer.new result
         (report totals.now) }

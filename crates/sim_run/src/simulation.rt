@@ -1,4 +1,4 @@
-//! The run of threads, from the bytes of a trace to the bytes of its report.
+//! The run in four threads, from the bytes of a trace to the bytes of its report.
 
 ghost use Rattle.std.specs.Prelude.{◌≡◌, ◌≢◌, ℕ, List, Some, None, ◌≤◌, OnOk, IfOk, IfErr};
 ghost use Rattle.std.specs.Io.KnownBytes.{Appends};
@@ -21,12 +21,12 @@ use std::alloc::Global;
 use std::sync::Wait;
 use std::thread::Threads;
 
-/// Reads a trace of at most `limit` bytes, simulates what is selected of it in four threads while
-/// it is read, writes the report and flushes the writer. No more of the trace is kept than the
-/// rings hold. Each number of the selection is at most 2^40.
+/// Reads a trace of at most `limit` bytes, simulates the selected records in four threads while the
+/// trace is read, writes the report and flushes the writer. Only the records on their way through
+/// the rings are kept. Each number of the selection is at most 2^40.
 ///
-/// `Ok` hands out the counts and the rings: every stage has ended, and each message that was sent
-/// was received, once and in order.
+/// `Ok` has the counts and the rings: all threads have ended, and each message that was sent was
+/// received, once and in order.
 pub fn simulate<H: Threads + Wait + Sync, R: ByteReader + Drop, G: Gate, W: ByteWriter>(
     rt: &H,
     alloc: Global,
@@ -39,18 +39,18 @@ pub fn simulate<H: Threads + Wait + Sync, R: ByteReader + Drop, G: Gate, W: Byte
 ) -> Result<Settled, RunFault>
     requires limit { limit ≤ MAX_LIMIT }
     requires bounded { IsBounded selection.now }
-    // Of a reader that tells its bytes: `Ok` is for a text without fault, all of whose selected
-    // records have gone their whole way, and counts what the definitions count over all of them.
+    // If the bytes of the reader are known, `Ok` means that the text has no fault, and that exactly
+    // its selected events were simulated, with the counts that the definitions give for them.
     ensures run { (text : List ℕ) → R.remaining reader ≡ Some text → IfOk result (λ settled.
         (fault ADDRESS_MAX text limit ≡ None)
         × HasRun (ring_of config.now) (hierarchy_of config.now)
         (events selection.now (records ADDRESS_MAX text)) settled) }
-    // Whatever the reader, it is so for some text.
+    // For any reader, this holds for some text.
     ensures whole { IfOk result (λ settled. (text : List ℕ)
         × (fault ADDRESS_MAX text limit ≡ None)
         × HasRun (ring_of config.now) (hierarchy_of config.now)
         (events selection.now (records ADDRESS_MAX text)) settled) }
-    // The writer was given the report of those counts.
+    // The report of these counts was written.
     ensures report { IfOk result (λ settled.
         Appends (W.contents writer.old) (W.contents writer.new) (report settled.totals)) }
     ensures trace { (text : List ℕ) → R.remaining reader ≡ Some text

@@ -1,4 +1,4 @@
-//! The splitter, in the caller's thread: from a source to the rings.
+//! The splitter, which runs in the caller's thread: it reads the source and feeds the rings.
 
 ghost use Rattle.std.specs.Prelude.{◌≡◌, ◌<◌, ◌≤◌, ◌+◌, ◌*◌, ◌++◌, List, ℕ, OnOk};
 ghost use Rattle.std.specs.Prelude.{◌≢◌, ◌⊎◌, IfOk, IfErr, IsSome, IsFalse, MatchResult};
@@ -25,17 +25,17 @@ use din_trace::{ByteReader, DinRecord, Label, MAX_LIMIT, Source, TraceFault};
 use stage_core::{Picked, Routed, Selection, Selector, Splitter};
 use std::sync::Wait;
 
-/// The flush that a selection puts in.
+/// The flush that a selection inserts.
 const INSERTED: DinRecord = DinRecord {
     label: Label::Flush,
     addr: 0,
 };
 
-/// How many events' messages are posted before they are published.
+/// After how many events the posted messages are published.
 const EACH: usize = 32;
 
-// Publishes what was posted, until all is or there is room for another event. Each look publishes
-// what fits into each of the three rings, so that none of them waits for another to be emptied.
+// Publishes posted messages, until all are published or there is room for another event. Each round
+// publishes as many as fit into each of the three rings, so that no ring waits for another one.
 fn publish<H: Wait>(rt: &H, ends: &mut SplitterEnds, until: Until) -> Result<(), Stop>
     requires whole { PostedWhole ends.old }
     ensures rings { SameSplitterEnds ends.old ends.new }
@@ -62,7 +62,8 @@ fn publish<H: Wait>(rt: &H, ends: &mut SplitterEnds, until: Until) -> Result<(),
     unreachable!()
 }
 
-// Asks the reader. It may hold this thread for long, so nothing is to be held back.
+// The next record, if the reader has to be asked. That may take long, so all posted messages have
+// to be published before.
 fn ask<R: ByteReader>(
     source: &mut Source<R>,
     ends: &SplitterEnds,
@@ -81,8 +82,8 @@ fn ask<R: ByteReader>(
     source.next()
 }
 
-// Passes the gate with a record. One that isn't open may hold this thread for long, so nothing is
-// to be held back.
+// Passes the gate with a record. A gate that is not open may hold this thread for long, so all
+// posted messages have to be published before.
 #[inline]
 fn arrive<H: Wait, G: Gate>(rt: &H, gate: &G, is_open: bool, ends: &SplitterEnds, nth: u64)
     requires published { IsFalse is_open → held ends.now ≡ 0 }
@@ -90,7 +91,7 @@ fn arrive<H: Wait, G: Gate>(rt: &H, gate: &G, is_open: bool, ends: &SplitterEnds
     gate.arrive(rt, Who::Splitter, nth);
 }
 
-// The next record of the source, or its end or fault.
+// The next record of the source, or its end or fault. Publishes all messages before a long wait.
 fn next_record<H: Wait, R: ByteReader>(
     rt: &H,
     is_open: bool,
@@ -100,7 +101,7 @@ fn next_record<H: Wait, R: ByteReader>(
     requires whole { PostedWhole ends.old }
     ensures rings { SameSplitterEnds ends.old ends.new }
     ensures sent { SentSame ends.old ends.new }
-    // All that was posted is published, before the reader is asked or where the gate isn't open.
+    // All messages are published before the reader is asked, and if the gate is not open.
     ensures published { IsFalse is_open → OnOk result (held ends.new ≡ 0) }
     ensures asked { OnOk result ((reader_of source.new ≡ reader_of source.old)
         ⊎ (held ends.new ≡ 0)) }
@@ -147,7 +148,7 @@ fn send_routed<H: Wait>(rt: &H, ends: &mut SplitterEnds, routed: Routed) -> Resu
     Ok(())
 }
 
-// Sends the messages of the end, and publishes all.
+// Sends the messages of the end, and publishes all messages.
 fn send_end<H: Wait>(rt: &H, ends: &mut SplitterEnds, routed: Routed) -> Result<(), Stop>
     requires sent { (es : List DinRecord) × (place : ℕ) × HasSent es place ends.old }
     requires finish { IsEnd routed }
@@ -181,7 +182,7 @@ fn send_some<H: Wait>(
     send_routed(rt, ends, splitter.route(event))
 }
 
-// Sends the messages of the events that were picked of a record.
+// Sends the messages of the events that the selection made of a record.
 fn send_picked<H: Wait>(
     rt: &H,
     splitter: &mut Splitter,
@@ -200,8 +201,8 @@ fn send_picked<H: Wait>(
     send_some(rt, splitter, ends, picked.flush.then_some(INSERTED))
 }
 
-/// Reads record after record, sends the messages of what is selected of each, and then those of the
-/// end. It stops at a fault of the trace, and where an end is gone; what follows is then not read.
+/// Reads the records one by one, sends the messages of the selected events, and then those of the
+/// end. Stops at a fault of the trace, and if a peer is gone; the rest is then not read.
 pub fn split<H: Wait, R: ByteReader, G: Gate>(
     rt: &H,
     gate: &G,
@@ -214,7 +215,7 @@ pub fn split<H: Wait, R: ByteReader, G: Gate>(
     ensures rings { SameSplitterEnds ends.old ends.new }
     ensures met { IfErr result IsMet }
     ensures threads { IfErr result (λ why. why ≢ RunFault.Threads) }
-    // Whatever the reader did, the records that were left are split up, to the end or some way.
+    // Whatever the reader did, all selected events were sent, or the splitter stopped with a fault.
     ensures reads { (given : List ℕ) × (fate : Fate)
         × Takes R.remaining R.failures source.old source.new given fate
         × ((before later : Script) (l : Remaining)

@@ -23,10 +23,10 @@ use std::snapshot::Snapshot;
 use std::sync::Wait;
 use std::thread::{Promise, PromisedHandle, Scope, Threads};
 
-/// What a stage's thread comes to.
+/// The result of a stage's thread.
 pub type StageEnd = Result<(L1Stage, StageEnds), Stop>;
 
-/// What the thread of a stage that began so promises of it.
+/// What the thread of a stage promises about its result, given the values that it began with.
 #[derive(Drop)]
 pub struct StagePromise {
     pub machine: Snapshot<L1Stage>,
@@ -37,13 +37,13 @@ impl Promise<StageEnd> for StagePromise {
     ghost kept_by = { λ p r. IfOk r (λ t. StageEnded p.machine.value p.ends.value t.0 t.1) };
 }
 
-/// A stage's thread that is still to be joined.
+/// A stage's thread, which is still to be joined.
 pub type StageHandle = PromisedHandle<StageEnd, StagePromise>;
 
-/// How many messages are posted before they are published.
+/// After how many messages the posted messages are published.
 const EACH: usize = 32;
 
-// Publishes all that was posted, or as much as makes room for another message.
+// Publishes posted messages, until all are published or there is room for another one.
 fn publish<H: Wait>(rt: &H, stage: &L1Stage, ends: &mut StageEnds, until: Until) -> Result<(), Stop>
     requires answered { OfStage HasAnswered stage.now ends.old }
     ensures from_splitter { ends.new.from_splitter ≡ ends.old.from_splitter }
@@ -90,7 +90,7 @@ fn receive<H: Wait>(rt: &H, stage: &L1Stage, ends: &mut StageEnds) -> Result<ToS
     }
 }
 
-// Receives the next message once all that was posted is published.
+// Publishes all posted messages, and then receives the next message.
 #[cold]
 fn publish_and_receive<H: Wait>(
     rt: &H,
@@ -113,8 +113,7 @@ fn publish_and_receive<H: Wait>(
     }
 }
 
-// Sends all that is in the outbox. Where nothing may be held back, all is published; else some time
-// later.
+// Sends all messages of the stage's outbox. If `urgent`, all of them are published at once.
 fn send_outbox<H: Wait>(
     rt: &H,
     stage: &mut L1Stage,
@@ -150,7 +149,7 @@ fn send_outbox<H: Wait>(
     Ok(())
 }
 
-// Takes in what the splitter sends, and sends the answers, up to Finish.
+// Serves the messages of the splitter and sends the answers, up to `Finish`.
 fn serve_all<H: Wait, G: Gate>(
     rt: &H,
     gate: &G,
@@ -184,7 +183,7 @@ fn serve_all<H: Wait, G: Gate>(
     unreachable!()
 }
 
-/// Serves all that the splitter sends. Where it stops before Finish, its ends are dropped.
+/// Serves all messages of the splitter. If it stops before `Finish`, its ends are dropped.
 pub fn run_stage<H: Wait, G: Gate>(
     rt: &H,
     gate: &G,
@@ -203,7 +202,7 @@ pub fn run_stage<H: Wait, G: Gate>(
     Ok((stage, ends))
 }
 
-/// Starts the thread of a stage. Where it isn't granted, the stage and its ends are dropped.
+/// Starts the thread of a stage. If it cannot be started, the stage and its ends are dropped.
 pub fn start_stage<'s, E, H: Threads + Wait + Sync, G: Gate>(
     scope: &Scope<'s, E>,
     rt: &'s H,

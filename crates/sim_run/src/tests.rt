@@ -1,4 +1,4 @@
-//! Runs over traces in memory. What is expected of them was worked out by hand.
+//! Runs over traces in memory. The expected values were worked out by hand.
 
 ghost use Rattle.std.specs.Prelude.{◌≤◌};
 ghost use Rattle.stage_core.specs.Events.{IsBounded};
@@ -59,8 +59,8 @@ fn spec(size: u64, bsize: u64, assoc: u64, policy: Policy) -> CacheSpec {
     }
 }
 
-/// 16 bytes of instructions, 16 of data in two ways with this policy, and a second level of 32.
-/// Each ring holds so many messages.
+/// An instruction cache of 16 bytes, a data cache of 16 bytes in two ways with this policy, and a
+/// second level of 32 bytes. Each ring holds `ring` messages.
 fn config_of(data: Policy, ring: u64) -> Result<Config, Fail> {
     let i = spec(16, 4, 1, USUAL);
     let d = spec(16, 4, 2, data);
@@ -76,14 +76,14 @@ fn config() -> Result<Config, Fail> {
     config_with(USUAL)
 }
 
-/// The counts of a run in threads. The rings that it hands out are dropped.
+/// The counts of a run in threads. Its rings are dropped.
 fn totals_of(ended: Result<Settled, RunFault>) -> Result<Totals, RunFault> {
     let Settled { totals, rings } = ended?;
     drop(rings);
     Ok(totals)
 }
 
-/// How a run in threads of the usual caches ends, where all that this reader gives is selected.
+/// The result of a run in threads with the usual caches over the whole trace of this reader.
 fn run_in_threads<H: Threads + Wait + Sync, R: Read + Drop, G: Gate, W: Write + Drop>(
     rt: &H,
     alloc: Global,
@@ -103,7 +103,7 @@ fn run_in_threads<H: Threads + Wait + Sync, R: Read + Drop, G: Gate, W: Write + 
     )))
 }
 
-/// The fault of such a run, if it has one.
+/// The fault of such a run, if it fails.
 fn fault_in_threads<H: Threads + Wait + Sync, R: Read + Drop, W: Write + Drop>(
     rt: &H,
     alloc: Global,
@@ -113,7 +113,7 @@ fn fault_in_threads<H: Threads + Wait + Sync, R: Read + Drop, W: Write + Drop>(
     Ok(run_in_threads(rt, alloc, reader, &OpenGate, writer)?.err())
 }
 
-/// How the same run ends on one thread.
+/// The result of the same run on one thread.
 fn run_plainly<R: Read + Drop, W: Write + Drop>(
     alloc: Global,
     reader: R,
@@ -129,7 +129,7 @@ fn run_plainly<R: Read + Drop, W: Write + Drop>(
     ))
 }
 
-/// How a run on one thread over a trace ended; what it wrote stands in the list.
+/// The result of a run on one thread over a trace, and the bytes that it wrote.
 fn plainly(
     alloc: Global,
     config: &Config,
@@ -151,7 +151,7 @@ fn plainly(
     )
 }
 
-/// How a run in threads over a trace ended; what it wrote stands in the list.
+/// The result of a run in threads over a trace, and the bytes that it wrote.
 fn threaded<H: Threads + Wait + Sync>(
     rt: &H,
     alloc: Global,
@@ -177,8 +177,8 @@ fn threaded<H: Threads + Wait + Sync>(
     .err()
 }
 
-/// How a run over a trace ended; what it wrote stands in the list. It is made on one thread and in
-/// threads, and both end alike and write the same.
+/// The result of a run over a trace, and the bytes that it wrote. It runs on one thread and in
+/// threads, which have to have the same result and write the same bytes.
 fn run<H: Threads + Wait + Abort + Sync>(
     rt: &H,
     alloc: Global,
@@ -199,7 +199,7 @@ fn run<H: Threads + Wait + Abort + Sync>(
     plain
 }
 
-/// A run over a trace ends so, and writes something only if it ends well.
+/// A run over a trace has to have this result, and to write something only if it succeeds.
 fn ends_with<H: Threads + Wait + Abort + Sync>(
     rt: &H,
     alloc: Global,
@@ -234,7 +234,7 @@ fn ends<H: Threads + Wait + Abort + Sync>(
     Ok(())
 }
 
-/// The source of a trace behind a run of the pipeline, and how that ended.
+/// The source of a trace after a run of the pipeline, and the result of that run.
 fn run_source<'a, H: Threads + Wait + Sync>(
     rt: &H,
     alloc: Global,

@@ -1,5 +1,5 @@
-//! Where the threads of a run wait for one another, and nowhere else. Each of these waits asks that
-//! its thread may wait there, and that it has looked in vain before.
+//! The only functions in which the threads of a run wait for one another. Each of them requires
+//! that its thread may wait there, and that it has looked and found nothing to do.
 
 ghost use Rattle.std.specs.Prelude.{◌≡◌, ◌<◌, [], ◌∷◌, ◌++◌, length, OnOk, IfOk, IfErr};
 ghost use Rattle.pipe_rings.specs.Rings.{sent, posted, received, SameTx, SameRx};
@@ -17,16 +17,16 @@ use pipe_rings::Rx;
 use stage_core::{FromStage, L1Stage, Merge, ToStage, Turn};
 use std::sync::Wait;
 
-/// Up to where posted messages are published.
+/// How far to publish posted messages.
 #[derive(Clone, Copy, PartialEq, Eq)]
 pub enum Until {
-    /// Another may be posted.
+    /// Until another message can be posted.
     Room,
-    /// None is left.
+    /// Until all are published.
     Published,
 }
 
-/// The splitter waits until one of its rings takes something of what it has posted.
+/// The splitter waits until at least one of its posted messages is published.
 #[cold]
 pub fn await_rooms<H: Wait>(rt: &H, ends: &mut SplitterEnds) -> Result<(), Stop>
     requires may { SplitterMay ends.old }
@@ -37,7 +37,7 @@ pub fn await_rooms<H: Wait>(rt: &H, ends: &mut SplitterEnds) -> Result<(), Stop>
     ensures cut { IfErr result (λ why. why ≡ Stop.Cut) }
 {
     for _ in rt.forever() {
-        // The three share a bell, so it is enough to sleep at one of them.
+        // The three ends share one bell, so it is enough to sleep at one of them.
         if ends.order.posted() > 0 {
             ends.order.pause(rt);
         } else if ends.to_i.posted() > 0 {
@@ -55,7 +55,7 @@ pub fn await_rooms<H: Wait>(rt: &H, ends: &mut SplitterEnds) -> Result<(), Stop>
     unreachable!()
 }
 
-/// A stage waits until its ring takes something of what it has posted.
+/// A stage waits until at least one of its posted messages is published.
 #[cold]
 pub fn await_room<H: Wait>(rt: &H, stage: &L1Stage, ends: &mut StageEnds) -> Result<(), Stop>
     requires may { OfStage MayAwaitRoom stage.now ends.old }
@@ -90,7 +90,7 @@ fn await_item<T: Copy, H: Wait>(rt: &H, rx: &mut Rx<T>) -> Result<T, Stop>
 {
     for _ in rt.forever() {
         if rx.is_cut() {
-            // What was published before the sender went is still there.
+            // A message that was published before the sender was dropped is still there.
             return rx.try_recv().ok_or(Stop::Cut);
         }
         rx.pause(rt);
@@ -101,7 +101,7 @@ fn await_item<T: Copy, H: Wait>(rt: &H, rx: &mut Rx<T>) -> Result<T, Stop>
     unreachable!()
 }
 
-/// A stage waits for a message. It also comes back where its receiver is gone.
+/// A stage waits for a message. If its own receiver is gone, it stops too.
 #[cold]
 pub fn await_message<H: Wait>(
     rt: &H,
@@ -121,7 +121,7 @@ pub fn await_message<H: Wait>(
             return Err(Stop::Cut);
         }
         if ends.from_splitter.is_cut() {
-            // What was published before the sender went is still there.
+            // A message that was published before the sender was dropped is still there.
             return ends.from_splitter.try_recv().ok_or(Stop::Cut);
         }
         ends.from_splitter.pause(rt);
@@ -147,7 +147,7 @@ pub fn await_turn<H: Wait>(rt: &H, merge: &Merge, ends: &mut MergeEnds) -> Resul
     await_item(rt, &mut ends.order)
 }
 
-/// The merge waits for a message of I.
+/// The merge waits for a message from the I stage.
 #[inline(always)]
 pub fn await_from_i<H: Wait>(rt: &H, merge: &Merge, ends: &mut MergeEnds) -> Result<FromStage, Stop>
     requires may { MergeUsed merge.now ends.old }
@@ -162,7 +162,7 @@ pub fn await_from_i<H: Wait>(rt: &H, merge: &Merge, ends: &mut MergeEnds) -> Res
     await_item(rt, &mut ends.from_i)
 }
 
-/// The merge waits for a message of D.
+/// The merge waits for a message from the D stage.
 #[inline(always)]
 pub fn await_from_d<H: Wait>(rt: &H, merge: &Merge, ends: &mut MergeEnds) -> Result<FromStage, Stop>
     requires may { MergeUsed merge.now ends.old }

@@ -1,4 +1,4 @@
-//! Pseudo-random traces, served by a cache and by the plain, slow one.
+//! Pseudo-random traces, served by a cache and by the slow reference cache.
 
 use super::slow::Slow;
 use super::{FIFO, LRU, cache_of, expect_counts, flush, serve};
@@ -7,7 +7,7 @@ use std::alloc::Global;
 use std::process::Abort;
 use std::test::Fail;
 
-/// The next of a row of numbers that look random, by Knuth's linear congruence.
+/// The next pseudo-random number, by a linear congruence with Knuth's constants.
 fn next_random(state: &mut u64) -> u64 {
     *state = state
         .wrapping_mul(6_364_136_223_846_793_005)
@@ -15,7 +15,7 @@ fn next_random(state: &mut u64) -> u64 {
     *state >> 33
 }
 
-/// An access to one of so many blocks of four bytes, low ones and the highest.
+/// A pseudo-random access to one of `blocks` blocks of four bytes: low ones and the highest.
 fn access_of(state: &mut u64, blocks: u64) -> Access {
     let class = match next_random(state) % 8 {
         0 => Class::Instr,
@@ -29,7 +29,7 @@ fn access_of(state: &mut u64, blocks: u64) -> Access {
     Access { class, addr }
 }
 
-/// Both flush, and write the same blocks back.
+/// Flushes both caches, which have to write the same blocks back.
 fn flushes_alike(
     rt: &impl Abort,
     alloc: Global,
@@ -42,7 +42,7 @@ fn flushes_alike(
     Ok(())
 }
 
-/// Both serve so many accesses to so many blocks, with a flush now and then, and answer the same.
+/// Serves the same accesses on both caches, with a flush now and then. The outcomes have to agree.
 fn serve_alike(
     rt: &impl Abort,
     alloc: Global,
@@ -65,7 +65,7 @@ fn serve_alike(
     Ok(())
 }
 
-/// A cache of this shape, with each way to write.
+/// Compares caches of this shape, with each policy for writes.
 fn is_alike(
     rt: &impl Abort,
     alloc: Global,

@@ -1,4 +1,4 @@
-//! Geometries, lawful and refused.
+//! Geometries that are accepted, and some that are refused.
 
 use crate::{Geometry, GeometryFault};
 

@@ -5,7 +5,7 @@ use crate::{Cache, Class, MissKind, Policy};
 use std::alloc::Global;
 use std::process::Abort;
 
-/// One set of 128 ways, filled by reads but for a write of block 1.
+/// One set of 128 ways, filled by reads, except for a write to block 1.
 fn filled(rt: &impl Abort, alloc: Global, policy: Policy) -> Cache {
     let mut cache = cache_of(rt, alloc, (512, 4, 128), policy);
     for block in 0..128 {

@@ -1,5 +1,5 @@
-//! Want of memory. Each test passes with ample memory. Where a growth is refused, it looks at what
-//! that left, and then fails by the name of the refusal and says nothing else.
+//! Failing allocations. Each test passes if there is enough memory. If an allocation is refused, it
+//! checks the state after that, and then fails with the name of the refusal and nothing else.
 
 use super::{FIFO, LRU, missed, writes};
 use crate::{
@@ -14,8 +14,8 @@ fn has_failed(rt: &impl Abort, cache: &Cache, before: (Counts, u64)) {
     assert_eq!(rt; (cache.counts(), cache.served()), before);
 }
 
-/// What a cache is to be after a refusal: as before the call, and failed for ever. So is the list
-/// that a flush was lent.
+/// After a refusal, the counts of the cache and the list of the flush have to be as before the
+/// call, and every later call has to fail.
 fn stays_failed(rt: &impl Abort, cache: &mut Cache, before: (Counts, u64), out: &mut Vec<u64>) {
     has_failed(rt, cache, before);
     assert!(rt; cache.served() < MAX_EVENTS);
@@ -30,7 +30,7 @@ fn stays_failed(rt: &impl Abort, cache: &mut Cache, before: (Counts, u64), out: 
     assert_eq!(rt; out.as_slice(), [7].as_slice());
 }
 
-/// A cache that holds nothing, if memory is granted.
+/// An empty cache, unless an allocation fails.
 fn made(
     rt: &impl Abort,
     alloc: Global,
@@ -44,14 +44,14 @@ fn made(
     Ok(cache)
 }
 
-/// The list that a flush is lent, which holds one number, if memory is granted.
+/// A list with one number, to which a flush appends, unless an allocation fails.
 fn lent(alloc: Global) -> Result<Vec<u64>, AllocError> {
     let mut out = Vec::new(alloc);
     out.push(7)?;
     Ok(out)
 }
 
-/// Writes to a block, with this outcome. If memory is refused, the cache stays failed.
+/// Writes to a block, with this outcome. If an allocation fails, the cache has to stay failed.
 fn wrote(
     rt: &impl Abort,
     cache: &mut Cache,
@@ -72,7 +72,7 @@ fn wrote(
     Ok(())
 }
 
-/// Flushes. If memory is refused, the cache stays failed and the list as it was.
+/// Flushes. If an allocation fails, the cache has to stay failed, and the list as it was.
 fn flushed(rt: &impl Abort, cache: &mut Cache, out: &mut Vec<u64>) -> Result<(), NoMemory> {
     let before = (cache.counts(), cache.served());
     assert!(rt; cache.served() < MAX_EVENTS);

@@ -1,5 +1,5 @@
-//! A plain, slow cache, written straight from the definitions: it keeps lists of all that happened
-//! and looks through them at each access. Sets as rows and sets as maps must answer as it does.
+//! A slow reference cache, written straight from the definitions: it keeps lists of all that
+//! happened and searches them at each access. Sets as rows and sets as maps have to agree with it.
 
 ghost use Rattle.std.specs.Prelude.{◌<◌};
 
@@ -22,7 +22,7 @@ struct Shape {
     ghost some: { 0 < sets },
 }
 
-/// The blocks of a set by falling last use (FIFO: by falling load), as many as it has ways.
+/// The residents of a set by last use (FIFO: by last load), the latest first.
 fn residents(
     alloc: Global,
     uses: &[Use],
@@ -43,7 +43,7 @@ fn residents(
     Ok(blocks)
 }
 
-/// Whether a write used the block at or after its last load.
+/// Whether a write used the block when it was last loaded, or after that.
 fn is_written(uses: &[Use], block: u64) -> bool {
     for used in uses.iter().rev() {
         if used.block == block && (used.write || used.load) {
@@ -64,7 +64,7 @@ fn by_class(classes: &[Class]) -> PerClass {
     }
 }
 
-/// All that a cache was given and answered.
+/// All requests to a cache, and its outcomes.
 #[derive(Drop)]
 pub(super) struct Slow {
     alloc: Global,
@@ -82,7 +82,7 @@ pub(super) struct Slow {
 }
 
 impl Slow {
-    /// A cache of this size, block size and number of ways, that was given nothing.
+    /// An empty cache of this size, block size and number of ways.
     pub(super) fn new(alloc: Global, shape: (u64, u64, u64), policy: Policy) -> Option<Slow> {
         let (size, block_size, ways) = shape;
         let blocks = size.checked_div(block_size)?;
@@ -115,12 +115,12 @@ impl Slow {
         block % self.shape.sets
     }
 
-    /// The blocks of the cache's set that are resident.
+    /// The resident blocks of a set.
     fn in_set(&self, set: u64) -> Result<Vec<u64>, AllocError> {
         residents(self.alloc, &self.uses, self.shape, self.policy.repl, set)
     }
 
-    /// Whether the shadow has the block: one LRU set of as many blocks.
+    /// Whether the shadow has the block. The shadow is one LRU set of all blocks.
     fn shadow_hits(&self, block: u64) -> Result<bool, AllocError> {
         let blocks = residents(
             self.alloc,
@@ -137,7 +137,8 @@ impl Slow {
         self.policy.wback && is_written(&self.uses, block)
     }
 
-    /// The first byte of the block of the first list that is not in the second, if it is dirty.
+    /// The first byte of the block that is in `before` and not in `after`, if there is one and it
+    /// is dirty.
     fn dirty_victim(&self, before: &[u64], after: &[u64]) -> Option<u64> {
         for block in before {
             if !after.contains(block) && self.is_dirty(*block) {
@@ -157,7 +158,7 @@ impl Slow {
         }
     }
 
-    /// Notes the access in the shadow's list, and answers whether the shadow hit.
+    /// Adds the access to the list of the shadow, and answers whether the shadow hit.
     fn shadow(&mut self, block: u64, write: bool) -> Result<bool, AllocError> {
         let hit = self.shadow_hits(block)?;
         if !write || self.policy.walloc || hit {
@@ -167,7 +168,7 @@ impl Slow {
         Ok(hit)
     }
 
-    /// Notes the access in the cache's list, and answers its parts.
+    /// Adds the access to the list of the cache, and answers the dirty block that it evicts.
     fn used(&mut self, block: u64, write: bool, hit: bool) -> Result<Option<u64>, AllocError> {
         let load = !hit;
         let before = self.in_set(self.set_of(block))?;
@@ -221,7 +222,7 @@ impl Slow {
         Ok(())
     }
 
-    /// The first bytes of the dirty blocks, rising.
+    /// The first bytes of the dirty blocks, in ascending order.
     fn dirty_blocks(&self) -> Result<Vec<u64>, AllocError> {
         let mut firsts = Vec::new(self.alloc);
         for used in &self.uses {
@@ -245,7 +246,7 @@ impl Slow {
         Ok(firsts)
     }
 
-    /// The classes of the accesses that missed for this reason.
+    /// The classes of the accesses that had this kind of miss.
     fn misses(&self, kind: MissKind) -> Result<Vec<Class>, AllocError> {
         self.answers
             .iter()

@@ -1,4 +1,4 @@
-//! Small traces, each of one rule.
+//! Small traces, each for one rule.
 
 use super::{
     CONFLICT, FIFO, HIT, LRU, NEW, cache_of, data_cache, expect, expect_counts, expect_flush,
@@ -181,7 +181,7 @@ fn a_flush_rises_over_all_sets_behind_what_is_there(rt: HostRuntime) {
     assert_eq!(rt; cache.served(), 6);
 }
 
-/// A block is brought in, flushed, and brought in once more.
+/// Loads a block, flushes, and loads it again: that is a capacity miss.
 fn stays_known(rt: &impl Abort, alloc: Global, cache: &mut Cache, class: Class) {
     expect(rt, cache, class, &[(0, NEW)]);
     expect_flush(rt, alloc, cache, &[]);
@@ -232,8 +232,8 @@ fn keeps_an_address_above_32_bits_whole(rt: HostRuntime) {
     expect_flush(&rt, rt.alloc(), &mut cache, &[18_446_744_073_709_551_612]);
 }
 
-/// One more block than a direct-mapped cache has, twice over: only the two that share a set miss
-/// again.
+/// Reads one more block than a direct-mapped cache has, twice: only the two blocks that share a set
+/// miss again.
 #[test]
 fn a_long_sweep_misses_where_two_blocks_share_a_set(rt: HostRuntime) {
     let mut cache = cache_of(&rt, rt.alloc(), (65_536, 4, 1), LRU);

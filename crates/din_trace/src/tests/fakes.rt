@@ -1,13 +1,13 @@
-//! Readers and writers that cut, stop and fail, and the records of the tests.
+//! Readers and writers that give pieces, stop or fail, and the records of the tests.
 
 use crate::{DinRecord, FromRead, Label, TraceFault, Why};
 use std::io;
 use std::io::{Error, ErrorKind, Read, Write};
 
-/// Sizes of pieces: of 1, 2, 3 and 5 bytes, so that every part of a line is cut, and all at once.
+/// Sizes of pieces: 1, 2, 3 and 5 bytes, so that every part of a line is cut, and all at once.
 pub const SIZES: [usize; 5] = [1, 2, 3, 5, 65536];
 
-/// Gives a text in pieces of one size, and then ends or fails, as often as it is asked.
+/// Gives a text in pieces of one size. After it, every call ends or fails.
 #[derive(Drop)]
 pub struct Pieces<'a> {
     rest: &'a [u8],
@@ -28,7 +28,7 @@ impl Read for Pieces<'_> {
     }
 }
 
-/// A reader that ends behind the text, or fails there.
+/// A reader that gives the text in pieces, and then ends or fails.
 pub fn in_pieces(text: &[u8], size: usize, fails: bool) -> FromRead<Pieces<'_>> {
     FromRead::new(Pieces {
         rest: text,
@@ -37,7 +37,7 @@ pub fn in_pieces(text: &[u8], size: usize, fails: bool) -> FromRead<Pieces<'_>> 
     })
 }
 
-/// Ends or fails behind its first text, and would give more if it were asked again.
+/// Ends or fails after its first text, and would give more if it were asked again.
 #[derive(Drop)]
 pub struct Pausing<'a> {
     first: Pieces<'a>,
@@ -77,7 +77,7 @@ pub fn with_a_pause<'a>(
     })
 }
 
-/// Fails until it was asked so many times, and takes no more than 3 bytes at a time.
+/// Fails the first calls, as many as it is told, and then takes at most 3 bytes at a time.
 #[derive(Drop)]
 pub struct Tape {
     pub failing: u64,

@@ -4,7 +4,7 @@ use super::fakes::{bad, fetch, read, write};
 use crate::{DinRecord, LineReader, MAX_LIMIT, TraceFault, Why};
 use std::process::Abort;
 
-/// Gives the bytes, of which none is an LF, and so is answered by `None`.
+/// Gives bytes without an LF: each is answered by `None`.
 fn inside(rt: &impl Abort, lines: &mut LineReader, part: &[u8]) {
     for byte in part {
         assert!(rt; lines.bytes() < MAX_LIMIT);
@@ -12,7 +12,7 @@ fn inside(rt: &impl Abort, lines: &mut LineReader, part: &[u8]) {
     }
 }
 
-/// Gives an LF, with this answer.
+/// Gives an LF, which has to get this answer.
 fn line_feed(rt: &impl Abort, lines: &mut LineReader, want: Result<Option<DinRecord>, TraceFault>) {
     assert!(rt; lines.bytes() < MAX_LIMIT);
     assert!(rt; lines.byte(b'\n') == want);

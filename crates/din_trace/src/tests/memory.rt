@@ -1,5 +1,5 @@
-//! Want of memory. Each test passes with ample memory. Where a growth is refused, it looks at what
-//! that left, and then fails by the name of the refusal and says nothing else.
+//! Failing allocations. Each test passes if there is enough memory. If an allocation is refused, it
+//! checks the state after that, and then fails with the name of the refusal and nothing else.
 
 use super::fakes::{bad, fetch, in_pieces};
 use crate::{DinRecord, MAX_LIMIT, Source, TraceFault, Why, read_all};
@@ -9,7 +9,7 @@ use std::test::Fail;
 
 static TWELVE: &[u8] = b"2 0\n2 0\n2 0\n2 0\n2 0\n2 0\n2 0\n2 0\n2 0\n2 0\n2 0\n2 0\n";
 
-/// Hands want of memory on; any other answer stays as it is.
+/// Passes `TraceFault::Memory` on as an error, and accepts any other fault.
 fn unless_memory(fault: TraceFault) -> Result<(), TraceFault> {
     match fault {
         TraceFault::Memory => Err(fault),
@@ -17,8 +17,8 @@ fn unless_memory(fault: TraceFault) -> Result<(), TraceFault> {
     }
 }
 
-/// All that is left of a text in pieces is these records, or this fault, and so it stays; or
-/// memory is wanted, and so that stays.
+/// A text in pieces has to leave these records, or this fault, and to repeat that. If an allocation
+/// fails instead, that has to be repeated.
 fn leaves(
     rt: &impl Abort,
     alloc: Global,
@@ -41,7 +41,7 @@ fn leaves(
     unless_memory(fault)
 }
 
-/// A text has these records, or this fault; or memory is wanted.
+/// A text has to give these records, or this fault, unless an allocation fails.
 fn reads(
     rt: &impl Abort,
     alloc: Global,

@@ -1,4 +1,4 @@
-//! Whole texts: each is read in memory, and from a reader in pieces of every size.
+//! Whole texts. Each is read in memory, and from a reader that gives it in pieces of several sizes.
 
 ghost use Rattle.std.specs.Prelude.{◌≤◌};
 
@@ -7,7 +7,7 @@ use crate::{ByteReader, DinRecord, MAX_LIMIT, Source, TraceFault, Why, read_all}
 use std::alloc::Global;
 use std::process::Abort;
 
-/// The source answers these records and then the end, or this fault, and repeats that.
+/// The source has to answer these records and then the end, or this fault, and to repeat that.
 pub fn expect_left<R: ByteReader>(
     rt: &impl Abort,
     alloc: Global,
@@ -30,7 +30,7 @@ pub fn expect_left<R: ByteReader>(
     }
 }
 
-/// What the text gives under the limit: in memory, and from a reader that ends behind it.
+/// Reads the text under the limit, in memory and from a reader that ends after it.
 fn expect(
     rt: &impl Abort,
     alloc: Global,
@@ -54,7 +54,7 @@ fn expect(
     }
 }
 
-/// What the text gives where the reader fails behind it.
+/// Reads the text from a reader that fails after it.
 fn expect_failing(rt: &impl Abort, alloc: Global, text: &[u8], want: TraceFault) {
     for size in SIZES {
         expect_left(
@@ -131,7 +131,7 @@ fn reads_each_form_of_an_address(rt: HostRuntime) {
 
 #[test]
 fn reads_gaps_and_comments_of_lines_that_are_held_whole(rt: HostRuntime) {
-    // Behind each line but the last ones stand more bytes than an address takes.
+    // Each line but the last ones is followed by more bytes than an address takes.
     let text = b"1  7f\n1\t7e\n1 \t\r 0x7D\n0 \t  \t \t  \t  \t  \t 0Xffffffffffffffff\n\
         2 0x40 a comment with a number 0x80\n3   40\t; 4 80\n4 0\r\n4\t\t10 \r\n\
         1 0000000000000001 \n1 00000000000000002 c\n2 3 \n2 4\n2 5\n2 6\n2 7\n2 8\n2 9\n";

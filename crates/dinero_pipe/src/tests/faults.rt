@@ -19,7 +19,7 @@ fn of_cache(name: CacheName, fault: GeometryFault) -> Fault {
     Fault::Words(WordsFault::Config(ConfigFault::Geometry(name, fault)))
 }
 
-/// Does the fault print this line and end with this status?
+/// Does the fault have this line and this exit status?
 fn is_told(rt: &HostRuntime, fault: Fault, line: &str, number: u8) -> bool {
     let mut written = Vec::new(rt.alloc());
     let mut writer = FromWrite::new(&mut written);
@@ -150,7 +150,7 @@ fn tells_each_unlawful_geometry_with_its_cache(rt: HostRuntime) -> Result<(), Fa
     Ok(())
 }
 
-/// A writer that takes so many bytes and then fails.
+/// A writer that takes a number of bytes and then fails.
 #[derive(Drop)]
 struct Narrow {
     room: usize,

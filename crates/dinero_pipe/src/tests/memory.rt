@@ -1,5 +1,5 @@
-//! Want of memory. Each test passes with ample memory. Where a growth is refused, also one of the
-//! words themselves, it fails by the name of the refusal and says nothing else.
+//! Failing allocations. Each test passes if there is enough memory. If an allocation is refused,
+//! also one for the words themselves, it fails with the name of the refusal and nothing else.
 
 use super::words::{parsed, worked_caches};
 use crate::command::help_text;
@@ -9,7 +9,7 @@ use std::alloc::Global;
 use std::process::Abort;
 use std::test::Fail;
 
-/// The words are refused for this, or memory is wanted, which is handed on.
+/// The words have to be refused for this reason, unless an allocation fails.
 fn is_refused<T: Drop>(
     rt: &impl Abort,
     answer: Result<T, WordsFault>,
@@ -23,7 +23,8 @@ fn is_refused<T: Drop>(
     }
 }
 
-/// The worked words with these changes are refused for this, or memory is wanted.
+/// The worked words with these changes have to be refused for this reason, unless an allocation
+/// fails.
 fn refuses(rt: &impl Abort, alloc: Global, changes: &str, want: WordsFault) -> Result<(), Fail> {
     let answer = parsed(alloc, changes)?;
     Ok(is_refused(rt, answer, want)?)

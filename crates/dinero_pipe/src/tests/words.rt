@@ -9,7 +9,8 @@ use stage_core::{CacheName, Config, ConfigFault, Selection};
 use std::alloc::{AllocError, Global};
 use std::test::Fail;
 
-/// 16 bytes of instructions, 16 of data in two ways, and 32 in two ways behind them.
+/// An instruction cache of 16 bytes, a data cache of 16 bytes in two ways, and a second level of 32
+/// bytes in two ways.
 static WORKED: &str = "--l1-isize 16 --l1-ibsize 4 --l1-dsize 16 --l1-dbsize 4 --l1-dassoc 2
     --l2-usize 32 --l2-ubsize 8 --l2-uassoc 2 --ring 2";
 
@@ -17,7 +18,7 @@ fn is_worked(name: &str) -> bool {
     WORKED.split_whitespace().any(|word| word == name)
 }
 
-/// The value that the changes have for this option.
+/// The value that `changes` has for this option, if any.
 fn changed<'a>(changes: &'a str, name: &str) -> Option<&'a str> {
     let mut is_named = false;
     for word in changes.split_whitespace() {
@@ -29,7 +30,8 @@ fn changed<'a>(changes: &'a str, name: &str) -> Option<&'a str> {
     None
 }
 
-/// The answer to the worked words, with the values of these options in their places or behind them.
+/// The answer to the worked words with these changes: each option in them gets a new value, or is
+/// added at the end.
 pub fn parsed(
     alloc: Global,
     changes: &str,
@@ -62,7 +64,7 @@ fn refusal(alloc: Global, changes: &str) -> Result<Option<WordsFault>, AllocErro
     }
 }
 
-/// The refusal of words that are given whole.
+/// The fault of these words, if they are refused.
 fn refusal_of_line(alloc: Global, line: &str) -> Result<Option<WordsFault>, AllocError> {
     let mut words = Vec::new(alloc);
     for word in line.split_whitespace() {
@@ -81,7 +83,7 @@ fn is_cache(cache: (Geometry, Policy), blocks: u64, bsize: u64, sets: u64, polic
         && cache.1 == policy
 }
 
-/// Are these the worked caches and ring, and is the whole trace selected?
+/// Are these the caches and the ring of the worked words, and is the whole trace selected?
 pub fn worked_caches(config: &Config, selection: Selection) -> bool {
     let lru = Policy {
         repl: Repl::Lru,

@@ -1,5 +1,5 @@
-//! Want of memory. The test passes with ample memory. Where a growth is refused, it fails by the
-//! name of the refusal and says nothing else.
+//! Failing allocations. The test passes if there is enough memory. If an allocation is refused, it
+//! fails with the name of the refusal and nothing else.
 
 use crate::{Gone, SenderGone, ring, settle};
 use std::test::Fail;

@@ -1,4 +1,4 @@
-//! Two threads, of which one looks, posts, publishes and waits by itself.
+//! Two threads, one of which uses `post`, `publish`, `try_recv` and `pause` itself.
 
 use crate::{Gone, Rx, SenderGone, Tx, ring};
 use std::sync::Wait;
@@ -6,12 +6,12 @@ use std::test::Fail;
 use std::thread::{self, Threads};
 use std::time::{Clock, Duration};
 
-/// Stays away, for longer than another thread sleeps at a time.
+/// Sleeps longer than a thread at a ring ever does.
 fn stay_away<R: Clock>(rt: &R) {
     thread::sleep(rt, Duration::from_millis(250));
 }
 
-/// Publishes until the outbox has room, or is empty, or the receiver is gone.
+/// Publishes until the outbox has room (if `all`, until it is empty), or the receiver is gone.
 fn make_room<R: Wait>(rt: &R, tx: &mut Tx<u64>, all: bool) {
     for _ in rt.forever() {
         if tx.is_cut() || (tx.has_room() && !all) || tx.posted() == 0 {
@@ -23,8 +23,8 @@ fn make_room<R: Wait>(rt: &R, tx: &mut Tx<u64>, all: bool) {
     }
 }
 
-/// Posts the numbers below `count`, and publishes each seventh time and in the end. Says how many
-/// were posted.
+/// Posts the numbers below `count`, and publishes after every seventh and at the end. Returns how
+/// many were posted.
 fn post_below<R: Wait>(rt: &R, sender: Tx<u64>, count: u64) -> u64 {
     let mut tx = sender;
     let mut posted = 0u64;
@@ -42,7 +42,7 @@ fn post_below<R: Wait>(rt: &R, sender: Tx<u64>, count: u64) -> u64 {
     posted
 }
 
-/// The next item, or none where the sender is gone.
+/// The next item, or `None` if the sender is gone.
 fn next<R: Wait>(rt: &R, rx: &mut Rx<u64>) -> Option<u64> {
     for _ in rt.forever() {
         if let Some(item) = rx.try_recv() {
@@ -56,7 +56,7 @@ fn next<R: Wait>(rt: &R, rx: &mut Rx<u64>) -> Option<u64> {
     unreachable!()
 }
 
-/// Receives `count` numbers. Says how many came in their turn, and what came last.
+/// Receives `count` numbers. Returns how many came in order, and what came last.
 fn receive_below<R: Wait>(rt: &R, receiver: Rx<u64>, count: u64) -> (u64, Option<u64>) {
     let mut rx = receiver;
     let mut received = 0u64;
@@ -89,7 +89,7 @@ fn all_that_is_posted_arrives_in_order(rt: HostRuntime) -> Result<(), Fail> {
     Ok(())
 }
 
-/// Posts three numbers where the ring holds one, and then sends a fourth.
+/// Posts three numbers to a ring of capacity one, and then sends a fourth.
 fn post_and_send<R: Wait>(rt: &R, sender: Tx<u64>) -> Result<(), Gone<u64>> {
     let mut tx = sender;
     for number in 0..3 {
@@ -114,7 +114,7 @@ fn a_send_waits_until_all_that_was_posted_is_published(rt: HostRuntime) -> Resul
     Ok(())
 }
 
-/// Publishes a number after a long time, and is dropped after another.
+/// Publishes a number after a long time, and is dropped after a second one.
 fn publish_late<R: Wait + Clock>(rt: &R, sender: Tx<u64>) -> usize {
     let mut tx = sender;
     stay_away(rt);

@@ -1,5 +1,5 @@
-//! What is posted, published and received where both ends are in one thread: in which order, and
-//! how much of it is where.
+//! Posting, publishing and receiving with both ends in one thread: the order of the items, and
+//! where they are.
 
 ghost use Rattle.pipe_rings.specs.Rings.{AreEnds, SameTx, SameRx};
 
@@ -8,7 +8,7 @@ use std::process::Abort;
 use std::sync::Wait;
 use std::test::Fail;
 
-/// Posts the numbers below `count`, where there is room. Says how many there was room for.
+/// Posts the numbers below `count`, as far as there is room. Returns how many were posted.
 fn post_below(tx: &mut Tx<u64>, count: u64) -> u64 {
     let mut posted = 0u64;
     for number in 0..count {
@@ -20,7 +20,7 @@ fn post_below(tx: &mut Tx<u64>, count: u64) -> u64 {
     posted
 }
 
-/// Receives numbers from `first` on while each comes in its turn. Says which one did not.
+/// Receives numbers from `first` on, as long as they come in order. Returns the next one missing.
 fn receive_from(rx: &mut Rx<u64>, first: u64) -> u64 {
     for number in first..1_000 {
         if rx.try_recv() != Some(number) {
@@ -30,7 +30,7 @@ fn receive_from(rx: &mut Rx<u64>, first: u64) -> u64 {
     1_000
 }
 
-/// Publishes and receives by turns. Says which number did not come in its turn.
+/// Publishes and receives in turns. Returns the first number that did not come in order.
 fn carry_posted(tx: &mut Tx<u64>, rx: &mut Rx<u64>) -> u64 {
     let mut next = 0;
     for _ in 0..600u32 {
@@ -40,7 +40,7 @@ fn carry_posted(tx: &mut Tx<u64>, rx: &mut Rx<u64>) -> u64 {
     next
 }
 
-/// Of 100 posted numbers so many are published at once, and so many are left.
+/// Posts 100 numbers and publishes: this many have to fit into the ring, and this many to be left.
 fn publishes_some(
     rt: &impl Abort,
     tx: &mut Tx<u64>,
@@ -67,7 +67,7 @@ fn as_much_is_published_as_the_ring_has_room_for(rt: HostRuntime) -> Result<(), 
     Ok(())
 }
 
-/// There is room for 512 numbers, and again for as many once these are published.
+/// The outbox has room for 512 numbers, and for as many again once they are published.
 fn fills_twice(rt: &impl Abort, tx: &mut Tx<u64>, rx: &mut Rx<u64>) {
     assert_eq!(rt; post_below(tx, 511), 511);
     assert!(rt; tx.has_room());
@@ -89,7 +89,7 @@ fn an_outbox_holds_512_items(rt: HostRuntime) -> Result<(), Fail> {
     Ok(())
 }
 
-/// An outbox has the room that was asked for, but never none, and never more than 512.
+/// An outbox has the capacity that was asked for, but at least 1 and at most 512.
 #[test]
 fn an_outbox_has_room_for_as_many_items_as_asked_for(rt: HostRuntime) -> Result<(), Fail> {
     for (outbox, room) in [(0, 1), (1, 1), (2, 2), (512, 512), (600, 512)] {
@@ -119,7 +119,7 @@ fn post_three(tx: &mut Tx<u64>)
     post_one(tx, 2);
 }
 
-/// So many are on their way.
+/// This many items were sent and not received.
 fn are_left(rt: &impl Abort, tx: &mut Tx<u64>, rx: &mut Rx<u64>, count: usize)
     requires { AreEnds tx.old rx.old }
     ensures { AreEnds tx.new rx.new }
@@ -138,7 +138,7 @@ fn what_is_in_the_outbox_and_in_the_ring_is_on_its_way(rt: HostRuntime) -> Resul
     Ok(())
 }
 
-/// Receives the first item, which comes alone, and then the first of a batch.
+/// Receives the first item, which comes without a batch, and then the first item of a batch.
 fn fill_batch(rt: &impl Abort, rx: &mut Rx<u64>)
     ensures ring { SameRx rx.old rx.new }
 {
@@ -153,14 +153,14 @@ fn what_is_in_the_batch_is_on_its_way(rt: HostRuntime) -> Result<(), Fail> {
     assert_eq!(rt; tx.publish(), 3);
     post_one(&mut tx, 3);
     fill_batch(&rt, &mut rx);
-    // The ring is empty: an item is in the batch, and one is in the outbox.
+    // The ring is empty: one item is in the batch, and one is in the outbox.
     are_left(&rt, &mut tx, &mut rx, 2);
     assert_eq!(rt; rx.try_recv(), Some(2));
     are_left(&rt, &mut tx, &mut rx, 1);
     Ok(())
 }
 
-/// Posts three numbers where the ring holds two, publishes, and is dropped.
+/// Posts three numbers to a ring of capacity two, publishes, and is dropped.
 fn leave_one_unpublished(rt: &impl Abort, sender: Tx<u64>) {
     let mut tx = sender;
     assert_eq!(rt; post_below(&mut tx, 3), 3);
@@ -192,7 +192,7 @@ fn what_is_sent_comes_behind_what_was_posted(rt: HostRuntime) -> Result<(), Fail
     Ok(())
 }
 
-/// What was posted stays in the outbox where the receiver is gone, and an item comes back.
+/// If the receiver is gone, posted items stay in the outbox, and an item that is sent comes back.
 fn hands_back<R: Wait + Abort>(rt: &R, tx: &mut Tx<u64>) {
     assert!(rt; tx.is_cut());
     assert_eq!(rt; tx.send(rt, 8), Err(Gone { item: 8 }));

@@ -1,4 +1,4 @@
-//! Counts, as they are expected.
+//! Expected counts.
 
 use cache_core::{Counts, PerClass};
 
@@ -31,7 +31,7 @@ pub(super) fn reads_and_writes(read: u64, write: u64) -> PerClass {
     }
 }
 
-/// Counts in which each miss is the first use of its block, and loads it.
+/// Counts in which each miss is compulsory, and this many blocks were loaded.
 pub(super) fn first_misses(fetches: PerClass, misses: PerClass, loaded: u64) -> Counts {
     Counts {
         fetches,

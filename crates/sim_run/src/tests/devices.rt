@@ -28,7 +28,7 @@ impl Read for Pieces<'_> {
     }
 }
 
-/// A writer that takes just one text, at most so many bytes at a time, and asks for no memory.
+/// A writer that takes exactly one text, at most `most` bytes at a time, and allocates nothing.
 #[derive(Drop)]
 pub struct Awaiting<'a> {
     pub rest: &'a [u8],
@@ -60,8 +60,8 @@ impl Write for Awaiting<'_> {
     }
 }
 
-/// How both runs end over a trace in pieces, each with a writer like this one, which they leave
-/// alike.
+/// The result of both runs over a trace in pieces, each with a writer like this one. The results
+/// and the writers have to agree.
 fn run<H: Threads + Wait + Abort + Sync>(
     rt: &H,
     alloc: Global,
@@ -78,7 +78,7 @@ fn run<H: Threads + Wait + Abort + Sync>(
     Ok(plain)
 }
 
-/// Both runs write the whole report and flush it once.
+/// Both runs have to write the whole report and flush it once.
 fn is_written<H: Threads + Wait + Abort + Sync>(
     rt: &H,
     alloc: Global,

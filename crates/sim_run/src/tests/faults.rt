@@ -11,7 +11,7 @@ use std::sync::Wait;
 use std::test::Fail;
 use std::thread::Threads;
 
-/// Traces, each with the line of its fault and what it is.
+/// Traces, each with the number of its faulty line and the fault.
 static FAULTY: [(&[u8], u64, Why); 10] = [
     (b"0 0\n\n5 0\n", 3, Why::Label),
     (b"0 10000000000000000\n", 1, Why::Range),
@@ -50,7 +50,7 @@ fn a_trace_past_its_limit_is_judged_up_to_there(rt: HostRuntime) -> Result<(), F
     Ok(())
 }
 
-/// A reader that gives some bytes, and fails when they are used up.
+/// A reader that gives some bytes, and fails after them.
 #[derive(Drop)]
 struct Broken<'a> {
     bytes: &'a [u8],
@@ -65,7 +65,7 @@ impl Read for Broken<'_> {
     }
 }
 
-/// How both runs over a reader end that fails behind these bytes. Neither writes a byte.
+/// The result of both runs over a reader that fails after these bytes. Neither may write a byte.
 fn run_broken<H: Threads + Wait + Abort + Sync>(
     rt: &H,
     alloc: Global,

@@ -1,5 +1,5 @@
-//! Runs whose gates show that the stages run at once, and what passes them. A gate gives up after
-//! many turns and notes it, so that each test ends by itself.
+//! Runs whose gates show that the stages run at the same time, and which messages pass. A gate
+//! gives up after many looks and notes it, so that each test ends.
 
 ghost use Rattle.std.specs.Prelude.{◌≤◌, ◌^◌};
 ghost use Rattle.stage_core.specs.Events.{IsBounded};
@@ -20,7 +20,7 @@ use std::thread::{self, Threads};
 /// How often a wait looks again before it gives up.
 const TURNS: u32 = 100_000_000;
 
-/// Whether something came, and whether a wait for it was in vain.
+/// Whether something came, and whether a wait for it was given up.
 #[derive(Drop)]
 pub(super) struct Sign {
     came: AtomicU64,
@@ -73,7 +73,7 @@ impl Gate for Hold {
     }
 }
 
-/// What a fetch and a read of one block come to.
+/// The totals of a fetch and a read of one block.
 fn a_fetch_and_a_read() -> Totals {
     let fetches = PerClass {
         instr: 1,
@@ -86,7 +86,7 @@ fn a_fetch_and_a_read() -> Totals {
     }
 }
 
-/// A fetch and a read of one block, with one arrival held until another.
+/// Runs over a fetch and a read of one block, with one arrival held until another one comes.
 fn run_held<H: Threads + Wait + Abort + Sync>(
     rt: &H,
     alloc: Global,
@@ -120,8 +120,8 @@ fn the_splitter_may_wait_for_the_merge(rt: HostRuntime) -> Result<(), Fail> {
     run_held(&rt, rt.alloc(), (Who::Splitter, 2), (Who::Merge, 1))
 }
 
-/// Implements `arrive` alone. D's second message is held until the merge has all that comes before
-/// the answer to it, and the merge notes where that answer comes while the message is held.
+/// Implements only `arrive`. It holds D's second message until the merge has every message that
+/// comes before the answer to it, and notes if that answer reaches the merge while it is held.
 #[derive(Drop)]
 struct Between {
     sign: Sign,
@@ -154,7 +154,8 @@ fn a_gate_of_arrive_alone_sees_a_message_before_it_is_handled(rt: HostRuntime) -
         passed: AtomicU64::new(0),
         early: AtomicU64::new(0),
     };
-    // To the merge come a turn, a part, its end and a turn, and then the end of the second read.
+    // The merge receives a turn, a part, the end of the parts, a turn, and then the end of the
+    // second read's parts.
     let trace = b"0 0\n0 0\n".as_slice();
     let totals = run_in_threads(&rt, rt.alloc(), trace, &gate, Vec::new(rt.alloc()))??;
     assert_eq!(rt; totals.d, first_misses(reads(2), reads(1), 1));
@@ -163,7 +164,7 @@ fn a_gate_of_arrive_alone_sees_a_message_before_it_is_handled(rt: HostRuntime) -
     Ok(())
 }
 
-/// Counts the arrivals of each of the four, and notes one that has another number.
+/// Counts the arrivals of each of the four threads, and notes one with a wrong number.
 #[derive(Drop)]
 struct Counting {
     splitter: AtomicU64,
@@ -209,7 +210,7 @@ impl Gate for Counting {
     }
 }
 
-/// Runs in threads over what is selected of a trace.
+/// Runs in threads over the selected records of a trace.
 fn run_selected<H: Threads + Wait + Sync, G: Gate>(
     rt: &H,
     alloc: Global,
@@ -234,7 +235,7 @@ fn run_selected<H: Threads + Wait + Sync, G: Gate>(
     Ok(())
 }
 
-/// How many records and messages pass the gates, where as many references are left out.
+/// How many records and messages pass the gates, if `skip` references are left out.
 fn arrivals_of<H: Threads + Wait + Abort + Sync>(
     rt: &H,
     alloc: Global,
@@ -251,10 +252,10 @@ fn arrivals_of<H: Threads + Wait + Abort + Sync>(
 
 #[test]
 fn each_message_passes_its_gate_once(rt: HostRuntime) -> Result<(), Fail> {
-    // Three turns and Finish; a flush and Finish to I; two references, a flush and Finish to D. I
-    // answers with two messages, D with nine.
+    // The merge receives three turns and Finish. I receives a flush and Finish, D two references, a
+    // flush and Finish. I answers with two messages, D with nine.
     assert_eq!(rt; arrivals_of(&rt, rt.alloc(), 0)?, [3, 2, 4, 4 + 2 + 9]);
-    // Records that are not selected pass the splitter's gate, and bring no message.
+    // Records that are not selected pass the splitter's gate, but give no message.
     assert_eq!(rt; arrivals_of(&rt, rt.alloc(), 5)?, [3, 1, 1, 1 + 1 + 1]);
     Ok(())
 }

@@ -1,4 +1,4 @@
-//! Threads whose ends are gone, or that were not granted.
+//! Threads whose peers are gone, or that could not be started.
 
 ghost use Rattle.std.specs.Prelude.{IfOk, []};
 ghost use Rattle.stage_core.specs.Standing.{IsReady, StageStandsFor, L2StandsFor};
@@ -40,7 +40,7 @@ fn second_level(alloc: Global) -> Result<L2Stage, Fail>
     Ok(L2Stage::new(alloc, geometry, policy)?)
 }
 
-/// A side, how its arrivals are called, and a class of its own: what it fetches has that class too.
+/// A side, its name at a gate, and the class of its references; its fetches have that class too.
 type Row = (Side, Who, Class);
 
 static SIDES: [Row; 2] = [
@@ -48,12 +48,12 @@ static SIDES: [Row; 2] = [
     (Side::D, Who::D, Class::Read),
 ];
 
-/// Sends a message for which there is room.
+/// Sends a message that the ring has room for.
 fn is_sent<T: Copy, H: Wait + Abort>(rt: &H, tx: &mut Tx<T>, message: T) {
     assert!(rt; tx.send(rt, message).is_ok());
 }
 
-/// The ends of a stage, between the two that are far from it.
+/// The ends of a stage, and the two ends at the other sides of its rings.
 fn stage_rings(alloc: Global) -> Result<(Tx<ToStage>, StageEnds, Rx<FromStage>), Fail>
     ensures { IfOk result (λ r. UnusedStage r.1) }
 {
@@ -66,7 +66,7 @@ fn stage_rings(alloc: Global) -> Result<(Tx<ToStage>, StageEnds, Rx<FromStage>),
     Ok((to_stage, ends, from_stage))
 }
 
-/// Why the stage of a side stops that has these ends.
+/// Why a stage of this side stops if it has these ends.
 fn stop_of_stage<H: Wait>(
     rt: &H,
     alloc: Global,
@@ -88,7 +88,7 @@ fn reference(class: Class) -> ToStage {
     }
 }
 
-/// The answer to the reference has come, and nothing else will.
+/// The answer to the reference has to have come, and nothing after it.
 fn is_answered<H: Wait + Abort>(rt: &H, from_stage: &mut Rx<FromStage>, class: Class) {
     let part = FromStage::Part {
         place: 1,
@@ -101,7 +101,7 @@ fn is_answered<H: Wait + Abort>(rt: &H, from_stage: &mut Rx<FromStage>, class: C
     assert_eq!(rt; from_stage.recv(rt), Err(SenderGone));
 }
 
-/// A stage whose sender is gone answers the reference that was sent, and stops.
+/// A stage whose sender is gone has to answer the reference that was sent, and to stop.
 fn without_sender<H: Wait + Abort>(rt: &H, alloc: Global, row: Row) -> Result<(), Fail> {
     let (mut to_stage, ends, mut from_stage) = stage_rings(alloc)?;
     is_sent(rt, &mut to_stage, reference(row.2));
@@ -112,7 +112,7 @@ fn without_sender<H: Wait + Abort>(rt: &H, alloc: Global, row: Row) -> Result<()
     Ok(())
 }
 
-/// A stage whose receiver is gone stops at its first part, though its sender is there.
+/// A stage whose receiver is gone has to stop at its first part, though its sender is there.
 fn without_receiver<H: Wait + Abort>(rt: &H, alloc: Global, row: Row) -> Result<(), Fail> {
     let (mut to_stage, ends, from_stage) = stage_rings(alloc)?;
     is_sent(rt, &mut to_stage, reference(row.2));
@@ -139,7 +139,7 @@ fn a_stage_without_its_receiver_stops_at_its_first_part(rt: HostRuntime) -> Resu
     Ok(())
 }
 
-/// Why a merge stops that has these ends.
+/// Why a merge stops if it has these ends.
 fn stop_of_merge<H: Wait>(rt: &H, alloc: Global, ends: MergeEnds) -> Result<Option<Stop>, Fail>
     requires { UnusedMerge ends }
 {
@@ -163,7 +163,8 @@ fn a_merge_without_turns_stops(rt: HostRuntime) -> Result<(), Fail> {
     Ok(())
 }
 
-/// The merge, whose turn is a side's that is gone, stops; the other side's messages wait in vain.
+/// A merge whose next turn belongs to a side that is gone has to stop, though the other side has
+/// sent messages.
 fn without_side<H: Wait + Abort>(rt: &H, alloc: Global, turn: Turn) -> Result<(), Fail> {
     let Rings {
         mut splitter,
@@ -191,7 +192,7 @@ fn a_merge_without_the_side_that_it_wants_stops(rt: HostRuntime) -> Result<(), F
     Ok(())
 }
 
-/// The thread of a stage, if it is to be started. If not, what it was to own is dropped.
+/// The thread of a stage, if it is to be started. If not, the stage and its ends are dropped.
 fn thread_of<'s, E, H: Threads + Wait + Sync>(
     scope: &Scope<'s, E>,
     rt: &'s H,
@@ -211,7 +212,7 @@ fn thread_of<'s, E, H: Threads + Wait + Sync>(
     }
 }
 
-/// Starts so many stages, and then winds up as where the next thread is not granted.
+/// Starts this many stages, and ends them as if the next thread could not be started.
 fn wind_up_in<'s, E, H: Threads + Wait + Sync>(
     scope: &Scope<'s, E>,
     rt: &'s H,
@@ -265,7 +266,7 @@ fn wind_up_after<H: Threads + Wait + Sync>(
     )
 }
 
-/// Winds up two new stages and five new rings.
+/// The same with two new stages and five new rings.
 fn wind_up_new<H: Threads + Wait + Sync>(
     rt: &H,
     alloc: Global,

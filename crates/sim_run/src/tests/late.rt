@@ -1,5 +1,5 @@
-//! Runs whose readers give the rest of a trace late: what they gave before is served while they
-//! wait.
+//! Runs whose readers give the rest of a trace late: what they gave before has to be served while
+//! they wait.
 
 use super::gates::Sign;
 use super::{first_misses, instrs, run_in_threads};
@@ -11,7 +11,8 @@ use std::sync::Wait;
 use std::test::Fail;
 use std::thread::Threads;
 
-/// Shows a sign when this message has come. It holds nobody, and says whether it tells so.
+/// A gate that shows a sign when the awaited message comes. It holds no thread; `open` is what its
+/// `is_open` answers.
 #[derive(Drop)]
 struct Notes {
     awaited: (Who, u64),
@@ -55,7 +56,7 @@ impl Read for Late<'_> {
     }
 }
 
-/// Two fetches, the second of which is not given before this message has come.
+/// Runs over two fetches. The second one is given only after this message has come.
 fn run_late<H: Threads + Wait + Abort + Sync>(
     rt: &H,
     alloc: Global,
@@ -86,7 +87,7 @@ fn the_stages_run_while_the_trace_is_read(rt: HostRuntime) -> Result<(), Fail> {
     run_late(&rt, rt.alloc(), b"2 0\n", b"2 4\n", (Who::I, 1), false)
 }
 
-/// A turn, a part and its end come to the merge of a fetch that misses.
+/// For a fetch that misses, the merge receives a turn, a part and the end of the parts.
 static FETCHED: (Who, u64) = (Who::Merge, 3);
 
 #[test]

@@ -6,7 +6,7 @@ use cache_core::{Counts, PerClass};
 use din_trace::{FromWrite, MAX_LIMIT};
 use std::test::Fail;
 
-/// The report of a write and two reads, of which the second drives the written block out.
+/// The report of a write and two reads, the second of which evicts the written block.
 pub static ONE_WRITE_BACK: &str = "\
 l1-icache                Total      Instrn        Read       Write        Misc
 Demand Fetches               0           0           0           0           0

@@ -1,4 +1,4 @@
-//! What each level counts over short traces.
+//! The counts of each level over short traces.
 
 use super::{
     EVERYTHING, USUAL, config_with, first_misses, instrs, is_counted, reads, reads_and_writes,

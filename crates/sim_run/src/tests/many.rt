@@ -1,5 +1,5 @@
-//! Many short runs through narrow rings, with outboxes as they are and with room for one message
-//! alone. Each of them ends by itself, and always alike.
+//! Many short runs through small rings, with outboxes of the usual size and of one message. Each
+//! has to end, and always with the same result.
 
 ghost use Rattle.sim_run.specs.Ends.{ArePaired, AreUnused};
 ghost use Rattle.sim_run.specs.Machines.{AreNew};
@@ -20,7 +20,7 @@ use std::test::Fail;
 use std::thread;
 use std::thread::Threads;
 
-/// A trace without a fault, and three that have one at the start, in the middle or at the end.
+/// A trace without a fault, and three with one at the start, in the middle or at the end.
 static TRACES: [(&[u8], Option<(u64, Why)>); 4] = [
     (b"1 0\n0 8\n0 10\n", None),
     (b"x 0\n1 0\n0 8\n0 10\n", Some((1, Why::Label))),
@@ -41,8 +41,8 @@ enum Outboxes {
     OfOne,
 }
 
-/// How a run in threads over a trace ended, with an outbox for one message before each ring; what
-/// it wrote stands in the list.
+/// The result of a run in threads over a trace, with an outbox of one message before each ring, and
+/// the bytes that it wrote.
 fn one_by_one<H: Threads + Wait + Sync>(
     rt: &H,
     alloc: Global,
@@ -71,7 +71,7 @@ fn one_by_one<H: Threads + Wait + Sync>(
     }
 }
 
-/// How a run in threads over a trace ended; what it wrote stands in the list.
+/// The result of a run in threads over a trace, and the bytes that it wrote.
 fn run_with<H: Threads + Wait + Sync>(
     rt: &H,
     alloc: Global,
@@ -94,7 +94,7 @@ fn run_with<H: Threads + Wait + Sync>(
     }
 }
 
-/// Runs in threads over a trace and finds its fault, or writes its report.
+/// A run in threads over a trace has to answer its fault, or to write its report.
 fn ends_alike<H: Threads + Wait + Abort + Sync>(
     rt: &H,
     alloc: Global,
@@ -114,7 +114,7 @@ fn ends_alike<H: Threads + Wait + Abort + Sync>(
     Ok(())
 }
 
-/// A thousand runs through rings of each of these capacities.
+/// Makes a thousand runs through rings of each of these capacities.
 fn a_thousand_end_alike<H: Threads + Wait + Abort + Sync>(
     rt: &H,
     alloc: Global,
@@ -141,10 +141,10 @@ fn a_thousand_runs_with_outboxes_of_one_end_alike(rt: HostRuntime) -> Result<(),
     a_thousand_end_alike(&rt, rt.alloc(), Outboxes::OfOne)
 }
 
-/// How often the long trace goes round.
+/// How many rounds the long trace has.
 const ROUNDS: u64 = 600;
 
-/// A fetch, a read and a flush, over and over: turns of all three kinds, more than an outbox holds.
+/// A fetch, a read and a flush in each round: turns of all three kinds, more than an outbox holds.
 fn rounds(alloc: Global) -> Result<Vec<u8>, Fail> {
     let mut trace = Vec::new(alloc);
     for _ in 0..ROUNDS {
@@ -153,8 +153,8 @@ fn rounds(alloc: Global) -> Result<Vec<u8>, Fail> {
     Ok(trace)
 }
 
-/// What it comes to. Each round begins with empty caches, and in it the second level has the block
-/// from the fetch on.
+/// Its totals. Each round begins with empty caches, and the fetch loads the block into the second
+/// level, where the read finds it.
 fn totals_of_rounds() -> Totals {
     let i = Counts {
         compulsory: instrs(1),
@@ -178,7 +178,7 @@ fn totals_of_rounds() -> Totals {
     Totals { i, d, u }
 }
 
-/// Twelve long runs through rings of each of these capacities.
+/// Makes twelve long runs through rings of each of these capacities.
 fn long_runs_end_alike<H: Threads + Wait + Abort + Sync>(
     rt: &H,
     alloc: Global,

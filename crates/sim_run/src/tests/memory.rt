@@ -1,5 +1,5 @@
-//! Want of memory. Each test passes with ample memory. Where a growth is refused, it looks at what
-//! that left, and then fails by the name of the refusal and says nothing else.
+//! Failing allocations. Each test passes if there is enough memory. If an allocation is refused, it
+//! checks the state after that, and then fails with the name of the refusal and nothing else.
 
 use super::devices::{Awaiting, to_take};
 use super::{bad, run_in_threads, run_plainly, run_source};
@@ -49,7 +49,8 @@ Writes Sent On               0
 Flushes                      1
 ";
 
-/// Nothing was written where this is a fault, one of these. The whole report was, where it is none.
+/// If the run failed, the fault has to be one of these, and nothing may be written. Otherwise the
+/// whole report has to be written.
 fn is_whole_or_refused(
     rt: &impl Abort,
     output: &Awaiting,
@@ -74,7 +75,7 @@ fn a_run_writes_its_report_or_nothing(rt: HostRuntime) -> Result<(), Fail> {
     Ok(ended?)
 }
 
-/// The start of a thread doesn't say what it was refused.
+/// The start of a thread does not say why it failed.
 static REFUSALS: [RunFault; 2] = [RunFault::Memory, RunFault::Threads];
 
 #[test]
@@ -91,7 +92,7 @@ fn event(label: Label, addr: u64) -> DinRecord {
     DinRecord { label, addr }
 }
 
-/// All that is left of a source are the last records of the trace.
+/// The records that are left of a source have to be the last ones of the trace.
 fn leaves_the_last<R: ByteReader>(
     rt: &impl Abort,
     alloc: Global,

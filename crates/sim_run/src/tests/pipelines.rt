@@ -1,4 +1,4 @@
-//! The pipeline by itself, long traces through narrow rings, and which fault is answered.
+//! The pipeline without a report, long traces through small rings, and which fault is answered.
 
 use super::{
     EVERYTHING, USUAL, bad, config, config_of, ends_with, first_misses, reads, reads_and_writes,
@@ -12,7 +12,7 @@ use std::alloc::Global;
 use std::process::Abort;
 use std::test::Fail;
 
-/// What a write and two reads come to, of which the second drives the written block out.
+/// The totals of a write and two reads, the second of which evicts the written block.
 fn one_written_back() -> Totals {
     let d = Counts {
         written_back: 1,
@@ -52,7 +52,7 @@ fn a_source_is_handed_back_with_its_fault(rt: HostRuntime) -> Result<(), Fail> {
     Ok(())
 }
 
-/// Ten thousand reads that go round 64 bytes, four by four.
+/// Ten thousand reads that go through 64 bytes again and again, in steps of four.
 fn rounds(alloc: Global) -> Result<Vec<u8>, Fail> {
     let mut trace = Vec::new(alloc);
     for number in 0..10_000u32 {
@@ -92,7 +92,7 @@ fn many_records_go_through_rings_of_one_place(rt: HostRuntime) -> Result<(), Fai
     )
 }
 
-/// A thousand fetches, a line with a fault, and ten fetches more.
+/// A thousand fetches, a faulty line, and ten more fetches.
 fn late_fault(alloc: Global) -> Result<Vec<u8>, Fail> {
     let mut trace = Vec::new(alloc);
     for number in 1..=1011u32 {
@@ -119,7 +119,7 @@ fn a_late_fault_is_answered_and_what_follows_is_not_read(rt: HostRuntime) -> Res
     Ok(())
 }
 
-/// What a thread may come to.
+/// The ways in which a thread may end.
 static ENDS: [Option<Stop>; 3] = [None, Some(Stop::Memory), Some(Stop::Cut)];
 
 #[test]
@@ -134,7 +134,7 @@ fn a_fault_of_the_trace_goes_before_all_others(rt: HostRuntime) {
     }
 }
 
-/// Whatever two of the threads come to, want of memory in the third is answered.
+/// However two of the threads end, a failed allocation in the third is answered.
 fn wants_memory(rt: &impl Abort, splitter: RunFault, one: Option<Stop>, other: Option<Stop>) {
     let memory = Some(Stop::Memory);
     assert_eq!(rt; gravest(splitter, memory, one, other), RunFault::Memory);

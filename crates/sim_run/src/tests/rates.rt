@@ -1,4 +1,4 @@
-//! Whole reports, whose rates were worked out by hand.
+//! Whole reports, with rates that were worked out by hand.
 
 use super::{EVERYTHING, USUAL, config, config_with, run};
 use cache_core::{Policy, Repl};
@@ -10,10 +10,10 @@ use std::sync::Wait;
 use std::test::Fail;
 use std::thread::Threads;
 
-/// Three blocks of one set of two ways, the first of them read between the others.
+/// Reads of three blocks of a set of two ways, the first block also between the others.
 static THREE_BLOCKS: &[u8] = b"0 0\n0 8\n0 0\n0 10\n0 0\n";
 
-/// LRU keeps the first block: 3 of 5 reads miss, and each is the second level's first of its block.
+/// LRU keeps the first block: 3 of 5 reads miss, and each is the second level's first to its block.
 static LRU: &str = "\
 l1-icache                Total      Instrn        Read       Write        Misc
 Demand Fetches               0           0           0           0           0
@@ -52,7 +52,7 @@ Writes Sent On               0
 Flushes                      0
 ";
 
-/// FIFO drops the first block, and reads it again from the second level, where 3 of 4 miss.
+/// FIFO evicts the first block, and reads it again from the second level, where 3 of 4 miss.
 static FIFO: &str = "\
 l1-icache                Total      Instrn        Read       Write        Misc
 Demand Fetches               0           0           0           0           0
@@ -130,7 +130,7 @@ Writes Sent On               0
 Flushes                      0
 ";
 
-/// A run over the trace writes this report.
+/// A run over the trace has to write this report.
 fn writes_report<H: Threads + Wait + Abort + Sync>(
     rt: &H,
     alloc: Global,

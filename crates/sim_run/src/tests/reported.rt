@@ -1,5 +1,5 @@
-//! Runs that are compared with counts: what they write is the report of these, and the network
-//! comes to the same.
+//! Compares runs with given counts: the report has to be that of these counts, and the network has
+//! to give the same counts.
 
 ghost use Rattle.stage_core.specs.Events.{IsBounded};
 
@@ -13,7 +13,7 @@ use std::sync::Wait;
 use std::test::Fail;
 use std::thread::Threads;
 
-/// Do the machines of the network come to these totals, event by event, whichever is chosen next?
+/// Does the network give these totals, whichever step is chosen next?
 fn is_driven_to(
     alloc: Global,
     config: &Config,
@@ -28,7 +28,7 @@ fn is_driven_to(
     Ok(driven == *totals)
 }
 
-/// Does a run over a trace end well, with the report of just these totals?
+/// Does a run over a trace succeed, with the report of exactly these totals?
 fn is_reported<H: Threads + Wait + Abort + Sync>(
     rt: &H,
     alloc: Global,
@@ -46,8 +46,8 @@ fn is_reported<H: Threads + Wait + Abort + Sync>(
     Ok(written.as_slice() == expected.as_slice())
 }
 
-/// A run over a trace ends well, with the report of just these totals, to which the network comes
-/// too.
+/// A run over a trace has to succeed, with the report of exactly these totals, and the network has
+/// to give the same totals.
 pub(super) fn reports<H: Threads + Wait + Abort + Sync>(
     rt: &H,
     alloc: Global,

@@ -1,4 +1,4 @@
-//! Selections, the forms of a line, wide addresses and cut texts, over whole runs.
+//! Whole runs with selections, all forms of a line, wide addresses and cut texts.
 
 use super::{
     EVERYTHING, bad, config, ends, first_misses, instrs, is_counted, reads, reads_and_writes,
@@ -95,7 +95,7 @@ fn a_line_may_have_blanks_a_prefix_and_a_comment(rt: HostRuntime) -> Result<(), 
 
 #[test]
 fn an_address_may_have_zeros_before_it_or_a_prefix(rt: HostRuntime) -> Result<(), Fail> {
-    // The reads of one block are written in two ways each.
+    // Each block is read twice, with its address written in two ways.
     let totals = Totals {
         d: first_misses(reads(4), reads(2), 2),
         u: first_misses(reads(2), reads(2), 2),
@@ -107,7 +107,7 @@ fn an_address_may_have_zeros_before_it_or_a_prefix(rt: HostRuntime) -> Result<()
 
 #[test]
 fn the_highest_address_lies_in_the_last_block(rt: HostRuntime) -> Result<(), Fail> {
-    // The fetch that follows hits the second level in the block that the read brought there.
+    // The fetch that follows hits the second level, in the block that the read loaded there.
     let totals = Totals {
         i: first_misses(instrs(1), instrs(1), 1),
         d: first_misses(reads(1), reads(1), 1),
@@ -141,7 +141,7 @@ fn addresses_keep_their_high_bits(rt: HostRuntime) -> Result<(), Fail> {
     is_counted(&rt, rt.alloc(), b"0 100000000\n0 0\n", &totals)
 }
 
-/// How a run over the text that is cut behind so many bytes is to end.
+/// The expected result of a run over the first `length` bytes of the text.
 fn ended_at(length: usize) -> Result<(), RunFault> {
     match length {
         1 => Err(bad(1, Why::Gap)),
@@ -173,7 +173,7 @@ fn a_cut_text_has_a_report_unless_its_last_line_is_cut(rt: HostRuntime) -> Resul
 
 #[test]
 fn a_shorter_address_at_the_cut_is_simulated(rt: HostRuntime) -> Result<(), Fail> {
-    // Cut behind the first digit of its last address, which is then 1 and lies in the first block.
+    // Cut after the first digit of the last address, which is then 1, in the first block.
     let d = first_misses(reads_and_writes(2, 1), reads_and_writes(1, 1), 2);
     let u = first_misses(reads(2), reads(2), 2);
     let totals = Totals {

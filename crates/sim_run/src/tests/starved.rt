@@ -1,4 +1,4 @@
-//! Threads that end for want of memory: a run that is given up for another cause answers that.
+//! Threads in which an allocation fails: a run that fails for another reason too answers `Memory`.
 
 ghost use Rattle.std.specs.Prelude.{IfOk};
 ghost use Rattle.sim_run.specs.Threads.{StageEnded};
@@ -17,7 +17,7 @@ use std::test::Fail;
 use std::thread;
 use std::thread::{Scope, Threads};
 
-/// The thread of a stage that ends for want of memory, if it is to be started.
+/// The thread of a stage in which an allocation fails, if it is to be started.
 fn starved<'s, E, H: Threads + Wait + Sync>(
     scope: &Scope<'s, E>,
     rt: &'s H,
@@ -42,7 +42,7 @@ fn starved<'s, E, H: Threads + Wait + Sync>(
     scope.spawn_with(promise, run).ok()
 }
 
-/// Starts these of two stages, and winds up as where the next thread is not granted.
+/// Starts these of two stages, and ends them as if the next thread could not be started.
 fn wind_up_in<'s, E, H: Threads + Wait + Sync>(
     scope: &Scope<'s, E>,
     rt: &'s H,
@@ -63,7 +63,7 @@ fn wind_up_in<'s, E, H: Threads + Wait + Sync>(
     wind_up(rt, i, d)
 }
 
-/// The same over new stages and rings.
+/// The same with new stages and rings.
 fn wind_up_new<H: Threads + Wait + Sync>(
     rt: &H,
     alloc: Global,
@@ -86,7 +86,7 @@ fn winding_up_answers_want_of_memory(rt: HostRuntime) -> Result<(), Fail> {
     Ok(())
 }
 
-/// Why a stage's thread stopped that was refused memory.
+/// Why a stage's thread stopped in which an allocation failed.
 fn why_in<'s, E, H: Threads + Wait + Sync>(
     scope: &Scope<'s, E>,
     rt: &'s H,

@@ -15,8 +15,8 @@ use std::sync::Wait;
 use std::test::Fail;
 use std::thread::Threads;
 
-/// A writer that takes so many bytes and then fails, or fails at its flush. It counts its flushes,
-/// and what it had taken at the last one.
+/// A writer that takes `room` bytes and then fails, or fails when it is flushed. It counts its
+/// flushes, and the bytes that it had taken at the last one.
 #[derive(Drop)]
 struct Narrow {
     room: usize,
@@ -37,7 +37,7 @@ fn with_room(room: usize, can_flush: bool) -> Narrow {
 }
 
 impl Narrow {
-    /// How many bytes it took, how often it was flushed, and what it had taken then.
+    /// How many bytes it took, how often it was flushed, and how many bytes it had taken then.
     fn told(&self) -> (usize, u8, usize) {
         (self.taken, self.flushes, self.taken_at_flush)
     }
@@ -65,7 +65,8 @@ impl Write for Narrow {
     }
 }
 
-/// How both runs over a trace end, each with a writer like this one, which they leave alike.
+/// The result of both runs over a trace, each with a writer like this one. The results and the
+/// writers have to agree.
 fn run<H: Threads + Wait + Abort + Sync>(
     rt: &H,
     alloc: Global,
@@ -80,7 +81,7 @@ fn run<H: Threads + Wait + Abort + Sync>(
     Ok(plain)
 }
 
-/// Both runs fail to write over a trace. What the plain one's writer was given is handed out.
+/// Both runs over a trace have to fail with `Write`. Returns what the writer on one thread noted.
 fn fails<H: Threads + Wait + Abort + Sync>(
     rt: &H,
     alloc: Global,

@@ -2,7 +2,7 @@ use Rattle.std.proofs.Common.{◌≡◌, ◌++◌, take, drop}
 use Rattle.cache_core.specs.Row.{holds_block, shifted, leaving}
 use Rattle.cache_core.proofs.ways.bring_front.Given as goal
 
--- what is left of the pass gives what the whole pass gives
+-- the rest of the pass gives the result of the whole pass
 abbrev pub invariant-loop-way : goal.invariant-loop-way
 invariant-loop-way l = record {
   row : take l.way-index l.row

@@ -14,7 +14,7 @@ use Rattle.dinero_pipe.proofs.AnswerLemmas.{passes, reads_alike, reads_count, re
 use Rattle.dinero_pipe.proofs.AnswerLemmas.{refuses_alike, rest_decides, stops, value_is}
 use Rattle.dinero_pipe.proofs.settings.read_settings.Goals as goal
 
--- what is left of the options after each cache
+-- the options that follow those of each cache
 abbrev after_second : List Opt
 after_second = o.Ring ∷ selection_options
 
@@ -24,7 +24,7 @@ after_data = cache_options second_level_options ++ after_second
 abbrev after_instruction : List Opt
 after_instruction = cache_options data_options ++ after_data
 
--- a cache that was read leaves it to the options after it
+-- after a cache whose options were read, the options after it decide
 module _ (rows : List Row) (c : CacheOptions) (ys : List Opt) where
   cache_read : (v : CacheSpec) → Ok v ≡ if_readable rows (cache_options c) (cache_at rows c)
       → (v ≡ cache_at rows c) × (if_readable rows (cache_options c ++ ys) (settings_at rows)
@@ -32,7 +32,7 @@ module _ (rows : List Row) (c : CacheOptions) (ys : List Opt) where
   cache_read v h =
       rest_decides rows (cache_at rows c) (settings_at rows) ys (cache_options c) v (sym h)
 
-  -- a cache that can't be read is refused
+  -- a cache with an option that cannot be read is refused
   cache_unread : (e : WordsFault) → Err e ≡ if_readable rows (cache_options c) (cache_at rows c)
       → if_readable rows (cache_options c ++ ys) (settings_at rows) ≡ Err e
   cache_unread e h =

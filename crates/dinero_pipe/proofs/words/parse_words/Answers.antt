@@ -5,7 +5,7 @@ use Rattle.dinero_pipe.specs.Options.{command_app}
 use Rattle.dinero_pipe.proofs.AnswerLemmas.{answers_refusal, answers_matches}
 use Rattle.dinero_pipe.proofs.words.parse_words.Goals as goal
 
--- the command is one of which clap's matches and faults are known
+-- the command is simple, so the contracts of clap say what its matches and faults are
 plain : is_simple command_app ≡ true
 plain = refl
 

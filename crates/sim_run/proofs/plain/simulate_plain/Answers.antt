@@ -16,7 +16,7 @@ use Rattle.sim_run.specs.Faults.{source_fault}
 use Rattle.sim_run.specs.Runs.{report_of}
 use Rattle.sim_run.proofs.plain.simulate_plain.Goals as goal
 
--- a fault of the trace is the source's, and no want of memory
+-- a fault of the trace is that of the source, and is not `Memory`
 only_trace : (of : TraceFault) (why : TraceFault) (result : Result (Unit {0}) RunFault)
     → result ≡ Err (source_fault of) → result ≡ Err (Trace why) → (of ≢ trace.Memory) × (of ≡ why)
 only_trace (trace.Bad line w) why result is e = (λ m. cc, cc)

@@ -3,7 +3,7 @@ use Rattle.std.proofs.lemmas.List.{take-replicate}
 use Rattle.din_trace.proofs.WritesLemmas.{writes_then, writes_as}
 use Rattle.sim_run.proofs.report.put_four_digits.Goals as goal
 
--- the front of four zeros
+-- the first k of four zeros
 zeros : (k : ℕ) → k ≤ 4 → take {A = ℕ} k (replicate 4 48) ≡ replicate k 48
 zeros k h = take-replicate k 4 48 h
 

@@ -17,7 +17,7 @@ use Rattle.sim_run.proofs.split.split.Goals as goal
 use Rattle.sim_run.proofs.split.split.Goals.{After-next_record}
 use Rattle.sim_run.proofs.split.split.Given.{Over}
 
--- the calls of the source so far and this one
+-- the calls of the source so far, and then this one, are calls too
 composed : (g : Over) (c : After-next_record g) (given : List ℕ) (fate : Fate)
     → Takes g.R.ByteReader.remaining g.R.ByteReader.failures c.loop.source c.next_record.new.source
     given fate

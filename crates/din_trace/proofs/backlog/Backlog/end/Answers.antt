@@ -6,7 +6,7 @@ use Rattle.din_trace.proofs.Backlogs.{AfterEnd, after-end, held-none, reading-le
 use Rattle.din_trace.proofs.backlog.Backlog.end.Goals as goal
 use Rattle.din_trace.proofs.backlog.Backlog.end.Goals.{After-end}
 
--- what the end left
+-- what is left after the end
 after : (c : After-end) (l : Remaining)
     → HasLeft c.args.self.now (record { given = []; fails = false }) l → AfterEnd l c.end.result
 unfolding words.StandsFor words.HasNoFault words.bytes_of words.line_of words.begun_of

@@ -7,7 +7,7 @@ use Rattle.din_trace.proofs.Backlogs.{none_from_sound, reading-left, left-readin
 use Rattle.din_trace.proofs.backlog.Backlog.step.Goals as goal
 use Rattle.din_trace.proofs.backlog.Backlog.step.Goals.{After-byte}
 
--- what the byte left
+-- what is left after the byte
 after : (c : After-byte) (script : Script) (l : Remaining) → HasLeft c.args.self.now script l
     → AfterByte c.byte.new.self
     (take (c.args.self.now.filled - (c.args.self.now.at + 1))

@@ -4,7 +4,7 @@ use Rattle.din_trace.specs.Source as words
 use Rattle.din_trace.proofs.Calls.{asks_nothing}
 use Rattle.din_trace.proofs.source.Source.at_hand.Goals as goal
 
--- what holds of each answer and of none, for all that was left
+-- a property of `None` and one of each answer, joined into one clause
 either : {T A B : Type 0} (o : Option T) (was none : A → B → Type 0) (some : T → A → B → Type 0)
     → IfNone o ((a : A) (b : B) → was a b → none a b)
     → IfSome o (λ x. (a : A) (b : B) → was a b → some x a b)

@@ -11,7 +11,7 @@ use Rattle.din_trace.proofs.source.Source.rest.Goals as goal
 use Rattle.din_trace.proofs.source.Source.rest.Goals.{After-next}
 use Rattle.din_trace.proofs.source.Source.rest.Given.{Over}
 
--- the calls so far and this one
+-- the calls so far, and then this one, are calls too
 composed : (g : Over) (c : After-next g)
     → Calls g.R.ByteReader.remaining g.R.ByteReader.failures c.args.self.now c.next.new.self
     c.records.invariant.given c.next.ensures.reads.0 c.records.invariant.fate c.next.ensures.reads.1
