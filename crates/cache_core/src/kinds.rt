@@ -18,7 +18,7 @@ use std::num::NonZeroUsize;
 pub(crate) struct MissClassifier {
     shadow: LruCache<u64, ()>,
     referenced: HashSet<u64>,
-    /// The block at the front of the shadow, if the last access put it there.
+    /// The block that was used last, if it is the first one in the shadow.
     last: Option<u64>,
     ghost recent: { IsFirst last shadow.entries },
 }

@@ -12,7 +12,7 @@ use Rattle.din_trace.proofs.Forms.{has_form, form_is}
 use Rattle.din_trace.proofs.Cuts.{others_none, form_fault-none, first_fault-some}
 
 module _ (small great : ℕ) (le : small ≤ great) where
-  -- a line that isn't faulty keeps its form
+  -- a line that is not faulty keeps its form
   form-wider : (line : List ℕ) (f : Form) → form small line ≡ f → HasForm small line f
       → (number : ℕ) (others : Option TraceFault) → form_fault f number others ≡ None
       → form great line ≡ f

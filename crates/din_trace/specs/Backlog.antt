@@ -18,14 +18,14 @@ held b = take (b.filled - b.at) (drop b.at b.buffer.bytes)
 abbrev pub taken : Backlog → ℕ
 taken b = b.lines.bytes + (b.filled - b.at)
 
--- how many more records a source in this state can give: each takes at least one byte below the
--- limit, and one more may come from the line that has begun
+-- how many more records a source in this state can give at most: each takes at least one byte below
+-- the limit, and one more may come from the line that has begun
 abbrev pub room_in : State → LineReader → ℕ → ℕ
 room_in state.Reading reader limit = limit - reader.bytes + begun reader.so_far
 room_in state.Ended reader limit = 0
 room_in (state.Failed f) reader limit = 0
 
--- how many more records a backlog can give
+-- how many more records a backlog can give at most
 abbrev pub room : Backlog → ℕ
 room b = room_in b.state b.lines b.limit
 

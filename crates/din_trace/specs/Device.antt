@@ -36,7 +36,7 @@ unread_bytes remaining reader = remaining reader.inner
 unfoldable pub read_failures : {R : Type 0} → FromRead R → ℕ
 read_failures reader = reader.failures
 
--- the bytes that were written to a `FromWrite`, where they are known
+-- the bytes that a `FromWrite` holds, those written so far included, where they are known
 unfoldable pub held_bytes : {W : Type 0} → (W → Option (List ℕ)) → FromWrite W → Option (List ℕ)
 held_bytes contents writer = contents writer.inner
 

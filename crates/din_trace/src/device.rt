@@ -67,7 +67,7 @@ impl<R: Read> ByteReader for FromRead<R> {
 
 /// A writer of bytes, like `std::io::Write`, that also counts its failures for the contracts.
 pub trait ByteWriter {
-    /// The bytes that were written to it so far, where they are known.
+    /// The bytes that it holds, those written so far included, where they are known.
     ghost contents: { Self → Option (List ℕ) } = { λ _. None };
 
     /// How many times it has failed, counted in 64 bits.

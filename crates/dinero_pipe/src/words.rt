@@ -57,7 +57,7 @@ fn refusal(kind: ErrorKind) -> WordsFault
 }
 
 /// Reads the words after the program's name. Each number of the selection is at most 2^40. If an
-/// allocation fails, the answer is `Memory`.
+/// allocation fails, `Memory` may be the answer instead of any other.
 pub fn parse_words(alloc: Global, words: &[String]) -> Result<(Config, Selection), WordsFault>
     ensures answer { AnswersWords (map string_bytes words.now) result }
     ensures bound { IfOk result (λ p. IsBounded p.1) }

@@ -13,7 +13,7 @@
 //! Proved: a successful call appends its item to the list of sent or received items, and nothing
 //! else changes these lists. Posted items count as sent, so publishing does not change the list. An
 //! item that is handed back was not sent. The sent items are the received ones, followed by as many
-//! items as `settle` counts. A ring has the capacity that was asked for.
+//! items as `settle` counts. A ring has the capacity that was asked for, and keeps it.
 //!
 //! Only tested: that `send` and `recv` report a lost peer only if it was dropped, that a sleeping
 //! end is woken, and that the allocations for a ring succeed.
@@ -41,7 +41,8 @@ use wait::Patience;
 #[derive(Debug, Clone, Copy, PartialEq, Eq)]
 pub struct NoMemory;
 
-/// Makes a ring with room for `capacity` items, and returns its two ends. No later call allocates.
+/// Makes a ring with room for `capacity` items, and returns its two ends. All of its memory is
+/// allocated here.
 pub fn ring<T: Copy>(alloc: Global, capacity: usize) -> Result<(Tx<T>, Rx<T>), NoMemory>
     requires { (1 ≤ capacity) × (capacity ≤ 65536) }
     ensures one { IfOk result (λ r. AreEnds r.0 r.1) }

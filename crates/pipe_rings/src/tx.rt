@@ -29,6 +29,7 @@ pub struct Tx<T: Copy> {
 /// The receiver was dropped. The item that was not sent comes back.
 #[derive(Debug, Clone, Copy, PartialEq, Eq)]
 pub struct Gone<T> {
+    /// The item that was not sent.
     pub item: T,
 }
 

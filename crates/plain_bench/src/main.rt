@@ -1,7 +1,7 @@
 //! Simulates the trace on standard input on one thread, and prints its report.
 //!
-//! It measures the run that keeps the whole trace and moves each message by hand. Words: the size,
-//! the block size and the ways of the instruction cache, of the data cache and of the second level.
+//! It measures `simulate_plain`, which keeps all records in memory. Arguments: the size, the block
+//! size and the ways of the instruction cache, then of the data cache, then of the second level.
 #![tactic(auto)]
 
 use anyhow::{Context, bail};

@@ -1,7 +1,7 @@
 //! Counts the records of the trace on standard input, and adds up their addresses.
 //!
-//! It measures what reading costs alone: each record is one call of `Source::next`. The sum goes
-//! round at `2^64`.
+//! It measures the cost of reading alone: each record is one call of `Source::next`. The sum is
+//! modulo `2^64`.
 #![tactic(auto)]
 
 use din_trace::{FromRead, MAX_LIMIT, Source};

@@ -1,8 +1,8 @@
 //! Passes messages through one ring, from one thread to another, for five capacities of the ring.
 //!
-//! Words: the number of messages, of which small rings pass a share; and then `time` where the
-//! messages a second are wanted too, or `wait` where one thread is to wait for another that sends
-//! a message a second.
+//! Arguments: the number of messages, of which small rings pass only a share; then `time` to print
+//! the messages per second too, or `wait` to send one message per second, so that the receiver
+//! waits.
 #![tactic(auto)]
 
 use anyhow::{Context, bail};
@@ -12,17 +12,17 @@ use std::sync::Wait;
 use std::thread::{self, Threads};
 use std::time::{Clock, Duration, Instant};
 
-/// As long as the longest message between two stages.
+/// A message as long as the longest one between two stages.
 #[derive(Clone, Copy)]
 struct Message {
     place: u64,
     rest: [u64; 4],
 }
 
-/// Each capacity, and the share of the messages that it passes: one in so many.
+/// Each capacity, and by how much the number of messages is divided for it.
 const RINGS: [(usize, u64); 5] = [(1, 64), (16, 4), (64, 1), (1_024, 1), (65_536, 1)];
 
-/// Sends as many messages, numbered from 0, with a nap behind each if one is wanted.
+/// Sends this many messages, numbered from 0, with a pause after each if `nap` is given.
 fn send_all<R: Wait + Clock>(rt: &R, mut tx: Tx<Message>, messages: u64, nap: Option<Duration>) {
     for place in 0..messages {
         let rest = [place; 4];
@@ -35,8 +35,8 @@ fn send_all<R: Wait + Clock>(rt: &R, mut tx: Tx<Message>, messages: u64, nap: Op
     }
 }
 
-/// How many messages came before the sender was gone, of so many at most, and the sum of their
-/// numbers, which goes round at `2^64`.
+/// Receives at most this many messages, until the sender is gone. Returns how many came, and the
+/// sum of their numbers modulo `2^64`.
 fn receive_all<R: Wait>(rt: &R, mut rx: Rx<Message>, messages: u64) -> (u64, u64) {
     let mut sum = 0u64;
     for count in 0..messages {
@@ -48,7 +48,7 @@ fn receive_all<R: Wait>(rt: &R, mut rx: Rx<Message>, messages: u64) -> (u64, u64
     (messages, sum)
 }
 
-/// Sends in one thread and receives in another.
+/// Sends all messages in one thread and receives them in another.
 fn pass_all<R: Threads + Wait + Clock + Sync>(
     rt: &R,
     (tx, rx): (Tx<Message>, Rx<Message>),

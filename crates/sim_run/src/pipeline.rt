@@ -36,6 +36,7 @@ use std::thread::{Promise, PromisedHandle, Scope, Threads};
 /// The result of a successful run: the counts, and the rings that carried its messages.
 #[derive(Drop)]
 pub struct Settled {
+    /// The counts of the three caches.
     pub totals: Totals,
     pub rings: Rings,
 }

@@ -1,5 +1,5 @@
--- A selection makes at most two events of a record, and an event makes the second level see at most
--- two messages.
+-- A selection makes at most two events of a record, and an event makes at most two requests to the
+-- second level, on the whole.
 use Rattle.std.proofs.Common.{◌≡◌, ℕ, ◌+◌, ◌*◌, ◌≤◌, Bool, true, false, List, [], ◌∷◌, ◌++◌, length}
 use Rattle.std.proofs.Common.{map, Option, Some, None, is_some, option_to_list, count_by}
 use Rattle.std.proofs.Common.{refl, ap, append-nil, arith, length-append}
@@ -54,7 +54,7 @@ length-access_parts s first x o =
       length-list_if o.through (what.Through x.addr),
     )
 
--- what an event may send or leave to be sent
+-- how many parts an event may send, now or later as write-backs
 abbrev weight : Event → ℕ
 weight (access x) = 1 + one_counted (is_write x)
 weight flush = 1
@@ -102,7 +102,7 @@ few-history s (e ∷ es) =
     )
 
 module _ (accesses : WriteBacksAreCharged) (flushes : FlushesLeaveNoneDirty) where
-  -- a cache owes its dirty blocks
+  -- how many write-backs are still to come: one for each dirty block
   abbrev owed : Rules → History → ℕ
   owed r h = length (dirty_blocks r h)
 

@@ -18,13 +18,13 @@ use Rattle.stage_core.specs.declared.message.FromStage.{FromStage}
 use Rattle.stage_core.specs.declared.message.FromStage.TheVariants as from_stage
 use Rattle.stage_core.proofs.Turns.{no_finish}
 
--- none in two lists, none in both
+-- if two lists have none, both together have none
 none-of : {X : Type 0} (p : X → Bool) (xs ys : List X) → list_any p xs ≡ false
     → list_any p ys ≡ false → list_any p (xs ++ ys) ≡ false
 none-of p xs ys x y =
     list_any-append p xs ys ∙ ap (λ b. b || list_any p ys) x ∙ y
 
--- none at any place, none along all of them
+-- if no item gives one, the whole list gives none
 none-flat_map_after : {X Y : Type 0} (p : Y → Bool) (f : List X → X → List Y)
     → ((before : List X) (x : X) → list_any p (f before x) ≡ false) → (before xs : List X)
     → list_any p (flat_map_after f before xs) ≡ false

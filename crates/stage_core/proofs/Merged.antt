@@ -1,5 +1,5 @@
--- The merge's rule, fed with the streams of an event list, takes exactly what the second level is
--- to see.
+-- The merge's rule, applied to the streams of an event list, takes exactly the second level's
+-- requests.
 use Rattle.std.proofs.Common.{◌≡◌, ℕ, ◌+◌, List, [], ◌∷◌, ◌++◌, map, length, refl, ap, ◌∙◌}
 use Rattle.std.proofs.Common.{append_assoc, append-nil}
 use Rattle.cache_core.specs.History.{flush}
@@ -35,7 +35,7 @@ up_to_end-numbered place n k [] rest stopped next = refl
 up_to_end-numbered place n k (w ∷ ws) rest stopped next =
     ap (with_what w) (up_to_end-numbered place (n + 1) k ws rest stopped next)
 
--- a whole answer is taken
+-- the rule takes a whole answer
 up_to_end-answer : (place : ℕ) (ws : List What) (xs ys : List FromStage) (stopped : Merged)
     (next : List FromStage → Merged) → up_to_end (((answer place ws ++ []) ++ xs) ++ ys)
     stopped next ≡ with_requests ws (next (xs ++ ys))
@@ -53,12 +53,12 @@ module _ (parts : Parts) where
   abbrev stream : Side → List DinRecord → List DinRecord → List FromStage
   stream s before es = flat_map_after (answered parts s) before es ++ from_stage.Finish ∷ []
 
-  -- the rule from some place on
+  -- the claim from some event on
   abbrev Law : List DinRecord → List DinRecord → Type 0
   Law before es = merged (turns_from es) (stream side.I before es) (stream side.D before es)
       ≡ all_used (flat_map_after ups before es) AtEnd
 
-  -- the turn of one side
+  -- a turn of one side
   one_side : (place : ℕ) (ws us vs : List What) (xs : List FromStage) (stopped : Merged)
       (next : List FromStage → Merged) → ws ++ us ≡ vs
       → next (xs ++ from_stage.Finish ∷ []) ≡ all_used us AtEnd

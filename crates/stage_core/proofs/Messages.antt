@@ -1,4 +1,4 @@
--- What a stage takes in and sends, event by event.
+-- What a stage receives and sends for each event.
 use Rattle.std.proofs.Common.{◌≡◌, ℕ, ◌+◌, ◌≤◌, List, [], ◌∷◌, ◌++◌, length, map, refl, sym, ap}
 use Rattle.std.proofs.Common.{◌∙◌, append_assoc, append-nil, arith}
 use Rattle.std.specs.List.{flat_map}
@@ -42,7 +42,7 @@ messages_to-flat_map_after s before (e ∷ es) =
     (asked_in-messages (length before + 1) (asked s e))
     ∙ ap (λ l. asked s e ++ l) (messages_to-flat_map_after s (before ++ e ∷ []) es)
 
--- the history of a stage's cache, from the messages to it
+-- the history of a stage's cache after the messages of an event list
 pub taken_in-messages_to : (s : Side) (es : List DinRecord)
     → taken_in (flat_map_with_past (messages_to s) es) ≡ history s es
 taken_in-messages_to s es = ap newest_first (messages_to-flat_map_after s [] es)
@@ -56,7 +56,7 @@ what_in-numbered : (p n : ℕ) (ws : List What) → flat_map what_in (numbered p
 what_in-numbered p n [] = refl
 what_in-numbered p n (w ∷ ws) = ap (λ l. w ∷ l) (what_in-numbered p (n + 1) ws)
 
--- an answer brings its parts
+-- the requests in an answer are its parts
 pub what_in-answer : (p : ℕ) (ws : List What) → flat_map what_in (answer p ws) ≡ ws
 what_in-answer p ws =
     flat_map-append what_in (numbered p 1 ws) (from_stage.Done p (length ws) ∷ [])
@@ -72,7 +72,7 @@ module _ (parts : Parts) (s : Side) where
       ∙ what_in-answer p (parts s (taken_in before) e))
       ∙ ap (λ l. parts s (taken_in before) e ++ l) (brought-messages before p es)
 
-  -- the messages of an event bring what the side sends up for it
+  -- the requests in the answers to an event's messages are what the side sends up for it
   pub brought-messages_to : (before : List DinRecord) (e : DinRecord)
       → brought parts s (flat_map_with_past (messages_to s) before) (messages_to s before e)
       ≡ sent_up parts s before e
@@ -125,7 +125,7 @@ module _ (parts : Parts) (s : Side) where
 pub replies-to_side : StagesAnswerTheirStreams
 replies-to_side parts s es = replies-flat_map_after parts s [] es
 
--- the history of a stage's cache, from the whole stream to it
+-- the history of a stage's cache after its whole stream
 pub taken_in-to_side : (s : Side) (es : List DinRecord) → taken_in (to_side s es) ≡ history s es
 taken_in-to_side s es = taken_in-more (flat_map_with_past (messages_to s) es) to_stage.Finish
     ∙ taken_in-messages_to s es

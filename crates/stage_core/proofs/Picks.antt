@@ -1,4 +1,4 @@
--- The events of one record more.
+-- The events of one more record.
 use Rattle.std.proofs.Common.{◌≡◌, List, [], ◌∷◌, ◌++◌, count_by, option_to_list, sym, ap, ◌∙◌}
 use Rattle.std.proofs.Common.{append_assoc}
 use Rattle.din_trace.specs.declared.record.DinRecord.{DinRecord}

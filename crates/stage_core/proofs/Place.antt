@@ -1,4 +1,4 @@
--- Lists that are made place by place: one list after another, and one item more.
+-- `along` and `over`: two lists in a row, and one more item.
 use Rattle.std.proofs.Common.{◌≡◌, List, [], ◌∷◌, ◌++◌, refl, sym, ap, ◌∙◌, append_assoc}
 use Rattle.std.proofs.Common.{append-nil}
 use Rattle.stage_core.specs.Places.{flat_map_after, flat_map_with_past}

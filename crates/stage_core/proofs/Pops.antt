@@ -1,4 +1,4 @@
--- The merge's rule as a list of pops: each of the ring that is wanted when it comes.
+-- The merge's rule as a list of pops, each from the ring that the merge wants then.
 use Rattle.std.proofs.Common.{◌≡◌, ℕ, zero, suc, ◌+◌, ◌<◌, List, [], ◌∷◌, ◌++◌, length, refl, sym}
 use Rattle.std.proofs.Common.{ap, ◌∙◌, append_assoc, arith, subst}
 use Rattle.stage_core.specs.Network.Pushes.{for_side}
@@ -15,7 +15,7 @@ use Rattle.stage_core.specs.declared.message.Turn.TheVariants as turn
 use Rattle.stage_core.specs.declared.message.FromStage.{FromStage}
 use Rattle.stage_core.specs.declared.message.FromStage.TheVariants as from_stage
 
--- the rule from where it stands
+-- the rule, continued from a state
 abbrev pub continue : MergeState → List Turn → List FromStage → List FromStage → Merged
 continue AtOrder o i d = merged o i d
 continue AtI o i d = up_to_end i (stops AtI o [] d) (λ i'. merged o i' d)
@@ -31,7 +31,7 @@ continue AtEnd o i d = stops AtEnd o i d
 abbrev pub with_requests : List What → Merged → Merged
 with_requests ws m = record m { taken = ws ++ m.taken }
 
--- what the rule does at a ring that is wanted: it takes the next message, or stops
+-- what the rule does with the ring that is wanted: it takes the next message, or stops
 abbrev Goes : Want → MergeState → Type 0
 Goes want.Order at =
     ((t : Turn) (o : List Turn) (i d : List FromStage) →
@@ -109,7 +109,7 @@ at_rest LastI = refl
 at_rest LastD = refl
 at_rest AtEnd = refl
 
--- the merge's pops
+-- a pop of the merge
 pub data Pop : Type 0 where
   Turned : Turn → Pop
   From : Side → FromStage → Pop
@@ -149,7 +149,7 @@ Lawful at [] = Unit {0}
 Lawful at (Turned t ∷ ps) = (wanted at ≡ want.Order) × Lawful (after_turn t) ps
 Lawful at (From s m ∷ ps) = (wanted at ≡ want_of s) × Lawful (after_message at m) ps
 
--- a log of what the rule did with three lists
+-- a list of the pops that the rule made on three lists
 pub record Log (at : MergeState) (o : List Turn) (i d : List FromStage) (m : Merged) : Type 0 where
   pub pops : List Pop
   pub lawful : Lawful at pops
@@ -213,7 +213,7 @@ a_d at x o i d m h l =
       at_end = l.at_end;
     }
 
--- the rule has a log, by the ring that is wanted
+-- the rule has a log, shown by cases on the ring that is wanted
 by_want : (k : ℕ) (at : MergeState) (w : Want) (o : List Turn) (i d : List FromStage)
     → wanted at ≡ w
     → length o + length i + length d < suc k
@@ -244,7 +244,7 @@ pub log : (at : MergeState) (o : List Turn) (i d : List FromStage)
     → Log at o i d (continue at o i d)
 log at o i d = log_of (suc (length o + length i + length d)) at o i d (omega arith)
 
--- and each log is the rule's
+-- each log gives the result of the rule
 pub from_log : (ps : List Pop) (at : MergeState) → Lawful at ps
     → continue at (turns_of ps) (from_of side.I ps) (from_of side.D ps)
     ≡ all_used (requests_of ps) (state_after at ps)
@@ -255,7 +255,7 @@ from_log (From side.I m ∷ ps) at h = (goes at want.I h.0).0 m _ _ _
 from_log (From side.D m ∷ ps) at h = (goes at want.D h.0).0 m _ _ _
     ∙ ap (with_requests (what_in m)) (from_log ps (after_message at m) h.1)
 
--- a log and one more pop
+-- a list of allowed pops with one more allowed pop
 pub Lawful-more : (ps : List Pop) (at : MergeState) (p : Pop) → Lawful at ps
     → Lawful (state_after at ps) (p ∷ []) → Lawful at (ps ++ p ∷ [])
 Lawful-more [] at p h l = l

@@ -1,4 +1,4 @@
--- One event, one message or one what more.
+-- A machine after one more event, message or request.
 use Rattle.std.proofs.Math.Bool.{or-false}
 use Rattle.std.proofs.Common.{◌≡◌, false, ◌||◌, List, [], ◌∷◌, ◌++◌, map, sym, ap}
 use Rattle.std.proofs.Common.{subst, ◌∙◌, append-nil}
@@ -21,7 +21,7 @@ use Rattle.stage_core.specs.declared.message.Side.{Side}
 use Rattle.stage_core.specs.declared.message.What.{What}
 use Rattle.stage_core.specs.declared.message.ToStage.{ToStage}
 
--- what is asked item by item, the newest first: one item more
+-- the requests of a list of items, the newest first, after one more item
 asked-more : {A : Type 0} (f : A → List Event) (xs : List A) (x : A)
     → newest_first (flat_map f (xs ++ x ∷ [])) ≡ newest_first (f x) ++ newest_first (flat_map f xs)
 asked-more f xs x =
@@ -50,7 +50,7 @@ no_finish-more ms m e =
     list_any-append is_finish ms (m ∷ []) ∙ ap (λ t. list_any is_finish ms || (t || false)) e
     ∙ or-false (list_any is_finish ms)
 
--- a stage whose cache was given one event more took in one message more
+-- if the cache of a stage has served one more request, the stage has received one more message
 pub one_event_more : (old new : L1Stage) (ms : List ToStage) (m : ToStage) (e : Event)
     → asked_in m ≡ e ∷ [] → is_finish m ≡ false → took_finish new ≡ took_finish old
     → ((h : History) → StandsFor (cache_of old) h → StandsFor (cache_of new) (e ∷ h))
@@ -62,7 +62,8 @@ one_event_more old new ms m e asks goes_on same longer st = record {
   finish = same ∙ st.finish ∙ sym (no_finish-more ms m goes_on);
 }
 
--- a second level whose cache was given one event more served one what more
+-- if the cache of the second level has served one more event, the second level has served one more
+-- request
 pub one_what_more : (old new : L2Stage) (ws : List What) (w : What) (e : Event) → read_as w ≡ e
     → ((h : History) → StandsFor (l2_cache old) h → StandsFor (l2_cache new) (e ∷ h))
     → L2StandsFor old ws → L2StandsFor new (ws ++ w ∷ [])
@@ -72,7 +73,7 @@ one_what_more old new ws w e reads longer st = record {
       (longer (second_history ws) st.cache);
 }
 
--- what a stage took in is told by its cache and by whether Finish was among it
+-- what a stage has received depends only on its cache and on whether Finish was received
 pub same_stands : (old new : L1Stage) (ms : List ToStage) → cache_of new ≡ cache_of old
     → took_finish new ≡ took_finish old → StageStandsFor old ms → StageStandsFor new ms
 same_stands old new ms cache finish st =

@@ -1,4 +1,4 @@
--- The merge goes through the answers of one event and stands at Order again.
+-- The merge goes through the answers of one event, and is in the state `AtOrder` again.
 use Rattle.std.proofs.Common.{◌≡◌, ℕ, ◌+◌, inl, inr, List, [], ◌∷◌, ◌++◌, map, false}
 use Rattle.std.proofs.Common.{Option, Some, option_to_list, refl, sym, subst}
 use Rattle.std.specs.List.{list_any}
@@ -18,7 +18,7 @@ use Rattle.stage_core.specs.declared.message.ToStage.TheVariants as to_stage
 use Rattle.stage_core.specs.declared.message.FromStage.{FromStage}
 use Rattle.stage_core.specs.declared.message.FromStage.TheVariants as from_stage
 
--- a merge that wants a side takes these, and goes on where the side's turn ends
+-- a merge that wants a side takes these messages, and is then in the state after that side's answer
 pub record IsTurn (at : MergeState) (ms : List FromStage) : Type 0 where
   pub wanted : AreWanted at ms
   pub after : state_after at ms ≡ after_end at
@@ -44,7 +44,7 @@ option-turn parts s before at m some sent wants =
     let answers = subst (λ (o : Option ToStage). WantsAnswers at (option_to_list o)) some wants in
     subst (IsTurn at) (sym sent) (reply-turn parts s before at m answers.0)
 
--- the two sides' answers to an event come when the merge wants them
+-- the answers of both sides to an event come when the merge wants them
 pub record AreTurns (at : MergeState) (is ds : List ToStage) : Type 0 where
   pub i : WantsAnswers at is
   pub d : WantsAnswers (after_answers at is) ds
@@ -58,13 +58,13 @@ turns label.Write a p = record { i = tt; d = (inr refl, tt); after = refl }
 turns label.Misc a p = record { i = tt; d = (inr refl, tt); after = refl }
 turns label.Flush a p = record { i = (inl refl, tt); d = (inr refl, tt); after = refl }
 
--- no event is Finish
+-- no message of an event is Finish
 pub no_finish : (p : ℕ) (es : List Event) → list_any is_finish (map (message p) es) ≡ false
 no_finish p [] = refl
 no_finish p (access x ∷ es) = no_finish p es
 no_finish p (flush ∷ es) = no_finish p es
 
--- so the merge stands where it stood before the event
+-- so the merge is in the same state as before the event
 pub at-order : (l : Label) (a p : ℕ) {is ds : List ToStage} {turned between after : MergeState}
     → turned ≡ after_turn (turn_of l) → is ≡ map (message p) (asked_by side.I l a)
     → ds ≡ map (message p) (asked_by side.D l a)

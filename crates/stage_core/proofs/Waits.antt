@@ -54,7 +54,7 @@ nil-append : {A : Type 0} {xs ys : List A} → xs ≡ [] → ys ≡ [] → xs ++
 nil-append {xs = xs} {ys = ys} ex ey =
     nil_from_length (xs ++ ys) (omega (arith, length-append xs ys, ap length ex, ap length ey))
 
--- a sender that can publish nothing into an empty ring holds nothing
+-- if a sender cannot publish into an empty ring, it holds no message
 holds-nothing : {A : Type 0} (capacity : ℕ) → 0 < capacity → (s : Sender A) (w : List A)
     → NoRoom capacity s w → w ≡ [] → s.held ≡ []
 holds-nothing capacity pos s w (inl none) e = none
@@ -93,7 +93,7 @@ module _ (parts : Parts) (capacity : ℕ) (pos : 0 < capacity) (n : Threads)
     | inr x ↦ none-held x.published s
   ]
 
-  -- a stage that has published all has nothing on the way but what waits in its ring
+  -- if a stage has published all its answers, only the ring has messages on their way
   from-nothing : (s : Side) → (finished : Bool) → HasPublished finished parts s (n.stage s)
       → n.from s ≡ []
       → ((lane s (network n)).from.waiting ≡ []) × ((lane s (network n)).outbox ≡ [])
@@ -102,7 +102,7 @@ module _ (parts : Parts) (capacity : ℕ) (pos : 0 < capacity) (n : Threads)
     ap (λ (l : Lane). l.outbox) (lane-of n s) ∙ p.posted,
   )
 
-  -- it isn't a side's ring that the merge waits for
+  -- the merge does not wait for the ring of a side
   not-side : (s : Side) → wanted n.merge.at ≡ want_of s → n.from s ≡ [] → ⊥
   not-side s w e =
       let none = pending-left s n.splitter.closed in
@@ -126,7 +126,7 @@ module _ (parts : Parts) (capacity : ℕ) (pos : 0 < capacity) (n : Threads)
             omega (arith, a.1, none)
       ]
 
-  -- a splitter that has ended has nothing left to push
+  -- a splitter that has posted the end has nothing left to push
   all-pushed : n.splitter.closed ≡ true → SplitterBlocked capacity (network n) (network n).still
   all-pushed c = record {
     i = λ e. absurd (omega (arith, e, pending-left side.I n.splitter.closed));
@@ -134,7 +134,7 @@ module _ (parts : Parts) (capacity : ℕ) (pos : 0 < capacity) (n : Threads)
     order = λ y z. inl (ap left c);
   }
 
-  -- nor the order ring
+  -- the merge does not wait for the order ring
   not-turns : wanted n.merge.at ≡ want.Order → n.order ≡ [] → ⊥
   not-turns w e =
       let es : List DinRecord = n.splitter.events in
@@ -162,7 +162,7 @@ module _ (parts : Parts) (capacity : ℕ) (pos : 0 < capacity) (n : Threads)
             not-order parts es (network n) k capacity pos (all-pushed x.closed) w o
       ]
 
-  -- where it wants nothing, all have ended
+  -- if the merge wants no message, all have ended
   all-ended : wanted n.merge.at ≡ want.Nothing → AllEnded parts n
   all-ended w =
       let es : List DinRecord = n.splitter.events in

@@ -1,4 +1,4 @@
--- One event more is worked off.
+-- The machines after one more event.
 use Rattle.std.proofs.Common.{◌≡◌, ℕ, ◌+◌, ◌^◌, ◌<◌, ◌≤◌, List, [], ◌∷◌, ◌++◌, length, map}
 use Rattle.std.proofs.Common.{Option, option_to_list, sym, ap, subst, ◌∙◌, arith}
 use Rattle.std.proofs.Common.{length-append}
@@ -25,20 +25,20 @@ use Rattle.stage_core.proofs.Place.{flat_map_with_past-more}
 use Rattle.stage_core.proofs.Messages.{taken_in-messages_to, brought-messages_to}
 use Rattle.stage_core.proofs.Few.{few-history}
 
--- what the splitter told a side of the event e, behind these events
+-- the messages of the splitter to a side for the event e, which comes after these events
 messages_to-event : (s : Side) (es : List DinRecord) (e : DinRecord) (place : ℕ)
     (o : Option ToStage)
     → place ≡ length es → option_to_list o ≡ map (message (place + 1)) (asked s e)
     → option_to_list o ≡ messages_to s es e
 messages_to-event s es e place o at routed = routed ∙ ap (λ n. map (message (n + 1)) (asked s e)) at
 
--- a stage serves no more than one thing for each event
+-- a stage serves at most one request for each event
 pub few-served : {s : Side} {stage : L1Stage} {es : List DinRecord} → StageRan s stage es
     → length es < 2 ^ 41 → served_of (cache_of stage) < 2 ^ 44
 few-served {s = s} {es = es} ran short =
     omega (arith, ran.stands.cache.served, ap length (taken_in-messages_to s es), few-history s es)
 
--- what an event brings is what its side sends up
+-- the requests in the answer to an event are what its side sends up
 pub brought-event : {s : Side} {stage : L1Stage} {es : List DinRecord} (e : DinRecord) (place : ℕ)
     (o : Option ToStage) → StageRan s stage es → place ≡ length es
     → option_to_list o ≡ map (message (place + 1)) (asked s e)
@@ -52,7 +52,7 @@ brought-event {s = s} {stage = stage} {es = es} e place o ran at routed =
     ran.side
     ∙ brought-messages_to parts s es e
 
--- a stage that served the event
+-- a stage that has served one more event
 pub ran-more : {s : Side} {old new : L1Stage} {es : List DinRecord} (e : DinRecord) (place : ℕ)
     (o : Option ToStage) → StageRan s old es → place ≡ length es
     → option_to_list o ≡ map (message (place + 1)) (asked s e)
@@ -82,7 +82,7 @@ second_level_requests-more parts es e = flat_map_with_past-more
 pub length-second_history : (ws : List What) → length (second_history ws) ≡ length ws
 length-second_history ws = length-reverse (map read_as ws) ∙ length-map ws read_as
 
--- there is room for the event at the second level
+-- the second level can still serve the requests of one more event
 pub room-above : SecondLevelSeesAtMostTwo → (c : Hierarchy) (es : List DinRecord) (e : DinRecord)
     → length es < 2 ^ 41
     → length (second_level_requests (parts_in c) es)

@@ -1,4 +1,4 @@
--- The events that a selection makes of a trace, and what they ask of each first-level cache.
+-- The event list that a selection makes of a trace, and the requests of an event to each side.
 use Rattle.std.specs.Prelude.{◌≤◌, ◌^◌, Some, None, option_to_list, ℕ, ◌+◌, ◌-◌, ◌%◌, Bool, true}
 use Rattle.std.specs.Prelude.{false, not, ◌==◌, ◌&&◌, ◌||◌, nat_lt, nat_le, List, [], ◌∷◌, ◌++◌}
 use Rattle.std.specs.Prelude.{count_by, reverse, if◌then◌else◌}
@@ -15,7 +15,7 @@ use Rattle.stage_core.specs.declared.message.Side.TheVariants as side
 use Rattle.stage_core.specs.declared.selection.Selection.{Selection}
 use Rattle.stage_core.specs.declared.selection.Picked.{Picked}
 
--- no number of a selection is above 2^40
+-- the numbers of a selection are at most 2 ^ 40
 pub record IsBounded (s : Selection) : Type 0 where
   pub skip : s.skip ≤ 2 ^ 40
   pub max : s.max ≤ 2 ^ 40
@@ -29,48 +29,47 @@ is_flush_label label.Instr = false
 is_flush_label label.Misc = false
 is_flush_label label.Flush = true
 
--- a reference is a record that isn't a flush
+-- a reference is a record that is not a flush
 abbrev pub is_reference : DinRecord → Bool
 is_reference x = not (is_flush_label x.label)
 
--- is a reference selected that is number r among the references? A max of 0 is no bound.
+-- is reference number r (from 1, flushes not counted) selected? If max is 0, there is no bound.
 abbrev pub is_selected_reference : Selection → ℕ → Bool
 is_selected_reference s r = nat_lt s.skip r && (s.max == 0 || nat_le r (s.skip + s.max))
 
--- is a flush record selected that stands behind r references?
+-- is a flush record selected that comes after r references?
 abbrev pub is_selected_flush : Selection → ℕ → Bool
 is_selected_flush s r = nat_le s.skip r && (s.max == 0 || nat_lt r (s.skip + s.max))
 
--- is the record x selected, where r references stand up to and with it?
+-- is the record x selected, if r references come up to and including x?
 abbrev pub is_selected : Selection → ℕ → DinRecord → Bool
 is_selected s r x = if is_reference x then is_selected_reference s r else is_selected_flush s r
 
--- does a flush follow the selected record x? It follows the selected references number every, 2 *
--- every and so on, and an every of 0 puts none in. The selected references are those from number
--- skip + 1 on.
+-- is a flush inserted after the selected record x? One comes after each selected reference whose
+-- number, counted from the first selected one, is a multiple of `every`; none if `every` is 0.
 abbrev pub flush_follows : Selection → ℕ → DinRecord → Bool
 flush_follows s r x = is_reference x && (nat_lt 0 s.every && ((r - s.skip) % s.every == 0))
 
--- the flush that a selection puts in
+-- the flush that a selection inserts
 abbrev pub inserted_flush : DinRecord
 inserted_flush = record { label = label.Flush; addr = 0 }
 
--- what is picked of the record x, where r references stand up to and with it
+-- what the selection makes of the record x, if r references come up to and including x
 abbrev pub picked : Selection → ℕ → DinRecord → Picked
 picked s r x = record {
   event = if is_selected s r x then Some x else None;
   flush = is_selected s r x && flush_follows s r x;
 }
 
--- the events that it makes
+-- the events of one record: the record if it is selected, and then the inserted flush, if any
 abbrev pub picked_events : Picked → List DinRecord
 picked_events p = option_to_list p.event ++ list_if p.flush inserted_flush
 
--- the events of the record x, which stands after the records before
+-- the events of the record x, which comes after the records `before`
 abbrev pub events_at : Selection → List DinRecord → DinRecord → List DinRecord
 events_at s before x = picked_events (picked s (count_by is_reference (before ++ x ∷ [])) x)
 
--- the event list of a trace; the place of an event is its number in this list, from 1
+-- the event list of a trace; the place of an event is its number in this list, counted from 1
 abbrev pub events : Selection → List DinRecord → List DinRecord
 events s records = flat_map_with_past (events_at s) records
 
@@ -78,8 +77,8 @@ events s records = flat_map_with_past (events_at s) records
 abbrev pub access_of : Class → ℕ → Event
 access_of c a = access record { class = c; addr = a }
 
--- what an event asks of a side's cache: one access, one flush, or nothing where the event isn't
--- that side's
+-- the requests of an event with this label and address to the cache of a side: one access, one
+-- flush, or nothing if the event does not concern that side
 abbrev pub asked_by : Side → Label → ℕ → List Event
 asked_by side.I label.Instr a = access_of class.Instr a ∷ []
 asked_by side.I label.Flush a = flush ∷ []
@@ -92,14 +91,14 @@ asked_by side.D label.Misc a = access_of class.Misc a ∷ []
 asked_by side.D label.Flush a = flush ∷ []
 asked_by side.D label.Instr a = []
 
--- the same of a whole event
+-- the requests of an event to the cache of a side
 abbrev pub asked : Side → DinRecord → List Event
 asked side e = asked_by side e.label e.addr
 
--- a cache's history has the newest event first, a trace the oldest: this is the one bridge
+-- a history has the newest request first, and a trace the oldest: this turns the order around
 abbrev pub newest_first : List Event → History
 newest_first xs = reverse xs
 
--- the instruction history and the data history of an event list
+-- the history of a side's cache for an event list
 abbrev pub history : Side → List DinRecord → History
 history side events = newest_first (flat_map (asked side) events)

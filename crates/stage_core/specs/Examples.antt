@@ -1,4 +1,4 @@
--- Two small traces, worked out on the definitions by computation.
+-- Examples of the definitions: the streams and counts of small traces, worked out by computation.
 use Rattle.std.specs.Prelude.{◌≡◌, ℕ, true, false, List, [], ◌∷◌, refl}
 use Rattle.cache_core.specs.declared.access.Class.TheVariants as class
 use Rattle.cache_core.specs.History.{Rules, flush}
@@ -32,15 +32,15 @@ lru bsize sets assoc = record {
   walloc = true;
 }
 
--- I 16/4/1, D 16/4/2 and U 32/8/2
+-- size, block size and ways: I 16/4/1, D 16/4/2 and U 32/8/2
 abbrev small : Hierarchy
 small = record { i = lru 4 4 1; d = lru 4 2 2; u = lru 8 2 2 }
 
--- a record
+-- a record with this label and address
 abbrev at_label : Label → ℕ → DinRecord
 at_label l a = record { label = l; addr = a }
 
--- a write whose block leaves at the third record
+-- a write, and two reads, the second of which evicts the written block
 abbrev victim_trace : List DinRecord
 victim_trace = at_label label.Write 0 ∷ at_label label.Read 8 ∷ at_label label.Read 16 ∷ []
 
@@ -64,7 +64,7 @@ unfolding parts_of outcome_of victim renewals is_resident reuse_distance dirty_b
     is_written
 from_d-victim = refl
 
--- the second level's history, the newest event first
+-- the history of the second level, the newest request first
 second-victim : second_history (second_level_requests (parts_in small) victim_trace)
     ≡ access_of class.Read 16 ∷ access_of class.Write 0 ∷ access_of class.Read 8
     ∷ access_of class.Read 0 ∷ []
@@ -78,7 +78,7 @@ unfolding parts_of outcome_of victim renewals is_resident reuse_distance dirty_b
     is_written counts_of tally flushes_in flushed_back
 misses-victim = refl
 
--- the messages of its five streams
+-- the number of messages in all five streams
 messages-victim : messages (parts_in small) victim_trace ≡ 18
 unfolding parts_of outcome_of victim renewals is_resident reuse_distance dirty_blocks is_dirty
     is_written
@@ -130,11 +130,11 @@ unfolding parts_of outcome_of victim renewals is_resident reuse_distance dirty_b
     is_written counts_of tally flushes_in flushed_back
 backs-flush = refl
 
--- an empty trace has Finish in each ring
+-- for an empty trace, each ring carries only `Finish`
 messages-none : messages (parts_in small) [] ≡ 5
 messages-none = refl
 
--- a flush behind every second reference
+-- a flush is inserted after every second reference
 put_in : events record { skip = 0; max = 0; every = 2 } victim_trace
     ≡ at_label label.Write 0 ∷ at_label label.Read 8 ∷ at_label label.Flush 0
     ∷ at_label label.Read 16 ∷ []

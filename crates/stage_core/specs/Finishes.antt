@@ -18,19 +18,19 @@ is_last_turn turn.D = false
 is_last_turn turn.Both = false
 is_last_turn turn.Finish = true
 
--- is it a stage's last message?
+-- is it the last message of a stage?
 abbrev pub is_last_answer : FromStage → Bool
 is_last_answer (from_stage.Part place part what) = false
 is_last_answer (from_stage.Done place parts) = false
 is_last_answer from_stage.Finish = true
 
--- these messages end with this one, and none before it is one of its kind
+-- these messages end with this message, and no message before it is a last one
 pub record EndOnce {M : Type 0} (is_end : M → Bool) (finish : M) (messages : List M) : Type 0 where
   pub before : List M
   pub last : messages ≡ before ++ finish ∷ []
   pub only : list_any is_end before ≡ false
 
--- Finish stands once in the stream of each ring, and last
+-- the stream of each ring has exactly one `Finish`, as its last message
 abbrev pub FinishEndsEachStream : Type 0
 FinishEndsEachStream = (parts : Parts) (s : Side) (es : List DinRecord) →
     EndOnce is_last_turn turn.Finish (order es)

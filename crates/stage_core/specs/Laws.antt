@@ -11,24 +11,24 @@ use Rattle.stage_core.specs.declared.message.Side.{Side}
 use Rattle.stage_core.specs.declared.message.Side.TheVariants as side
 use Rattle.stage_core.specs.declared.selection.Selection.{Selection}
 
--- the merge's rule, fed with the streams of an event list, takes exactly what the second level is
--- to see, uses the streams up and is at its end
+-- the merge's rule, applied to the streams of an event list, takes exactly the requests of the
+-- second level in the order of the trace, uses all messages, and comes to its end
 abbrev pub MergeTakesTheRequests : Type 0
 MergeTakesTheRequests = (parts : Parts) (es : List DinRecord) →
     merged (order es) (from_side parts side.I es) (from_side parts side.D es)
     ≡ all_used (second_level_requests parts es) AtEnd
 
--- what a stage sends for its whole stream is the stream to the merge
+-- the answers of a stage to its whole stream are its stream to the merge
 abbrev pub StagesAnswerTheirStreams : Type 0
 StagesAnswerTheirStreams = (parts : Parts) (s : Side) (es : List DinRecord) →
     replies parts s (to_side s es) ≡ from_side parts s es
 
--- the second level's history is at most twice as long as the event list
+-- the second level gets at most twice as many requests as there are events
 abbrev pub SecondLevelSeesAtMostTwo : Type 0
 SecondLevelSeesAtMostTwo = (c : Hierarchy) (es : List DinRecord) →
     length (second_history (second_level_requests (parts_in c) es)) ≤ 2 * length es
 
--- the event list is at most twice as long as the trace
+-- a selection makes at most twice as many events as there are records
 abbrev pub SelectionsMakeAtMostTwo : Type 0
 SelectionsMakeAtMostTwo = (s : Selection) (records : List DinRecord)
     → length (events s records) ≤ 2 * length records

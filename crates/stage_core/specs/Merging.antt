@@ -1,4 +1,4 @@
--- The merge's rule.
+-- The merge's rule: in which order the second level takes the requests of the two sides.
 use Rattle.std.specs.Prelude.{List, [], ◌∷◌}
 use Rattle.stage_core.specs.declared.message.What.{What}
 use Rattle.stage_core.specs.declared.message.Turn.{Turn}
@@ -8,12 +8,12 @@ use Rattle.stage_core.specs.declared.message.Want.TheVariants as want
 use Rattle.stage_core.specs.declared.message.FromStage.{FromStage}
 use Rattle.stage_core.specs.declared.message.FromStage.TheVariants as from_stage
 
--- Where the merge stands: before a turn; in a turn of I, of D, or of both with I's part still to
--- come; after the last turn, before I's Finish or D's; at the end.
+-- The state of the merge: before a turn; in a turn of I, of D, or of both with I's answer still to
+-- come; after the last turn, before the Finish of I or of D; at the end.
 pub data MergeState : Type 0 where
   AtOrder AtI AtD AtBoth LastI LastD AtEnd : MergeState
 
--- whose message it takes next
+-- from which ring it takes the next message
 abbrev pub wanted : MergeState → Want
 wanted AtOrder = want.Order
 wanted AtI = want.I
@@ -23,14 +23,14 @@ wanted LastI = want.I
 wanted LastD = want.D
 wanted AtEnd = want.Nothing
 
--- where a turn leads
+-- the state after a turn
 abbrev pub after_turn : Turn → MergeState
 after_turn turn.I = AtI
 after_turn turn.D = AtD
 after_turn turn.Both = AtBoth
 after_turn turn.Finish = LastI
 
--- where the end of a side's messages leads
+-- the state after the last message of a side's answer
 abbrev pub after_end : MergeState → MergeState
 after_end AtI = AtOrder
 after_end AtD = AtOrder
@@ -40,20 +40,21 @@ after_end LastD = AtEnd
 after_end AtOrder = AtOrder
 after_end AtEnd = AtEnd
 
--- a Part leaves the merge where it is; Done and Finish, either in the place of the other, end a
--- side's messages
+-- the state after a message of a side: a Part does not change it; Done and Finish both end the
+-- side's answer
 abbrev pub after_message : MergeState → FromStage → MergeState
 after_message at (from_stage.Part place part w) = at
 after_message at (from_stage.Done place parts) = after_end at
 after_message at from_stage.Finish = after_end at
 
--- what a message brings: that of a Part
+-- the request in a message: a Part has one
 abbrev pub what_in : FromStage → List What
 what_in (from_stage.Part place part w) = w ∷ []
 what_in (from_stage.Done place parts) = []
 what_in from_stage.Finish = []
 
--- what the rule has taken from three lists, where it stands then, and what is left of the lists
+-- the result of the rule on three lists of messages: the requests that it took, its last state, and
+-- the messages that are left
 pub record Merged : Type 0 where
   pub taken : List What
   pub at : MergeState
@@ -61,23 +62,23 @@ pub record Merged : Type 0 where
   pub from_i : List FromStage
   pub from_d : List FromStage
 
--- with one more taken before all others
+-- the result with one more request taken before all others
 abbrev pub with_what : What → Merged → Merged
 with_what w m = record m { taken = w ∷ m.taken }
 
--- the rule takes a side's messages up to their end and goes on behind it, or stops where there are
--- no more
+-- the rule takes the messages of a side up to the end of its answer, and then goes on; if the
+-- messages run out, it stops
 abbrev pub up_to_end : List FromStage → Merged → (List FromStage → Merged) → Merged
 up_to_end [] stopped next = stopped
 up_to_end (from_stage.Part place part w ∷ ms) stopped next = with_what w (up_to_end ms stopped next)
 up_to_end (from_stage.Done place parts ∷ ms) stopped next = next ms
 up_to_end (from_stage.Finish ∷ ms) stopped next = next ms
 
--- the rule stops here, and leaves these
+-- the result of a rule that stops in this state, and leaves these messages
 abbrev pub stops : MergeState → List Turn → List FromStage → List FromStage → Merged
 stops at turns is ds = record { taken = []; at = at; turns = turns; from_i = is; from_d = ds }
 
--- the rule, fed with the turns and with the messages from I and from D
+-- the rule, applied to the turns and the messages from I and from D
 abbrev pub merged : List Turn → List FromStage → List FromStage → Merged
 merged [] is ds = stops AtOrder [] is ds
 merged (turn.I ∷ ts) is ds = up_to_end is (stops AtI ts [] ds) (λ is'. merged ts is' ds)
@@ -89,6 +90,6 @@ merged (turn.Finish ∷ ts) is ds =
     up_to_end is (stops LastI ts [] ds) (λ is'.
     up_to_end ds (stops LastD ts is' []) (λ ds'. stops AtEnd ts is' ds'))
 
--- the rule took these requests, used all three lists up and stands there
+-- the result of a rule that took these requests, used all messages and is in this state
 abbrev pub all_used : List What → MergeState → Merged
 all_used ws at = record { taken = ws; at = at; turns = []; from_i = []; from_d = [] }

@@ -33,12 +33,12 @@ pub record Lane : Type 0 where
   pub outbox : List FromStage
   pub from : Ring FromStage
 
--- the stage took Finish in
+-- the stage has received Finish
 abbrev pub finish_taken : Lane → Bool
 finish_taken l = list_any is_finish l.to.popped
 
--- a state: what the splitter has still to push, the order ring, the two lanes, where the merge
--- stands, and what the second level was given
+-- a state of the network: what the splitter has still to push, the order ring, the two lanes, the
+-- state of the merge, and the requests that the second level was given
 pub record Network : Type 0 where
   pub still : List Push
   pub order : Ring Turn
@@ -52,7 +52,7 @@ abbrev pub lane : Side → Network → Lane
 lane side.I n = n.i
 lane side.D n = n.d
 
--- with this lane in its place
+-- the network with this lane at a side
 abbrev pub with_lane : Side → Lane → Network → Network
 with_lane side.I l n = record n { i = l }
 with_lane side.D l n = record n { d = l }
@@ -66,13 +66,13 @@ split capacity (To s m ∷ rest) n =
     option_map (λ r. with_lane s record (lane s n) { to = r } record n { still = rest })
     (push capacity m (lane s n).to)
 
--- a stage with an empty outbox takes its next message in, up to Finish
+-- a stage with an empty outbox receives its next message, unless it has received Finish
 abbrev pub take_in : Parts → Side → Lane → Option Lane
 take_in parts s l =
     option_map (λ x. record { to = x.1; outbox = reply parts s l.to.popped x.0; from = l.from })
     (if finish_taken l then None else pop l.to)
 
--- a stage pushes the front of its outbox, or takes a message in
+-- a stage pushes the first message of its outbox; if that is empty, it receives a message
 abbrev pub stage : Parts → ℕ → Side → List FromStage → Lane → Option Lane
 stage parts capacity s [] l = take_in parts s l
 stage parts capacity s (m ∷ rest) l =
@@ -82,41 +82,41 @@ stage parts capacity s (m ∷ rest) l =
 abbrev pub take_turn : Network → Option Network
 take_turn n = option_map (λ x. record n { order = x.1; at = after_turn x.0 }) (pop n.order)
 
--- the merge takes a message of a side, and the second level is given what it brings
+-- the merge takes a message of a side, and the second level gets the request in it, if any
 abbrev pub take_from : Side → Network → Option Network
 take_from s n =
     option_map (λ x. with_lane s record (lane s n) { from = x.1 }
     record n { at = after_message n.at x.0; given = n.given ++ what_in x.0 })
     (pop (lane s n).from)
 
--- the merge pops the ring that it wants
+-- the merge pops a message of the ring that it wants
 abbrev pub merge : Want → Network → Option Network
 merge want.Order n = take_turn n
 merge want.I n = take_from side.I n
 merge want.D n = take_from side.D n
 merge want.Nothing n = None
 
--- the state after the next step of a machine, where that step is possible
+-- the state after the next step of a machine, if that step is possible
 abbrev pub next : Parts → ℕ → Machine → Network → Option Network
 next parts capacity Splitter n = split capacity n.still n
 next parts capacity (Stage s) n =
     option_map (λ l. with_lane s l n) (stage parts capacity s (lane s n).outbox (lane s n))
 next parts capacity Merging n = merge (wanted n.at) n
 
--- is it possible?
+-- can this machine step?
 abbrev pub can : Parts → ℕ → Network → Machine → Bool
 can parts capacity n m = is_some (next parts capacity m n)
 
--- the machines, in their order
+-- all machines, in their order
 abbrev pub machines : List Machine
 machines = Splitter ∷ Stage side.I ∷ Stage side.D ∷ Merging ∷ []
 
--- those whose next step is possible
+-- the machines that can step
 abbrev pub enabled : Parts → ℕ → Network → List Machine
 enabled parts capacity n = filter (can parts capacity n) machines
 
--- no machine has a next step: all was pushed, both stages took Finish in and sent all that they
--- had to, and the merge wants nothing
+-- all machines have finished: the splitter has pushed all messages, both stages have received
+-- Finish and sent all answers, and the merge wants no message
 pub record IsFinished (n : Network) : Type 0 where
   pub splitter : n.still ≡ []
   pub sent : (s : Side) → (lane s n).outbox ≡ []
@@ -127,7 +127,7 @@ pub record IsFinished (n : Network) : Type 0 where
 abbrev pub empty_lane : Lane
 empty_lane = record { to = empty_ring; outbox = []; from = empty_ring }
 
--- the state at the start: all is still to be pushed, and all else is empty
+-- the state at the start: the splitter has everything still to push, and all else is empty
 abbrev pub start : List DinRecord → Network
 start events = record {
   still = pushes events;
@@ -138,32 +138,33 @@ start events = record {
   given = [];
 }
 
--- a schedule: each machine that it names makes its next step, where that is possible
+-- the state after a schedule, in which each machine of the list makes its next step; `None` if one
+-- of these steps is not possible
 abbrev pub run : Parts → ℕ → List Machine → Network → Option Network
 run parts capacity [] n = Some n
 run parts capacity (m ∷ ms) n = option_and_then (run parts capacity ms) (next parts capacity m n)
 
--- the steps that were made with a lane's rings
+-- how many steps were made on the rings of a lane
 abbrev pub lane_steps : Lane → ℕ
 lane_steps l = ring_steps l.to + ring_steps l.from
 
--- the steps that were made: the pushes and the pops of all five rings
+-- how many steps were made: the pushes and the pops of all five rings
 abbrev pub steps_made : Network → ℕ
 steps_made n = ring_steps n.order + lane_steps n.i + lane_steps n.d
 
--- the messages of a side's two streams
+-- how many messages the two streams of a side have
 abbrev pub side_messages : Parts → List DinRecord → Side → ℕ
 side_messages parts events s = length (to_side s events) + length (from_side parts s events)
 
--- the messages of all five streams
+-- how many messages all five streams have
 abbrev pub messages : Parts → List DinRecord → ℕ
 messages parts events = length (order events) + side_messages parts events side.I
     + side_messages parts events side.D
 
--- What each state keeps. The splitter has pushed a front of its list, and these messages are, ring
--- by ring, what its rings have carried; what a stage has sent, with its outbox, is what it has to
--- send for what it took in; the merge's rule, fed with what was popped, uses it up, stands where
--- the state says, and has taken what the second level was given.
+-- The invariant of all states. The splitter has pushed the first part of its list, and its rings
+-- have carried exactly those messages. What a stage has sent, together with its outbox, is its
+-- answer to what it has received. The merge's rule, applied to the popped messages, uses all of
+-- them, comes to the merge's state, and takes the requests that the second level was given.
 pub record Consistent (parts : Parts) (events : List DinRecord) (n : Network) : Type 0 where
   pub pushed : List Push
   pub front : pushed ++ n.still ≡ pushes events

@@ -1,4 +1,4 @@
--- The run on one thread, between two events.
+-- The run on one thread.
 use Rattle.std.specs.Prelude.{◌≡◌, ◌⊎◌, List, [], ◌∷◌, length, Option, option_to_list}
 use Rattle.std.specs.List.{flat_map}
 use Rattle.din_trace.specs.declared.record.DinRecord.{DinRecord}
@@ -19,40 +19,40 @@ use Rattle.stage_core.specs.declared.message.FromStage.{FromStage}
 use Rattle.stage_core.specs.declared.l1_stage.L1Stage.{L1Stage}
 use Rattle.stage_core.specs.declared.plain.Machines.{Machines}
 
--- the merge wants a side's message
+-- the merge wants a message of a side
 abbrev pub WantsSide : MergeState → Type 0
 WantsSide at = (wanted at ≡ want.I) ⊎ (wanted at ≡ want.D)
 
--- it does at each of these messages
+-- the merge wants a message of a side before each of these messages
 abbrev pub AreWanted : MergeState → List FromStage → Type 0
 AreWanted at [] = Unit {0}
 AreWanted at (m ∷ ms) = WantsSide at × AreWanted (after_message at m) ms
 
--- where it stands after them
+-- the state of the merge after these messages
 abbrev pub state_after : MergeState → List FromStage → MergeState
 state_after at [] = at
 state_after at (m ∷ ms) = state_after (after_message at m) ms
 
--- it does where each of these is to be answered
+-- the merge wants a message of a side before the answer to each of these messages
 abbrev pub WantsAnswers : MergeState → List ToStage → Type 0
 WantsAnswers at [] = Unit {0}
 WantsAnswers at (m ∷ ms) = WantsSide at × WantsAnswers (after_end at) ms
 
--- where it stands after the answers to these
+-- the state of the merge after the answers to these messages
 abbrev pub after_answers : MergeState → List ToStage → MergeState
 after_answers at [] = at
 after_answers at (m ∷ ms) = after_answers (after_end at) ms
 
--- what these messages bring from a stage that took in the messages before
+-- the requests that a stage sends up for these messages, after it has received those before
 abbrev pub brought : Parts → Side → List ToStage → List ToStage → List What
 brought parts s before ms = flat_map (λ m. flat_map what_in (reply parts s before m)) ms
 
--- the same of this stage and at most one message
+-- the requests that this stage sends up for one message, or for none
 abbrev pub brought_from : L1Stage → List ToStage → Option ToStage → List What
 brought_from stage before message =
     brought (parts_of (rules_of (cache_of stage))) (side_of stage) before (option_to_list message)
 
--- a stage took in all that its side was told of these events, and has sent all that it has to
+-- a stage has received all messages of its side for these events, and has sent all answers
 pub record StageRan (s : Side) (stage : L1Stage) (es : List DinRecord) : Type 0 where
   pub side : side_of stage ≡ s
   pub stands : StageStandsFor stage (flat_map_with_past (messages_to s) es)
@@ -66,7 +66,7 @@ hierarchy_in m = record {
   u = rules_of (l2_cache m.u);
 }
 
--- the machines have worked these events off
+-- the machines have simulated these events
 pub record Ran (m : Machines) (es : List DinRecord) : Type 0 where
   pub place : m.splitter ≡ length es
   pub i : StageRan side.I m.i es

@@ -1,4 +1,4 @@
--- What the first level sends up, and what the second level makes of it.
+-- What the first level sends to the second level, and the counts of all three caches.
 use Rattle.std.specs.Prelude.{ℕ, ◌*◌, List, [], ◌∷◌, ◌++◌, map, option_to_list}
 use Rattle.std.specs.List.{flat_map}
 use Rattle.din_trace.specs.declared.record.DinRecord.{DinRecord}
@@ -22,26 +22,26 @@ use Rattle.stage_core.specs.declared.totals.Totals.{Totals}
 abbrev pub back : ℕ → What
 back a = what.Back a
 
--- the second level serves I's fetches as fetches of instructions, and D's as reads
+-- the class of a fetch at the second level: an instruction fetch from I, a read from D
 abbrev pub fetch_class : Side → Class
 fetch_class side.I = class.Instr
 fetch_class side.D = class.Read
 
--- the parts of an access with this outcome, whose block begins at the byte first: the write-back of
--- a dirty victim, the fetch, the write sent on, as far as they occur
+-- the parts of an access with this outcome, whose block begins at the byte `first`: the write-back
+-- of a dirty victim, the fetch of the block, and the write sent on, each if it occurs
 abbrev pub access_parts : Side → ℕ → Access → Outcome → List What
 access_parts s first x o =
     map back (option_to_list o.back)
     ++ list_if o.fetch (what.Fetch (fetch_class s) first)
     ++ list_if o.through (what.Through x.addr)
 
--- a flush record flushes the second level once, behind D's write-backs
+-- a flush event flushes the second level once, after D's write-backs
 abbrev pub flush_all : Side → List What
 flush_all side.I = []
 flush_all side.D = what.FlushAll ∷ []
 
--- the parts of an event of a side's cache after a history; a flush writes the dirty blocks back,
--- rising
+-- the parts of a request to a side's cache after a history; a flush writes the dirty blocks back in
+-- ascending order
 unfoldable pub parts_of : Rules → Side → History → Event → List What
 parts_of r s h (access x) = access_parts s (block_of r x * r.bsize) x (outcome_of r h x)
 parts_of r s h flush = map back (map (λ b. b * r.bsize) (dirty_blocks r h)) ++ flush_all s
@@ -52,37 +52,37 @@ pub record Hierarchy : Type 0 where
   pub d : Rules
   pub u : Rules
 
--- those of a side's cache
+-- the rules of a side's cache
 abbrev pub rules_at : Hierarchy → Side → Rules
 rules_at c side.I = c.i
 rules_at c side.D = c.d
 
--- what some first level sends for an event of a side, after a history
+-- what a first level sends for a request to a side's cache, after a history
 abbrev pub Parts : Type 0
 Parts = Side → History → Event → List What
 
--- what this one sends
+-- what the first level of this hierarchy sends
 abbrev pub parts_in : Hierarchy → Parts
 parts_in c s h e = parts_of (rules_at c s) s h e
 
--- what a side sends for the event e of a trace, which stands after the events before
+-- what a side sends to the second level for the event e, which comes after the events `before`
 abbrev pub sent_up : Parts → Side → List DinRecord → DinRecord → List What
 sent_up parts side before e = flat_map (parts side (history side before)) (asked side e)
 
--- the requests to the second level: place by place I's parts, then D's
+-- all requests to the second level, in the order of the events; for each event I's, then D's
 abbrev pub second_level_requests : Parts → List DinRecord → List What
 second_level_requests parts events =
     flat_map_with_past (λ before e. sent_up parts side.I before e ++ sent_up parts side.D before e)
     events
 
--- the access or the flush that this makes at the second level
+-- the access or the flush that a request is at the second level
 abbrev pub read_as : What → Event
 read_as (what.Back a) = access_of class.Write a
 read_as (what.Fetch c a) = access_of c a
 read_as (what.Through a) = access_of class.Write a
 read_as what.FlushAll = flush
 
--- the second level's history
+-- the history of the second level's cache after these requests
 abbrev pub second_history : List What → History
 second_history ws = newest_first (map read_as ws)
 

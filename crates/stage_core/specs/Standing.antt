@@ -1,4 +1,4 @@
--- What the machines' fields have to do with what they were given.
+-- How the fields of the machines relate to what the machines have received.
 use Rattle.std.specs.Prelude.{◌≡◌, ℕ, Bool, true, false, List, [], length, count_by}
 use Rattle.std.specs.List.{list_any}
 use Rattle.din_trace.specs.declared.record.DinRecord.{DinRecord}
@@ -18,7 +18,7 @@ use Rattle.stage_core.specs.declared.selection.Selection.{Selection}
 use Rattle.stage_core.specs.declared.l1_stage.L1Stage.{L1Stage}
 use Rattle.stage_core.specs.declared.l2_stage.L2Stage.{L2Stage}
 
--- where the merge stands, as it keeps it
+-- the state of the merge, from the field that keeps it
 abbrev pub state_of : State → MergeState
 state_of state.Order = AtOrder
 state_of state.I = AtI
@@ -28,7 +28,7 @@ state_of state.LastI = LastI
 state_of state.LastD = LastD
 state_of state.End = AtEnd
 
--- what a selector keeps: how many records it was offered, and how many of them are references
+-- a selector: its selection, how many records it was offered, and how many of them are references
 pub record Offers : Type 0 where
   pub selection : Selection
   pub records : ℕ
@@ -39,48 +39,48 @@ pub record WasOffered (o : Offers) (offered : List DinRecord) : Type 0 where
   pub count : o.records ≡ length offered
   pub references : o.references ≡ count_by is_reference offered
 
--- which of the two a first-level stage is
+-- the side of a first-level stage
 unfoldable pub side_of : L1Stage → Side
 side_of s = s.side
 
--- its cache
+-- the cache of a first-level stage
 unfoldable pub cache_of : L1Stage → Cache
 cache_of s = s.cache
 
--- what it has still to send
+-- the messages that a first-level stage has still to send
 unfoldable pub outbox_of : L1Stage → List FromStage
 outbox_of s = s.outbox
 
--- whether it took Finish in
+-- whether a first-level stage has received Finish
 unfoldable pub took_finish : L1Stage → Bool
 took_finish s = s.took_finish
 
--- it may take a message in: nothing is left to send, and Finish was not taken in
+-- a stage may receive a message: it has sent all answers, and has not received Finish
 pub record IsReady (s : L1Stage) : Type 0 where
   pub goes_on : took_finish s ≡ false
   pub empty : outbox_of s ≡ []
 
--- Finish was taken in, and nothing is left to send
+-- a stage has finished: it has received Finish and has sent all answers
 pub record StageIsFinished (s : L1Stage) : Type 0 where
   pub took : took_finish s ≡ true
   pub empty : outbox_of s ≡ []
 
--- the stage took in these messages: its cache was given what they ask for, and Finish where it is
--- among them
+-- the stage has received these messages: its cache has served their requests, and Finish was
+-- received if it is one of them
 pub record StageStandsFor (s : L1Stage) (messages : List ToStage) : Type 0 where
   pub cache : StandsFor (cache_of s) (taken_in messages)
   pub finish : took_finish s ≡ list_any is_finish messages
 
--- what a refusal leaves: the cache has failed and counts what it counted before
+-- after a failed allocation: the cache has failed, and its counts are as before
 pub record HasFailedSince (old new : Cache) : Type 0 where
   pub failed : has_failed new ≡ true
   pub counts : counts_kept new ≡ counts_kept old
   pub served : served_of new ≡ served_of old
 
--- the second level's cache
+-- the cache of the second level
 unfoldable pub l2_cache : L2Stage → Cache
 l2_cache s = s.cache
 
--- the second level served these
+-- the second level has served these requests
 pub record L2StandsFor (s : L2Stage) (requests : List What) : Type 0 where
   pub cache : StandsFor (l2_cache s) (second_history requests)

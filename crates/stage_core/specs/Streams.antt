@@ -1,4 +1,4 @@
--- What each ring carries for an event list.
+-- The stream of each ring: the messages that it carries for an event list.
 use Rattle.std.specs.Prelude.{ℕ, ◌+◌, Bool, true, false, List, [], ◌∷◌, ◌++◌, length, map}
 use Rattle.std.specs.List.{flat_map}
 use Rattle.din_trace.specs.declared.record.DinRecord.{DinRecord}
@@ -17,7 +17,7 @@ use Rattle.stage_core.specs.declared.message.ToStage.TheVariants as to_stage
 use Rattle.stage_core.specs.declared.message.FromStage.{FromStage}
 use Rattle.stage_core.specs.declared.message.FromStage.TheVariants as from_stage
 
--- which sides an event concerns
+-- the turn of an event: which sides it concerns
 abbrev pub turn_of : Label → Turn
 turn_of label.Instr = turn.I
 turn_of label.Flush = turn.Both
@@ -25,50 +25,50 @@ turn_of label.Read = turn.D
 turn_of label.Write = turn.D
 turn_of label.Misc = turn.D
 
--- the order ring
+-- the stream of the order ring
 abbrev pub order : List DinRecord → List Turn
 order events = map (λ e. turn_of e.label) events ++ turn.Finish ∷ []
 
--- the message that asks a stage for an event of its cache
+-- the message with a request to a stage's cache
 abbrev pub message : ℕ → Event → ToStage
 message place (access x) = to_stage.Ref place x.class x.addr
 message place flush = to_stage.Flush place
 
--- the messages to a side for the event e, which stands after the events before
+-- the messages to a side for the event e, which comes after the events `before`
 abbrev pub messages_to : Side → List DinRecord → DinRecord → List ToStage
 messages_to side before e = map (message (length before + 1)) (asked side e)
 
--- the ring to a stage
+-- the stream of the ring to a stage
 abbrev pub to_side : Side → List DinRecord → List ToStage
 to_side side events = flat_map_with_past (messages_to side) events ++ to_stage.Finish ∷ []
 
--- parts under their place, numbered from n
+-- the messages for parts of an event at this place, numbered from n
 abbrev pub numbered : ℕ → ℕ → List What → List FromStage
 numbered place n [] = []
 numbered place n (w ∷ ws) = from_stage.Part place n w ∷ numbered place (n + 1) ws
 
--- the parts of a place, and how many they were
+-- the answer of a stage for an event: its parts, and then Done with their number
 abbrev pub answer : ℕ → List What → List FromStage
 answer place ws = numbered place 1 ws ++ from_stage.Done place (length ws) ∷ []
 
--- what a side answers to the event e, which stands after the events before
+-- the answer of a side for the event e, which comes after the events `before`
 abbrev pub answered : Parts → Side → List DinRecord → DinRecord → List FromStage
 answered parts side before e =
     flat_map (λ event. answer (length before + 1) (parts side (history side before) event))
     (asked side e)
 
--- the ring from a stage
+-- the stream of the ring from a stage
 abbrev pub from_side : Parts → Side → List DinRecord → List FromStage
 from_side parts side events = flat_map_with_past (answered parts side) events ++ from_stage.Finish
     ∷ []
 
--- what a message asks of a stage's cache
+-- the request to the cache in a message
 abbrev pub asked_in : ToStage → List Event
 asked_in (to_stage.Ref place c a) = access_of c a ∷ []
 asked_in (to_stage.Flush place) = flush ∷ []
 asked_in to_stage.Finish = []
 
--- is it the last message?
+-- is it the last message to a stage?
 abbrev pub is_finish : ToStage → Bool
 is_finish (to_stage.Ref place c a) = false
 is_finish (to_stage.Flush place) = false
@@ -78,13 +78,13 @@ is_finish to_stage.Finish = true
 abbrev pub taken_in : List ToStage → History
 taken_in messages = newest_first (flat_map asked_in messages)
 
--- what a stage sends for a message, which it takes in after the messages before
+-- the answer of a stage to a message, which it receives after the messages `before`
 abbrev pub reply : Parts → Side → List ToStage → ToStage → List FromStage
 reply parts side before (to_stage.Ref place c a) =
     answer place (parts side (taken_in before) (access_of c a))
 reply parts side before (to_stage.Flush place) = answer place (parts side (taken_in before) flush)
 reply parts side before to_stage.Finish = from_stage.Finish ∷ []
 
--- what it sends for a whole list of messages
+-- the answers of a stage to a whole list of messages
 abbrev pub replies : Parts → Side → List ToStage → List FromStage
 replies parts side messages = flat_map_with_past (reply parts side) messages

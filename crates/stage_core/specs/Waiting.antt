@@ -1,4 +1,4 @@
--- Where threads wait that post into outboxes, and publish from there into the rings.
+-- When threads may wait that post messages into outboxes and publish them from there into rings.
 use Rattle.std.specs.Prelude.{◌≡◌, ◌⊎◌, ℕ, ◌+◌, ◌<◌, ◌≤◌, Bool, true, false, List, [], ◌++◌, map}
 use Rattle.std.specs.Prelude.{length}
 use Rattle.std.specs.List.{list_any}
@@ -18,32 +18,34 @@ use Rattle.stage_core.specs.declared.message.ToStage.{ToStage}
 use Rattle.stage_core.specs.declared.message.ToStage.TheVariants as to_stage
 use Rattle.stage_core.specs.declared.message.FromStage.{FromStage}
 
--- the sending end of a ring: all that was posted, and the last part of it, which the outbox holds
+-- the sending end of a ring: all messages that were posted, and the last of them, which the outbox
+-- still holds
 pub record Sender (A : Type 0) : Type 0 where
   pub posted : List A
   pub held : List A
 
--- the splitter between two events: those that it has posted, whether the end too, and its senders
+-- the splitter between two events: the events whose messages it has posted, whether it has posted
+-- the end too, and its senders
 pub record SplitterThread : Type 0 where
   pub events : List DinRecord
   pub closed : Bool
   pub order : Sender Turn
   pub to : Side → Sender ToStage
 
--- a stage: what it received, its sender, and what it has still to post
+-- a stage: the messages that it has received, its sender, and the messages still to be posted
 pub record StageThread : Type 0 where
   pub received : List ToStage
   pub from : Sender FromStage
   pub unposted : List FromStage
 
--- the merge: what it received, where it stands, and what the second level was given
+-- the merge: the messages that it has received, its state, and the second level's requests
 pub record MergeThread : Type 0 where
   pub turns : List Turn
   pub from : Side → List FromStage
   pub at : MergeState
   pub given : List What
 
--- the four threads, and what waits in the rings between them: it was published, and not received
+-- the four threads, and the messages in the rings: those that were published and not received
 pub record Threads : Type 0 where
   pub splitter : SplitterThread
   pub stage : Side → StageThread
@@ -52,7 +54,7 @@ pub record Threads : Type 0 where
   pub to : Side → List ToStage
   pub from : Side → List FromStage
 
--- what was posted on each ring was received, or waits there, or is held
+-- on each ring, every posted message was received, or waits in the ring, or is held in the outbox
 pub record RingsCarry (n : Threads) : Type 0 where
   pub order : n.splitter.order.posted ≡ n.merge.turns ++ (n.order ++ n.splitter.order.held)
   pub to : (s : Side) →
@@ -60,42 +62,42 @@ pub record RingsCarry (n : Threads) : Type 0 where
   pub from : (s : Side) →
       (n.stage s).from.posted ≡ n.merge.from s ++ (n.from s ++ (n.stage s).from.held)
 
--- what the splitter has posted is, ring by ring, what it has to send for its events
+-- on each ring, the splitter has posted exactly the messages of its events
 pub record HasPosted (t : SplitterThread) : Type 0 where
   pub order : t.order.posted ≡ map (λ e. turn_of e.label) t.events ++ list_if t.closed turn.Finish
   pub to : (s : Side)
       → (t.to s).posted
       ≡ flat_map_with_past (messages_to s) t.events ++ list_if t.closed to_stage.Finish
 
--- what a stage has posted, with what it has still to post, answers what it received
+-- what a stage has posted and has still to post are its answers to what it has received
 abbrev pub HasAnswered : Parts → Side → StageThread → Type 0
 HasAnswered parts s t = t.from.posted ++ t.unposted ≡ replies parts s t.received
 
--- the merge's rule has used up what was received
+-- the merge's rule has used all messages that were received
 abbrev pub HasMerged : MergeThread → Type 0
 HasMerged t = merged t.turns (t.from side.I) (t.from side.D) ≡ all_used t.given t.at
 
--- how many messages the splitter holds
+-- how many messages the splitter holds in its outboxes
 abbrev pub splitter_holds : SplitterThread → ℕ
 splitter_holds t = length t.order.held + length (t.to side.I).held + length (t.to side.D).held
 
--- the splitter may wait for room where it holds something
+-- the splitter may wait for room if it holds a message
 pub record SplitterMayWait (t : SplitterThread) : Type 0 where
   pub posted : HasPosted t
   pub holds : 0 < splitter_holds t
 
--- it has ended where the end is posted and all is published
+-- the splitter has ended: the end is posted, and all messages are published
 pub record SplitterEnded (t : SplitterThread) : Type 0 where
   pub posted : HasPosted t
   pub closed : t.closed ≡ true
   pub published : splitter_holds t ≡ 0
 
--- a stage may wait for room where it holds something
+-- a stage may wait for room if it holds a message
 pub record MayAwaitRoom (parts : Parts) (s : Side) (t : StageThread) : Type 0 where
   pub answered : HasAnswered parts s t
   pub holds : 0 < length t.from.held
 
--- where all is published, it may wait for a message, or has ended if Finish came
+-- a stage has published all answers, and whether it has received Finish is as the flag says
 pub record HasPublished (finished : Bool) (parts : Parts) (s : Side) (t : StageThread)
     : Type 0 where
   pub answered : HasAnswered parts s t
@@ -103,52 +105,52 @@ pub record HasPublished (finished : Bool) (parts : Parts) (s : Side) (t : StageT
   pub published : t.from.held ≡ []
   pub finish : list_any is_finish t.received ≡ finished
 
--- a stage may wait for a message
+-- a stage may wait for a message: all answers are published, and Finish was not received
 abbrev pub MayAwaitMessage : Parts → Side → StageThread → Type 0
 MayAwaitMessage = HasPublished false
 
--- a stage has ended
+-- a stage has ended: all answers are published, and Finish was received
 abbrev pub StageEnded : Parts → Side → StageThread → Type 0
 StageEnded = HasPublished true
 
--- the merge may wait for the ring that it wants, and has ended where it wants none
+-- the merge has ended: it has used all messages that it received, and wants no more
 abbrev pub MergeEnded : MergeThread → Type 0
 MergeEnded t = HasMerged t × (wanted t.at ≡ want.Nothing)
 
--- a ring has no room for what is held: nothing is, or the ring is full
+-- nothing can be published: no message is held, or the ring is full
 abbrev pub NoRoom : {A : Type 0} → ℕ → Sender A → List A → Type 0
 NoRoom capacity s waiting = (s.held ≡ []) ⊎ (capacity ≤ length waiting)
 
--- nothing waits in the ring that is wanted
+-- no message waits in the ring that is wanted
 abbrev pub NothingFor : Want → Threads → Type 0
 NothingFor want.Order n = n.order ≡ []
 NothingFor want.I n = n.from side.I ≡ []
 NothingFor want.D n = n.from side.D ≡ []
 NothingFor want.Nothing n = ⊥
 
--- the splitter waits in vain: no ring has room for what it holds
+-- the splitter waits, and no ring has room for a message that it holds
 pub record SplitterWaits (capacity : ℕ) (n : Threads) : Type 0 where
   pub may : SplitterMayWait n.splitter
   pub order : NoRoom capacity n.splitter.order n.order
   pub to : (s : Side) → NoRoom capacity (n.splitter.to s) (n.to s)
 
--- a stage waits in vain: for room where there is none, or for a message where none is
+-- a stage waits for room and there is none, or for a message and there is none
 abbrev pub StageWaits : Parts → ℕ → Side → Threads → Type 0
 StageWaits parts capacity s n =
     (MayAwaitRoom parts s (n.stage s) × NoRoom capacity (n.stage s).from (n.from s))
     ⊎ (MayAwaitMessage parts s (n.stage s) × (n.to s ≡ []))
 
--- the merge waits in vain
+-- the merge waits for a message, and there is none
 abbrev pub MergeWaits : Threads → Type 0
 MergeWaits n = HasMerged n.merge × NothingFor (wanted n.merge.at) n
 
--- each thread waits in vain, or has ended
+-- each thread has ended, or waits for something that is not there
 pub record NoneGoesOn (parts : Parts) (capacity : ℕ) (n : Threads) : Type 0 where
   pub splitter : SplitterWaits capacity n ⊎ SplitterEnded n.splitter
   pub stage : (s : Side) → StageWaits parts capacity s n ⊎ StageEnded parts s (n.stage s)
   pub merge : MergeWaits n ⊎ MergeEnded n.merge
 
--- each has ended
+-- all four threads have ended
 pub record AllEnded (parts : Parts) (n : Threads) : Type 0 where
   pub splitter : SplitterEnded n.splitter
   pub stage : (s : Side) → StageEnded parts s (n.stage s)

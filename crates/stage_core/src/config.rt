@@ -1,4 +1,4 @@
-//! The three caches and the capacity of the rings.
+//! A configuration: the three caches and the capacity of the rings.
 
 ghost use Rattle.std.specs.Prelude.{◌≡◌, ◌<◌, ◌≤◌, Some, None, OnOk, IfOk, IfErr};
 ghost use Rattle.cache_core.specs.Geometry.{IsMadeOf};
@@ -6,36 +6,43 @@ ghost use Rattle.stage_core.specs.Lawful.{geometry_refusal};
 
 use cache_core::{Geometry, GeometryFault, Policy};
 
-/// What one cache is to be: its size and its block in bytes, its ways, its policy. An instruction
-/// cache is given no write, so its write choices change nothing.
+/// One cache as it is asked for: its size and block size in bytes, its number of ways, its policy.
+/// The instruction cache gets no writes, so its choices for writes have no effect.
 #[derive(Clone, Copy, Debug, PartialEq, Eq)]
 pub struct CacheSpec {
+    /// The size of the cache in bytes.
     pub size: u64,
+    /// The size of a block in bytes.
     pub bsize: u64,
+    /// The number of ways of a set.
     pub assoc: u64,
+    /// The replacement, and the choices for writes.
     pub policy: Policy,
 }
 
 /// One of the three caches.
 #[derive(Clone, Copy, Debug, PartialEq, Eq)]
 pub enum CacheName {
+    /// The instruction cache.
     I,
+    /// The data cache.
     D,
+    /// The unified second level.
     U,
 }
 
-/// Why a configuration is refused: the first rule that is broken.
+/// Why a configuration is refused: the first broken rule, in the order below.
 #[derive(Clone, Copy, Debug, PartialEq, Eq)]
 pub enum ConfigFault {
-    /// The first of I, D and U whose geometry is refused, and why.
+    /// The geometry of this cache is refused: the first of I, D and U, and why.
     Geometry(CacheName, GeometryFault),
-    /// U's block is shorter than I's or D's.
+    /// The block of U is shorter than that of I or D.
     BlockOrder,
     /// The capacity of the rings is not from 1 to 65,536.
     Ring,
 }
 
-/// A lawful configuration.
+/// A valid configuration.
 #[derive(Clone, Copy, Debug)]
 pub struct Config {
     i: (Geometry, Policy),
@@ -46,7 +53,7 @@ pub struct Config {
     ghost short_ring: { ring ≤ 65536 },
 }
 
-// The geometry that a cache is to have.
+// The geometry of a cache, or why it is refused.
 #[tactic(auto, unfolding(crate::specs::Lawful::geometry_refusal))]
 fn geometry(which: CacheName, spec: CacheSpec) -> Result<Geometry, ConfigFault>
     ensures made { IfOk result (λ geometry. IsMadeOf geometry spec.size spec.bsize spec.assoc) }
@@ -66,7 +73,8 @@ impl Config {
     ghost use Rattle.stage_core.specs.Config.{IsCacheOf, geometry_in, policy_in, ring_of};
     ghost use Rattle.stage_core.specs.declared.config.CacheName.TheVariants as cache_name;
 
-    /// The configuration of these caches and this capacity, or the first rule that they break.
+    /// The configuration with these caches and with rings of `ring` messages, or the first rule
+    /// that they break.
     pub fn new(i: CacheSpec, d: CacheSpec, u: CacheSpec, ring: u64) -> Result<Config, ConfigFault>
         ensures i { IfOk result (λ config. IsCacheOf config cache_name.I i) }
         ensures d { IfOk result (λ config. IsCacheOf config cache_name.D d) }
@@ -116,7 +124,7 @@ impl Config {
         self.u
     }
 
-    /// How many messages each ring holds.
+    /// The capacity of each ring, in messages.
     pub fn ring(&self) -> usize
         ensures ring { result ≡ ring_of self.now }
         ensures some { 0 < result }

@@ -1,4 +1,4 @@
-//! A first-level stage: one cache, and what it sends to the next level.
+//! A first-level stage: one cache, and the messages that it sends to the next level.
 
 ghost use Rattle.std.specs.Prelude.{◌≡◌, option_to_list};
 ghost use Rattle.cache_core.specs.Standing.{rules_of};
@@ -14,8 +14,8 @@ use crate::outbox::Outbox;
 use cache_core::{Access, Cache, Class, Counts, Geometry, MAX_EVENTS, Outcome, Policy};
 use std::alloc::Global;
 
-/// One first-level cache, which takes messages in and sends the parts of each to the next level. A
-/// message is taken in once all that the one before it brought was sent.
+/// One first-level cache. It receives messages, and answers each with the parts for the next level.
+/// The next message may be given to it only after all answers were taken out of its outbox.
 #[derive(Drop)]
 pub struct L1Stage {
     alloc: Global,
@@ -27,7 +27,7 @@ pub struct L1Stage {
     ghost shape: { (rules_of cache).bsize ≡ bsize_of geometry },
 }
 
-// The fetch of a block, as the next level serves it.
+// The part for the fetch of a block, if there is one.
 fn fetch_part(side: Side, fetch: bool, first: u64) -> Option<What>
     ensures { option_to_list result ≡ list_if fetch (what.Fetch (fetch_class side) first) }
 {
@@ -41,7 +41,7 @@ fn fetch_part(side: Side, fetch: bool, first: u64) -> Option<What>
     Some(What::Fetch(class, first))
 }
 
-// The write sent on.
+// The part for a write that is sent on, if it is.
 fn through_part(through: bool, addr: u64) -> Option<What>
     ensures { option_to_list result ≡ list_if through (what.Through addr) }
 {
@@ -52,7 +52,7 @@ fn through_part(through: bool, addr: u64) -> Option<What>
     }
 }
 
-// What follows the write-backs of a flush.
+// The part after the write-backs of a flush, if there is one.
 fn flush_part(side: Side) -> Option<What>
     ensures { option_to_list result ≡ flush_all side }
 {
@@ -62,7 +62,7 @@ fn flush_part(side: Side) -> Option<What>
     }
 }
 
-// The parts of an access whose block begins at `first`, and Done.
+// The outbox with the answer to an access whose block begins at `first`: its parts, and Done.
 fn access_box(
     alloc: Global,
     side: Side,
@@ -78,7 +78,8 @@ fn access_box(
     Outbox::answer(place, Vec::new(alloc), outcome.back, fetch, through)
 }
 
-// Puts them into the outbox. Most accesses have none: then nothing is made for them.
+// Puts the answer to an access into the outbox. Most accesses have no part: for them the outbox is
+// not made anew.
 fn put_access(
     outbox: &mut Outbox,
     alloc: Global,
@@ -114,7 +115,7 @@ impl L1Stage {
     ghost use Rattle.stage_core.specs.declared.message.ToStage.{ToStage};
     ghost use Rattle.stage_core.specs.declared.message.FromStage.TheVariants as from_stage;
 
-    /// A stage that took nothing in.
+    /// A stage that has received nothing, with an empty cache.
     pub fn new(
         alloc: Global,
         side: Side,
@@ -139,21 +140,21 @@ impl L1Stage {
         })
     }
 
-    /// Whether a message may be taken in: all was sent, and Finish was not taken in.
+    /// Whether the stage may receive a message: its outbox is empty, and Finish was not received.
     pub fn ready(&self) -> bool
         ensures { IsTrue result ↔ IsReady self.now }
     {
         self.outbox.is_empty() && !self.took_finish
     }
 
-    /// Whether Finish was taken in and all was sent.
+    /// Whether Finish was received and the outbox is empty.
     pub fn finished(&self) -> bool
         ensures { IsTrue result ↔ StageIsFinished self.now }
     {
         self.took_finish && self.outbox.is_empty()
     }
 
-    /// How many accesses and flushes its cache served.
+    /// How many accesses and flushes its cache has served.
     pub fn served(&self) -> u64
         ensures served { result ≡ served_of (cache_of self.now) }
         ensures all { (messages : List ToStage) → StageStandsFor self.now messages →
@@ -162,7 +163,7 @@ impl L1Stage {
         self.cache.served()
     }
 
-    /// Its cache's counts, also after a refusal.
+    /// The counts of its cache, also after a failure.
     pub fn counts(&self) -> Counts
         ensures kept { result ≡ counts_kept (cache_of self.now) }
         ensures counted { (messages : List ToStage) → StageStandsFor self.now messages →
@@ -172,14 +173,14 @@ impl L1Stage {
         self.cache.counts()
     }
 
-    /// Whether an `on` was refused memory.
+    /// Whether a call of `on` failed.
     pub fn failed(&self) -> bool
         ensures { result ≡ has_failed (cache_of self.now) }
     {
         self.cache.failed()
     }
 
-    /// Takes the next message off that is to be sent.
+    /// Takes the next message out of the outbox.
     pub fn outbox_next(&mut self) -> Option<FromStage>
         ensures front { outbox_of self.old ≡ option_to_list result ++ outbox_of self.new }
         ensures none { IsNone result ↔ (outbox_of self.old ≡ []) }
@@ -241,7 +242,7 @@ impl L1Stage {
         Ok(())
     }
 
-    // Takes Finish in. A stage that has failed refuses it too.
+    // Receives Finish. A stage that has failed refuses it too.
     fn finish(&mut self) -> Result<(), NoMemory>
         ensures sent { OnOk result (outbox_of self.new ≡ from_stage.Finish ∷ []) }
         ensures finish { OnOk result (took_finish self.new ≡ true) }
@@ -260,8 +261,8 @@ impl L1Stage {
         Ok(())
     }
 
-    /// Takes a message in, and makes what is to be sent for it. After a refusal the stage has
-    /// failed: nothing is left to send, and each further call is refused.
+    /// Receives a message, and puts the answer to it into the outbox. After an error the stage has
+    /// failed: its outbox is empty, and every later call answers `NoMemory`.
     #[inline(always)]
     pub fn on(&mut self, message: ToStage) -> Result<(), NoMemory>
         requires ready { IsReady self.old }

@@ -1,4 +1,4 @@
-//! The second level: one cache that serves what the first level asks of it.
+//! The second level: one cache, which serves the requests of the first level.
 
 ghost use Rattle.std.specs.Prelude.{◌≡◌, ◌<◌, ◌+◌, ◌++◌, ◌∷◌, [], IsErr, IfOk, OnOk, OnErr, List};
 ghost use Rattle.std.specs.Prelude.{true, false, length};
@@ -15,7 +15,7 @@ use crate::message::What;
 use cache_core::{Access, Cache, Class, Counts, Geometry, MAX_EVENTS, Policy};
 use std::alloc::Global;
 
-/// The second-level cache. What it sends to memory is counted, and goes nowhere.
+/// The second-level cache. What it sends to memory is only counted.
 #[derive(Drop)]
 pub struct L2Stage {
     alloc: Global,
@@ -24,7 +24,7 @@ pub struct L2Stage {
 
 #[tactic(auto, unfolding(crate::specs::Standing::l2_cache))]
 impl L2Stage {
-    /// A second level that served nothing.
+    /// A second level that has served nothing, with an empty cache.
     pub fn new(alloc: Global, geometry: Geometry, policy: Policy) -> Result<L2Stage, NoMemory>
         ensures rules { IfOk result (λ stage. rules_of (l2_cache stage)
             ≡ rules_from geometry policy) }
@@ -35,7 +35,7 @@ impl L2Stage {
         Ok(L2Stage { alloc, cache })
     }
 
-    /// How many accesses and flushes its cache served.
+    /// How many accesses and flushes its cache has served.
     pub fn served(&self) -> u64
         ensures served { result ≡ served_of (l2_cache self.now) }
         ensures all { (requests : List What) → L2StandsFor self.now requests →
@@ -44,7 +44,7 @@ impl L2Stage {
         self.cache.served()
     }
 
-    /// Its cache's counts, also after a refusal.
+    /// The counts of its cache, also after a failure.
     pub fn counts(&self) -> Counts
         ensures kept { result ≡ counts_kept (l2_cache self.now) }
         ensures counted { (requests : List What) → L2StandsFor self.now requests →
@@ -54,7 +54,7 @@ impl L2Stage {
         self.cache.counts()
     }
 
-    /// Whether an `on` was refused memory.
+    /// Whether a call of `on` failed.
     pub fn failed(&self) -> bool
         ensures { result ≡ has_failed (l2_cache self.now) }
     {
@@ -96,8 +96,8 @@ impl L2Stage {
         Ok(())
     }
 
-    /// Serves what the first level sends. After a refusal the stage has failed, and each further
-    /// call is refused.
+    /// Serves a request of the first level. After an error the stage has failed, and every later
+    /// call answers `NoMemory`.
     pub fn on(&mut self, what: What) -> Result<(), NoMemory>
         requires { served_of (l2_cache self.old) < MAX_EVENTS }
         ensures stands { OnOk result ((before : List What) → L2StandsFor self.old before →

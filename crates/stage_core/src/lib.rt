@@ -2,10 +2,10 @@
 //! two first-level stages ([`L1Stage`], for instructions and for data), and what these send goes
 //! through a [`Merge`] to the second level ([`L2Stage`]).
 //!
-//! None of the machines knows of threads or rings: each takes one thing in by `&mut self` and says
-//! what it puts out. `config` and `selection` say what is simulated, `message` has what the
-//! machines send to one another, `plain` moves all of them by hand on one thread, and `laws` has
-//! what holds of the definitions themselves.
+//! No machine knows of threads or rings. Each has `&mut self` methods that take one item in and
+//! answer what it puts out. `config` and `selection` say what is simulated, `message` has the
+//! messages between the machines, `plain` runs all machines on one thread, and `laws` has
+//! properties of the definitions themselves.
 //!
 //! `network` moves them one push or one pop at a time through rings of a given capacity, as the
 //! threads of a pipeline do, in whatever order its caller chooses. No program uses it.

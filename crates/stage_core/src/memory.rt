@@ -1,6 +1,6 @@
-//! Want of memory.
+//! The error of a failed allocation.
 
-/// Memory was refused.
+/// An allocation failed, in this call or an earlier one.
 #[derive(Clone, Copy, Debug, PartialEq, Eq)]
 pub struct NoMemory;
 

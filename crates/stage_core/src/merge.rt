@@ -1,4 +1,4 @@
-//! The merge: in which order the second level takes the two sides' messages.
+//! The merge: in which order the second level takes the messages of the two sides.
 
 ghost use Rattle.std.specs.Prelude.{◌≡◌, ◌⊎◌, option_to_list};
 ghost use Rattle.stage_core.specs.Merging.{AtOrder, wanted, after_turn, after_message, what_in};
@@ -7,7 +7,7 @@ ghost use Rattle.stage_core.specs.declared.message.Want.TheVariants as want;
 use crate::message::{FromStage, Turn, Want, What};
 use std::marker::Model;
 
-// Where the merge stands: `Both` is a turn of both sides with I's part still to come.
+// The state of the merge. `Both` is a turn of both sides, with I's answer still to come.
 #[derive(Clone, Copy)]
 enum State {
     Order,
@@ -19,7 +19,8 @@ enum State {
     End,
 }
 
-/// Says whose message comes next, and takes it. It never looks at which ring has one.
+/// Says from which ring the next message has to come, and takes it. This order never depends on
+/// which ring has a message first.
 #[derive(Drop)]
 pub struct Merge {
     state: State,
@@ -44,7 +45,7 @@ impl Merge {
         }
     }
 
-    /// Whose message is to come.
+    /// From which ring the next message has to come.
     pub fn wants(&self) -> Want
         ensures { result ≡ wanted self.now }
     {
@@ -69,8 +70,8 @@ impl Merge {
         };
     }
 
-    /// Takes a message of the side that is wanted, and answers what a Part brings. The numbers are
-    /// not looked at.
+    /// Takes a message of the wanted side, and answers the request in it: a Part has one. The place
+    /// and the numbers in the message are not checked.
     pub fn take(&mut self, message: FromStage) -> Option<What>
         requires { (wanted self.old ≡ want.I) ⊎ (wanted self.old ≡ want.D) }
         ensures stands { self.new ≡ after_message self.old message }

@@ -32,7 +32,7 @@ pub use schedule::drive;
 use std::alloc::Global;
 use std::marker::Model;
 
-/// One of the four machines. The merge has the second level with it.
+/// One of the four machines. The second level belongs to the merge.
 #[derive(Clone, Copy)]
 pub enum Machine {
     Splitter,
@@ -40,8 +40,8 @@ pub enum Machine {
     Merging,
 }
 
-/// The four machines of a run and the five rings between them, of which one machine makes one push
-/// or one pop at a time. Clauses see the configuration, the event list and the state of the
+/// The four machines of a run and the five rings between them. In each step, one machine makes one
+/// push or one pop. The contracts see the configuration, the event list and the state of the
 /// network.
 #[derive(Drop)]
 pub struct Core {
@@ -79,7 +79,7 @@ impl Core {
     ghost use Rattle.stage_core.specs.Network.Cores.{MakesStep, IsSameRun, IsConsistent, IsOver};
     ghost use Rattle.stage_core.specs.declared.network.Machine.{Machine};
 
-    /// The network at its start, for the selected part of a trace.
+    /// The network at its start, for the selected records of a trace.
     pub fn new(
         alloc: Global,
         config: &Config,
@@ -129,7 +129,7 @@ impl Core {
         unreachable!()
     }
 
-    // How many machines can make their next step, before a refusal.
+    // How many machines can step, if no allocation has failed.
     fn count(&self) -> u8
         requires { self.now.failed ≡ false }
         ensures { result ≡ length (enabled_in self.now) }
@@ -140,8 +140,8 @@ impl Core {
             + u8::from(self.can(Machine::Merging))
     }
 
-    /// How many machines can make their next step, from 0 to 4: 0 after a refusal, and else only
-    /// where all have finished.
+    /// How many machines can step, from 0 to 4. It is 0 only if all have finished, or after a
+    /// failed allocation.
     pub fn enabled(&self) -> u8
         ensures count { result ≡ length (enabled_in self.now) }
         ensures consistent { self.now.failed ≡ false → IsConsistent self.now }
@@ -150,8 +150,8 @@ impl Core {
         if self.failed { 0 } else { self.count() }
     }
 
-    /// Makes one step: that of the machine number `nth`, from 0, of those that can, in the order
-    /// splitter, I, D, merge. After a refusal the core has failed, and nothing is enabled.
+    /// Makes one step of machine number `nth` (from 0) among those that can step, in the order
+    /// splitter, I, D, merge. After an error, no machine can step any more.
     pub fn step(&mut self, nth: u8) -> Result<(), NoMemory>
         requires { nth < length (enabled_in self.old) }
         ensures step { OnOk result ((m : Machine) × IsChosen nth self.old m
@@ -171,21 +171,21 @@ impl Core {
         self.make(machine)
     }
 
-    /// Whether no machine has a next step, and memory was never refused.
+    /// Whether all machines have finished, and no allocation failed.
     pub fn finished(&self) -> bool
         ensures { IsTrue result ↔ IsOver self.now }
     {
         !self.failed && self.enabled() == 0
     }
 
-    /// Whether a `step` was refused memory.
+    /// Whether a call of `step` failed.
     pub fn failed(&self) -> bool
         ensures { result ≡ self.now.failed }
     {
         self.failed
     }
 
-    /// The counts of the whole run.
+    /// The counts of the three caches, once the run is over.
     pub fn totals(&self) -> Totals
         requires { IsOver self.now }
         ensures { result ≡ totals (hierarchy_of self.now.config) self.now.events }

@@ -1,4 +1,5 @@
-//! What a stage has still to send, made as it is sent: nothing grows after the cache was called.
+//! The outbox of a stage. A message is made only when it is taken out, so no allocation is needed
+//! after the cache was called.
 
 ghost use Rattle.std.specs.Prelude.{◌≡◌, ◌<◌, ◌^◌, ◌↔◌, ◌++◌, ◌∷◌, [], IsNone, IsTrue, length};
 ghost use Rattle.std.specs.Prelude.{option_to_list, map};
@@ -10,8 +11,8 @@ use crate::message::{FromStage, What};
 use std::alloc::Global;
 use std::marker::Model;
 
-// The parts of one message that are still to be sent. The write-backs of a flush are the very list
-// that the cache filled.
+// The parts that are still to be sent for one message. The write-backs of a flush are kept in the
+// list that the cache filled.
 #[derive(Drop)]
 struct Pending {
     backs: Vec<u64>,
@@ -34,6 +35,7 @@ impl Model for Pending {
 }
 
 impl Pending {
+    // No parts.
     fn none(alloc: Global) -> Pending
         ensures { result ≡ [] }
     {
@@ -69,7 +71,7 @@ impl Pending {
     }
 }
 
-// What is still to be sent: `Parts` are parts, perhaps none, and Done behind them.
+// What is still to be sent: `Parts` means parts, perhaps none, and then Done.
 #[derive(Clone, Copy)]
 enum Closing {
     Nothing,
@@ -78,7 +80,7 @@ enum Closing {
     Finish,
 }
 
-/// What was made of one message and is still to be sent.
+/// The messages that are still to be sent as the answer to one message.
 #[derive(Drop)]
 pub(crate) struct Outbox {
     place: u64,
@@ -100,7 +102,7 @@ impl Model for Outbox {
 }
 
 impl Outbox {
-    /// Nothing.
+    /// An empty outbox.
     pub(crate) fn empty(alloc: Global) -> Outbox
         ensures { result ≡ [] }
     {
@@ -112,7 +114,7 @@ impl Outbox {
         }
     }
 
-    /// Finish.
+    /// An outbox with Finish alone.
     pub(crate) fn finish(alloc: Global) -> Outbox
         ensures { result ≡ from_stage.Finish ∷ [] }
     {
@@ -124,7 +126,7 @@ impl Outbox {
         }
     }
 
-    /// The write-backs and up to three parts more, and Done.
+    /// An outbox with the write-backs, up to three more parts, and Done.
     pub(crate) fn answer(
         place: u64,
         backs: Vec<u64>,
@@ -150,7 +152,7 @@ impl Outbox {
         }
     }
 
-    /// Done alone, in place of what was still to be sent.
+    /// Puts Done alone into the outbox, instead of what was in it.
     pub(crate) fn answer_nothing(&mut self, place: u64)
         ensures { self.new ≡ answer place [] }
     {
@@ -159,7 +161,7 @@ impl Outbox {
         self.closing = Closing::Done;
     }
 
-    /// Whether all was sent.
+    /// Whether no message is left.
     pub(crate) fn is_empty(&self) -> bool
         ensures { IsTrue result ↔ (self.now ≡ []) }
     {
@@ -169,7 +171,7 @@ impl Outbox {
         }
     }
 
-    /// Takes the next message off.
+    /// Takes the next message out.
     pub(crate) fn next(&mut self) -> Option<FromStage>
         ensures front { self.old ≡ option_to_list result ++ self.new }
         ensures none { IsNone result ↔ (self.old ≡ []) }

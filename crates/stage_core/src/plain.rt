@@ -31,7 +31,7 @@ use cache_core::MAX_EVENTS;
 use din_trace::{DinRecord, MAX_LIMIT};
 use std::alloc::Global;
 
-// Hands a stage's whole outbox to the merge, and what it brings to the second level.
+// Gives a stage's whole outbox to the merge, and the requests in it to the second level.
 #[inline(always)]
 fn drain(stage: &mut L1Stage, merge: &mut Merge, u: &mut L2Stage) -> Result<(), NoMemory>
     requires wanted { AreWanted merge.old (outbox_of stage.old) }
@@ -54,7 +54,7 @@ fn drain(stage: &mut L1Stage, merge: &mut Merge, u: &mut L2Stage) -> Result<(), 
     Ok(())
 }
 
-// Hands a stage its message, if it has one, and all that this brings to the second level.
+// Gives a stage its message, if there is one, and the requests in the answer to the second level.
 #[inline(always)]
 fn serve_side(
     stage: &mut L1Stage,
@@ -87,7 +87,7 @@ fn serve_side(
     drain(stage, merge, u)
 }
 
-// The machines of the run.
+// All machines of a run.
 #[derive(Drop)]
 struct Machines {
     splitter: Splitter,
@@ -98,7 +98,7 @@ struct Machines {
 }
 
 impl Machines {
-    // Works the next event off.
+    // Simulates the next event.
     #[inline(always)]
     fn take(&mut self, event: DinRecord) -> Result<(), NoMemory>
         requires room { (es : List DinRecord) × Ran self.old es × (length es < 2 * MAX_LIMIT) }
@@ -114,7 +114,7 @@ impl Machines {
         Ok(())
     }
 
-    // Works an event off, if there is one.
+    // Simulates an event, if there is one.
     #[inline(always)]
     fn take_some(&mut self, event: Option<DinRecord>) -> Result<(), NoMemory>
         requires room { (es : List DinRecord) × Ran self.old es × (length es < 2 * MAX_LIMIT) }
@@ -128,7 +128,7 @@ impl Machines {
         self.take(event)
     }
 
-    // Works off what is selected of these records.
+    // Simulates the selected events of these records.
     fn run(&mut self, selection: Selection, records: &[DinRecord]) -> Result<(), NoMemory>
         requires start { Ran self.old [] }
         requires bounded { IsBounded selection }
@@ -176,8 +176,8 @@ impl Machines {
     }
 }
 
-/// Simulates the selected part of a trace on one thread, event by event: the totals are those of
-/// the definitions over the whole event list.
+/// Simulates the selected records of a trace on one thread, event by event. The totals are those
+/// that the definitions give for the whole event list. `NoMemory` means that an allocation failed.
 pub fn run_plain(
     alloc: Global,
     config: &Config,

@@ -12,24 +12,30 @@ use din_trace::{DinRecord, Label, MAX_LIMIT};
 use std::alloc::Global;
 use std::marker::Model;
 
-/// A part of a trace: `skip` references are left out, then at most `max` are taken (0: no bound),
-/// and a flush is put in behind every `every` of those (0: none). The names are Dinero IV's.
+/// Which part of a trace is simulated: `skip` references are left out, then at most `max` are taken
+/// (0: no bound), and a flush is inserted after every `every` of those (0: none). The names are
+/// those of Dinero IV.
 #[derive(Clone, Copy, Debug, PartialEq, Eq)]
 pub struct Selection {
+    /// How many references are left out at the start.
     pub skip: u64,
+    /// How many references are simulated after those, at most; 0 means all.
     pub max: u64,
+    /// After how many simulated references a flush is inserted; 0 means never.
     pub every: u64,
 }
 
-/// What a selector makes of a record: the record where it is selected, and whether a flush is put
-/// in behind it.
+/// What a selector makes of a record: the record if it is selected, and whether a flush is inserted
+/// after it.
 #[derive(Clone, Copy, Debug, PartialEq, Eq)]
 pub struct Picked {
+    /// The record, if it is selected.
     pub event: Option<DinRecord>,
+    /// Whether a flush is inserted after it.
     pub flush: bool,
 }
 
-/// Picks the events out of a trace, a record at a time.
+/// Makes the events of a trace, one record at a time.
 #[derive(Drop)]
 pub struct Selector {
     selection: Selection,
@@ -76,7 +82,8 @@ impl Selector {
         self.records
     }
 
-    /// Takes the next record. Only references are counted, flush records are not.
+    /// Takes the next record, and answers its events. Only references count for `skip`, `max` and
+    /// `every`; flush records do not.
     pub fn offer(&mut self, next: DinRecord) -> Picked
         requires { self.old.records < MAX_LIMIT }
         ensures selection { self.new.selection ≡ self.old.selection }
@@ -104,7 +111,7 @@ impl Selector {
     }
 }
 
-/// The flush that a selection puts in.
+/// The flush that a selection inserts, if `flush`.
 pub fn inserted(flush: bool) -> Option<DinRecord>
     ensures { option_to_list result ≡ list_if flush inserted_flush }
 {

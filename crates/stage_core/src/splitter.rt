@@ -1,4 +1,4 @@
-//! The splitter: from an event to the messages of its place.
+//! The splitter: from an event to its messages.
 
 ghost use Rattle.std.specs.Prelude.{◌≡◌, ℕ, ◌+◌, ◌*◌, ◌<◌, Some, None, option_to_list, map};
 ghost use Rattle.stage_core.specs.Events.{asked};
@@ -12,8 +12,8 @@ use cache_core::Class;
 use din_trace::{DinRecord, Label, MAX_LIMIT};
 use std::marker::Model;
 
-/// Numbers the events, and says what each asks of the two sides. Clauses see the place of the last
-/// event.
+/// Numbers the events, and makes the messages of each to the merge and the two sides. The contracts
+/// see the place (the number) of the last event.
 #[derive(Drop)]
 pub struct Splitter {
     place: u64,
@@ -33,7 +33,7 @@ impl Splitter {
         Splitter { place: 0 }
     }
 
-    /// The place of the last event, or 0.
+    /// The place of the last event, or 0 before the first one.
     pub fn place(&self) -> u64
         ensures { result ≡ self.now }
     {
@@ -86,7 +86,7 @@ impl Splitter {
     }
 }
 
-// The messages of a reference to data.
+// The messages of a data reference.
 fn data(place: u64, class: Class, addr: u64) -> Routed
     ensures turn { result.turn ≡ turn.D }
     ensures i { result.i ≡ None }

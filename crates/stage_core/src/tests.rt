@@ -1,4 +1,4 @@
-//! Worked traces. What is expected of them was worked out by hand.
+//! Small traces. The expected values were worked out by hand.
 
 mod memory;
 mod network;
@@ -79,7 +79,7 @@ fn config(d: CacheSpec) -> Result<Config, Fail> {
     config_of(d, 2)
 }
 
-// The whole trace, with a flush behind every so many references.
+// The whole trace, with a flush after every `every` references.
 fn selection(every: u64) -> Selection
     ensures { result ≡ record { skip = 0; max = 0; every = every } }
 {

@@ -77,7 +77,7 @@ pub fn with_a_pause<'a>(
     })
 }
 
-/// Fails the first calls, as many as it is told, and then takes at most 3 bytes at a time.
+/// Fails the first `failing` calls, and then takes at most 3 bytes at a time.
 #[derive(Drop)]
 pub struct Tape {
     pub failing: u64,

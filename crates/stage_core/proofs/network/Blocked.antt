@@ -1,4 +1,4 @@
--- What it means that a machine's next step isn't possible.
+-- What it means that a machine cannot step.
 use Rattle.std.proofs.Common.{◌≡◌, ℕ, ◌≤◌, ◌⊎◌, inl, inr, Bool, true, false, cond, List, [], ◌∷◌}
 use Rattle.std.proofs.Common.{length, refl, arith, Option, Some, None, nat_lt}
 use Rattle.std.specs.Option.{option_map}
@@ -37,7 +37,7 @@ pop_from-none popped (x ∷ xs) h = absurd (cc)
 pub pop-none : {A : Type 0} (r : Ring A) → pop r ≡ None → r.waiting ≡ []
 pop-none r h = pop_from-none r.popped r.waiting h
 
--- the splitter: its next ring is full, or it has pushed all
+-- the splitter cannot step: the ring of its next push is full, or it has pushed everything
 pub record SplitterBlocked (capacity : ℕ) (n : Network) (ps : List Push) : Type 0 where
   pub i : pending side.I ps ≡ 1 → capacity ≤ length n.i.to.waiting
   pub d : pending side.I ps ≡ 0 → pending side.D ps ≡ 1 → capacity ≤ length n.d.to.waiting
@@ -65,8 +65,8 @@ split-none capacity n (To side.D m ∷ ps) h =
     let full = push-none capacity m n.d.to (option_map-none _ _ h) in
     record { i = λ e. absurd (omega arith); d = λ e e'. full; order = λ e e'. absurd (omega arith) }
 
--- a stage: its ring to the merge is full, or its outbox is empty and it has taken Finish in or has
--- nothing to take in
+-- a stage cannot step: its ring to the merge is full, or its outbox is empty and it has received
+-- Finish or has nothing to receive
 abbrev pub StageBlocked : ℕ → Lane → List FromStage → Type 0
 StageBlocked capacity l outbox = (capacity ≤ length l.from.waiting)
     ⊎ ((outbox ≡ []) × ((finish_taken l ≡ true) ⊎ (l.to.waiting ≡ [])))
@@ -85,7 +85,7 @@ stage-none parts capacity s [] l h = inr (
 )
 stage-none parts capacity s (m ∷ ms) l h = inl (push-none capacity m l.from (option_map-none _ _ h))
 
--- the merge: the ring that it wants is empty
+-- the merge cannot step: the ring that it wants is empty
 pub record MergeBlocked (n : Network) (w : Want) : Type 0 where
   pub order : w ≡ want.Order → n.order.waiting ≡ []
   pub i : w ≡ want.I → n.i.from.waiting ≡ []

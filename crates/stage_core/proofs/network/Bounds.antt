@@ -1,4 +1,4 @@
--- How much a stage, the second level and the rings can be given.
+-- How many messages and requests the stages, the second level and the rings can get.
 use Rattle.std.proofs.Common.{◌≡◌, ◌+◌, ◌*◌, ◌≤◌, List, [], ◌∷◌, ◌++◌, length, map, ap, arith}
 use Rattle.std.proofs.Common.{length-append, refl}
 use Rattle.std.specs.List.{flat_map}
@@ -49,7 +49,7 @@ length-order es =
       length-map es (λ (e : DinRecord). turn_of e.label),
     )
 
--- a side is sent no more than a message for each event, and Finish
+-- a side gets at most one message for each event, and Finish
 few-to_side : (s : Side) (es : List DinRecord) → length (to_side s es) ≤ length es + 1
 few-to_side s es =
     omega (arith, visits-order s es, visits-few s (order es), length-order es)
@@ -60,7 +60,7 @@ few-asked_in (to_stage.Ref p c a ∷ ms) = omega (arith, few-asked_in ms)
 few-asked_in (to_stage.Flush p ∷ ms) = omega (arith, few-asked_in ms)
 few-asked_in (to_stage.Finish ∷ ms) = omega (arith, few-asked_in ms)
 
--- so a stage serves no more
+-- so a stage serves at most as many requests
 pub few-taken_in : (parts : Parts) (es : List DinRecord) (n : Network) → Consistent parts es n
     → (s : Side) → length (taken_in (lane s n).to.popped) ≤ length es + 1
 few-taken_in parts es n k s =
@@ -74,7 +74,7 @@ few-taken_in parts es n k s =
       few-to_side s es,
     )
 
--- and the second level serves no more than two things for each event
+-- the second level serves at most two requests for each event, on the whole
 pub few-given : SecondLevelSeesAtMostTwo → (c : Hierarchy) (es : List DinRecord) (n : Network)
     → Consistent (parts_in c) es n → length n.given ≤ 2 * length es
 few-given few c es n k =
@@ -85,7 +85,7 @@ few-given few c es n k =
       given-few (parts_in c) es n k,
     )
 
--- each message to the merge brings something or ends a turn
+-- each message from a stage to the merge has a request or ends an answer
 parts-ends : (ms : List FromStage) → length ms ≡ total part_in ms + ends ms
 parts-ends [] = refl
 parts-ends (from_stage.Part p n w ∷ ms) = omega (arith, parts-ends ms)
@@ -102,7 +102,7 @@ length-from_side parts s es =
       ap ends (replies-to_side parts s es),
     )
 
--- so the five streams have no more than seven messages for each event, and those of the end
+-- the five streams have at most seven messages for each event, and those of the end
 pub few-messages : SecondLevelSeesAtMostTwo → (c : Hierarchy) (es : List DinRecord)
     → messages (parts_in c) es ≤ 7 * length es + 5
 few-messages few c es =

@@ -1,4 +1,4 @@
--- A schedule with one event more.
+-- A schedule with one more step.
 use Rattle.std.proofs.Common.{◌≡◌, ℕ, ◌+◌, List, [], ◌∷◌, ◌++◌, length, sym, ap, ◌∙◌, subst, arith}
 use Rattle.std.proofs.Common.{Some, option_and_then}
 use Rattle.stage_core.specs.SecondLevel.{Parts}

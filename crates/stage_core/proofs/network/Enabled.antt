@@ -1,4 +1,4 @@
--- The machines whose next step is possible.
+-- The machines that can step.
 use Rattle.std.proofs.Common.{◌≡◌, ℕ, zero, suc, ◌+◌, ◌<◌, Bool, true, false, cond, List, [], ◌∷◌}
 use Rattle.std.proofs.Common.{length, filter, refl, sym, ap, ◌∙◌, arith, Option, Some, None}
 use Rattle.std.proofs.Common.{is_some, IsSome, slice_get}
@@ -27,7 +27,7 @@ none-some : {A : Type 0} (o : Option A) → number (is_some o) ≡ 0 → o ≡ N
 none-some None h = refl
 none-some (Some x) h = absurd (omega arith)
 
--- none is enabled: none has an event
+-- if no machine is enabled, none can step
 pub none_enabled : (parts : Parts) (capacity : ℕ) (n : Network)
     → length (enabled parts capacity n) ≡ 0 → (m : Machine) → next parts capacity m n ≡ None
 none_enabled parts capacity n h =
@@ -53,7 +53,7 @@ pub none_finished : (parts : Parts) (es : List DinRecord) (capacity : ℕ) → 0
 none_finished parts es capacity pos n k h =
     never_stuck parts es capacity pos n k (none_enabled parts capacity n h)
 
--- an enabled machine has an event
+-- an enabled machine can step
 one_more : {A : Type 0} (p : A → Bool) (b : Bool) (y : A) (ys : List A) (k : ℕ) (x : A) → p y ≡ b
     → slice_get (cond b (y ∷ ys) ys) k ≡ Some x → ((k : ℕ) → slice_get ys k ≡ Some x → p x ≡ true)
     → p x ≡ true
@@ -73,7 +73,7 @@ pub enabled-some : (parts : Parts) (capacity : ℕ) (n : Network) (k : ℕ) (m :
 enabled-some parts capacity n k m h = filtered (can parts capacity n)
     (Splitter ∷ Stage side.I ∷ Stage side.D ∷ Merging ∷ []) k m h
 
--- where all have finished, none is enabled
+-- if all have finished, none is enabled
 module _ (parts : Parts) (capacity : ℕ) (n : Network) (f : IsFinished n) where
   stage-ended : (s : Side) → next parts capacity (Stage s) n ≡ None
   stage-ended s =

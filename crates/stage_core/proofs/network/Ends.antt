@@ -1,4 +1,4 @@
--- How many ends of turns the merge has popped.
+-- How many ends of answers the merge has popped.
 use Rattle.std.proofs.Common.{◌≡◌, ℕ, ◌+◌, List, [], ◌∷◌, refl, sym, ap, ◌∙◌, append-nil, arith}
 use Rattle.std.proofs.Common.{subst}
 use Rattle.stage_core.specs.Merging.{merged, all_used, MergeState, AtOrder, AtI, AtD, AtBoth, LastI}
@@ -17,7 +17,7 @@ use Rattle.stage_core.proofs.network.OnePop.{used_log}
 use Rattle.stage_core.proofs.Pops.{Pop, Turned, From, Log, want_of, turns_of, from_of, state_after}
 use Rattle.stage_core.proofs.Pops.{Lawful}
 
--- does a turn visit a side?
+-- 1 if a turn concerns a side, else 0
 abbrev pub visit : Side → Turn → ℕ
 visit side.I turn.I = 1
 visit side.I turn.D = 0
@@ -32,7 +32,7 @@ visit side.D turn.Finish = 1
 abbrev pub visits : Side → List Turn → ℕ
 visits s = total (visit s)
 
--- is it the end of a turn?
+-- 1 if the message ends an answer, else 0
 abbrev pub end : FromStage → ℕ
 end (from_stage.Part p n w) = 0
 end (from_stage.Done p n) = 1
@@ -42,7 +42,7 @@ end from_stage.Finish = 1
 abbrev pub ends : List FromStage → ℕ
 ends = total end
 
--- has the merge still to be at a side in this turn?
+-- 1 if the merge has still to take the answer of a side in this turn, else 0
 abbrev pub owed : Side → MergeState → ℕ
 owed side.I AtOrder = 0
 owed side.I AtI = 1
@@ -59,7 +59,7 @@ owed side.D LastI = 1
 owed side.D LastD = 1
 owed side.D AtEnd = 0
 
--- is it in its last turn?
+-- 1 if the merge is in its last turn, else 0
 abbrev pub last : MergeState → ℕ
 last AtOrder = 0
 last AtI = 0
@@ -80,12 +80,12 @@ finish turn.Finish = 1
 abbrev pub finishes : List Turn → ℕ
 finishes = total finish
 
--- what the end of the messages of the side s changes, r being the other side
+-- what the end of an answer of the side s changes, if r is the other side
 abbrev EndsTurn : Side → Side → MergeState → Type 0
 EndsTurn s r at = (owed s at ≡ 1) × (owed s (after_end at) ≡ 0)
     × (owed r (after_end at) ≡ owed r at) × (last (after_end at) ≡ last at)
 
--- what is known of the merge by what it wants
+-- what is known of the merge's state from the ring that it wants
 abbrev pub Known : Want → MergeState → Type 0
 Known want.Order at = (owed side.I at ≡ 0) × (owed side.D at ≡ 0) × (last at ≡ 0)
 Known want.I at = EndsTurn side.I side.D at
@@ -126,7 +126,7 @@ last-turn turn.D = refl
 last-turn turn.Both = refl
 last-turn turn.Finish = refl
 
--- the ends that were popped, and the one that is owed, are the turns
+-- the ends that were popped and the one still to come are as many as the turns of that side
 pub ends-visits : (s : Side) (ps : List Pop) (at : MergeState) → Lawful at ps
     → ends (from_of s ps) + owed s (state_after at ps) ≡ owed s at + visits s (turns_of ps)
 ends-visits s [] at h = omega arith

@@ -1,4 +1,4 @@
--- In every state the second level was given no more than it is to see in all.
+-- In every state, the second level was given at most as many requests as it gets in all.
 use Rattle.std.proofs.Common.{◌≡◌, ℕ, ◌+◌, ◌≤◌, List, [], ◌∷◌, length, refl, sym, ap, ◌∙◌}
 use Rattle.std.proofs.Common.{append-nil, arith, length-append}
 use Rattle.stage_core.specs.SecondLevel.{Parts, second_level_requests}

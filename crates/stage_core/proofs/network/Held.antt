@@ -1,4 +1,4 @@
--- No ring holds more than its capacity.
+-- No ring holds more messages than its capacity.
 use Rattle.std.proofs.Common.{◌≡◌, ℕ, suc, ◌+◌, ◌≤◌, Bool, true, false, cond, List, [], ◌∷◌, ◌++◌}
 use Rattle.std.proofs.Common.{length, refl, sym, ap, ◌∙◌, subst, arith, Option, Some, None, nat_lt}
 use Rattle.std.proofs.Common.{length-append}
@@ -86,7 +86,7 @@ split-within capacity n (To side.D m ∷ rest) n' k h =
       from_d = k.from_d;
     })
 
--- a stage's event leaves its two rings within the capacity
+-- after a step of a stage, its two rings are within the capacity
 stage-within : (parts : Parts) (capacity : ℕ) (s : Side) (outbox : List FromStage) (l l' : Lane)
     → waits l.to ≤ capacity → waits l.from ≤ capacity
     → stage parts capacity s outbox l ≡ Some l'

@@ -1,4 +1,4 @@
--- Each event keeps the invariant.
+-- Each step keeps the invariant.
 use Rattle.std.proofs.Common.{◌≡◌, ℕ, Bool, true, false, cond, List, [], ◌∷◌, ◌++◌, length, refl}
 use Rattle.std.proofs.Common.{sym, ap, ◌∙◌, append_assoc, append-nil, subst, Option, Some, None}
 use Rattle.std.proofs.Common.{nat_lt}
@@ -72,7 +72,7 @@ each_side : (P : Side → Type 0) → P side.I → P side.D → (s : Side) → P
 each_side P i d side.I = i
 each_side P i d side.D = d
 
--- what a stage's event keeps of its lane
+-- what a step of a stage keeps in its lane
 pub record LaneKeeps (parts : Parts) (s : Side) (old new : Lane) : Type 0 where
   pub to : carried new.to ≡ carried old.to
   pub stage : carried new.from ++ new.outbox ≡ replies parts s new.to.popped
@@ -121,7 +121,7 @@ stage-keeps parts capacity s [] l l' e h st =
     subst (LaneKeeps parts s l) x.2 (lane-takes parts s l (x.0).0 (x.0).1 e h p)
 
 module _ (parts : Parts) (es : List DinRecord) where
-  -- the invariant, side by side
+  -- the invariant, for each side
   keeps_by : (n : Network) (pushed : List Push) → pushed ++ n.still ≡ pushes es
       → carried n.order ≡ turns_in pushed
       → carried n.i.to ≡ sent_to side.I pushed → carried n.d.to ≡ sent_to side.D pushed
@@ -145,7 +145,7 @@ module _ (parts : Parts) (es : List DinRecord) where
   keeps-start = keeps_by (start es) [] refl refl refl refl refl refl refl
 
   module _ (n : Network) (k : Consistent parts es n) where
-    -- what the splitter has pushed, and one push more
+    -- the pushes so far and one more are a beginning of all pushes
     more-suffix : (p : Push) (rest : List Push) → n.still ≡ p ∷ rest
         → (k.pushed ++ p ∷ []) ++ rest ≡ pushes es
     more-suffix p rest e = append_assoc k.pushed (p ∷ []) rest ∙ ap (λ x. k.pushed ++ x) (sym e)
@@ -253,7 +253,7 @@ module _ (parts : Parts) (es : List DinRecord) where
         (keeps-takes side.D w (x.0).0 (x.0).1 (pop-some n.d.from x.0 x.1))
     keeps-merge want.Nothing w n' h = absurd (cc)
 
-    -- each event keeps the invariant
+    -- each step keeps the invariant
     pub keeps-next : (capacity : ℕ) (m : Machine) (n' : Network)
         → next parts capacity m n ≡ Some n' → Consistent parts es n'
     keeps-next capacity Splitter n' h = keeps-split capacity n.still refl n' h

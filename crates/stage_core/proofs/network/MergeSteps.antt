@@ -1,4 +1,4 @@
--- The merge's event in a core.
+-- A core after a step of the merge.
 use Rattle.std.proofs.Common.{◌≡◌, Bool, ◌++◌, Some, sym, ap, ◌∙◌, subst}
 use Rattle.std.specs.Option.{option_map}
 use Rattle.cache_core.specs.Standing.{rules_of}

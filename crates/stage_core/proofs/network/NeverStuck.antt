@@ -64,7 +64,7 @@ module _ (parts : Parts) (es : List DinRecord) (n : Network) (k : Consistent par
         omega (arith, a, b, c, one, small, ee, eo, en),
       )
 
-  -- it isn't the order ring that the merge waits for
+  -- the merge does not wait for the order ring
   pub not-order : (capacity : ℕ) → 0 < capacity → SplitterBlocked capacity n n.still
       → wanted n.at ≡ want.Order → n.order.waiting ≡ [] → ⊥
   not-order capacity pos blocked w e =
@@ -94,7 +94,7 @@ module _ (parts : Parts) (es : List DinRecord) (n : Network) (k : Consistent par
         | inr full ↦ omega (arith, ap length e)
       ]
 
-  -- nor I's ring
+  -- the merge does not wait for I's ring
   not-i : (capacity : ℕ) → 0 < capacity → SplitterBlocked capacity n n.still
       → StageBlocked capacity n.i n.i.outbox → wanted n.at ≡ want.I → n.i.from.waiting ≡ [] → ⊥
   not-i capacity pos blocked stage w e =
@@ -105,8 +105,8 @@ module _ (parts : Parts) (es : List DinRecord) (n : Network) (k : Consistent par
   zero_or_one zero h = inl refl
   zero_or_one (suc p) h = inr (omega arith)
 
-  -- if the merge waits for D, it isn't I's message of that place that the splitter is at: I's part
-  -- of the place is over
+  -- if the merge waits for D's message of an event, the splitter has already pushed I's message of
+  -- that event
   past-i : wanted n.at ≡ want.D → pending side.D n.still ≡ 1 → visits side.D n.order.waiting ≡ 0
       → pending side.I n.still ≡ 1 → ⊥
   past-i w d v i =
@@ -122,7 +122,7 @@ module _ (parts : Parts) (es : List DinRecord) (n : Network) (k : Consistent par
         ap (visits side.I) none,
       )
 
-  -- nor D's ring
+  -- the merge does not wait for D's ring
   not-d : (capacity : ℕ) → 0 < capacity → SplitterBlocked capacity n n.still
       → StageBlocked capacity n.d n.d.outbox → wanted n.at ≡ want.D → n.d.from.waiting ≡ [] → ⊥
   not-d capacity pos blocked stage w e =
@@ -132,7 +132,7 @@ module _ (parts : Parts) (es : List DinRecord) (n : Network) (k : Consistent par
         | inr one ↦ past-i w a.1 a.2 one
       ]
 
-  -- where the merge wants nothing, all is popped
+  -- if the merge wants no message, all messages were popped
   pub all-popped : wanted n.at ≡ want.Nothing →
       (n.order.waiting ++ turns_in n.still ≡ [])
       × ((s : Side) → ((lane s n).to.waiting ≡ []) × ((lane s n).from.waiting ≡ [])
@@ -173,7 +173,7 @@ module _ (parts : Parts) (es : List DinRecord) (n : Network) (k : Consistent par
         ),
       )
 
-  -- the splitter has pushed all where nothing is pending and the order ring can take a turn
+  -- if the merge wants no message and the splitter cannot step, all machines have finished
   pub ended : (capacity : ℕ) → 0 < capacity → SplitterBlocked capacity n n.still
       → wanted n.at ≡ want.Nothing → IsFinished n
   ended capacity pos blocked w =
@@ -200,7 +200,7 @@ module _ (parts : Parts) (es : List DinRecord) (n : Network) (k : Consistent par
       )) in
       record { splitter = still; sent = λ s. (all.1 s).2; took = took; merge = w }
 
-  -- no state is stuck
+  -- no state is stuck, whatever ring the merge wants
   never_stuck_at : (capacity : ℕ) → 0 < capacity → AllBlocked capacity n → (w : Want)
       → wanted n.at ≡ w → IsFinished n
   never_stuck_at capacity pos blocked want.Order w =
@@ -211,7 +211,7 @@ module _ (parts : Parts) (es : List DinRecord) (n : Network) (k : Consistent par
       absurd (not-d capacity pos blocked.splitter (blocked.stages side.D) w (blocked.merge.d w))
   never_stuck_at capacity pos blocked want.Nothing w = ended capacity pos blocked.splitter w
 
--- in a state that keeps the invariant, where no machine's next step is possible, all have finished
+-- if no machine can step in a state with the invariant, all have finished
 pub never_stuck : (parts : Parts) (es : List DinRecord) (capacity : ℕ) → 0 < capacity
     → (n : Network) → Consistent parts es n → ((m : Machine) → next parts capacity m n ≡ None)
     → IsFinished n

@@ -1,4 +1,4 @@
--- The merge's rule, with one message more.
+-- The merge's rule after one more message.
 use Rattle.std.proofs.Common.{◌≡◌, List, [], ◌∷◌, ◌++◌, sym, ap, ◌∙◌, append-nil, subst}
 use Rattle.stage_core.specs.Merging.{merged, all_used, MergeState, AtOrder, wanted, after_turn}
 use Rattle.stage_core.specs.Merging.{after_message, what_in}
@@ -16,7 +16,7 @@ pub used_log : {o : List Turn} {i d : List FromStage} {ws : List What} {at : Mer
     → merged o i d ≡ all_used ws at → Log AtOrder o i d (all_used ws at)
 used_log {o} {i} {d} e = subst (Log AtOrder o i d) e (log AtOrder o i d)
 
--- the rule that has used three lists up uses up what one lawful pop more adds to them
+-- if the rule has used all messages, it also uses the one that an allowed pop adds
 merged-pop : (o : List Turn) (i d : List FromStage) (ws : List What) (at : MergeState) (p : Pop)
     → merged o i d ≡ all_used ws at → Lawful at (p ∷ [])
     → merged (o ++ turns_of (p ∷ [])) (i ++ from_of side.I (p ∷ [])) (d ++ from_of side.D (p ∷ []))

@@ -1,4 +1,4 @@
--- Where the splitter is in its list, in numbers.
+-- How far the splitter is in its list of pushes, in numbers.
 use Rattle.std.proofs.Common.{◌≡◌, ℕ, ◌+◌, ◌≤◌, List, [], ◌∷◌, ◌++◌, length, refl, arith}
 use Rattle.stage_core.specs.Places.{flat_map_after}
 use Rattle.stage_core.specs.Network.Pushes.{Push, Order, To, pushes, pushes_at, turns_in, sent_to}
@@ -14,7 +14,7 @@ use Rattle.stage_core.specs.declared.message.ToStage.{ToStage}
 use Rattle.stage_core.proofs.network.Sums.{last_by, last_by-more}
 use Rattle.stage_core.proofs.network.Ends.{visit, visits}
 
--- which messages of the current place are still to be pushed
+-- how many messages of the current event are still to be pushed to a side
 abbrev pub pending : Side → List Push → ℕ
 pending s [] = 0
 pending s (Order t ∷ ps) = 0
@@ -26,14 +26,14 @@ pending side.D (To side.I m ∷ Order t ∷ ps) = 0
 pending side.D (To side.I m ∷ To side.I m' ∷ ps) = 0
 pending side.D (To side.I m ∷ To side.D m' ∷ ps) = 1
 
--- where the splitter is, after some of its pushes and before the others
+-- the position of the splitter, after some of its pushes and before the others
 pub record Position (pushed still : List Push) : Type 0 where
   pub i : length (sent_to side.I pushed) + pending side.I still ≡ visits side.I (turns_in pushed)
   pub d : length (sent_to side.D pushed) + pending side.D still ≡ visits side.D (turns_in pushed)
   pub both : pending side.I still + pending side.D still
       ≤ 1 + last_by (visit side.D) 0 (turns_in pushed)
 
--- the pushes of the next place come, or none
+-- the pushes of the next event follow, or none
 abbrev Boundary : List Push → Type 0
 Boundary [] = Unit {0}
 Boundary (Order t ∷ ps) = Unit {0}
@@ -48,7 +48,7 @@ at_boundary m [] h = refl
 at_boundary m (Order t ∷ ps) h = refl
 at_boundary m (To s x ∷ ps) h = absurd h
 
--- nothing of the place is pushed
+-- before the first push of an event
 before_place : (t : Turn) (ps still : List Push) → still ≡ Order t ∷ ps → Position [] still
 before_place t ps still e = rw e record { i = refl; d = refl; both = omega arith }
 
@@ -138,7 +138,7 @@ positions : (before es : List DinRecord) → Positions (flat_map_after pushes_at
 positions before [] = place_both turn.Finish _ _ [] refl refl no_more
 positions before (e ∷ es) = positions_at e.label e.addr before es (positions (before ++ e ∷ []) es)
 
--- where the splitter is, whatever it has pushed
+-- the position of the splitter after any of its pushes
 pub position : (es : List DinRecord) (pushed still : List Push) → pushed ++ still ≡ pushes es
     → Position pushed still
 position es = positions [] es

@@ -1,4 +1,4 @@
--- Whole schedules: how many events they have, and what they leave.
+-- Whole schedules: how many steps they have, and the state after them.
 use Rattle.std.proofs.Common.{◌≡◌, ℕ, suc, ◌+◌, ◌*◌, ◌≤◌, cond, List, [], ◌∷◌, ◌++◌, length, refl}
 use Rattle.std.proofs.Common.{sym, ap, ◌∙◌, append_assoc, append-nil, subst, arith, Option, Some}
 use Rattle.std.proofs.Common.{None, length-append, option_and_then}
@@ -26,7 +26,7 @@ use Rattle.stage_core.proofs.network.StateCounts.{whole-order, whole-to}
 use Rattle.stage_core.proofs.network.Kept.{option_map-some, push-some, Popped, pop-some}
 use Rattle.stage_core.proofs.network.Kept.{keeps-start, keeps-next, cond-none-some}
 
--- a push and a pop are one event each
+-- a push and a pop are one step each
 push-made : {A : Type 0} (x : A) (r : Ring A)
     → ring_steps (with_message x r) ≡ suc (ring_steps r)
 push-made x r = omega (
@@ -95,7 +95,7 @@ merge-made n want.D n' h =
     )
 merge-made n want.Nothing n' h = absurd (cc)
 
--- each step is one event
+-- each step counts as one
 pub next-made : (parts : Parts) (capacity : ℕ) (m : Machine) (n n' : Network)
     → next parts capacity m n ≡ Some n' → steps_made n' ≡ suc (steps_made n)
 next-made parts capacity Splitter n n' h = split-made capacity n n.still n' h
@@ -113,7 +113,7 @@ pub and_then-some : {A B : Type 0} (f : A → Option B) (o : Option A) (y : B)
 and_then-some f None y h = absurd (cc)
 and_then-some f (Some x) y h = (x, refl, h)
 
--- a schedule keeps the invariant, and has one event a step
+-- a schedule keeps the invariant, and its length is the number of steps that were made
 pub run-keeps : (parts : Parts) (es : List DinRecord) (capacity : ℕ) (ms : List Machine)
     (n n' : Network) → Consistent parts es n → run parts capacity ms n ≡ Some n'
     → Consistent parts es n' × (steps_made n' ≡ length ms + steps_made n)
@@ -127,7 +127,7 @@ run-keeps parts es capacity (m ∷ ms) n n' k h =
     (r.0, omega (arith, r.1, next-made parts capacity m n x.0 x.1))
 
 module _ (parts : Parts) (es : List DinRecord) (n : Network) (k : Consistent parts es n) where
-  -- what each ring has carried is the beginning of its stream
+  -- what each ring has carried is a beginning of its stream
   pub order-prefix : carried n.order ++ turns_in n.still ≡ order es
   order-prefix = append_assoc n.order.popped n.order.waiting (turns_in n.still)
       ∙ whole-order parts es n k
@@ -161,7 +161,7 @@ module _ (parts : Parts) (es : List DinRecord) (n : Network) (k : Consistent par
     length-append r.popped r.waiting,
   )
 
-  -- no state has made more steps than two for each message
+  -- at most two steps were made for each message
   pub steps-bound : steps_made n ≤ 2 * messages parts es
   steps-bound =
       let o = ring-bound n.order _ _ order-prefix in
@@ -197,7 +197,7 @@ module _ (parts : Parts) (es : List DinRecord) (n : Network) (k : Consistent par
         ∙ sym (append-nil _) ∙ ap (λ x. carried (lane s n).from ++ x) (sym ((popped-all.1 s).2))
         ∙ k.from_side s ∙ ap (replies parts s) (to-done s) ∙ replies-to_side parts s es
 
-    -- the second level was given what it is to see
+    -- the second level was given exactly its requests
     pub given-done : n.given ≡ second_level_requests parts es
     given-done =
         ap (λ (m : Merged). m.taken)
@@ -217,7 +217,7 @@ module _ (parts : Parts) (es : List DinRecord) (n : Network) (k : Consistent par
       length-append r.popped r.waiting,
     )
 
-    -- where all have finished, two events were made for each message
+    -- when all have finished, exactly two steps were made for each message
     pub steps-done : steps_made n ≡ 2 * messages parts es
     steps-done =
         let o = ring-done n.order _ _ order-prefix order-done in
@@ -227,7 +227,7 @@ module _ (parts : Parts) (es : List DinRecord) (n : Network) (k : Consistent par
         let fd = ring-done n.d.from _ _ (from-prefix side.D).1 (from-done side.D) in
         omega (arith, o, ti, td, fi, fd)
 
--- every complete schedule has two steps for each message
+-- every complete schedule has exactly two steps for each message
 pub schedule-length : (parts : Parts) (es : List DinRecord) (capacity : ℕ) (ms : List Machine)
     (n : Network) → run parts capacity ms (start es) ≡ Some n → IsFinished n
     → length ms ≡ 2 * messages parts es

@@ -1,4 +1,4 @@
--- The splitter's event in a core.
+-- A core after a step of the splitter.
 use Rattle.std.proofs.Common.{◌≡◌, ℕ, suc, ◌+◌, ◌<◌, ◌≤◌, Bool, true, false, cond, List, [], ◌∷◌}
 use Rattle.std.proofs.Common.{length, get_or, drop, Some, None, IsSome, refl, sym, ap, ◌∙◌, subst}
 use Rattle.std.proofs.Common.{arith, length-drop, drop-cons, add-one}
@@ -16,7 +16,7 @@ use Rattle.stage_core.specs.declared.network.Core.TheInside.{Inside}
 use Rattle.stage_core.proofs.network.Kept.{keeps-order, keeps-to}
 use Rattle.stage_core.proofs.network.Steps.{Steps}
 
--- a push that is possible
+-- if a push is possible, it gives the new state
 some-push : {A B : Type 0} (f : A → B) (b : Bool) (x : A)
     → IsSome (option_map f (cond b (Some x) None))
     → option_map f (cond b (Some x) None) ≡ Some (f x)
@@ -28,7 +28,7 @@ some-pushes : (capacity : ℕ) (n : Network) (ps : List Push) → IsSome (split 
 some-pushes capacity n [] h = absurd (cc)
 some-pushes capacity n (p ∷ ps) h = omega arith
 
--- the event is possible, so it is made
+-- if the step is possible, it is made
 next-split : (c : Inside) {p : Push} {rest : List Push} {new : Network}
     → drop c.pushed c.pushes.items ≡ p ∷ rest
     → (IsSome (split (ring_of c.config) (p ∷ rest) (network_of c))
@@ -37,7 +37,7 @@ next-split : (c : Inside) {p : Push} {rest : List Push} {new : Network}
 next-split c e made some = ap (λ ps. split (ring_of c.config) ps (network_of c)) e
     ∙ made (subst (λ ps. IsSome (split (ring_of c.config) ps (network_of c))) e some)
 
--- the splitter's next push is the one at its place
+-- the next push of the splitter is the one at its index
 next-push : (capacity : ℕ) (n : Network) (ps : List Push) (k : ℕ) (p : Push)
     → IsSome (split capacity (drop k ps) n) → p ≡ get_or ps k p
     → (drop k ps ≡ p ∷ drop (k + 1) ps) × (k + 1 ≤ length ps)

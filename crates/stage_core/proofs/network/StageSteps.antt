@@ -1,4 +1,4 @@
--- A stage's event in a core.
+-- A core after a step of a stage.
 use Rattle.std.proofs.Common.{◌≡◌, ℕ, Bool, cond, List, [], ◌∷◌, ◌++◌, Option, Some, None, refl}
 use Rattle.std.proofs.Common.{sym, ap, ◌∙◌, subst}
 use Rattle.std.specs.Option.{option_map}
@@ -26,7 +26,7 @@ use Rattle.stage_core.specs.declared.network.Core.TheInside.{Inside}
 use Rattle.stage_core.proofs.network.Kept.{keeps-lane, stage-keeps, LaneKeeps}
 use Rattle.stage_core.proofs.network.Steps.{Steps}
 
--- a stage's event, by the rules of its own cache and by those of its side
+-- a stage's step is the same by the rules of its own cache and by those of its side
 by_rules : (h : Hierarchy) (r : Rules) (s : Side) → r ≡ rules_at h s
     → (before : List ToStage) (m : ToStage)
     → reply (parts_of r) s before m ≡ reply (parts_in h) s before m
@@ -60,7 +60,7 @@ stage-is h s ms capacity l took =
     ∙ same-stage h (rules_of (cache_of l.stage)) s took.same_rules capacity (outbox_of l.stage)
     (lane_of l)
 
--- a stage's event in its lane
+-- a lane after a step of its stage
 record LaneSteps (parts : Parts) (capacity : ℕ) (s : Side) (old new : code.Lane) : Type 0 where
   pub made : stage parts capacity s (outbox_of old.stage) (lane_of old) ≡ Some (lane_of new)
   pub kept : LaneKeeps parts s (lane_of old) (lane_of new)

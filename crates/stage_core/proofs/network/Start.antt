@@ -17,7 +17,7 @@ use Rattle.stage_core.specs.declared.l1_stage.L1Stage.{L1Stage}
 use Rattle.stage_core.specs.declared.network.Core.TheInside.{Inside}
 use Rattle.stage_core.proofs.network.Kept.{keeps-start}
 
--- the start
+-- the state of the network with these rings and lanes, before the first step
 abbrev network_in : List Push → Ring Turn → Lane → Lane → MergeState → Network
 network_in still order i d at = record {
   still = still;

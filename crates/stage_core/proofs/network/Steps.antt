@@ -1,4 +1,4 @@
--- An event of a core: a sound core, and the network's next state.
+-- A step of a core leads to a sound core and to the next state of the network.
 use Rattle.std.proofs.Common.{◌≡◌, suc, ◌^◌, ◌<◌, Bool, false, cond, [], Some, filter, Result, Ok}
 use Rattle.std.proofs.Common.{Err, OnOk, is_err, sym, ap, ◌∙◌, arith}
 use Rattle.cache_core.specs.Standing.{served_of}
@@ -15,12 +15,12 @@ use Rattle.stage_core.proofs.network.Bounds.{few-given, few-taken_in}
 use Rattle.stage_core.proofs.network.Schedules.{next-made}
 use Rattle.stage_core.proofs.Worked.{served-requests}
 
--- this event leads to a sound core
+-- a step of this machine leads to a sound core
 pub record Steps (m : Machine) (old new : Inside) : Type 0 where
   pub sound : Sound new
   pub step : next_in (core_of old) m ≡ Some (network_of new)
 
--- so the core made the machine's next step, if the call was not refused
+-- if the call did not fail, the core has made the machine's next step
 pub makes-step : {T E P : Type 0} {m : Machine} {old : CoreState} {c : Inside}
     (new : Bool → Inside) (r : Result T E) (refused : Bool) → refused ≡ is_err r → core_of c ≡ old
     → ((f : Bool) → (new f).failed ≡ f) → (P → Steps m c (new refused)) → OnOk r P
@@ -39,7 +39,7 @@ pub on_ok_by : {T E P : Type 0} (r : Result T E) (refused : Bool) → refused �
 on_ok_by (Ok x) refused same ok p = p
 on_ok_by (Err x) refused same ok p = absurd (cc)
 
--- a stage and the second level have room
+-- the stages and the second level can still serve requests
 pub room-below : (c : Inside) → Sound c → (served_of (cache_of c.i.stage) < 2 ^ 44)
     × (served_of (cache_of c.d.stage) < 2 ^ 44)
 room-below c s =
@@ -59,12 +59,12 @@ room-above few c s =
       s.runnable.short,
     )
 
--- before a refusal, the enabled machines are the network's
+-- if no allocation failed, the enabled machines are those of the network
 pub working : (v : CoreState) → v.failed ≡ false
     → enabled_in v ≡ enabled (parts_for v.config) (ring_of v.config) v.network
 working v ok = ap (λ b. cond b [] (filter (can_in v) machines)) ok
 
--- the core's event keeps it consistent, and is one event
+-- a step of a core keeps it consistent, and counts as one
 pub driven : {v w : CoreState} → IsConsistent v → (m : Machine) → MakesStep m v w
     → Consistent (parts_for v.config) v.events w.network
     × (steps_made w.network ≡ suc (steps_made v.network))

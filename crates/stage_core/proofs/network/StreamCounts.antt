@@ -1,4 +1,4 @@
--- The five streams of an event list, in numbers: turns, ends and Finish.
+-- Numbers of the five streams of an event list: how many turns, ends of answers and Finishes.
 use Rattle.std.proofs.Common.{◌≡◌, ℕ, ◌+◌, List, [], ◌∷◌, ◌++◌, map, length, refl, sym, ap, ◌∙◌}
 use Rattle.std.proofs.Common.{append_assoc, arith}
 use Rattle.stage_core.specs.Places.{flat_map_after}
@@ -24,7 +24,7 @@ use Rattle.stage_core.proofs.network.Sums.{total, total-append, last_by, last_by
 use Rattle.stage_core.proofs.network.Sums.{last_by-both}
 use Rattle.stage_core.proofs.network.Ends.{visits, end, ends, finish, finishes}
 
--- ring by ring, the splitter's pushes are the streams
+-- the pushes of the splitter into each ring are its stream
 pub turns_in-append : (ps qs : List Push) → turns_in (ps ++ qs) ≡ turns_in ps ++ turns_in qs
 turns_in-append [] qs = refl
 turns_in-append (Order t ∷ ps) qs = ap (λ x. t ∷ x) (turns_in-append ps qs)
@@ -115,7 +115,7 @@ finish-turn_of label.Instr = refl
 finish-turn_of label.Misc = refl
 finish-turn_of label.Flush = refl
 
--- Finish stands last in the order ring, once
+-- the order ring has exactly one Finish, as its last message
 pub finishes-order : (es : List DinRecord) → finishes (order es) ≡ 1
 finishes-order [] = refl
 finishes-order (e ∷ es) = omega (arith, finish-turn_of e.label, finishes-order es)
@@ -124,7 +124,7 @@ finishes-order (e ∷ es) = omega (arith, finish-turn_of e.label, finishes-order
 pub last-order : (es : List DinRecord) → last_by finish 0 (order es) ≡ 1
 last-order es = last_by-append finish 0 (map (λ e. turn_of e.label) es) turn.Finish []
 
--- Finish stands last in a ring to a stage, once
+-- a ring to a stage has exactly one Finish, as its last message
 abbrev pub finish_in : ToStage → ℕ
 finish_in (to_stage.Ref p c a) = 0
 finish_in (to_stage.Flush p) = 0
@@ -161,7 +161,7 @@ pub last-to_side : (s : Side) (es : List DinRecord) → last_by finish_in 0 (to_
 last-to_side s es = last_by-append finish_in 0 (flat_map_after (messages_to s) [] es)
     to_stage.Finish []
 
--- each message that a stage takes in is answered by one end, which stands last
+-- the answer to each message of a stage has exactly one end, as its last message
 ends-numbered : (p n : ℕ) (ws : List What) → ends (numbered p n ws) ≡ 0
 ends-numbered p n [] = refl
 ends-numbered p n (w ∷ ws) = omega (arith, ends-numbered p (n + 1) ws)

@@ -1,4 +1,4 @@
--- Numbers of the items of a list: their sum, and the number of the last.
+-- A number for each item of a list: the sum of them, and the number of the last item.
 use Rattle.std.proofs.Common.{◌≡◌, ℕ, ◌+◌, ◌<◌, ◌≤◌, List, [], ◌∷◌, ◌++◌, refl, ap, ◌∙◌, append-nil}
 use Rattle.std.proofs.Common.{arith}
 
@@ -13,7 +13,7 @@ pub total-append : {A : Type 0} (f : A → ℕ) (xs ys : List A)
 total-append f [] ys = omega arith
 total-append f (x ∷ xs) ys = omega (arith, total-append f xs ys)
 
--- that of the last item, and d where there is none
+-- the number of the last item, or d if there is none
 abbrev pub last_by : {A : Type 0} → (A → ℕ) → ℕ → List A → ℕ
 last_by f d [] = d
 last_by f d (x ∷ []) = f x
@@ -31,7 +31,7 @@ last_by-total : {A : Type 0} (f : A → ℕ) (d : ℕ) (x : A) (xs : List A)
 last_by-total f d x [] = omega arith
 last_by-total f d x (y ∷ xs) = omega (arith, last_by-total f d y xs)
 
--- more in front doesn't make it less
+-- one more item in front does not make it smaller
 pub last_by-more : {A : Type 0} (f : A → ℕ) (x : A) (xs : List A)
     → last_by f 0 xs ≤ last_by f 0 (x ∷ xs)
 last_by-more f x [] = omega arith
@@ -43,7 +43,8 @@ pub last_by-both : {A : Type 0} (f : A → ℕ) (d k : ℕ) (xs ys : List A) →
 last_by-both f d k xs [] hx hy = ap (last_by f d) (append-nil xs) ∙ hx
 last_by-both f d k xs (y ∷ ys) hx hy = last_by-append f d xs y ys ∙ hy
 
--- what is not counted behind a list whose last item is counted is nothing
+-- if the last item of the whole list counts, and no item after the first part does, nothing follows
+-- the first part
 pub nothing_after : {A : Type 0} (f : A → ℕ) (d : ℕ) (xs ys zs : List A) → xs ++ ys ≡ zs
     → 0 < last_by f d zs → total f ys ≡ 0 → ys ≡ []
 nothing_after f d xs [] zs e l t = refl

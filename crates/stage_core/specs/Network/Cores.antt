@@ -1,4 +1,4 @@
--- A core as a state of the network, with what it simulates.
+-- A core, seen as a state of the network together with what it simulates.
 use Rattle.std.specs.Prelude.{◌≡◌, ℕ, ◌<◌, ◌≤◌, ◌*◌, ◌^◌, Bool, false, List, [], drop, length}
 use Rattle.std.specs.Prelude.{Option, Some, filter, slice_get, if◌then◌else◌}
 use Rattle.cache_core.specs.Standing.{rules_of}
@@ -18,31 +18,31 @@ use Rattle.stage_core.specs.declared.l1_stage.L1Stage.{L1Stage}
 use Rattle.stage_core.specs.declared.l2_stage.L2Stage.{L2Stage}
 use Rattle.stage_core.specs.declared.network.Core.TheInside.{Inside}
 
--- the configuration, the event list, the state of the network, and whether memory was refused
+-- the configuration, the event list, the state of the network, and whether an allocation failed
 pub record CoreState : Type 0 where
   pub config : Config
   pub events : List DinRecord
   pub network : Network
   pub failed : Bool
 
--- at the start
+-- a core at its start
 abbrev pub started : Config → List DinRecord → CoreState
 started config events =
     record { config = config; events = events; network = start events; failed = false }
 
--- what its first level sends
+-- what the first level of this configuration sends
 abbrev pub parts_for : Config → Parts
 parts_for config = parts_in (hierarchy_of config)
 
--- the network after the next step of a machine, where that is possible
+-- the network after the next step of a machine, if that step is possible
 abbrev pub next_in : CoreState → Machine → Option Network
 next_in c m = next (parts_for c.config) (ring_of c.config) m c.network
 
--- is it possible?
+-- can this machine step?
 abbrev pub can_in : CoreState → Machine → Bool
 can_in c = can (parts_for c.config) (ring_of c.config) c.network
 
--- the machines whose next step is possible, in their order: none after a refusal
+-- the machines that can step, in their order; none after a failed allocation
 abbrev pub enabled_in : CoreState → List Machine
 enabled_in c = if c.failed then [] else filter (can_in c) machines
 
@@ -50,7 +50,7 @@ enabled_in c = if c.failed then [] else filter (can_in c) machines
 abbrev pub IsConsistent : CoreState → Type 0
 IsConsistent c = Consistent (parts_for c.config) c.events c.network
 
--- the next step of this machine was made
+-- this machine has made its next step
 pub record MakesStep (m : Machine) (old new : CoreState) : Type 0 where
   pub step : next_in old m ≡ Some new.network
   pub works : new.failed ≡ false
@@ -60,17 +60,17 @@ pub record IsSameRun (old new : CoreState) : Type 0 where
   pub config : new.config ≡ old.config
   pub events : new.events ≡ old.events
 
--- the machine number nth of those that can, from 0
+-- this is the machine number `nth` (from 0) of those that can step
 abbrev pub IsChosen : ℕ → CoreState → Machine → Type 0
 IsChosen nth c m = slice_get (enabled_in c) nth ≡ Some m
 
--- the run is over: memory was never refused, and no machine has a next step
+-- the run is over: no allocation failed, and all machines have finished
 pub record IsOver (c : CoreState) : Type 0 where
   pub works : c.failed ≡ false
   pub finished : IsFinished c.network
 
--- its fields as a state of the network: what the second level was given is what the merge's rule
--- takes from the lists that were popped
+-- the fields of a core as a state of the network; the requests given to the second level are those
+-- that the merge's rule takes from the popped messages
 abbrev pub network_of : Inside → Network
 network_of c = record {
   still = drop c.pushed c.pushes.items;
@@ -81,7 +81,7 @@ network_of c = record {
   given = (merged c.order.popped c.i.from.popped c.d.from.popped).taken;
 }
 
--- what clauses see of it
+-- a core as the contracts see it
 abbrev pub core_of : Inside → CoreState
 core_of c = record {
   config = c.config;
@@ -90,7 +90,7 @@ core_of c = record {
   failed = c.failed;
 }
 
--- the caches, of these rules, stand for what they were given
+-- the caches have these rules, and have served these messages and requests
 pub record CachesStand (h : Hierarchy) (stage_i stage_d : L1Stage) (second : L2Stage)
     (to_i to_d : List ToStage) (given : List What) : Type 0 where
   pub i : TookIn h.i side.I stage_i to_i
@@ -98,12 +98,12 @@ pub record CachesStand (h : Hierarchy) (stage_i stage_d : L1Stage) (second : L2S
   pub u : L2StandsFor second given
   pub u_rules : rules_of (l2_cache second) ≡ h.u
 
--- the event list is short, and each ring holds a message or more
+-- the event list is at most 2 * 2 ^ 40 long, and each ring has room for at least one message
 pub record IsRunnable (config : Config) (events : List DinRecord) : Type 0 where
   pub short : length events ≤ 2 * 2 ^ 40
   pub room : 0 < ring_of config
 
--- what its fields keep while memory was not refused
+-- the invariant of a core's fields, as long as no allocation failed
 pub record Sound (c : Inside) : Type 0 where
   pub consistent : Consistent (parts_for c.config) c.events.items (network_of c)
   pub caches : CachesStand (hierarchy_of c.config) c.i.stage c.d.stage c.u

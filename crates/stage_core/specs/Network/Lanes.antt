@@ -1,4 +1,4 @@
--- A lane of the code as a lane of the network.
+-- A lane of the code, seen as a lane of the network.
 use Rattle.std.specs.Prelude.{◌≡◌, ℕ, List, Option}
 use Rattle.cache_core.specs.History.{Rules}
 use Rattle.cache_core.specs.Standing.{rules_of}
@@ -10,17 +10,17 @@ use Rattle.stage_core.specs.declared.message.ToStage.{ToStage}
 use Rattle.stage_core.specs.declared.l1_stage.L1Stage.{L1Stage}
 use Rattle.stage_core.specs.declared.network.lane.Lane as code
 
--- its two rings and its stage's outbox
+-- the two rings of a lane and the outbox of its stage
 abbrev pub lane_of : code.Lane → Lane
 lane_of l = record { to = l.to; outbox = outbox_of l.stage; from = l.from }
 
--- the lane after its stage's next step
+-- the lane after the next step of its stage, if that step is possible
 abbrev pub stage_next : ℕ → code.Lane → Option Lane
 stage_next capacity l =
     stage (parts_of (rules_of (cache_of l.stage))) capacity (side_of l.stage)
     (outbox_of l.stage) (lane_of l)
 
--- a stage of this side, with a cache of these rules, took in these messages
+-- a stage of this side, whose cache has these rules, has received these messages
 pub record TookIn (rules : Rules) (s : Side) (stage : L1Stage) (ms : List ToStage) : Type 0 where
   pub same_rules : rules_of (cache_of stage) ≡ rules
   pub same_side : side_of stage ≡ s

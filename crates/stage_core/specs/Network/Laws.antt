@@ -1,4 +1,4 @@
--- Laws over the network, whatever the first level sends and however small the rings are.
+-- Laws of the network. They hold whatever the first level sends and however small the rings are.
 use Rattle.std.specs.Prelude.{◌≡◌, ℕ, ◌*◌, ◌<◌, ◌≤◌, List, ◌++◌, length, Some, None}
 use Rattle.din_trace.specs.declared.record.DinRecord.{DinRecord}
 use Rattle.stage_core.specs.SecondLevel.{Parts, second_level_requests}
@@ -8,7 +8,7 @@ use Rattle.stage_core.specs.Network.{Network, Machine, Consistent, IsFinished, l
 use Rattle.stage_core.specs.Network.{start, steps_made, messages}
 use Rattle.stage_core.specs.declared.message.Side.{Side}
 
--- the start is consistent
+-- the state at the start is consistent
 abbrev pub StartIsConsistent : Type 0
 StartIsConsistent = (parts : Parts) (es : List DinRecord) → Consistent parts es (start es)
 
@@ -18,44 +18,44 @@ StepsKeepConsistency =
     (parts : Parts) (es : List DinRecord) (capacity : ℕ) (m : Machine) (old new : Network) →
     Consistent parts es old → next parts capacity m old ≡ Some new → Consistent parts es new
 
--- so do whole schedules from the start
+-- each schedule leads from the start to a consistent state
 abbrev pub SchedulesKeepConsistency : Type 0
 SchedulesKeepConsistency =
     (parts : Parts) (es : List DinRecord) (capacity : ℕ) (ms : List Machine) (n : Network) →
     run parts capacity ms (start es) ≡ Some n → Consistent parts es n
 
--- a consistent state in which no machine's next step is possible is finished, if each ring holds a
--- message or more
+-- if no machine can step in a consistent state, all have finished; each ring has to have room for
+-- at least one message
 abbrev pub ConsistentStatesGoOn : Type 0
 ConsistentStatesGoOn =
     (parts : Parts) (es : List DinRecord) (capacity : ℕ) (n : Network) →
     0 < capacity → Consistent parts es n →
     ((m : Machine) → next parts capacity m n ≡ None) → IsFinished n
 
--- so is a state that some schedule leads to from the start
+-- if no machine can step after a schedule from the start, all have finished
 abbrev pub NoScheduleIsStuck : Type 0
 NoScheduleIsStuck =
     (parts : Parts) (es : List DinRecord) (capacity : ℕ) (ms : List Machine) (n : Network) →
     0 < capacity → run parts capacity ms (start es) ≡ Some n →
     ((m : Machine) → next parts capacity m n ≡ None) → IsFinished n
 
--- no more messages wait in a ring than it holds
+-- no ring has more messages waiting than its capacity
 pub record IsWithin (capacity : ℕ) (n : Network) : Type 0 where
   pub order : length n.order.waiting ≤ capacity
   pub to : (s : Side) → length (lane s n).to.waiting ≤ capacity
   pub from : (s : Side) → length (lane s n).from.waiting ≤ capacity
 
--- so it is in every state that a schedule leads to from the start
+-- after every schedule from the start, no ring has more messages waiting than its capacity
 abbrev pub RingsHoldTheirCapacity : Type 0
 RingsHoldTheirCapacity =
     (parts : Parts) (es : List DinRecord) (capacity : ℕ) (ms : List Machine) (n : Network) →
     run parts capacity ms (start es) ≡ Some n → IsWithin capacity n
 
--- these stand at the beginning of those
+-- the second list begins with the first one
 abbrev pub IsBeginning : {A : Type 0} → List A → List A → Type 0
 IsBeginning {A} xs ys = (rest : List A) × (xs ++ rest ≡ ys)
 
--- what each ring has carried is the beginning of its stream
+-- what each ring has carried is a beginning of its stream
 abbrev pub RingsCarryBeginnings : Type 0
 RingsCarryBeginnings =
     (parts : Parts) (es : List DinRecord) (n : Network) → Consistent parts es n →
@@ -63,31 +63,31 @@ RingsCarryBeginnings =
     × ((s : Side) → IsBeginning (carried (lane s n).to) (to_side s es))
     × ((s : Side) → IsBeginning (carried (lane s n).from) (from_side parts s es))
 
--- the second level was given no more than it is to see in all
+-- the second level was given at most as many requests as it gets in all
 abbrev pub SecondLevelIsGivenNoMore : Type 0
 SecondLevelIsGivenNoMore =
     (parts : Parts) (es : List DinRecord) (n : Network) → Consistent parts es n →
     length n.given ≤ length (second_level_requests parts es)
 
--- where all have finished it was given just that
+-- when all machines have finished, the second level was given exactly its requests
 abbrev pub FinishedMeansAllGiven : Type 0
 FinishedMeansAllGiven =
     (parts : Parts) (es : List DinRecord) (n : Network) → Consistent parts es n →
     IsFinished n → n.given ≡ second_level_requests parts es
 
--- no consistent state has made more steps than a push and a pop for each message
+-- at most two steps were made for each message: a push and a pop
 abbrev pub StepsAreBounded : Type 0
 StepsAreBounded =
     (parts : Parts) (es : List DinRecord) (n : Network) → Consistent parts es n →
     steps_made n ≤ 2 * messages parts es
 
--- where all have finished it has made just these
+-- when all machines have finished, exactly two steps were made for each message
 abbrev pub FinishedMeansAllSteps : Type 0
 FinishedMeansAllSteps =
     (parts : Parts) (es : List DinRecord) (n : Network) → Consistent parts es n →
     IsFinished n → steps_made n ≡ 2 * messages parts es
 
--- so every schedule that ends where all have finished has two steps for each message
+-- every schedule after which all machines have finished has exactly two steps for each message
 abbrev pub CompleteSchedulesAreAsLong : Type 0
 CompleteSchedulesAreAsLong =
     (parts : Parts) (es : List DinRecord) (capacity : ℕ) (ms : List Machine) (n : Network) →

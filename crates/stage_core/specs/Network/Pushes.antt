@@ -1,4 +1,4 @@
--- What the splitter pushes for an event list: each message with its ring.
+-- All messages that the splitter pushes for an event list, each with its ring.
 use Rattle.std.specs.Prelude.{◌≡◌, List, [], ◌∷◌, ◌++◌, map, option_to_list}
 use Rattle.din_trace.specs.declared.record.DinRecord.{DinRecord}
 use Rattle.stage_core.specs.Places.{flat_map_with_past}
@@ -14,11 +14,11 @@ use Rattle.stage_core.specs.declared.message.Routed.{Routed}
 pub use Rattle.stage_core.specs.declared.network.pushes.Push.{Push}
 pub use Rattle.stage_core.specs.declared.network.pushes.Push.TheVariants.{Order, To}
 
--- a turn, then I's message, then D's
+-- the pushes of one event: its turn, then the message to I, then the message to D
 abbrev pub in_order : Turn → List ToStage → List ToStage → List Push
 in_order t is ds = Order t ∷ (map (To side.I) is ++ map (To side.D) ds)
 
--- the pushes of the event e, which stands after the events before
+-- the pushes of the event e, which comes after the events `before`
 abbrev pub pushes_at : List DinRecord → DinRecord → List Push
 pushes_at before e = in_order (turn_of e.label) (messages_to side.I before e)
     (messages_to side.D before e)
@@ -27,7 +27,7 @@ pushes_at before e = in_order (turn_of e.label) (messages_to side.I before e)
 abbrev pub ending : List Push
 ending = in_order turn.Finish (to_stage.Finish ∷ []) (to_stage.Finish ∷ [])
 
--- all that the splitter pushes
+-- all pushes for an event list, in order
 abbrev pub pushes : List DinRecord → List Push
 pushes events = flat_map_with_past pushes_at events ++ ending
 
@@ -35,26 +35,26 @@ pushes events = flat_map_with_past pushes_at events ++ ending
 abbrev pub pushes_in : Routed → List Push
 pushes_in r = in_order r.turn (option_to_list r.i) (option_to_list r.d)
 
--- those of the order ring
+-- the messages that are pushed into the order ring
 abbrev pub turns_in : List Push → List Turn
 turns_in [] = []
 turns_in (Order t ∷ ps) = t ∷ turns_in ps
 turns_in (To s m ∷ ps) = turns_in ps
 
--- the item of the second side, where that is the first
+-- the item as a list if the two sides are the same, and else nothing
 abbrev pub for_side : {A : Type 0} → Side → Side → A → List A
 for_side side.I side.I x = x ∷ []
 for_side side.I side.D x = []
 for_side side.D side.I x = []
 for_side side.D side.D x = x ∷ []
 
--- those of the ring to a side
+-- the messages that are pushed into the ring to a side
 abbrev pub sent_to : Side → List Push → List ToStage
 sent_to s [] = []
 sent_to s (Order t ∷ ps) = sent_to s ps
 sent_to s (To r m ∷ ps) = for_side s r m ++ sent_to s ps
 
--- a push goes into its ring, and the other two rings are as before
+-- the message of a push is added to its ring, and the other two rings do not change
 abbrev pub IsPushed : Push → Ring Turn → Ring ToStage → Ring ToStage → Ring Turn → Ring ToStage →
     Ring ToStage → Type 0
 IsPushed (Order t) o i d o' i' d' = (o' ≡ with_message t o) × (i' ≡ i) × (d' ≡ d)

@@ -24,7 +24,7 @@ pub struct Lane {
 }
 
 impl Lane {
-    /// A lane whose stage took nothing in.
+    /// A lane with empty rings, whose stage has received nothing.
     pub fn new(
         alloc: Global,
         side: Side,
@@ -42,7 +42,7 @@ impl Lane {
         })
     }
 
-    /// Whether the stage's next step is possible, where each ring holds so many messages.
+    /// Whether the stage can make its next step, if each ring has this capacity.
     pub fn can_step(&self, capacity: usize) -> bool
         requires { StageStandsFor self.now.stage self.now.to.popped }
         ensures { (parts : Parts) (s : Side) →
@@ -58,7 +58,7 @@ impl Lane {
         }
     }
 
-    /// Makes the stage's next step.
+    /// Makes the stage's next step: one push or one pop.
     pub fn step(&mut self, capacity: usize) -> Result<(), NoMemory>
         requires stands { StageStandsFor self.old.stage self.old.to.popped }
         requires possible { IsSome (stage_next capacity self.old) }

@@ -1,4 +1,4 @@
-//! What the splitter pushes.
+//! The messages that the splitter pushes, in order.
 
 ghost use Rattle.std.specs.Prelude.{◌≡◌, ◌≤◌, ◌*◌, ◌++◌, ◌∷◌, [], IfOk, OnOk, length};
 ghost use Rattle.stage_core.specs.Network.Pushes.{pushes, pushes_in, IsPushed};
@@ -10,14 +10,14 @@ use crate::splitter::Splitter;
 use din_trace::{DinRecord, MAX_LIMIT};
 use std::alloc::Global;
 
-/// A message of the splitter, with its ring.
+/// A message of the splitter, together with the ring that it goes to.
 #[derive(Clone, Copy)]
 pub enum Push {
     Order(Turn),
     To(Side, ToStage),
 }
 
-// Adds a push.
+// Adds a push to the list.
 fn add(pushes: &mut Vec<Push>, push: Push) -> Result<(), NoMemory>
     ensures { OnOk result (pushes.new.items ≡ pushes.old.items ++ push ∷ []) }
 {
@@ -27,7 +27,7 @@ fn add(pushes: &mut Vec<Push>, push: Push) -> Result<(), NoMemory>
     Ok(())
 }
 
-// Adds what the splitter made of an event.
+// Adds the pushes of the messages that the splitter made of an event.
 fn add_routed(pushes: &mut Vec<Push>, routed: Routed) -> Result<(), NoMemory>
     ensures { OnOk result (pushes.new.items ≡ pushes.old.items ++ pushes_in routed) }
 {
@@ -41,7 +41,7 @@ fn add_routed(pushes: &mut Vec<Push>, routed: Routed) -> Result<(), NoMemory>
     Ok(())
 }
 
-/// All that the splitter pushes for an event list, up to Finish.
+/// All pushes of the splitter for an event list, up to those of Finish.
 pub fn pushes_of(alloc: Global, events: &[DinRecord]) -> Result<Vec<Push>, NoMemory>
     requires { length events.now ≤ 2 * MAX_LIMIT }
     ensures { IfOk result (λ made. made.items ≡ pushes events.now) }

@@ -1,4 +1,4 @@
-//! A ring that keeps all that it has carried.
+//! A ring of the network, which keeps all messages that it has carried.
 
 ghost use Rattle.std.specs.Prelude.{◌≡◌, ◌<◌, OnOk, OnErr, Some, length};
 ghost use Rattle.stage_core.specs.Network.Rings.{empty_ring, with_message, pop};
@@ -46,7 +46,7 @@ impl<T: Copy> Ring<T> {
         self.carried.len() - self.popped
     }
 
-    /// Takes a message in. The caller sees to it that no more wait than the ring is to hold.
+    /// Adds a message. The ring itself has no capacity: the caller has to check that there is room.
     pub fn push(&mut self, message: T) -> Result<(), NoMemory>
         ensures pushed { OnOk result (self.new ≡ with_message message self.old) }
         ensures refused { OnErr result (self.new ≡ self.old) }
@@ -57,7 +57,7 @@ impl<T: Copy> Ring<T> {
         Ok(())
     }
 
-    /// Takes the message out that has waited longest.
+    /// Removes the oldest waiting message and returns it.
     pub fn pop(&mut self) -> T
         requires { 0 < length self.old.waiting }
         ensures { pop self.old ≡ Some (result, self.new) }

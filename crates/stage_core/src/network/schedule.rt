@@ -1,4 +1,4 @@
-//! A whole run of the network, by choices.
+//! A whole run of the network, whose order is given by a list of choices.
 
 ghost use Rattle.std.specs.Prelude.{◌≡◌, ◌<◌, ◌≤◌, ◌*◌, ◌%◌, ◌^◌, IfOk, List, length};
 ghost use Rattle.std.specs.Prelude.{slice_index};
@@ -18,7 +18,7 @@ use crate::totals::Totals;
 use din_trace::{DinRecord, MAX_LIMIT};
 use std::alloc::Global;
 
-// The choice for a step, below the number of machines that can make one.
+// The choice for the next step: an index below the number of machines that can step.
 fn chosen(choices: &[u8], made: u64, enabled: u8) -> u8
     requires { 0 < enabled }
     ensures below { result < enabled }
@@ -52,10 +52,10 @@ fn run(core: &mut Core, choices: &[u8]) -> Result<(Totals, u64), NoMemory>
     Ok((core.totals(), made))
 }
 
-/// Makes one step after another, until all machines have finished: step `k`, from 0, is that of
-/// the machine number `choices[k]`, modulo their number, of those that can make one, and of the
-/// first of them where the list has ended. Answers the counts and the number of steps, which the
-/// choices don't change.
+/// Makes one step after another, until all machines have finished. Step `k` (from 0) is made by the
+/// machine at index `choices[k]`, modulo their number, among those that can step; after the end of
+/// the list, by the first of them. Answers the counts and the number of steps, neither of which
+/// depends on the choices.
 pub fn drive(
     alloc: Global,
     config: &Config,
@@ -69,7 +69,7 @@ pub fn drive(
         ≡ totals (hierarchy_of config.now) (events selection.now records.now)) }
     ensures steps { IfOk result (λ answer. answer.1
         ≡ 2 * messages (parts_for config.now) (events selection.now records.now)) }
-    // The run was the one that the choices name.
+    // The run was the one that the choices give.
     ensures schedule { IfOk result (λ answer. (ms : List Machine)
         × IsNamed (parts_for config.now) (ring_of config.now) choices.now
         (events selection.now records.now) ms

@@ -1,5 +1,5 @@
-//! Want of memory. Each test passes with ample memory. Where a growth is refused, it looks at what
-//! that left, and then fails by the name of the refusal and says nothing else.
+//! Failing allocations. Each test passes if there is enough memory. If an allocation is refused, it
+//! checks the state after that, and then fails with the name of the refusal and nothing else.
 
 use super::{config, data, flush, write};
 use crate::config::Config;
@@ -15,7 +15,7 @@ use std::alloc::Global;
 use std::process::Abort;
 use std::test::Fail;
 
-// A first-level stage has failed, with nothing to send, and has counted this.
+// A first-level stage has to have failed, with an empty outbox and these counts.
 fn has_failed(rt: &impl Abort, stage: &mut L1Stage, counted: (Counts, u64)) {
     assert!(rt; stage.failed());
     assert!(rt; !stage.finished());
@@ -23,7 +23,8 @@ fn has_failed(rt: &impl Abort, stage: &mut L1Stage, counted: (Counts, u64)) {
     assert_eq!(rt; stage.outbox_next(), None);
 }
 
-// What a first-level stage is to be after a refusal: as before, with nothing to send, and failed.
+// After a refusal, a first-level stage has to have failed, with an empty outbox and the counts from
+// before.
 fn stays_failed(rt: &impl Abort, stage: &mut L1Stage, before: (Counts, u64)) {
     for message in [ToStage::Flush { place: 9 }, ToStage::Finish] {
         has_failed(rt, stage, before);
@@ -34,7 +35,8 @@ fn stays_failed(rt: &impl Abort, stage: &mut L1Stage, before: (Counts, u64)) {
     has_failed(rt, stage, before);
 }
 
-// Takes a message in and sends just this. If memory is refused, the stage stays failed.
+// Receives a message and has to send exactly this. If an allocation fails, the stage has to stay
+// failed.
 fn answers(
     rt: &impl Abort,
     stage: &mut L1Stage,
@@ -136,13 +138,13 @@ fn the_instruction_stage_answers_or_fails(rt: HostRuntime) -> Result<(), Fail> {
     Ok(())
 }
 
-// What the second level is to be after a refusal: as before, and failed.
+// After a refusal, the second level has to have failed, with the counts from before.
 fn second_level_has_failed(rt: &impl Abort, stage: &L2Stage, before: (Counts, u64)) {
     assert!(rt; stage.failed());
     assert_eq!(rt; (stage.counts(), stage.served()), before);
 }
 
-// Serves what the first level sends. If memory is refused, the second level stays failed.
+// Serves a request of the first level. If an allocation fails, the second level has to stay failed.
 fn serves(rt: &impl Abort, stage: &mut L2Stage, what: What) -> Result<(), NoMemory> {
     let before = (stage.counts(), stage.served());
     assert!(rt; stage.served() < MAX_EVENTS);
@@ -185,7 +187,7 @@ fn the_second_level_serves_or_fails(rt: HostRuntime) -> Result<(), Fail> {
     Ok(())
 }
 
-// Two blocks of data were written, and written back at a flush.
+// The counts of two blocks of data that were written, and written back at a flush.
 fn two_written_back() -> Counts {
     let writes = PerClass {
         write: 2,
@@ -202,7 +204,7 @@ fn two_written_back() -> Counts {
     }
 }
 
-// What the second level serves for that.
+// The counts of the second level for that.
 fn two_read_and_written() -> Counts {
     let reads = PerClass {
         read: 2,

@@ -1,4 +1,4 @@
-//! Runs of the network, event by event.
+//! Runs of the network, step by step.
 
 ghost use Rattle.std.specs.Prelude.{◌≤◌, ◌^◌, length};
 
@@ -13,8 +13,8 @@ use std::alloc::Global;
 use std::process::Abort;
 use std::test::Fail;
 
-// The run makes so many events and has these counts, whether the first machine that can makes each
-// event, or another one, or the first two in turn.
+// The run has to make this many steps and to have these counts, whether each step is made by the
+// first machine that can, or by another one, or by the first two in turn.
 fn driven(
     rt: &impl Abort,
     alloc: Global,
@@ -68,12 +68,12 @@ fn a_long_trace_goes_through_rings_of_one_message(rt: HostRuntime) -> Result<(),
     driven(&rt, rt.alloc(), 0, 1, &trace, sweep_totals(), 80_010)
 }
 
-// How many machines can make a step, whether all have finished, and whether a growth was refused.
+// How many machines can step, whether all have finished, and whether an allocation failed.
 fn state(core: &Core) -> (u8, bool, bool) {
     (core.enabled(), core.finished(), core.failed())
 }
 
-// One more event of a run that goes on. Where it is refused, nothing is enabled from then on.
+// One more step of a run that is not over. If an allocation fails, nothing may be enabled after it.
 fn step(rt: &impl Abort, core: &mut Core, nth: u8) -> Result<(), Fail> {
     assert!(rt; nth < core.enabled());
     assert!(rt; !core.finished());
@@ -85,7 +85,8 @@ fn step(rt: &impl Abort, core: &mut Core, nth: u8) -> Result<(), Fail> {
     Ok(stepped?)
 }
 
-// Of an empty trace. Each time so many machines can make a step, and that of this number does.
+// A run over an empty trace. Before each step this many machines have to be able to step, and the
+// one with this number does.
 fn ends_are_sent(rt: &impl Abort, core: &mut Core) -> Result<(), Fail> {
     for (machines, nth) in [(1, 0), (2, 1), (1, 0)] {
         assert_eq!(rt; state(core), (machines, false, false));
@@ -101,7 +102,7 @@ fn the_machines_that_can_are_counted(rt: HostRuntime) -> Result<(), Fail> {
     ends_are_sent(&rt, &mut core)
 }
 
-// Where a growth is refused, the run fails by the name of that.
+// If an allocation fails, the run has to fail with the name of that.
 #[test]
 fn a_refused_run_answers_want_of_memory(rt: HostRuntime) -> Result<(), Fail> {
     let config = config_of(data(), 1)?;
@@ -120,7 +121,7 @@ fn runs_to_its_end(rt: &impl Abort, core: &mut Core) -> Result<(), Fail> {
     Ok(())
 }
 
-// Where a step is refused, the test fails by the name of that.
+// If an allocation fails in a step, the test fails with the name of that.
 #[test]
 fn a_refused_step_leaves_nothing_enabled(rt: HostRuntime) -> Result<(), Fail> {
     let config = config_of(data(), 1)?;

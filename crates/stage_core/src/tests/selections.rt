@@ -1,4 +1,4 @@
-//! What a selection makes of a trace.
+//! The events that selections make of a trace.
 
 use super::{flush, instr};
 use crate::selection::{Selection, Selector};
@@ -33,10 +33,10 @@ pub(super) fn events_of(
     Ok(events)
 }
 
-// Left out, taken at most, and a flush behind every so many.
+// How many are left out, how many are taken at most, and after how many a flush is inserted.
 type Numbers = (u64, u64, u64);
 
-// These records, so selected, bring just these events.
+// This selection has to make exactly these events of these records.
 fn selects(
     rt: &impl Abort,
     alloc: Global,

@@ -1,4 +1,4 @@
-//! What the machines send, one by one.
+//! The messages that each machine sends.
 
 use super::stages::{answer, done, fetch, part, reference};
 use super::{config, data, flush, read, write};
@@ -13,7 +13,7 @@ use std::alloc::Global;
 use std::process::Abort;
 use std::test::Fail;
 
-// What the five rings carry.
+// The messages that the five rings carry.
 #[derive(Drop)]
 pub(super) struct Streams {
     order: Vec<Turn>,
@@ -61,7 +61,7 @@ impl Streams {
         Ok(())
     }
 
-    // Sends all through two new stages.
+    // Sends all messages through two new stages.
     fn fill(
         &mut self,
         rt: &impl Abort,
@@ -96,7 +96,7 @@ pub(super) fn streams_of(
     Ok(streams)
 }
 
-// The next of a list, which is there.
+// The next item of a list, which has to have one.
 fn next_of<T: Copy>(rt: &impl Abort, list: &[T], taken: &mut usize) -> T {
     let at = *taken;
     assert!(rt; at < list.len());
@@ -104,7 +104,7 @@ fn next_of<T: Copy>(rt: &impl Abort, list: &[T], taken: &mut usize) -> T {
     list[at]
 }
 
-// What the merge takes from the streams, each message from the side that it wants.
+// The requests that the merge takes from the streams, each message from the side that it wants.
 fn merged(rt: &impl Abort, alloc: Global, streams: &Streams) -> Result<Vec<What>, Fail> {
     let mut merge = Merge::new();
     let (mut turns, mut i, mut d) = (0, 0, 0);
@@ -158,7 +158,7 @@ fn is_routed(
     assert_eq!(rt; streams.to_d.as_slice(), to_d);
 }
 
-// The stages have answered just this.
+// The stages have to have answered exactly these messages.
 fn is_answered(rt: &impl Abort, streams: &Streams, from_i: &[FromStage], from_d: &[FromStage]) {
     assert_eq!(rt; streams.from_i.as_slice(), from_i);
     assert_eq!(rt; streams.from_d.as_slice(), from_d);

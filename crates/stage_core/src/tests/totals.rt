@@ -23,7 +23,7 @@ fn totals_of(alloc: Global, d: CacheSpec, every: u64, records: &[DinRecord]) -> 
     Ok(run_plain(alloc, &config(d)?, &selection(every), records)?)
 }
 
-// These records bring these counts of the data cache and the second level, and none of I.
+// These records have to give these counts of the data cache and the second level, and none of I.
 fn comes_to(
     rt: &impl Abort,
     alloc: Global,

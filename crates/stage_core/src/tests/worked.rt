@@ -1,4 +1,4 @@
-//! Traces with the counts that they have on the small caches, worked out by hand.
+//! Traces with their counts on the small caches, worked out by hand.
 
 use super::{flush, read, write};
 use crate::totals::Totals;
@@ -36,7 +36,7 @@ pub(super) fn both(read: u64, write: u64) -> PerClass {
     }
 }
 
-// The counts of first misses alone.
+// Counts in which each miss is compulsory, and this many blocks were loaded.
 pub(super) fn first_misses(fetches: PerClass, misses: PerClass, loaded: u64) -> Counts {
     Counts {
         fetches,
@@ -47,7 +47,7 @@ pub(super) fn first_misses(fetches: PerClass, misses: PerClass, loaded: u64) -> 
     }
 }
 
-// A write, and two reads that drive its block out.
+// A write, and two reads that evict its block.
 pub(super) fn victim() -> [DinRecord; 3] {
     [write(0), read(8), read(16)]
 }
@@ -63,7 +63,7 @@ pub(super) fn victim_totals() -> Totals {
     }
 }
 
-// The same with a flush behind the second reference.
+// The totals of the same trace with a flush after the second reference.
 pub(super) fn put_in_totals() -> Totals {
     Totals {
         i: Counts {
@@ -107,7 +107,7 @@ pub(super) fn flushed_totals() -> Totals {
     }
 }
 
-// 10,000 reads in turn over four times what the data cache holds.
+// 10,000 reads, again and again through four times the size of the data cache.
 pub(super) fn sweep(alloc: Global) -> Result<Vec<DinRecord>, Fail> {
     let mut trace = Vec::new(alloc);
     for k in 0..10_000u64 {

@@ -25,7 +25,8 @@ serve_set-requires c =
       rw c.set-set.ensures (mod-lt c.block-block.result (sane_of g).sets_pos),
     )
 
--- the cache has failed, and its sets may have one more dirty block than accesses were counted
+-- the cache has failed: the blocks written back and the dirty ones may be one more than the events
+-- that it has served
 pub invariant_of-self-in_default-classify : goal.invariant_of-self-in_default-classify
 invariant_of-self-in_default-classify c =
     let old = c.args.self.now in

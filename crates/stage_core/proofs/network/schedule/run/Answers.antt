@@ -12,7 +12,7 @@ use Rattle.stage_core.proofs.network.Chosen.{run-more, named-more}
 use Rattle.stage_core.proofs.network.Steps.{driven, working}
 use Rattle.stage_core.proofs.network.schedule.run.Goals as goal
 
--- the messages of one run are as many at any time
+-- the number of messages does not change during a run
 same-messages : {old new : CoreState} → IsSameRun old new
     → messages (parts_for new.config) new.events ≡ messages (parts_for old.config) old.events
 same-messages {old = old} {new = new} s =
@@ -26,7 +26,7 @@ after c =
     let step = c.in_ok-step.ensures.step in
     driven (c.enabled.ensures.consistent c.run.invariant.works) step.0 step.2
 
--- the schedule so far, with the event that was made
+-- the schedule so far, with the step that was made
 longer : (c : goal.In_ok-step) → let start = c.args.core.now in
     (ms : List Machine)
     × (run (parts_for start.config) (ring_of start.config) ms start.network
