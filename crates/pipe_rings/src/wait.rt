@@ -59,8 +59,9 @@ impl Bell {
         self.word.wake_one();
     }
 
-    // Sleeps until the bell is rung. The first call only marks the thread as asleep, and the caller
-    // then looks once more. So what the other end did before it could see the mark is not missed.
+    // Sleeps until the bell is rung, at most for the longest sleep. The first call only marks the
+    // thread as asleep, and the caller then looks once more. So what the other end did before it
+    // could see the mark is not missed.
     fn sleep<R: Wait>(&self, rt: &R) {
         if self.word.load(Ordering::SeqCst) == AWAKE {
             self.word.store(ASLEEP, Ordering::SeqCst);
