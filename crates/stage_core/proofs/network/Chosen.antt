@@ -7,7 +7,7 @@ use Rattle.stage_core.specs.Network.Choices.{named, IsNamedFrom}
 use Rattle.stage_core.proofs.network.Schedules.{and_then-some}
 
 module _ (parts : Parts) (capacity : ℕ) where
-  -- a schedule with one event more leads where that event leads
+  -- a schedule with one step more leads where that step leads
   pub run-more : (ms : List Machine) (m : Machine) (n last more : Network)
       → run parts capacity ms n ≡ Some last → next parts capacity m last ≡ Some more
       → run parts capacity (ms ++ m ∷ []) n ≡ Some more
@@ -20,7 +20,7 @@ module _ (parts : Parts) (capacity : ℕ) where
       ap (option_and_then (run parts capacity (ms ++ m ∷ []))) s.1
       ∙ run-more ms m s.0 last more s.2 e
 
-  -- it is named by the choices if that event is
+  -- it is named by the choices if that step is
   pub named-more : (choices : List ℕ) (k j : ℕ) (ms : List Machine) (m : Machine)
       (n last : Network) → IsNamedFrom parts capacity choices k ms n
       → run parts capacity ms n ≡ Some last → j ≡ k + length ms

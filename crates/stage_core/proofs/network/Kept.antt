@@ -103,7 +103,7 @@ lane-takes parts s l m r e h p =
       popped = refl;
     }
 
--- the next event of a stage keeps what holds of its lane
+-- the next step of a stage keeps what holds of its lane
 pub stage-keeps : (parts : Parts) (capacity : ℕ) (s : Side) (outbox : List FromStage) (l l' : Lane)
     → l.outbox ≡ outbox → carried l.from ++ l.outbox ≡ replies parts s l.to.popped
     → stage parts capacity s outbox l ≡ Some l' → LaneKeeps parts s l l'
@@ -200,7 +200,7 @@ module _ (parts : Parts) (es : List DinRecord) where
         (record (lane s n) { to = r }) (record n { still = rest })) f ∙ x.2)
         (keeps-to s m rest e)
 
-    -- so does a stage's event
+    -- so does a stage's step
     pub keeps-lane : (s : Side) (l : Lane) → LaneKeeps parts s (lane s n) l
         → Consistent parts es (with_lane s l n)
     keeps-lane side.I l h =
