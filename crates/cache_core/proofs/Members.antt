@@ -1,14 +1,13 @@
 -- Members of lists of numbers: one that is searched, moved to the front, or the last; and how many
 -- there are.
-use Rattle.std.proofs.Common.{◌≡◌, ℕ, Bool, true, false, cond, not, ◌&&◌, ◌||◌, eqb, List, []}
-use Rattle.std.proofs.Common.{◌∷◌, ◌++◌, Some, None, refl, sym, ap, subst, ◌∙◌, ◌≡◌, ℕ, ◌+◌, ◌≤◌}
-use Rattle.std.proofs.Common.{Bool, true, false, cond, not, ◌&&◌, ◌||◌, eqb, List, [], ◌∷◌, length}
-use Rattle.std.proofs.Common.{filter, Some, None, refl, sym, ap, subst, ◌∙◌, arith}
-use Rattle.std.specs.List.{find, find}
-use Rattle.std.proofs.lemmas.Bool.{eqb-true, false≢true, or_parts, or_from, eqb-true, eq-eqb}
-use Rattle.std.proofs.lemmas.Bool.{false≢true, or_left, or_right}
-use Rattle.cache_core.proofs.Reuse.{has, has-filter, has, has-filter}
-use Rattle.cache_core.proofs.Shift.{without, IsOnce, without, IsOnce}
+use Rattle.std.proofs.Common.{◌≡◌, ℕ, Bool, true, false, cond, not, ◌&&◌, ◌||◌, eqb, List, [], ◌∷◌}
+use Rattle.std.proofs.Common.{◌++◌, Some, None, refl, sym, ap, subst, ◌∙◌, ◌+◌, ◌≤◌, length, filter}
+use Rattle.std.proofs.Common.{arith}
+use Rattle.std.specs.List.{find}
+use Rattle.std.proofs.lemmas.Bool.{eqb-true, false≢true, or_parts, or_from, eq-eqb, or_left}
+use Rattle.std.proofs.lemmas.Bool.{or_right}
+use Rattle.cache_core.proofs.Reuse.{has, has-filter}
+use Rattle.cache_core.proofs.Shift.{without, IsOnce}
 use Rattle.cache_core.proofs.Shadow.{eqb-comm}
 use Rattle.cache_core.proofs.Cases.{by_cases}
 

@@ -70,6 +70,7 @@ module _ (r : Rules) where
   renewals-no h x e = cond-false (renews r (renewals r h) x) (block_of r x ∷ renewals r h)
       (renewals r h) e
 
+  -- a block that is not resident is not among the residents of its set
   pub fresh : (h : History) (b : ℕ) → is_resident r (renewals r h) b ≡ false
       → has (ways_of r (b % r.sets) (renewals r h)) b ≡ false
   fresh h b e = has-ways_of r (renewals r h) b ∙ e

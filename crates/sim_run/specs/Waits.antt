@@ -1,5 +1,5 @@
 -- When a thread may wait, in terms of its machine and its ends.
-use Rattle.std.specs.Prelude.{◌≡◌, ℕ, ◌+◌, Bool, List, length}
+use Rattle.std.specs.Prelude.{ℕ, ◌+◌, Bool, List, length}
 use Rattle.pipe_rings.specs.Rings as ring
 use Rattle.pipe_rings.specs.Rings.{received, LookedForRoom}
 use Rattle.pipe_rings.specs.declared.tx.Tx.{Tx}

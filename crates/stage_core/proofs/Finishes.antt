@@ -14,7 +14,6 @@ use Rattle.stage_core.specs.Streams.{turn_of, messages_to, numbered, answer, ans
 use Rattle.stage_core.specs.Finishes.{is_last_turn, is_last_answer, FinishEndsEachStream}
 use Rattle.stage_core.specs.declared.message.Side.{Side}
 use Rattle.stage_core.specs.declared.message.What.{What}
-use Rattle.stage_core.specs.declared.message.FromStage.{FromStage}
 use Rattle.stage_core.specs.declared.message.FromStage.TheVariants as from_stage
 use Rattle.stage_core.proofs.Turns.{no_finish}
 

@@ -1,5 +1,5 @@
 -- A schedule with one more step.
-use Rattle.std.proofs.Common.{◌≡◌, ℕ, ◌+◌, List, [], ◌∷◌, ◌++◌, length, sym, ap, ◌∙◌, subst, arith}
+use Rattle.std.proofs.Common.{◌≡◌, ℕ, ◌+◌, List, [], ◌∷◌, ◌++◌, length, sym, ap, ◌∙◌, arith}
 use Rattle.std.proofs.Common.{Some, option_and_then}
 use Rattle.stage_core.specs.SecondLevel.{Parts}
 use Rattle.stage_core.specs.Network.{Network, Machine, next, enabled, run}

@@ -3,8 +3,8 @@ use Rattle.std.proofs.Common.{◌≡◌, ℕ, zero, suc, ◌+◌, ◌<◌, ◌�
 use Rattle.std.proofs.Common.{length, refl, sym, ap, ◌∙◌, append-nil, arith, length-append, None}
 use Rattle.std.proofs.lemmas.List.{nil_from_length}
 use Rattle.stage_core.specs.SecondLevel.{Parts}
-use Rattle.stage_core.specs.Network.Pushes.{Order, turns_in, sent_to}
-use Rattle.stage_core.specs.Streams.{order, replies}
+use Rattle.stage_core.specs.Network.Pushes.{turns_in, sent_to}
+use Rattle.stage_core.specs.Streams.{replies}
 use Rattle.stage_core.specs.Merging.{wanted}
 use Rattle.stage_core.specs.Network.Rings.{carried}
 use Rattle.stage_core.specs.Network.{Network, lane, finish_taken, Consistent, IsFinished, next}

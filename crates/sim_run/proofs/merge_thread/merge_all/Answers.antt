@@ -1,4 +1,4 @@
-use Rattle.std.proofs.Common.{refl, sym}
+use Rattle.std.proofs.Common.{sym}
 use Rattle.sim_run.proofs.Merges.{merges-nothing, merges-turn, merges-i, merges-d}
 use Rattle.sim_run.proofs.merge_thread.merge_all.Goals as goal
 

@@ -1,4 +1,4 @@
-use Rattle.std.proofs.Common.{◌≡◌, [], subst}
+use Rattle.std.proofs.Common.{[], subst}
 use Rattle.din_trace.specs.Remaining.{Open}
 use Rattle.din_trace.specs.Source.{HasLeft}
 use Rattle.din_trace.proofs.Calls.{no_calls, answers-asked}

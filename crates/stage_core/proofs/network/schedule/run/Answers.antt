@@ -1,10 +1,9 @@
 use Rattle.std.proofs.Common.{◌≡◌, suc, ◌+◌, ◌*◌, ◌%◌, List, [], ◌∷◌, ◌++◌, length, slice_get}
 use Rattle.std.proofs.Common.{slice_index, Some, arith, ap, refl, sym, subst, ◌∙◌, length-append}
-use Rattle.din_trace.specs.declared.record.DinRecord.{DinRecord}
 use Rattle.stage_core.specs.Config.{ring_of}
-use Rattle.stage_core.specs.Network.{Consistent, Machine, Network, enabled, steps_made, messages}
+use Rattle.stage_core.specs.Network.{Consistent, Machine, enabled, steps_made, messages}
 use Rattle.stage_core.specs.Network.{next, run, start as at_start}
-use Rattle.stage_core.specs.Network.Choices.{named, IsNamed, IsNamedFrom}
+use Rattle.stage_core.specs.Network.Choices.{named, IsNamedFrom}
 use Rattle.stage_core.specs.Network.Cores.{CoreState, IsSameRun, enabled_in, parts_for}
 use Rattle.stage_core.specs.declared.config.Config.{Config}
 use Rattle.stage_core.proofs.network.Schedules.{steps-bound, steps-done}
