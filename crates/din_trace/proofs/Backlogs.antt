@@ -17,8 +17,8 @@ use Rattle.din_trace.specs.declared.line_reader.LineReader.{LineReader}
 use Rattle.din_trace.specs.Line.{Form, Blank, Din, Faulty, form}
 use Rattle.din_trace.specs.Line.{ADDRESS_MAX}
 use Rattle.din_trace.specs.Text.{CutText, cut, open_line, last_line, line_result, form_result}
-use Rattle.din_trace.specs.Remaining.{Remaining, Script, form_left, lines_left, text_left}
-use Rattle.din_trace.specs.Remaining.{first_answer, after_first}
+use Rattle.din_trace.specs.Text.{Remaining, form_left, lines_left, text_left}
+use Rattle.din_trace.specs.Remaining.{Script, first_answer, after_first}
 use Rattle.din_trace.specs.Standing.{Stands}
 use Rattle.din_trace.specs.Backlog.{ReadingLeft, HasLeftIn}
 use Rattle.din_trace.proofs.Cuts.{cut-ended, cut-longer, open_line-open}

@@ -3,8 +3,8 @@ use Rattle.std.proofs.Common.{◌≡◌, ℕ, List, Option, Result, refl, subst}
 use Rattle.din_trace.specs.declared.record.DinRecord.{DinRecord}
 use Rattle.din_trace.specs.declared.fault.TraceFault.{TraceFault}
 use Rattle.din_trace.specs.declared.source.Source.{Source}
-use Rattle.din_trace.specs.Remaining.{Remaining, Script, Fate, Open, Follows, first_answer}
-use Rattle.din_trace.specs.Remaining.{after_first}
+use Rattle.din_trace.specs.Text.{Remaining}
+use Rattle.din_trace.specs.Remaining.{Script, Fate, Open, Follows, first_answer, after_first}
 use Rattle.din_trace.specs.Source.{reader_of, taken_by, HasLeft, IsSettled, Settles, Takes}
 use Rattle.din_trace.proofs.Scripts.{Composed, compose, consumes-nothing}
 use Rattle.std.proofs.Common.{[], arith}

@@ -1,11 +1,11 @@
 -- The lines of a text that grows.
 use Rattle.std.proofs.Common.{◌≡◌, ℕ, ◌+◌, false, eqb, List, [], ◌∷◌, ◌++◌}
-use Rattle.std.proofs.Common.{Option, Some, None, refl}
+use Rattle.std.proofs.Common.{Some, None, refl}
 use Rattle.std.proofs.Common.{inl, inr}
 use Rattle.std.proofs.lemmas.Bool.{cases_Bool}
 use Rattle.din_trace.specs.declared.fault.TraceFault.{TraceFault}
 use Rattle.din_trace.specs.Line.{Form, Blank, Din, Faulty, form}
-use Rattle.din_trace.specs.Text.{cut, with_first, form_fault, first_fault}
+use Rattle.din_trace.specs.Text.{cut, with_first, Remaining, form_left, lines_left, first_fault}
 
 with_first-ended : (byte : ℕ) (ended : List (List ℕ)) (rest : List ℕ)
     → with_first byte (ended ++ rest ∷ []) []
@@ -49,33 +49,42 @@ cut-longer (byte ∷ text) last h =
           (with_first-longer byte last (cut text).ended (cut text).rest)
     ]
 
-pub others_none : (f : Form) (number : ℕ) (others : Option TraceFault)
-    → form_fault f number others ≡ None → others ≡ None
+-- the line is not faulty
+abbrev pub IsSound : Form → Type 0
+IsSound Blank = Unit {0}
+IsSound (Din r) = Unit {0}
+IsSound (Faulty why) = ⊥
+
+pub others_none : (f : Form) (number : ℕ) (others : Remaining)
+    → (form_left f number others).fault ≡ None → others.fault ≡ None
 others_none Blank number others none = none
 others_none (Din r) number others none = none
 others_none (Faulty why) number others none = absurd cc
 
-pub form_fault-none : (f : Form) (number : ℕ) (others now : Option TraceFault)
-    → form_fault f number others ≡ None → now ≡ None → form_fault f number now ≡ None
-form_fault-none Blank number others now none is = is
-form_fault-none (Din r) number others now none is = is
-form_fault-none (Faulty why) number others now none is = absurd cc
+pub form_left-none : (f : Form) (number : ℕ) (others now : Remaining)
+    → (form_left f number others).fault ≡ None → now.fault ≡ None
+    → (form_left f number now).fault ≡ None
+form_left-none Blank number others now none is = is
+form_left-none (Din r) number others now none is = is
+form_left-none (Faulty why) number others now none is = absurd cc
 
-form_fault-alone : (f : Form) (number : ℕ) → form_fault f 0 None ≡ None
-    → form_fault f number None ≡ None
-form_fault-alone Blank number h = refl
-form_fault-alone (Din r) number h = refl
-form_fault-alone (Faulty why) number h = absurd cc
+form_left-sound : (f : Form) (number : ℕ) (others : Remaining) → IsSound f
+    → (form_left f number others).fault ≡ others.fault
+form_left-sound Blank number others h = refl
+form_left-sound (Din r) number others h = refl
+form_left-sound (Faulty why) number others h = absurd h
 
+-- one more line that is not faulty
 pub first_fault-append : (bound number : ℕ) (ls : List (List ℕ)) (line : List ℕ)
-    → first_fault bound number ls None ≡ None → form_fault (form bound line) 0 None ≡ None
+    → first_fault bound number ls None ≡ None → IsSound (form bound line)
     → first_fault bound number (ls ++ line ∷ []) None ≡ None
-first_fault-append bound number [] line none h = form_fault-alone (form bound line) number h
+first_fault-append bound number [] line none h =
+    form_left-sound (form bound line) number (lines_left bound (number + 1) [] None) h
 first_fault-append bound number (l ∷ ls) line none h =
-    form_fault-none (form bound l) number (first_fault bound (number + 1) ls None)
-    (first_fault bound (number + 1) (ls ++ line ∷ []) None) none
+    form_left-none (form bound l) number (lines_left bound (number + 1) ls None)
+    (lines_left bound (number + 1) (ls ++ line ∷ []) None) none
     (first_fault-append bound (number + 1) ls line
-    (others_none (form bound l) number (first_fault bound (number + 1) ls None) none) h)
+    (others_none (form bound l) number (lines_left bound (number + 1) ls None) none) h)
 
 with_first-more : (byte : ℕ) (ended more : List (List ℕ)) (line rest : List ℕ)
     → with_first byte (ended ++ line ∷ more) rest
@@ -127,4 +136,4 @@ pub first_fault-some : (bound : ℕ) (f : TraceFault) (number : ℕ) (ls : List 
 first_fault-some bound f number [] none = cc
 first_fault-some bound f number (line ∷ ls) none =
     first_fault-some bound f (number + 1) ls
-    (others_none (form bound line) number (first_fault bound (number + 1) ls (Some f)) none)
+    (others_none (form bound line) number (lines_left bound (number + 1) ls (Some f)) none)

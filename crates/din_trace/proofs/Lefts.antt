@@ -7,8 +7,8 @@ use Rattle.std.proofs.lemmas.Bool.{cases_Bool, le-leb, lt-leb, leb-true, leb-fal
 use Rattle.std.proofs.lemmas.List.{append-nil}
 use Rattle.din_trace.specs.declared.fault.TraceFault.TheVariants.{TooLong, Read}
 use Rattle.din_trace.specs.Line.{form}
-use Rattle.din_trace.specs.Text.{CutText, cut, lines, ended_lines, open_line, last_line}
-use Rattle.din_trace.specs.Remaining.{form_left, lines_left, text_left}
+use Rattle.din_trace.specs.Text.{CutText, cut, lines, ended_lines, open_line, last_line, form_left}
+use Rattle.din_trace.specs.Text.{lines_left, text_left}
 use Rattle.din_trace.proofs.Cuts.{cut-append, IsOpen}
 
 take-over : (w rest : List ℕ) (n : ℕ) → take (length w + n) (w ++ rest) ≡ w ++ take n rest

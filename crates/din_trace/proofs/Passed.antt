@@ -8,9 +8,8 @@ use Rattle.std.proofs.lemmas.List.{append-nil}
 use Rattle.din_trace.specs.declared.record.DinRecord.{DinRecord}
 use Rattle.din_trace.specs.declared.line_reader.LineReader.{LineReader}
 use Rattle.din_trace.specs.LineSoFar.{begun}
-use Rattle.din_trace.specs.Text.{CutText, cut, open_line}
-use Rattle.din_trace.specs.Remaining.{Remaining, Script, form_left, text_left, first_answer}
-use Rattle.din_trace.specs.Remaining.{after_first}
+use Rattle.din_trace.specs.Text.{CutText, cut, open_line, Remaining, form_left, text_left}
+use Rattle.din_trace.specs.Remaining.{Script, first_answer, after_first}
 use Rattle.din_trace.specs.Standing.{Stands}
 use Rattle.din_trace.specs.Backlog.{ReadingLeft}
 use Rattle.din_trace.proofs.Cuts.{cut-ended, cut-longer, first_fault-append}
@@ -46,7 +45,7 @@ stands-past : (old new : LineReader) (count : ℕ) (text line : List ℕ) (r : D
 stands-past old new count text line r p no_lf holds s =
     let at_start = s.empty p.empty in
     rw (grown text line at_start no_lf) (record {
-      sound = first_fault-append ADDRESS_MAX 1 (cut text).ended line s.sound (rw holds refl);
+      sound = first_fault-append ADDRESS_MAX 1 (cut text).ended line s.sound (rw holds tt);
       no_fault = p.fault ∙ s.no_fault;
       number = simp length-append (omega (arith, s.number, p.line));
       empty = λ _. refl;

@@ -6,7 +6,8 @@ use Rattle.std.proofs.Common.{append_assoc, length-append, arith}
 use Rattle.std.specs.Io.KnownBytes.{Consumes, Keeps}
 use Rattle.std.proofs.lemmas.List.{append-nil}
 use Rattle.din_trace.specs.Device.{once_more}
-use Rattle.din_trace.specs.Remaining.{Remaining, Script, Fate, Open, Ended, Failed, Follows, FateIs}
+use Rattle.din_trace.specs.Text.{Remaining}
+use Rattle.din_trace.specs.Remaining.{Script, Fate, Open, Ended, Failed, Follows, FateIs}
 use Rattle.din_trace.specs.Remaining.{first_answer, after_first, records_answer}
 use Rattle.din_trace.specs.State.{is_reading, Closes}
 use Rattle.din_trace.specs.declared.record.DinRecord.{DinRecord}

@@ -11,9 +11,9 @@ use Rattle.din_trace.specs.declared.line.LineSoFar.TheVariants as so_far
 use Rattle.din_trace.specs.Line.{Form, Blank, Din, Faulty, form}
 use Rattle.din_trace.specs.LineSoFar.{form_from, form_answer, begun}
 use Rattle.din_trace.specs.Line.{ADDRESS_MAX}
-use Rattle.din_trace.specs.Text.{ended_lines, open_line, form_fault, form_result}
+use Rattle.din_trace.specs.Text.{ended_lines, open_line, form_result}
 use Rattle.din_trace.specs.Standing.{Stands}
-use Rattle.din_trace.proofs.Cuts.{cut-ended, cut-longer, first_fault-append}
+use Rattle.din_trace.proofs.Cuts.{cut-ended, cut-longer, IsSound, first_fault-append}
 
 pub stands-longer : (old new : LineReader) (text : List ℕ) (byte : ℕ) → byte ≢ 10 → new.fault ≡ None
     → new.line ≡ old.line
@@ -34,9 +34,9 @@ stands-longer old new text byte other unfaulted line next begun_is s =
 
 -- the answer at the end of a line that is not faulty
 pub answered : (f : Form) (number : ℕ) (found : Option DinRecord) → form_answer f ≡ Ok found
-    → (form_result number f ≡ Ok found) × (form_fault f 0 None ≡ None)
-answered Blank number found e = (cc, refl)
-answered (Din r) number found e = (cc, refl)
+    → (form_result number f ≡ Ok found) × IsSound f
+answered Blank number found e = (cc, tt)
+answered (Din r) number found e = (cc, tt)
 answered (Faulty why) number found e = absurd cc
 
 pub refused : (f : Form) (number : ℕ) (why : Why) → form_answer f ≡ Err why
@@ -52,7 +52,7 @@ stands-form r text s = ap (form ADDRESS_MAX) (sym (append-nil (open_line text)))
 
 pub stands-ended : (old new : LineReader) (text : List ℕ) → new.fault ≡ None
     → new.line ≡ old.line + 1 → new.so_far ≡ so_far.Empty
-    → form_fault (form ADDRESS_MAX (open_line text)) 0 None ≡ None → Stands old text
+    → IsSound (form ADDRESS_MAX (open_line text)) → Stands old text
     → Stands new (text ++ 10 ∷ [])
 stands-ended old new text unfaulted line empty fine s =
     rw cut-ended (record {

@@ -1,6 +1,6 @@
 -- What is left of a whole text.
 use Rattle.std.proofs.Common.{◌≡◌, ℕ, ◌+◌, ◌<◌, Bool, true, false, List, [], ◌∷◌, ◌++◌, length}
-use Rattle.std.proofs.Common.{take, Option, Some, None, refl, sym, ap, ◌∙◌, inl, inr}
+use Rattle.std.proofs.Common.{take, Option, Some, None, refl, ap, ◌∙◌, inl, inr}
 use Rattle.std.specs.Prelude.{nat_le, if◌then◌else◌}
 use Rattle.std.proofs.lemmas.Bool.{cases_Bool, le-leb, leb-false}
 use Rattle.din_trace.specs.declared.fault.TraceFault.{TraceFault}
@@ -9,45 +9,31 @@ use Rattle.din_trace.specs.declared.fault.Why.{Why}
 use Rattle.din_trace.specs.Laws.{LeavesText}
 use Rattle.din_trace.specs.Line.{Form, Blank, Din, Faulty, form}
 use Rattle.din_trace.specs.Text.{lines, ended_lines, form_records, line_records, records}
-use Rattle.din_trace.specs.Text.{form_fault, first_fault, fault}
-use Rattle.din_trace.specs.Remaining.{Remaining, form_left, lines_left, text_left}
+use Rattle.din_trace.specs.Text.{Remaining, form_left, lines_left, text_left, first_fault, fault}
 use Rattle.din_trace.proofs.Cuts.{others_none, first_fault-some}
 
-form_left-fault : (f : Form) (number : ℕ) (others : Remaining)
-    → (form_left f number others).fault ≡ form_fault f number others.fault
-form_left-fault Blank number others = refl
-form_left-fault (Din r) number others = refl
-form_left-fault (Faulty why) number others = refl
-
-lines_left-fault : (bound number : ℕ) (ls : List (List ℕ)) (otherwise : Option TraceFault)
-    → (lines_left bound number ls otherwise).fault ≡ first_fault bound number ls otherwise
-lines_left-fault bound number [] otherwise = refl
-lines_left-fault bound number (line ∷ ls) otherwise =
-    form_left-fault (form bound line) number (lines_left bound (number + 1) ls otherwise)
-    ∙ ap (form_fault (form bound line) number) (lines_left-fault bound (number + 1) ls otherwise)
-
-form_left-records : (f : Form) (number : ℕ) (others : Remaining) (fault : Option TraceFault)
-    → form_fault f number fault ≡ None
+form_left-records : (f : Form) (number : ℕ) (others : Remaining)
+    → (form_left f number others).fault ≡ None
     → (form_left f number others).records ≡ form_records f ++ others.records
-form_left-records Blank number others fault none = refl
-form_left-records (Din r) number others fault none = refl
-form_left-records (Faulty why) number others fault none = absurd cc
+form_left-records Blank number others none = refl
+form_left-records (Din r) number others none = refl
+form_left-records (Faulty why) number others none = absurd cc
 
 lines_left-records : (bound number : ℕ) (ls : List (List ℕ))
     → first_fault bound number ls None ≡ None
     → (lines_left bound number ls None).records ≡ line_records bound ls
 lines_left-records bound number [] none = refl
 lines_left-records bound number (line ∷ ls) none =
-    form_left-records (form bound line) number (lines_left bound (number + 1) ls None)
-    (first_fault bound (number + 1) ls None) none
+    let others : Remaining = lines_left bound (number + 1) ls None in
+    form_left-records (form bound line) number others none
     ∙ ap (λ rs. form_records (form bound line) ++ rs)
     (lines_left-records bound (number + 1) ls
-    (others_none (form bound line) number (first_fault bound (number + 1) ls None) none))
+    (others_none (form bound line) number others none))
 
 -- a fault that is not that of a line comes from what follows the lines
 module _ (f : TraceFault) (no_line : (number : ℕ) (why : Why) → Bad number why ≡ f → ⊥) where
-  fault_behind : (of : Form) (number : ℕ) (others : Option TraceFault)
-      → form_fault of number others ≡ Some f → others ≡ Some f
+  fault_behind : (of : Form) (number : ℕ) (others : Remaining)
+      → (form_left of number others).fault ≡ Some f → others.fault ≡ Some f
   fault_behind Blank number others e = e
   fault_behind (Din r) number others e = e
   fault_behind (Faulty why) number others e = absurd (no_line number why cc)
@@ -57,23 +43,17 @@ module _ (f : TraceFault) (no_line : (number : ℕ) (why : Why) → Bad number w
   first_fault-behind bound number [] otherwise e = e
   first_fault-behind bound number (line ∷ ls) otherwise e =
       first_fault-behind bound (number + 1) ls otherwise
-      (fault_behind (form bound line) number (first_fault bound (number + 1) ls otherwise) e)
+      (fault_behind (form bound line) number (lines_left bound (number + 1) ls otherwise) e)
 
 module _ (bound : ℕ) (text : List ℕ) (limit : ℕ) where
-  pub text_left-fault : (text_left bound 1 text limit false).fault ≡ fault bound text limit
-  text_left-fault =
-      elim (cases_Bool (nat_le (length text) limit)) [
-        | inl e ↦ rw e (lines_left-fault bound 1 (lines text) None)
-        | inr e ↦ rw e (lines_left-fault bound 1 (ended_lines (take limit text)) (Some TooLong))
-      ]
-
   pub text_left-records : fault bound text limit ≡ None
       → (text_left bound 1 text limit false).records ≡ records bound text
   text_left-records none =
+      let is : (text_left bound 1 text limit false).fault ≡ None = none in
       elim (cases_Bool (nat_le (length text) limit)) [
-        | inl e ↦ rw e (lines_left-records bound 1 (lines text) (rw e at none))
+        | inl e ↦ rw e (lines_left-records bound 1 (lines text) (rw e at is))
         | inr e ↦ absurd
-            (first_fault-some bound TooLong 1 (ended_lines (take limit text)) (rw e at none))
+            (first_fault-some bound TooLong 1 (ended_lines (take limit text)) (rw e at is))
       ]
 
   -- such a fault is the one that follows the lines of the text
@@ -88,24 +68,19 @@ module _ (bound : ℕ) (text : List ℕ) (limit : ℕ) where
             (elim fails as (λ b. (text_left bound 1 text limit b).fault ≡ Some f
             → (if b then Some Read else None) ≡ Some f) [
               | true ↦ λ h. first_fault-behind f no_line bound 1 (ended_lines text) (Some Read)
-                  (sym (lines_left-fault bound 1 (ended_lines text) (Some Read)) ∙ (rw e at h))
-              | false ↦ λ h. first_fault-behind f no_line bound 1 (lines text) None
-                  (sym (lines_left-fault bound 1 (lines text) None) ∙ (rw e at h))
+                  (rw e at h)
+              | false ↦ λ h. first_fault-behind f no_line bound 1 (lines text) None (rw e at h)
             ] is)
         | inr e ↦ rw e
             (first_fault-behind f no_line bound 1 (ended_lines (take limit text)) (Some TooLong)
-            (sym (lines_left-fault bound 1 (ended_lines (take limit text)) (Some TooLong))
-            ∙ (rw e at is)))
+            (rw e at is))
       ]
 
   fails_never_none : (text_left bound 1 text limit true).fault ≡ None → ⊥
   fails_never_none is =
       elim (cases_Bool (nat_le (length text) limit)) [
-        | inl e ↦ first_fault-some bound Read 1 (ended_lines text)
-            (sym (lines_left-fault bound 1 (ended_lines text) (Some Read)) ∙ (rw e at is))
-        | inr e ↦ first_fault-some bound TooLong 1 (ended_lines (take limit text))
-            (sym (lines_left-fault bound 1 (ended_lines (take limit text)) (Some TooLong))
-            ∙ (rw e at is))
+        | inl e ↦ first_fault-some bound Read 1 (ended_lines text) (rw e at is)
+        | inr e ↦ first_fault-some bound TooLong 1 (ended_lines (take limit text)) (rw e at is)
       ]
 
   never_read : (text_left bound 1 text limit false).fault ≡ Some Read → ⊥
@@ -139,11 +114,9 @@ module _ (bound : ℕ) (text : List ℕ) (limit : ℕ) where
 
   pub leaves_text : LeavesText bound text limit
   leaves_text = record {
-    fault_is = text_left-fault;
+    fault_is = refl;
     records_are = text_left-records;
-    failed_is =
-        λ h. rw (le-leb (length text) limit h)
-        (lines_left-fault bound 1 (ended_lines text) (Some Read));
+    failed_is = λ h. rw (le-leb (length text) limit h) refl;
     fails = fails_never_none;
     read = never_read;
     too_long = only_too_long;

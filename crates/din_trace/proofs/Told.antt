@@ -8,10 +8,9 @@ use Rattle.std.specs.Prelude.{nat_le}
 use Rattle.din_trace.specs.declared.fault.TraceFault.{TraceFault}
 use Rattle.din_trace.specs.Faults.{FailedBehind, IsFaultOf}
 use Rattle.din_trace.specs.Line.{ADDRESS_MAX}
-use Rattle.din_trace.specs.Text.{records, fault}
-use Rattle.din_trace.specs.Remaining.{Remaining, Script, Fate, Open, Ended, Failed, Follows, FateIs}
-use Rattle.din_trace.specs.Remaining.{text_left}
-use Rattle.din_trace.proofs.Texts.{text_left-fault, text_left-records, leaves_text}
+use Rattle.din_trace.specs.Text.{records, fault, Remaining, text_left}
+use Rattle.din_trace.specs.Remaining.{Script, Fate, Open, Ended, Failed, Follows, FateIs}
+use Rattle.din_trace.proofs.Texts.{text_left-records, leaves_text}
 
 -- of a text that is too long, only the first bytes past the limit matter
 text_left-front : (given rest : List ℕ) (limit : ℕ) → limit < length given
@@ -34,13 +33,10 @@ module _ {R : Type 0} (remaining : R → Option (List ℕ)) (failures : R → �
         → IsFaultOf remaining failures reader text limit met
 
   whole : MayBeLeft (text_left ADDRESS_MAX 1 text limit false)
-  whole =
-      let is = text_left-fault ADDRESS_MAX text limit in
-      record {
-        no_fault = λ none. let good = sym is ∙ none in
-            (good, text_left-records ADDRESS_MAX text limit good);
-        some_fault = λ met some. inl (sym is ∙ some);
-      }
+  whole = record {
+    no_fault = λ none. (none, text_left-records ADDRESS_MAX text limit none);
+    some_fault = λ met some. inl some;
+  }
 
   front : (given : List ℕ) → FailedBehind remaining failures reader text given
       → MayBeLeft (text_left ADDRESS_MAX 1 given limit true)
@@ -56,7 +52,7 @@ module _ {R : Type 0} (remaining : R → Option (List ℕ)) (failures : R → �
               text_left-front given failed.rest limit (leb-false (length given) limit e) in
               let of_text = subst (λ t. (text_left ADDRESS_MAX 1 t limit false).fault ≡ Some met)
               (sym failed.whole) (ap (λ (l : Remaining). l.fault) same ∙ some) in
-              inl (sym (text_left-fault ADDRESS_MAX text limit) ∙ of_text)
+              inl of_text
         ];
       }
 

@@ -6,9 +6,9 @@ use Rattle.din_trace.specs.declared.backlog.State.TheVariants as state
 use Rattle.din_trace.specs.declared.line_reader.LineReader.{LineReader}
 use Rattle.din_trace.specs.LineSoFar.{begun}
 use Rattle.din_trace.specs.Line.{ADDRESS_MAX}
-use Rattle.din_trace.specs.Text.{open_line}
+use Rattle.din_trace.specs.Text.{open_line, Remaining, text_left}
 use Rattle.din_trace.specs.Standing.{Stands}
-use Rattle.din_trace.specs.Remaining.{Remaining, Script, text_left}
+use Rattle.din_trace.specs.Remaining.{Script}
 
 -- the bytes that came from the reader and are not judged yet
 abbrev pub held : Backlog → List ℕ

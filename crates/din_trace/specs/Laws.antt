@@ -2,8 +2,7 @@
 use Rattle.std.specs.Prelude.{◌≡◌, ◌≢◌, ℕ, ◌<◌, ◌≤◌, List, None, Some, length, Bool, true, false}
 use Rattle.din_trace.specs.declared.fault.TraceFault.TheVariants.{TooLong, Read, Memory}
 use Rattle.din_trace.specs.Line.{Form, HasForm, form}
-use Rattle.din_trace.specs.Text.{records, fault, failed_fault}
-use Rattle.din_trace.specs.Remaining.{text_left}
+use Rattle.din_trace.specs.Text.{records, fault, failed_fault, text_left}
 
 -- each line has exactly one form, the one found from left to right
 abbrev pub EachLineHasOneForm : Type 0

@@ -1,40 +1,11 @@
--- What a source has left to answer, depending on what its reader will do.
-use Rattle.std.specs.Prelude.{◌≡◌, ℕ, ◌+◌, nat_le, if◌then◌else◌, List, [], ◌∷◌, ◌++◌, length, take}
-use Rattle.std.specs.Prelude.{drop, Option, Some, None, Bool, true, false, Result, Ok, Err}
+-- What a source answers next, and what its reader will do.
+use Rattle.std.specs.Prelude.{◌≡◌, ℕ, List, [], ◌∷◌, ◌++◌, drop, Option, Some, None, Bool}
+use Rattle.std.specs.Prelude.{true, false, Result, Ok, Err}
 use Rattle.std.specs.Io.KnownBytes.{Consumes, IsAtEnd}
 use Rattle.din_trace.specs.declared.record.DinRecord.{DinRecord}
 use Rattle.din_trace.specs.declared.fault.TraceFault.{TraceFault}
-use Rattle.din_trace.specs.declared.fault.TraceFault.TheVariants.{Bad, TooLong, Read}
 use Rattle.din_trace.specs.Device.{once_more}
-use Rattle.din_trace.specs.Line.{Form, Blank, Din, Faulty, form}
-use Rattle.din_trace.specs.Text.{lines, ended_lines}
-
--- the answers that are left: records, and then a fault or the end
-pub record Remaining : Type 0 where
-  pub records : List DinRecord
-  pub fault : Option TraceFault
-
--- what is left from a line of this form and number on, given what is left after that line
-abbrev pub form_left : Form → ℕ → Remaining → Remaining
-form_left Blank number others = others
-form_left (Din r) number others = record { records = r ∷ others.records; fault = others.fault }
-form_left (Faulty why) number others = record { records = []; fault = Some (Bad number why) }
-
--- the records of the lines before the first faulty one, and its fault; if no line is faulty, the
--- given fault or the end
-abbrev pub lines_left : ℕ → ℕ → List (List ℕ) → Option TraceFault → Remaining
-lines_left bound number [] otherwise = record { records = []; fault = otherwise }
-lines_left bound number (line ∷ lines) otherwise =
-    form_left (form bound line) number (lines_left bound (number + 1) lines otherwise)
-
--- what is left of a text under a limit of bytes, if its lines are numbered from this number, and if
--- the reader fails (`true`) or ends (`false`) after it
-abbrev pub text_left : ℕ → ℕ → List ℕ → ℕ → Bool → Remaining
-text_left bound number text limit fails =
-    if nat_le (length text) limit then (
-    if fails then lines_left bound number (ended_lines text) (Some Read)
-    else lines_left bound number (lines text) None)
-    else lines_left bound number (ended_lines (take limit text)) (Some TooLong)
+use Rattle.din_trace.specs.Text.{Remaining}
 
 -- the answer if no record is left
 abbrev pub fault_answer : Option TraceFault → Result (Option DinRecord) TraceFault

@@ -2,7 +2,8 @@
 use Rattle.std.specs.Prelude.{◌≡◌, ℕ, ◌+◌, false, List, length, Option}
 use Rattle.din_trace.specs.declared.source.Source.{Source}
 use Rattle.din_trace.specs.declared.backlog.State.TheVariants as state
-use Rattle.din_trace.specs.Remaining.{Remaining, Script, Fate, FateIs}
+use Rattle.din_trace.specs.Text.{Remaining}
+use Rattle.din_trace.specs.Remaining.{Script, Fate, FateIs}
 use Rattle.din_trace.specs.State.{is_reading, Closes}
 use Rattle.din_trace.specs.Backlog as backlog
 

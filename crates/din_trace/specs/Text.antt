@@ -1,6 +1,6 @@
--- The lines of a text, its records and its fault.
+-- The lines of a text, its records and its fault, and what is left of it.
 use Rattle.std.specs.Prelude.{ℕ, ◌+◌, ◌==◌, nat_le, if◌then◌else◌, List, [], ◌∷◌, ◌++◌, length}
-use Rattle.std.specs.Prelude.{take, Option, Some, None, Result, Ok, Err}
+use Rattle.std.specs.Prelude.{take, Option, Some, None, Result, Ok, Err, Bool, false}
 use Rattle.din_trace.specs.declared.record.DinRecord.{DinRecord}
 use Rattle.din_trace.specs.declared.fault.TraceFault.{TraceFault}
 use Rattle.din_trace.specs.declared.fault.TraceFault.TheVariants.{Bad, TooLong, Read}
@@ -55,25 +55,42 @@ line_records bound (line ∷ lines) = form_records (form bound line) ++ line_rec
 abbrev pub records : ℕ → List ℕ → List DinRecord
 records bound text = line_records bound (lines text)
 
--- the fault of a line of this form and number; if it has none, that of the lines after it
-abbrev pub form_fault : Form → ℕ → Option TraceFault → Option TraceFault
-form_fault Blank number others = others
-form_fault (Din r) number others = others
-form_fault (Faulty why) number others = Some (Bad number why)
+-- what lines answer: records, and then a fault or the end
+pub record Remaining : Type 0 where
+  pub records : List DinRecord
+  pub fault : Option TraceFault
+
+-- what is left from a line of this form and number on, given what is left after that line
+abbrev pub form_left : Form → ℕ → Remaining → Remaining
+form_left Blank number others = others
+form_left (Din r) number others = record { records = r ∷ others.records; fault = others.fault }
+form_left (Faulty why) number others = record { records = []; fault = Some (Bad number why) }
+
+-- the records of the lines before the first faulty one, and its fault, if the lines are numbered
+-- from this number; if no line is faulty, the given fault or the end
+abbrev pub lines_left : ℕ → ℕ → List (List ℕ) → Option TraceFault → Remaining
+lines_left bound number [] otherwise = record { records = []; fault = otherwise }
+lines_left bound number (line ∷ lines) otherwise =
+    form_left (form bound line) number (lines_left bound (number + 1) lines otherwise)
+
+-- what is left of a text under a limit of bytes, if its lines are numbered from this number, and if
+-- the reader fails (`true`) or ends (`false`) after it; if the text is longer than the limit, only
+-- the lines that end within the limit are judged, and if none is faulty the fault is `TooLong`
+abbrev pub text_left : ℕ → ℕ → List ℕ → ℕ → Bool → Remaining
+text_left bound number text limit fails =
+    if nat_le (length text) limit then (
+    if fails then lines_left bound number (ended_lines text) (Some Read)
+    else lines_left bound number (lines text) None)
+    else lines_left bound number (ended_lines (take limit text)) (Some TooLong)
+
+-- the fault of a text
+abbrev pub fault : ℕ → List ℕ → ℕ → Option TraceFault
+fault bound text limit = (text_left bound 1 text limit false).fault
 
 -- the fault of the first faulty line, if the lines are numbered from this number; if no line is
 -- faulty, the given one
 abbrev pub first_fault : ℕ → ℕ → List (List ℕ) → Option TraceFault → Option TraceFault
-first_fault bound number [] otherwise = otherwise
-first_fault bound number (line ∷ lines) otherwise =
-    form_fault (form bound line) number (first_fault bound (number + 1) lines otherwise)
-
--- the fault of a text: the first fault of its lines; if the text is longer than the limit, only the
--- lines that end within the limit are judged, and if none is faulty the fault is `TooLong`
-abbrev pub fault : ℕ → List ℕ → ℕ → Option TraceFault
-fault bound text limit =
-    if nat_le (length text) limit then first_fault bound 1 (lines text) None
-    else first_fault bound 1 (ended_lines (take limit text)) (Some TooLong)
+first_fault bound number lines otherwise = (lines_left bound number lines otherwise).fault
 
 -- the fault if the reader failed after it gave this text, which is within the limit: that of the
 -- first faulty line that ended, or `Read`

@@ -8,8 +8,8 @@ ghost use Rattle.din_trace.specs.Device.{once_more};
 ghost use Rattle.din_trace.specs.declared.buffer.TheConstants.{ROOM};
 ghost use Rattle.din_trace.specs.Line.{ADDRESS_MAX};
 ghost use Rattle.din_trace.specs.State.{is_sound, is_reading};
-ghost use Rattle.din_trace.specs.Remaining.{Remaining, Script, text_left, first_answer};
-ghost use Rattle.din_trace.specs.Remaining.{after_first};
+ghost use Rattle.din_trace.specs.Text.{Remaining, text_left};
+ghost use Rattle.din_trace.specs.Remaining.{Script, first_answer, after_first};
 
 use crate::buffer::{Buffer, ROOM};
 use crate::device::{ByteReader, DeviceFailed};

@@ -4,8 +4,8 @@ ghost use Rattle.std.specs.Prelude.{◌≡◌, ◌≢◌, ◌⊎◌, ℕ, true, 
 ghost use Rattle.std.specs.Prelude.{[], MatchResult, MatchOption, IfOk, IfSome, IfNone, IsSome};
 ghost use Rattle.std.specs.Prelude.{vec_len};
 ghost use Rattle.din_trace.specs.Line.{ADDRESS_MAX};
-ghost use Rattle.din_trace.specs.Remaining.{Remaining, Script, Fate, Open, Follows, text_left};
-ghost use Rattle.din_trace.specs.Remaining.{first_answer, after_first};
+ghost use Rattle.din_trace.specs.Text.{Remaining, text_left};
+ghost use Rattle.din_trace.specs.Remaining.{Script, Fate, Open, Follows, first_answer, after_first};
 ghost use Rattle.din_trace.specs.Source.{reader_of, limit_of, taken_by, room_of, HasLeft};
 ghost use Rattle.din_trace.specs.Source.{IsSettled, MustAsk, Takes};
 

@@ -3,9 +3,8 @@ use Rattle.std.proofs.Common.{◌≡◌, List, [], None, Option, Result, Ok, Err
 use Rattle.std.proofs.Common.{◌++◌, true, false, ◌∙◌, ℕ, ◌⊎◌, inl, inr, Some, subst, append-nil}
 use Rattle.std.specs.Prelude.{OnOk, IfOk, IfErr, IsOk, option_map}
 use Rattle.din_trace.specs.Line.{ADDRESS_MAX}
-use Rattle.din_trace.specs.Text.{records, fault}
-use Rattle.din_trace.specs.Remaining.{Remaining, Script, Fate, Open, Ended, Failed, Follows}
-use Rattle.din_trace.specs.Remaining.{text_left}
+use Rattle.din_trace.specs.Text.{records, fault, Remaining, text_left}
+use Rattle.din_trace.specs.Remaining.{Script, Fate, Open, Ended, Failed, Follows}
 use Rattle.din_trace.proofs.Texts.{leaves_text}
 use Rattle.din_trace.specs.declared.record.DinRecord.{DinRecord}
 use Rattle.din_trace.specs.declared.fault.TraceFault.{TraceFault}

@@ -5,7 +5,8 @@ use Rattle.std.proofs.Common.{refl, ap, sym, ◌∙◌, subst, append_assoc, app
 use Rattle.std.proofs.Common.{length-append}
 use Rattle.std.proofs.lemmas.List.{map-append}
 use Rattle.pipe_rings.proofs.Ends.{tx_stays}
-use Rattle.din_trace.specs.Remaining.{Remaining, Script, Fate, Follows, first_answer, after_first}
+use Rattle.din_trace.specs.Text.{Remaining}
+use Rattle.din_trace.specs.Remaining.{Script, Fate, Follows, first_answer, after_first}
 use Rattle.din_trace.specs.Source.{HasLeft, Takes, room_of}
 use Rattle.din_trace.specs.declared.record.DinRecord.{DinRecord}
 use Rattle.din_trace.specs.declared.fault.TraceFault.{TraceFault}

@@ -1,8 +1,7 @@
 -- The result of a whole run.
 use Rattle.std.specs.Prelude.{◌≡◌, ℕ, List, None, Result, Ok, Err}
 use Rattle.din_trace.specs.Line.{ADDRESS_MAX}
-use Rattle.din_trace.specs.Text.{records}
-use Rattle.din_trace.specs.Remaining.{Remaining}
+use Rattle.din_trace.specs.Text.{records, Remaining}
 use Rattle.din_trace.specs.declared.record.DinRecord.{DinRecord}
 use Rattle.stage_core.specs.Config.{hierarchy_of}
 use Rattle.stage_core.specs.Events.{events}

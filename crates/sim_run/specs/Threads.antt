@@ -4,7 +4,7 @@ use Rattle.std.specs.Prelude.{Some, None, Result, Ok, Err}
 use Rattle.std.specs.List.{list_any}
 use Rattle.pipe_rings.specs.Rings.{sent, received}
 use Rattle.din_trace.specs.declared.record.DinRecord.{DinRecord}
-use Rattle.din_trace.specs.Remaining.{Remaining}
+use Rattle.din_trace.specs.Text.{Remaining}
 use Rattle.cache_core.specs.Counts.{counts_of}
 use Rattle.cache_core.specs.Standing.{rules_of}
 use Rattle.cache_core.specs.declared.counts.Counts.{Counts}

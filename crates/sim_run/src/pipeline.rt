@@ -2,7 +2,8 @@
 
 ghost use Rattle.std.specs.Prelude.{◌≡◌, ◌⊎◌, List, ℕ, Option, None, IfOk, IfErr, IsOk};
 ghost use Rattle.std.specs.Prelude.{OnOk, Ok, Err};
-ghost use Rattle.din_trace.specs.Remaining.{Remaining, Script, Fate, Follows};
+ghost use Rattle.din_trace.specs.Text.{Remaining};
+ghost use Rattle.din_trace.specs.Remaining.{Script, Fate, Follows};
 ghost use Rattle.din_trace.specs.Source.{HasLeft, Takes};
 ghost use Rattle.din_trace.specs.declared.fault.TraceFault.{TraceFault};
 ghost use Rattle.din_trace.specs.declared.record.DinRecord.{DinRecord};

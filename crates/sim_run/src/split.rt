@@ -4,8 +4,8 @@ ghost use Rattle.std.specs.Prelude.{◌≡◌, ◌<◌, ◌≤◌, ◌+◌, ◌*
 ghost use Rattle.std.specs.Prelude.{◌≢◌, ◌⊎◌, IfOk, IfErr, IsSome, IsFalse, MatchResult};
 ghost use Rattle.std.specs.Prelude.{option_to_list};
 ghost use Rattle.pipe_rings.specs.Rings.{sent};
-ghost use Rattle.din_trace.specs.Remaining.{Remaining, Script, Fate, Follows, first_answer};
-ghost use Rattle.din_trace.specs.Remaining.{after_first};
+ghost use Rattle.din_trace.specs.Text.{Remaining};
+ghost use Rattle.din_trace.specs.Remaining.{Script, Fate, Follows, first_answer, after_first};
 ghost use Rattle.din_trace.specs.Source.{HasLeft, IsSettled, Takes, reader_of, room_of};
 ghost use Rattle.din_trace.specs.declared.record.DinRecord.{DinRecord};
 ghost use Rattle.stage_core.specs.Events.{IsBounded, picked_events};

@@ -1,11 +1,10 @@
-use Rattle.std.proofs.Common.{◌≡◌, None, Result, Ok, Err, refl, sym, ◌∙◌, false}
+use Rattle.std.proofs.Common.{◌≡◌, Result, Ok, Err, refl, ◌∙◌, false}
 use Rattle.std.specs.Prelude.{MatchResult, IfOk, IfErr}
 use Rattle.din_trace.specs.Line.{ADDRESS_MAX}
-use Rattle.din_trace.specs.Remaining.{text_left}
-use Rattle.din_trace.specs.Text.{fault}
+use Rattle.din_trace.specs.Text.{text_left}
 use Rattle.din_trace.specs.Source.{reader_of}
 use Rattle.din_trace.proofs.Scripts.{known-script}
-use Rattle.din_trace.proofs.Texts.{text_left-fault, text_left-records}
+use Rattle.din_trace.proofs.Texts.{text_left-records}
 use Rattle.din_trace.proofs.text.read_all.Goals as goal
 
 ok_from : {T E : Type 0} (r : Result T E) (P R : T → Type 0) (Q : E → Type 0) → MatchResult r P Q
@@ -29,10 +28,8 @@ returns-clause-ok c =
     (text_left ADDRESS_MAX 1 all c.args.limit false) later.1
     (c.new-source.ensures.left (record { given = all; fails = false })) in
     let is : all ≡ c.args.text.now = rw c.new-source.ensures.reader refl in
-    ok_from c.rest.result _ _ _ told (λ found h.
-    let none : fault ADDRESS_MAX all c.args.limit ≡ None =
-    sym (text_left-fault ADDRESS_MAX all c.args.limit) ∙ h.1 in
-    rw (← is) (none, h.0 ∙ text_left-records ADDRESS_MAX all c.args.limit none))
+    ok_from c.rest.result _ _ _ told
+    (λ found h. rw (← is) (h.1, h.0 ∙ text_left-records ADDRESS_MAX all c.args.limit h.1))
 
 pub returns-clause-err : goal.returns-clause-err
 unfolding reader_of
@@ -45,5 +42,4 @@ returns-clause-err c =
     (text_left ADDRESS_MAX 1 all c.args.limit false) later.1
     (c.new-source.ensures.left (record { given = all; fails = false })) in
     let is : all ≡ c.args.text.now = rw c.new-source.ensures.reader refl in
-    err_from c.rest.result _ _ _ told
-    (λ why h other. rw (← is) (sym (text_left-fault ADDRESS_MAX all c.args.limit) ∙ h.0 other))
+    err_from c.rest.result _ _ _ told (λ why h other. rw (← is) (h.0 other))

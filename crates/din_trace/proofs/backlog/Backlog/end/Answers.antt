@@ -1,5 +1,5 @@
 use Rattle.std.proofs.Common.{false, []}
-use Rattle.din_trace.specs.Remaining.{Remaining}
+use Rattle.din_trace.specs.Text.{Remaining}
 use Rattle.din_trace.specs.Standing as words
 use Rattle.din_trace.specs.Backlog.{HasLeft, held}
 use Rattle.din_trace.proofs.Backlogs.{AfterEnd, after-end, held-none, reading-left}

@@ -1,5 +1,6 @@
 use Rattle.std.proofs.Common.{◌+◌, ◌-◌, refl, sym, arith, take, drop, get_or}
-use Rattle.din_trace.specs.Remaining.{Remaining, Script}
+use Rattle.din_trace.specs.Text.{Remaining}
+use Rattle.din_trace.specs.Remaining.{Script}
 use Rattle.din_trace.specs.Standing as words
 use Rattle.din_trace.specs.Backlog.{HasLeft, held}
 use Rattle.din_trace.proofs.Backlogs.{AfterByte, after-byte, after-past, held-first}

@@ -1,7 +1,8 @@
 use Rattle.std.proofs.Common.{◌-◌, ◌≡◌, ◌+◌, ◌++◌, ◌≤◌, List, ℕ, length}
 use Rattle.std.specs.Io.KnownBytes.{Consumes}
 use Rattle.din_trace.specs.declared.backlog.State.TheVariants as states
-use Rattle.din_trace.specs.Remaining.{Remaining, Script}
+use Rattle.din_trace.specs.Text.{Remaining}
+use Rattle.din_trace.specs.Remaining.{Script}
 use Rattle.din_trace.specs.Backlog.{HasLeft, taken, room}
 use Rattle.din_trace.proofs.source.Source.ask.Given as goal
 

@@ -1,5 +1,6 @@
 use Rattle.std.proofs.Common.{◌≡◌, ◌++◌, ◌+◌, ◌≤◌, List, ℕ, vec_len}
-use Rattle.din_trace.specs.Remaining.{Remaining, Script, Fate, Follows}
+use Rattle.din_trace.specs.Text.{Remaining}
+use Rattle.din_trace.specs.Remaining.{Script, Fate, Follows}
 use Rattle.din_trace.specs.Source.{HasLeft, room_of, limit_of, Takes}
 use Rattle.din_trace.proofs.source.Source.rest.Given as goal
 
