@@ -4,8 +4,8 @@ use crate::opt::Opt;
 
 /// The text above the options.
 pub(crate) fn about<'a>() -> &'a str {
-    "Simulates an instruction cache, a data cache and a second-level cache behind them over the din
-trace on standard input, and writes their counts of misses to standard output."
+    "Simulates an instruction cache, a data cache and a second-level cache behind them. Reads a din
+trace from standard input, and writes the counts of misses of each cache to standard output."
 }
 
 pub(crate) fn usage<'a>() -> &'a str {
@@ -18,19 +18,20 @@ pub(crate) fn more<'a>() -> &'a str {
     "An option without a default is required, and each is given at most once.
   <SIZE>   bytes: 1 to 12 decimal digits, then nothing, k (times 1024) or m (times 1048576); 8k, 1M
   <COUNT>  1 to 12 decimal digits
-  <l|f>    l: the block used last the longest ago (LRU); f: the block loaded first (FIFO)
+  <l|f>    l: the least recently used block (LRU); f: the block loaded first (FIFO)
   <a|n>    a: always; n: never
 
 A trace has one record a line: a label, a blank and a hexadecimal address. The labels are
   0 read   1 write   2 instruction fetch   3 other data reference, as a read   4 flush of all caches
 
-Example, two first-level caches of 32 kB in 8 ways over 1 MB in 16 ways, all in blocks of 64 bytes:
+Example: first-level caches of 32 KiB with 8 ways each, a second level of 1 MiB with 16 ways, and
+blocks of 64 bytes:
   dinero_pipe --l1-isize 32k --l1-ibsize 64 --l1-iassoc 8 \\
               --l1-dsize 32k --l1-dbsize 64 --l1-dassoc 8 \\
               --l2-usize 1M --l2-ubsize 64 --l2-uassoc 16 < program.din
 
 Exit status: 0 report or help written, 1 faulty trace, 2 command line or caches refused,
-3 no memory or no thread, 4 trace not read or report not written."
+3 no memory, no thread or a thread cut off, 4 trace not read or report not written."
 }
 
 pub(crate) fn heading<'a>(option: Opt) -> &'a str {
