@@ -22,8 +22,6 @@ mod laws;
 mod maps;
 mod policy;
 mod sets;
-#[cfg(test)]
-mod tests;
 mod ways;
 
 pub use access::{Access, Class, MissKind, Outcome};

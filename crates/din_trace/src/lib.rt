@@ -31,8 +31,6 @@ mod line_reader;
 mod plain;
 mod record;
 mod source;
-#[cfg(test)]
-mod tests;
 mod text;
 
 pub use device::{ByteReader, ByteWriter, DeviceFailed, FromRead, FromWrite};

@@ -20,8 +20,6 @@
 #![tactic(auto)]
 
 mod rx;
-#[cfg(test)]
-mod tests;
 mod tx;
 mod wait;
 

@@ -31,8 +31,6 @@ mod outbox;
 mod plain;
 mod selection;
 mod splitter;
-#[cfg(test)]
-mod tests;
 mod totals;
 
 pub use config::{CacheName, CacheSpec, Config, ConfigFault};

@@ -25,7 +25,7 @@ pub(super) fn stage(alloc: Global, side: Side) -> Result<L1Stage, Fail>
     ensures ready { IfOk result IsReady }
     ensures new { IfOk result (λ stage. StageStandsFor stage []) }
 {
-    let config = config()?;
+    let config = config(2)?;
     let (geometry, policy) = match side {
         Side::I => config.i(),
         Side::D => config.d(),
@@ -36,7 +36,7 @@ pub(super) fn stage(alloc: Global, side: Side) -> Result<L1Stage, Fail>
 fn second_level(alloc: Global) -> Result<L2Stage, Fail>
     ensures { IfOk result (λ stage. L2StandsFor stage []) }
 {
-    let (geometry, policy) = config()?.u();
+    let (geometry, policy) = config(2)?.u();
     Ok(L2Stage::new(alloc, geometry, policy)?)
 }
 

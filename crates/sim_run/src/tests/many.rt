@@ -4,15 +4,15 @@
 ghost use Rattle.sim_run.specs.Ends.{ArePaired, AreUnused};
 ghost use Rattle.sim_run.specs.Machines.{AreNew};
 
-use super::layout::ONE_WRITE_BACK;
-use super::{EVERYTHING, USUAL, bad, config_of, first_misses, instrs, reads, threaded, totals_of};
+use super::config;
 use crate::fault::RunFault;
 use crate::gate::OpenGate;
 use crate::pipeline::{Settled, prepare, run_in};
 use crate::report::write_report;
 use cache_core::{Counts, PerClass};
-use din_trace::{FromRead, FromWrite, MAX_LIMIT, Source, Why};
-use stage_core::{Config, Totals};
+use din_trace::{FromRead, FromWrite, MAX_LIMIT, Source, TraceFault, Why};
+use pipe_rings::OUTBOX;
+use stage_core::{Config, Selection, Totals};
 use std::alloc::Global;
 use std::process::Abort;
 use std::sync::Wait;
@@ -34,23 +34,23 @@ static TRACES: [(&[u8], Option<(u64, Why)>); 4] = [
     ),
 ];
 
-/// How large the outboxes of a run are.
-#[derive(Clone, Copy)]
-enum Outboxes {
-    AsTheyAre,
-    OfOne,
-}
+static EVERYTHING: Selection = Selection {
+    skip: 0,
+    max: 0,
+    every: 0,
+};
 
-/// The result of a run in threads over a trace, with an outbox of one message before each ring, and
-/// the bytes that it wrote.
-fn one_by_one<H: Threads + Wait + Sync>(
+/// The result of a run in threads over a trace, with an outbox of this many messages before each
+/// ring, and the bytes that it wrote.
+fn run_with<H: Threads + Wait + Sync>(
     rt: &H,
     alloc: Global,
     config: &Config,
+    outbox: usize,
     trace: &[u8],
     written: &mut Vec<u8>,
 ) -> Result<Option<RunFault>, Fail> {
-    let (machines, rings) = prepare(alloc, config, 1)?;
+    let (machines, rings) = prepare(alloc, config, outbox)?;
     let source = Source::new(FromRead::new(trace), MAX_LIMIT);
     let (source, ended) = thread::scope(
         thread::scope_env(),
@@ -62,8 +62,9 @@ fn one_by_one<H: Threads + Wait + Sync>(
         { run_in(scope, rt, &OpenGate, EVERYTHING, source, machines, rings) },
     );
     drop(source);
-    match totals_of(ended) {
-        Ok(totals) => {
+    match ended {
+        Ok(Settled { totals, rings }) => {
+            drop(rings);
             write_report(&totals, &mut FromWrite::new(written))?;
             Ok(None)
         }
@@ -71,46 +72,80 @@ fn one_by_one<H: Threads + Wait + Sync>(
     }
 }
 
-/// The result of a run in threads over a trace, and the bytes that it wrote.
-fn run_with<H: Threads + Wait + Sync>(
-    rt: &H,
-    alloc: Global,
-    config: &Config,
-    outboxes: Outboxes,
-    trace: &[u8],
-    written: &mut Vec<u8>,
-) -> Result<Option<RunFault>, Fail> {
-    match outboxes {
-        Outboxes::AsTheyAre => Ok(threaded(
-            rt,
-            alloc,
-            config,
-            &EVERYTHING,
-            trace,
-            MAX_LIMIT,
-            written,
-        )),
-        Outboxes::OfOne => one_by_one(rt, alloc, config, trace, written),
+fn instrs(instr: u64) -> PerClass {
+    PerClass {
+        instr,
+        ..PerClass::default()
     }
 }
 
-/// A run in threads over a trace has to answer its fault, or to write its report.
+fn reads(read: u64) -> PerClass {
+    PerClass {
+        read,
+        ..PerClass::default()
+    }
+}
+
+/// The totals of the trace without a fault: the second read evicts the written block.
+fn totals_of_three() -> Totals {
+    let all = PerClass {
+        write: 1,
+        ..reads(2)
+    };
+    let d = Counts {
+        fetches: all,
+        misses: all,
+        compulsory: all,
+        loaded: 3,
+        written_back: 1,
+        ..Counts::default()
+    };
+    let u = Counts {
+        fetches: PerClass {
+            write: 1,
+            ..reads(3)
+        },
+        misses: reads(3),
+        compulsory: reads(3),
+        loaded: 3,
+        ..Counts::default()
+    };
+    Totals {
+        d,
+        u,
+        ..Totals::default()
+    }
+}
+
+fn reported(alloc: Global, totals: &Totals) -> Result<Vec<u8>, Fail> {
+    let mut text = Vec::new(alloc);
+    write_report(totals, &mut FromWrite::new(&mut text))?;
+    Ok(text)
+}
+
+/// A run in threads over a trace has to answer its fault, or else to write this text.
 fn ends_alike<H: Threads + Wait + Abort + Sync>(
     rt: &H,
     alloc: Global,
     config: &Config,
-    outboxes: Outboxes,
+    outbox: usize,
     trace: &[u8],
     fault: Option<(u64, Why)>,
+    text: &[u8],
 ) -> Result<(), Fail> {
     let mut written = Vec::new(alloc);
-    let ended = run_with(rt, alloc, config, outboxes, trace, &mut written)?;
-    let (expected, text) = match fault {
-        Some((line, why)) => (Some(bad(line, why)), ""),
-        None => (None, ONE_WRITE_BACK),
-    };
-    assert_eq!(rt; ended, expected);
-    assert!(rt; written.as_slice() == text.as_bytes());
+    let ended = run_with(rt, alloc, config, outbox, trace, &mut written)?;
+    match fault {
+        Some((line, why)) => {
+            let bad = TraceFault::Bad { line, why };
+            assert_eq!(rt; ended, Some(RunFault::Trace(bad)));
+            assert!(rt; written.is_empty());
+        }
+        None => {
+            assert_eq!(rt; ended, None);
+            assert!(rt; written.as_slice() == text);
+        }
+    }
     Ok(())
 }
 
@@ -118,13 +153,14 @@ fn ends_alike<H: Threads + Wait + Abort + Sync>(
 fn a_thousand_end_alike<H: Threads + Wait + Abort + Sync>(
     rt: &H,
     alloc: Global,
-    outboxes: Outboxes,
+    outbox: usize,
 ) -> Result<(), Fail> {
+    let text = reported(alloc, &totals_of_three())?;
     for ring in [1, 2, 3, 64] {
-        let config = config_of(USUAL, ring)?;
+        let config = config(ring)?;
         for _ in 0..250 {
             for (trace, fault) in TRACES {
-                ends_alike(rt, alloc, &config, outboxes, trace, fault)?;
+                ends_alike(rt, alloc, &config, outbox, trace, fault, &text)?;
             }
         }
     }
@@ -133,12 +169,12 @@ fn a_thousand_end_alike<H: Threads + Wait + Abort + Sync>(
 
 #[test]
 fn a_thousand_runs_end_alike(rt: HostRuntime) -> Result<(), Fail> {
-    a_thousand_end_alike(&rt, rt.alloc(), Outboxes::AsTheyAre)
+    a_thousand_end_alike(&rt, rt.alloc(), OUTBOX)
 }
 
 #[test]
 fn a_thousand_runs_with_outboxes_of_one_end_alike(rt: HostRuntime) -> Result<(), Fail> {
-    a_thousand_end_alike(&rt, rt.alloc(), Outboxes::OfOne)
+    a_thousand_end_alike(&rt, rt.alloc(), 1)
 }
 
 /// How many rounds the long trace has.
@@ -153,21 +189,22 @@ fn rounds(alloc: Global) -> Result<Vec<u8>, Fail> {
     Ok(trace)
 }
 
-/// Its totals. Each round begins with empty caches, and the fetch loads the block into the second
-/// level, where the read finds it.
+/// The counts of a first-level cache over them. Each round begins with an empty cache.
+fn counts_of_rounds(all: PerClass, first: PerClass, again: PerClass) -> Counts {
+    Counts {
+        fetches: all,
+        misses: all,
+        compulsory: first,
+        capacity: again,
+        loaded: ROUNDS,
+        flushes: ROUNDS,
+        ..Counts::default()
+    }
+}
+
+/// Their totals. The fetch loads the block into the second level, where the read finds it.
 fn totals_of_rounds() -> Totals {
-    let i = Counts {
-        compulsory: instrs(1),
-        capacity: instrs(ROUNDS - 1),
-        flushes: ROUNDS,
-        ..first_misses(instrs(ROUNDS), instrs(ROUNDS), ROUNDS)
-    };
-    let d = Counts {
-        compulsory: reads(1),
-        capacity: reads(ROUNDS - 1),
-        flushes: ROUNDS,
-        ..first_misses(reads(ROUNDS), reads(ROUNDS), ROUNDS)
-    };
+    let i = counts_of_rounds(instrs(ROUNDS), instrs(1), instrs(ROUNDS - 1));
     let u = Counts {
         fetches: PerClass {
             instr: ROUNDS,
@@ -175,25 +212,25 @@ fn totals_of_rounds() -> Totals {
         },
         ..i
     };
-    Totals { i, d, u }
+    Totals {
+        i,
+        d: counts_of_rounds(reads(ROUNDS), reads(1), reads(ROUNDS - 1)),
+        u,
+    }
 }
 
 /// Makes twelve long runs through rings of each of these capacities.
 fn long_runs_end_alike<H: Threads + Wait + Abort + Sync>(
     rt: &H,
     alloc: Global,
-    outboxes: Outboxes,
+    outbox: usize,
 ) -> Result<(), Fail> {
     let trace = rounds(alloc)?;
-    let mut expected = Vec::new(alloc);
-    write_report(&totals_of_rounds(), &mut FromWrite::new(&mut expected))?;
+    let text = reported(alloc, &totals_of_rounds())?;
     for ring in [1, 2, 3, 64] {
-        let config = config_of(USUAL, ring)?;
+        let config = config(ring)?;
         for _ in 0..12 {
-            let mut written = Vec::new(alloc);
-            let ended = run_with(rt, alloc, &config, outboxes, &trace, &mut written)?;
-            assert_eq!(rt; ended, None);
-            assert!(rt; written.as_slice() == expected.as_slice());
+            ends_alike(rt, alloc, &config, outbox, &trace, None, &text)?;
         }
     }
     Ok(())
@@ -201,10 +238,10 @@ fn long_runs_end_alike<H: Threads + Wait + Abort + Sync>(
 
 #[test]
 fn long_runs_write_the_same(rt: HostRuntime) -> Result<(), Fail> {
-    long_runs_end_alike(&rt, rt.alloc(), Outboxes::AsTheyAre)
+    long_runs_end_alike(&rt, rt.alloc(), OUTBOX)
 }
 
 #[test]
 fn long_runs_with_outboxes_of_one_write_the_same(rt: HostRuntime) -> Result<(), Fail> {
-    long_runs_end_alike(&rt, rt.alloc(), Outboxes::OfOne)
+    long_runs_end_alike(&rt, rt.alloc(), 1)
 }

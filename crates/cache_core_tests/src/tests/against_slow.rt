@@ -1,0 +1,110 @@
+//! Pseudo-random traces, served by a cache and by the slow reference cache.
+
+use super::slow::Slow;
+use super::{FIFO, LRU, cache_of, expect_counts, flush, serve};
+use cache_core::{Access, Cache, Class, Policy};
+use std::alloc::Global;
+use std::process::Abort;
+use std::test::Fail;
+
+/// The next pseudo-random number, by a linear congruence with Knuth's constants.
+fn next_random(state: &mut u64) -> u64 {
+    *state = state
+        .wrapping_mul(6_364_136_223_846_793_005)
+        .wrapping_add(1_442_695_040_888_963_407);
+    *state >> 33
+}
+
+/// A pseudo-random access to one of `blocks` blocks of four bytes: low ones and the highest.
+fn access_of(state: &mut u64, blocks: u64) -> Access {
+    let class = match next_random(state) % 8 {
+        0 => Class::Instr,
+        1 | 2 | 3 => Class::Write,
+        4 => Class::Misc,
+        _ => Class::Read,
+    };
+    let block = next_random(state).checked_rem(blocks).unwrap_or(0);
+    let offset = block.wrapping_mul(4).wrapping_add(next_random(state) % 4);
+    let addr = if block % 3 == 0 { !offset } else { offset };
+    Access { class, addr }
+}
+
+/// Flushes both caches, which have to write the same blocks back.
+fn flushes_alike(
+    rt: &impl Abort,
+    alloc: Global,
+    cache: &mut Cache,
+    slow: &mut Slow,
+) -> Result<(), Fail> {
+    let mut out = Vec::new(alloc);
+    flush(rt, cache, &mut out);
+    assert_eq!(rt; out.as_slice(), slow.flush()?.as_slice());
+    Ok(())
+}
+
+/// Serves the same accesses on both caches, with a flush now and then. The outcomes have to agree.
+fn serve_alike(
+    rt: &impl Abort,
+    alloc: Global,
+    cache: &mut Cache,
+    slow: &mut Slow,
+    blocks: u64,
+) -> Result<(), Fail> {
+    let mut state = blocks;
+    for k in 0..300u64 {
+        let access = access_of(&mut state, blocks);
+        let wanted = slow.access(access)?;
+        let outcome = serve(rt, cache, access.class, access.addr);
+        assert_eq!(rt; outcome, wanted, "access {k} of {blocks} blocks");
+        if next_random(&mut state) % 100 == 0 {
+            flushes_alike(rt, alloc, cache, slow)?;
+        }
+    }
+    flushes_alike(rt, alloc, cache, slow)?;
+    expect_counts(rt, cache, slow.counts()?);
+    Ok(())
+}
+
+/// Compares caches of this shape, with each policy for writes.
+fn is_alike(
+    rt: &impl Abort,
+    alloc: Global,
+    shape: (u64, u64, u64),
+    usual: Policy,
+    blocks: u64,
+) -> Result<(), Fail> {
+    for (wback, walloc) in [(true, true), (true, false), (false, true), (false, false)] {
+        let policy = Policy {
+            wback,
+            walloc,
+            ..usual
+        };
+        let mut cache = cache_of(rt, alloc, shape, policy);
+        let mut slow = Slow::new(alloc, shape, policy).expect(rt, "a shape");
+        serve_alike(rt, alloc, &mut cache, &mut slow, blocks)?;
+    }
+    Ok(())
+}
+
+#[test]
+fn rows_answer_as_the_slow_cache(rt: HostRuntime) -> Result<(), Fail> {
+    for (shape, blocks) in [
+        ((16, 4, 1), 12),
+        ((64, 4, 4), 24),
+        ((64, 8, 2), 24),
+        ((256, 16, 16), 100),
+    ] {
+        is_alike(&rt, rt.alloc(), shape, LRU, blocks)?;
+        is_alike(&rt, rt.alloc(), shape, FIFO, blocks)?;
+    }
+    Ok(())
+}
+
+#[test]
+fn maps_answer_as_the_slow_cache(rt: HostRuntime) -> Result<(), Fail> {
+    for (shape, blocks) in [((512, 4, 128), 180), ((2_048, 8, 128), 600)] {
+        is_alike(&rt, rt.alloc(), shape, LRU, blocks)?;
+        is_alike(&rt, rt.alloc(), shape, FIFO, blocks)?;
+    }
+    Ok(())
+}

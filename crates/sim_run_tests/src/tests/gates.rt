@@ -1,0 +1,260 @@
+//! Runs whose gates show that the stages run at the same time, and which messages pass. A gate
+//! gives up after many looks and notes it, so that each test ends.
+
+ghost use Rattle.std.specs.Prelude.{◌≤◌, ◌^◌};
+ghost use Rattle.stage_core.specs.Events.{IsBounded};
+
+use super::{EVERYTHING, config, first_misses, instrs, reads, run_in_threads};
+use cache_core::PerClass;
+use din_trace::{FromRead, FromWrite, MAX_LIMIT};
+use sim_run::{Gate, Who, simulate};
+use stage_core::{Selection, Totals};
+use std::alloc::Global;
+use std::process::Abort;
+use std::sync::Wait;
+use std::sync::atomic::{AtomicU64, Ordering};
+use std::test::Fail;
+use std::thread::{self, Threads};
+
+/// How often a wait looks again before it gives up.
+const TURNS: u32 = 100_000_000;
+
+/// Whether something came, and whether a wait for it was given up.
+#[derive(Drop)]
+pub(super) struct Sign {
+    came: AtomicU64,
+    missed: AtomicU64,
+}
+
+impl Sign {
+    pub(super) fn new() -> Sign {
+        Sign {
+            came: AtomicU64::new(0),
+            missed: AtomicU64::new(0),
+        }
+    }
+
+    pub(super) fn show(&self) {
+        self.came.store(1, Ordering::SeqCst);
+    }
+
+    pub(super) fn wait(&self) {
+        for _ in 0..TURNS {
+            if self.came.load(Ordering::SeqCst) == 1 {
+                return;
+            }
+            thread::yield_now();
+        }
+        self.missed.store(1, Ordering::SeqCst);
+    }
+
+    pub(super) fn was_missed(&self) -> bool {
+        self.missed.load(Ordering::SeqCst) == 1
+    }
+}
+
+/// Holds one arrival until another has come.
+#[derive(Drop)]
+struct Hold {
+    held: (Who, u64),
+    awaited: (Who, u64),
+    sign: Sign,
+}
+
+impl Gate for Hold {
+    fn arrive<H: Wait>(&self, _rt: &H, who: Who, nth: u64) {
+        if who == self.awaited.0 && nth == self.awaited.1 {
+            self.sign.show();
+        }
+        if who == self.held.0 && nth == self.held.1 {
+            self.sign.wait();
+        }
+    }
+}
+
+/// The totals of a fetch and a read of one block.
+fn a_fetch_and_a_read() -> Totals {
+    let fetches = PerClass {
+        instr: 1,
+        ..reads(1)
+    };
+    Totals {
+        i: first_misses(instrs(1), instrs(1), 1),
+        d: first_misses(reads(1), reads(1), 1),
+        u: first_misses(fetches, instrs(1), 1),
+    }
+}
+
+/// Runs over a fetch and a read of one block, with one arrival held until another one comes.
+fn run_held<H: Threads + Wait + Abort + Sync>(
+    rt: &H,
+    alloc: Global,
+    held: (Who, u64),
+    awaited: (Who, u64),
+) -> Result<(), Fail> {
+    let gate = Hold {
+        held,
+        awaited,
+        sign: Sign::new(),
+    };
+    let trace = b"2 0\n0 0\n".as_slice();
+    let totals = run_in_threads(rt, alloc, trace, &gate, Vec::new(alloc))??;
+    assert_eq!(rt; totals, a_fetch_and_a_read());
+    assert!(rt; !gate.sign.was_missed());
+    Ok(())
+}
+
+#[test]
+fn i_may_wait_for_d(rt: HostRuntime) -> Result<(), Fail> {
+    run_held(&rt, rt.alloc(), (Who::I, 1), (Who::D, 1))
+}
+
+#[test]
+fn d_may_wait_for_i(rt: HostRuntime) -> Result<(), Fail> {
+    run_held(&rt, rt.alloc(), (Who::D, 1), (Who::I, 1))
+}
+
+#[test]
+fn the_splitter_may_wait_for_the_merge(rt: HostRuntime) -> Result<(), Fail> {
+    run_held(&rt, rt.alloc(), (Who::Splitter, 2), (Who::Merge, 1))
+}
+
+/// Implements only `arrive`. It holds D's second message until the merge has every message that
+/// comes before the answer to it, and notes if that answer reaches the merge while it is held.
+#[derive(Drop)]
+struct Between {
+    sign: Sign,
+    passed: AtomicU64,
+    early: AtomicU64,
+}
+
+impl Gate for Between {
+    fn arrive<H: Wait>(&self, _rt: &H, who: Who, nth: u64) {
+        match (who, nth) {
+            (Who::Merge, 4) => self.sign.show(),
+            (Who::Merge, 5) => {
+                if self.passed.load(Ordering::SeqCst) == 0 {
+                    self.early.store(1, Ordering::SeqCst);
+                }
+            }
+            (Who::D, 2) => {
+                self.sign.wait();
+                self.passed.store(1, Ordering::SeqCst);
+            }
+            _ => {}
+        }
+    }
+}
+
+#[test]
+fn a_gate_of_arrive_alone_sees_a_message_before_it_is_handled(rt: HostRuntime) -> Result<(), Fail> {
+    let gate = Between {
+        sign: Sign::new(),
+        passed: AtomicU64::new(0),
+        early: AtomicU64::new(0),
+    };
+    // The merge receives a turn, a part, the end of the parts, a turn, and then the end of the
+    // second read's parts.
+    let trace = b"0 0\n0 0\n".as_slice();
+    let totals = run_in_threads(&rt, rt.alloc(), trace, &gate, Vec::new(rt.alloc()))??;
+    assert_eq!(rt; totals.d, first_misses(reads(2), reads(1), 1));
+    assert!(rt; !gate.sign.was_missed());
+    assert_eq!(rt; gate.early.load(Ordering::SeqCst), 0);
+    Ok(())
+}
+
+/// Counts the arrivals of each of the four threads, and notes one with a wrong number.
+#[derive(Drop)]
+struct Counting {
+    splitter: AtomicU64,
+    i: AtomicU64,
+    d: AtomicU64,
+    merge: AtomicU64,
+    misnumbered: AtomicU64,
+}
+
+impl Counting {
+    fn new() -> Counting {
+        Counting {
+            splitter: AtomicU64::new(0),
+            i: AtomicU64::new(0),
+            d: AtomicU64::new(0),
+            merge: AtomicU64::new(0),
+            misnumbered: AtomicU64::new(0),
+        }
+    }
+
+    fn counter(&self, who: Who) -> &AtomicU64 {
+        match who {
+            Who::Splitter => &self.splitter,
+            Who::I => &self.i,
+            Who::D => &self.d,
+            Who::Merge => &self.merge,
+        }
+    }
+
+    fn arrivals(&self) -> [u64; 4] {
+        [Who::Splitter, Who::I, Who::D, Who::Merge].map(|who| self
+            .counter(who)
+            .load(Ordering::SeqCst))
+    }
+}
+
+impl Gate for Counting {
+    fn arrive<H: Wait>(&self, _rt: &H, who: Who, nth: u64) {
+        let before = self.counter(who).fetch_add(1, Ordering::SeqCst);
+        if nth != before.wrapping_add(1) {
+            self.misnumbered.store(1, Ordering::SeqCst);
+        }
+    }
+}
+
+/// Runs in threads over the selected records of a trace.
+fn run_selected<H: Threads + Wait + Sync, G: Gate>(
+    rt: &H,
+    alloc: Global,
+    selection: &Selection,
+    trace: &[u8],
+    gate: &G,
+) -> Result<(), Fail>
+    requires { IsBounded selection.now }
+{
+    let mut written = Vec::new(alloc);
+    let ended = simulate(
+        rt,
+        alloc,
+        &config()?,
+        selection,
+        FromRead::new(trace),
+        MAX_LIMIT,
+        gate,
+        &mut FromWrite::new(&mut written),
+    );
+    drop(ended?);
+    Ok(())
+}
+
+/// How many records and messages pass the gates, if `skip` references are left out.
+fn arrivals_of<H: Threads + Wait + Abort + Sync>(
+    rt: &H,
+    alloc: Global,
+    skip: u64,
+) -> Result<[u64; 4], Fail>
+    requires { skip ≤ 2 ^ 40 }
+{
+    let gate = Counting::new();
+    let selection = Selection { skip, ..EVERYTHING };
+    run_selected(rt, alloc, &selection, b"1 8\n1 0\n4 0\n", &gate)?;
+    assert_eq!(rt; gate.misnumbered.load(Ordering::SeqCst), 0);
+    Ok(gate.arrivals())
+}
+
+#[test]
+fn each_message_passes_its_gate_once(rt: HostRuntime) -> Result<(), Fail> {
+    // The merge receives three turns and Finish. I receives a flush and Finish, D two references, a
+    // flush and Finish. I answers with two messages, D with nine.
+    assert_eq!(rt; arrivals_of(&rt, rt.alloc(), 0)?, [3, 2, 4, 4 + 2 + 9]);
+    // Records that are not selected pass the splitter's gate, but give no message.
+    assert_eq!(rt; arrivals_of(&rt, rt.alloc(), 5)?, [3, 1, 1, 1 + 1 + 1]);
+    Ok(())
+}

@@ -1,0 +1,106 @@
+//! Runs whose readers give the rest of a trace late: what they gave before has to be served while
+//! they wait.
+
+use super::gates::Sign;
+use super::{first_misses, instrs, run_in_threads};
+use sim_run::{Gate, Who};
+use std::alloc::Global;
+use std::io::{self, Read};
+use std::process::Abort;
+use std::sync::Wait;
+use std::test::Fail;
+use std::thread::Threads;
+
+/// A gate that shows a sign when the awaited message comes. It holds no thread; `open` is what its
+/// `is_open` answers.
+#[derive(Drop)]
+struct Notes {
+    awaited: (Who, u64),
+    open: bool,
+    sign: Sign,
+}
+
+impl Gate for Notes {
+    fn arrive<H: Wait>(&self, _rt: &H, who: Who, nth: u64) {
+        if who == self.awaited.0 && nth == self.awaited.1 {
+            self.sign.show();
+        }
+    }
+
+    fn is_open(&self) -> bool {
+        self.open
+    }
+}
+
+/// Gives some bytes, then waits for a sign, then gives others, then ends.
+#[derive(Drop)]
+struct Late<'a> {
+    first: &'a [u8],
+    then: &'a [u8],
+    sign: &'a Sign,
+    calls: u8,
+}
+
+impl Read for Late<'_> {
+    fn read(&mut self, buffer: &mut [u8]) -> io::Result<usize> {
+        let mut given: &[u8] = match self.calls {
+            0 => self.first,
+            1 => {
+                self.sign.wait();
+                self.then
+            }
+            _ => b"",
+        };
+        self.calls = self.calls.saturating_add(1);
+        given.read(buffer)
+    }
+}
+
+/// Runs over two fetches. The second one is given only after this message has come.
+fn run_late<H: Threads + Wait + Abort + Sync>(
+    rt: &H,
+    alloc: Global,
+    first: &[u8],
+    then: &[u8],
+    awaited: (Who, u64),
+    open: bool,
+) -> Result<(), Fail> {
+    let gate = Notes {
+        awaited,
+        open,
+        sign: Sign::new(),
+    };
+    let reader = Late {
+        first,
+        then,
+        sign: &gate.sign,
+        calls: 0,
+    };
+    let totals = run_in_threads(rt, alloc, reader, &gate, Vec::new(alloc))??;
+    assert_eq!(rt; totals.i, first_misses(instrs(2), instrs(2), 2));
+    assert!(rt; !gate.sign.was_missed());
+    Ok(())
+}
+
+#[test]
+fn the_stages_run_while_the_trace_is_read(rt: HostRuntime) -> Result<(), Fail> {
+    run_late(&rt, rt.alloc(), b"2 0\n", b"2 4\n", (Who::I, 1), false)
+}
+
+/// For a fetch that misses, the merge receives a turn, a part and the end of the parts.
+static FETCHED: (Who, u64) = (Who::Merge, 3);
+
+#[test]
+fn all_that_was_read_is_merged_while_the_reader_waits(rt: HostRuntime) -> Result<(), Fail> {
+    run_late(&rt, rt.alloc(), b"2 0\n", b"2 4\n", FETCHED, true)
+}
+
+#[test]
+fn all_before_blank_lines_is_merged_while_the_reader_waits(rt: HostRuntime) -> Result<(), Fail> {
+    run_late(&rt, rt.alloc(), b"2 0\n  \n\t\n", b"2 4\n", FETCHED, true)
+}
+
+#[test]
+fn all_before_half_a_line_is_merged_while_the_reader_waits(rt: HostRuntime) -> Result<(), Fail> {
+    run_late(&rt, rt.alloc(), b"2 0\n \n2 ", b"4\n", FETCHED, true)
+}

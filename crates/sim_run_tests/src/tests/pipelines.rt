@@ -1,0 +1,119 @@
+//! The pipeline without a report, and long traces through small rings.
+
+use super::{
+    EVERYTHING, USUAL, bad, config, config_of, ends_with, first_misses, reads, reads_and_writes,
+    reports, run_source,
+};
+use cache_core::Counts;
+use din_trace::{MAX_LIMIT, TraceFault, Why};
+use sim_run::RunFault;
+use stage_core::Totals;
+use std::alloc::Global;
+use std::test::Fail;
+
+/// The totals of a write and two reads, the second of which evicts the written block.
+fn one_written_back() -> Totals {
+    let d = Counts {
+        written_back: 1,
+        ..first_misses(reads_and_writes(2, 1), reads_and_writes(2, 1), 3)
+    };
+    Totals {
+        d,
+        u: first_misses(reads_and_writes(3, 1), reads(3), 3),
+        ..Totals::default()
+    }
+}
+
+#[test]
+fn a_source_is_handed_back_at_its_end(rt: HostRuntime) -> Result<(), Fail> {
+    let (mut source, ended) = run_source(&rt, rt.alloc(), b"1 0\n0 8\n0 10\n")?;
+    assert_eq!(rt; ended?, one_written_back());
+    assert_eq!(rt; source.next(), Ok(None));
+    Ok(())
+}
+
+#[test]
+fn a_run_reports_what_the_network_counts(rt: HostRuntime) -> Result<(), Fail> {
+    let trace = b"1 0\n0 8\n0 10\n";
+    let totals = one_written_back();
+    reports(&rt, rt.alloc(), &config()?, &EVERYTHING, trace, &totals)
+}
+
+#[test]
+fn a_source_is_handed_back_with_its_fault(rt: HostRuntime) -> Result<(), Fail> {
+    let fault = TraceFault::Bad {
+        line: 2,
+        why: Why::Label,
+    };
+    let (mut source, ended) = run_source(&rt, rt.alloc(), b"2 0\n9 0\n2 4\n")?;
+    assert_eq!(rt; ended.err(), Some(RunFault::Trace(fault)));
+    assert_eq!(rt; source.next(), Err(fault));
+    Ok(())
+}
+
+/// Ten thousand reads that go through 64 bytes again and again, in steps of four.
+fn rounds(alloc: Global) -> Result<Vec<u8>, Fail> {
+    let mut trace = Vec::new(alloc);
+    for number in 0..10_000u32 {
+        let address = number % 16 * 4;
+        let line = format!(in alloc; "0 {address:x}\n")?;
+        trace.extend_from_slice(line.as_bytes())?;
+    }
+    Ok(trace)
+}
+
+#[test]
+fn many_records_go_through_rings_of_one_place(rt: HostRuntime) -> Result<(), Fail> {
+    let d = Counts {
+        compulsory: reads(16),
+        capacity: reads(9984),
+        ..first_misses(reads(10_000), reads(10_000), 10_000)
+    };
+    let u = Counts {
+        compulsory: reads(8),
+        capacity: reads(4992),
+        ..first_misses(reads(10_000), reads(5000), 5000)
+    };
+    let totals = Totals {
+        d,
+        u,
+        ..Totals::default()
+    };
+    let narrow = config_of(USUAL, 1)?;
+    let trace = rounds(rt.alloc())?;
+    reports(
+        &rt,
+        rt.alloc(),
+        &narrow,
+        &EVERYTHING,
+        trace.as_slice(),
+        &totals,
+    )
+}
+
+/// A thousand fetches, a faulty line, and ten more fetches.
+fn late_fault(alloc: Global) -> Result<Vec<u8>, Fail> {
+    let mut trace = Vec::new(alloc);
+    for number in 1..=1011u32 {
+        let line: &[u8] = if number == 1001 { b"9 0\n" } else { b"2 0\n" };
+        trace.extend_from_slice(line)?;
+    }
+    Ok(trace)
+}
+
+#[test]
+fn a_late_fault_is_answered_and_what_follows_is_not_read(rt: HostRuntime) -> Result<(), Fail> {
+    let narrow = config_of(USUAL, 1)?;
+    let trace = late_fault(rt.alloc())?;
+    let fault = Err(bad(1001, Why::Label));
+    ends_with(
+        &rt,
+        rt.alloc(),
+        &narrow,
+        &EVERYTHING,
+        trace.as_slice(),
+        MAX_LIMIT,
+        fault,
+    );
+    Ok(())
+}
