@@ -10,6 +10,7 @@ mod gates;
 mod late;
 mod layout;
 mod levels;
+mod many;
 mod memory;
 mod pipelines;
 mod rates;
