@@ -28,12 +28,10 @@ ghost use Rattle.pipe_rings.specs.Rings.{sent, received, capacity_of, outbox_of}
 ghost use Rattle.pipe_rings.specs.Rings.{AreEnds, SameTx, SameRx, IsBehindBy};
 
 use rtrb::RingBuffer;
-use rx::BATCH;
 pub use rx::{Rx, SenderGone};
 use std::alloc::Global;
 pub use tx::{Gone, OUTBOX, Tx};
 pub use wait::Bell;
-use wait::Patience;
 
 /// An allocation failed.
 #[derive(Debug, Clone, Copy, PartialEq, Eq)]
@@ -69,32 +67,9 @@ pub fn ring_from<T: Copy>(
     let Ok((producer, consumer)) = RingBuffer::new(alloc, capacity) else {
         return Err(NoMemory);
     };
-    let room = outbox.clamp(1, OUTBOX);
-    let Ok(outbox) = Vec::with_capacity(alloc, room) else {
-        return Err(NoMemory);
-    };
-    let Ok(batch) = Vec::with_capacity(alloc, BATCH) else {
-        return Err(NoMemory);
-    };
     let receiver = Bell::new(alloc)?;
-    let tx = Tx {
-        end: producer,
-        outbox,
-        first: 0,
-        room,
-        patience: Patience::new(),
-        own: sender.share()?,
-        peer: receiver.share()?,
-    };
-    let rx = Rx {
-        end: consumer,
-        batch,
-        count: 0,
-        left: 0,
-        patience: Patience::new(),
-        own: receiver,
-        peer: sender.share()?,
-    };
+    let tx = Tx::new(alloc, producer, outbox, sender.share()?, receiver.share()?)?;
+    let rx = Rx::new(alloc, consumer, receiver, sender.share()?)?;
     Ok((tx, rx))
 }
 

@@ -3,8 +3,10 @@
 ghost use Rattle.std.specs.Prelude.{◌≡◌, ◌-◌, ◌≤◌, length, take, drop};
 ghost use Rattle.rtrb.specs.Ring as ring;
 
+use crate::NoMemory;
 use crate::wait::{Bell, Patience};
 use rtrb::Consumer;
+use std::alloc::Global;
 use std::sync::Wait;
 
 /// How many items a receiver takes out of the ring at once, at most.
@@ -37,6 +39,31 @@ pub struct SenderGone;
 impl<T: Copy> Rx<T> {
     ghost use Rattle.std.specs.Prelude.{◌≡◌, ◌<◌, [], ◌∷◌, ◌++◌, IfOk, IfSome, OnErr, IsNone};
     ghost use Rattle.pipe_rings.specs.Rings.{received, SameRx, LookedForItem};
+
+    // The receiving end of a new ring. It sleeps at the bell `own`, and rings the bell `peer`.
+    pub(crate) fn new(
+        alloc: Global,
+        end: Consumer<T>,
+        own: Bell,
+        peer: Bell,
+    ) -> Result<Rx<T>, NoMemory>
+        requires { ring.received end ≡ [] }
+        ensures end { IfOk result (λ rx. rx.end ≡ end) }
+        ensures received { IfOk result (λ rx. received rx ≡ []) }
+    {
+        let Ok(batch) = Vec::with_capacity(alloc, BATCH) else {
+            return Err(NoMemory);
+        };
+        Ok(Rx {
+            end,
+            batch,
+            count: 0,
+            left: 0,
+            patience: Patience::new(),
+            own,
+            peer,
+        })
+    }
 
     /// Receives the next item. Waits until there is one, or until the sender is gone.
     #[inline]

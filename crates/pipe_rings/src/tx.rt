@@ -1,9 +1,12 @@
 //! The sending end of a ring, with its outbox.
 
 ghost use Rattle.std.specs.Prelude.{◌≡◌, ◌≤◌, length, vec_capacity};
+ghost use Rattle.rtrb.specs.Ring as ring;
 
+use crate::NoMemory;
 use crate::wait::{Bell, Patience};
 use rtrb::Producer;
+use std::alloc::Global;
 use std::sync::Wait;
 
 /// The greatest capacity of an outbox, in items.
@@ -36,8 +39,37 @@ pub struct Gone<T> {
 #[tactic(auto, unfolding(crate::specs::Rings::sent, crate::specs::Rings::posted, crate::specs::Rings::HasRoom, crate::specs::Rings::LookedForRoom))]
 impl<T: Copy> Tx<T> {
     ghost use Rattle.std.specs.Prelude.{◌≡◌, ◌<◌, [], ◌∷◌, ◌++◌, ◌↔◌, OnOk, IfErr, IsTrue, false};
-    ghost use Rattle.std.specs.Prelude.{length, ◌+◌};
+    ghost use Rattle.std.specs.Prelude.{length, ◌+◌, IfOk};
     ghost use Rattle.pipe_rings.specs.Rings.{sent, posted, SameTx, HasRoom, LookedForRoom};
+
+    // The sending end of a new ring, with an outbox for `outbox` items, at least 1 and at most
+    // `OUTBOX`. It sleeps at the bell `own`, and rings the bell `peer`.
+    pub(crate) fn new(
+        alloc: Global,
+        end: Producer<T>,
+        outbox: usize,
+        own: Bell,
+        peer: Bell,
+    ) -> Result<Tx<T>, NoMemory>
+        requires { ring.sent end ≡ [] }
+        ensures end { IfOk result (λ tx. tx.end ≡ end) }
+        ensures room { (1 ≤ outbox) → (outbox ≤ OUTBOX) → IfOk result (λ tx. tx.room ≡ outbox) }
+        ensures sent { IfOk result (λ tx. sent tx ≡ []) }
+    {
+        let room = outbox.clamp(1, OUTBOX);
+        let Ok(outbox) = Vec::with_capacity(alloc, room) else {
+            return Err(NoMemory);
+        };
+        Ok(Tx {
+            end,
+            outbox,
+            first: 0,
+            room,
+            patience: Patience::new(),
+            own,
+            peer,
+        })
+    }
 
     /// Sends the item after all posted items. Waits until the ring has room for them. If the
     /// receiver is gone, the item comes back, even if the ring has room.

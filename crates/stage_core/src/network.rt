@@ -68,6 +68,39 @@ impl Model for Core {
     ghost invariant = { λ c. c.failed ≡ false → Sound c };
 }
 
+// The lanes of the first level, and the second level.
+#[derive(Drop)]
+struct Levels {
+    i: Lane,
+    d: Lane,
+    u: L2Stage,
+}
+
+impl Levels {
+    ghost use Rattle.std.specs.Prelude.{◌≡◌, [], IfOk};
+    ghost use Rattle.stage_core.specs.Config.{hierarchy_of};
+    ghost use Rattle.stage_core.specs.Network.{empty_lane};
+    ghost use Rattle.stage_core.specs.Network.Lanes.{lane_of};
+    ghost use Rattle.stage_core.specs.Network.Cores.{CachesStand};
+
+    // Empty rings, and empty caches as configured.
+    fn new(alloc: Global, config: &Config) -> Result<Levels, NoMemory>
+        ensures i { IfOk result (λ levels. lane_of levels.i ≡ empty_lane) }
+        ensures d { IfOk result (λ levels. lane_of levels.d ≡ empty_lane) }
+        ensures caches { IfOk result (λ levels. CachesStand (hierarchy_of config.now)
+            levels.i.stage levels.d.stage levels.u levels.i.to.popped levels.d.to.popped []) }
+    {
+        let (i_geometry, i_policy) = config.i();
+        let (d_geometry, d_policy) = config.d();
+        let (u_geometry, u_policy) = config.u();
+        Ok(Levels {
+            i: Lane::new(alloc, Side::I, i_geometry, i_policy)?,
+            d: Lane::new(alloc, Side::D, d_geometry, d_policy)?,
+            u: L2Stage::new(alloc, u_geometry, u_policy)?,
+        })
+    }
+}
+
 impl Core {
     ghost use Rattle.std.specs.Prelude.{◌≡◌, ◌<◌, ◌≤◌, ◌↔◌, Some, IsTrue, IfOk, OnOk, OnErr, true};
     ghost use Rattle.std.specs.Prelude.{false, length, filter, slice_get};
@@ -94,19 +127,17 @@ impl Core {
         selections_make_at_most_two();
         let events = events_of(alloc, *selection, records)?;
         let pushes = pushes_of(alloc, &events)?;
-        let (i_geometry, i_policy) = config.i();
-        let (d_geometry, d_policy) = config.d();
-        let (u_geometry, u_policy) = config.u();
+        let levels = Levels::new(alloc, config)?;
         Ok(Core {
             config: *config,
             events,
             pushes,
             pushed: 0,
             order: Ring::new(alloc),
-            i: Lane::new(alloc, Side::I, i_geometry, i_policy)?,
-            d: Lane::new(alloc, Side::D, d_geometry, d_policy)?,
+            i: levels.i,
+            d: levels.d,
             merge: Merge::new(),
-            u: L2Stage::new(alloc, u_geometry, u_policy)?,
+            u: levels.u,
             failed: false,
         })
     }

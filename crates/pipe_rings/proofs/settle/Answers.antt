@@ -1,4 +1,4 @@
-use Rattle.std.proofs.Common.{◌≡◌, ◌≤◌, length, drop, arith, ap}
+use Rattle.std.proofs.Common.{◌≤◌, length, drop, arith, ap}
 use Rattle.rtrb.specs.Ring as ring
 use Rattle.pipe_rings.specs.Rings.{sent, received, posted}
 use Rattle.pipe_rings.proofs.settle.Goals as goal

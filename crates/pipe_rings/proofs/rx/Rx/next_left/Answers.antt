@@ -1,6 +1,6 @@
 use Rattle.std.proofs.Common.{arith}
 use Rattle.rtrb.specs.Ring as ring
-use Rattle.pipe_rings.specs.Rings.{received, SameRx}
+use Rattle.pipe_rings.specs.Rings.{received}
 use Rattle.pipe_rings.proofs.rx.Rx.next_left.Goals as goal
 use Rattle.pipe_rings.proofs.Batches.{one_more}
 

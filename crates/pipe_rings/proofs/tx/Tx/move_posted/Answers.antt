@@ -1,4 +1,4 @@
-use Rattle.std.proofs.Common.{rules, ◌≡◌, ◌+◌, ◌<◌, length, ap, arith, length-append, length-drop}
+use Rattle.std.proofs.Common.{rules, ◌+◌, ◌<◌, length, ap, arith, length-append, length-drop}
 use Rattle.pipe_rings.proofs.Outboxes.{moved-on}
 use Rattle.rtrb.specs.Ring as ring
 use Rattle.pipe_rings.specs.Rings.{sent, posted, HasRoom}
