@@ -7,6 +7,7 @@ use Rattle.din_trace.specs.declared.fault.TraceFault.{TraceFault}
 use Rattle.din_trace.specs.Line.{Form, Blank, Din, Faulty, form}
 use Rattle.din_trace.specs.Text.{cut, with_first, Remaining, form_left, lines_left, first_fault}
 
+-- a byte before a text whose last line has just ended
 with_first-ended : (byte : ℕ) (ended : List (List ℕ)) (rest : List ℕ)
     → with_first byte (ended ++ rest ∷ []) []
     ≡ record {
@@ -27,6 +28,7 @@ cut-ended (byte ∷ text) =
       | inr e ↦ rw (e, cut-ended text) (with_first-ended byte (cut text).ended (cut text).rest)
     ]
 
+-- a byte before a text whose last line goes on
 with_first-longer : (byte last : ℕ) (ended : List (List ℕ)) (rest : List ℕ)
     → with_first byte ended (rest ++ last ∷ [])
     ≡ record {
@@ -55,12 +57,14 @@ IsSound Blank = Unit {0}
 IsSound (Din r) = Unit {0}
 IsSound (Faulty why) = ⊥
 
+-- if a text has no fault, what follows its first line has none
 pub others_none : (f : Form) (number : ℕ) (others : Remaining)
     → (form_left f number others).fault ≡ None → others.fault ≡ None
 others_none Blank number others none = none
 others_none (Din r) number others none = none
 others_none (Faulty why) number others none = absurd cc
 
+-- a line that was no fault before one text is none before another
 pub form_left-none : (f : Form) (number : ℕ) (others now : Remaining)
     → (form_left f number others).fault ≡ None → now.fault ≡ None
     → (form_left f number now).fault ≡ None
@@ -68,6 +72,7 @@ form_left-none Blank number others now none is = is
 form_left-none (Din r) number others now none is = is
 form_left-none (Faulty why) number others now none is = absurd cc
 
+-- a sound line has no fault of its own
 form_left-sound : (f : Form) (number : ℕ) (others : Remaining) → IsSound f
     → (form_left f number others).fault ≡ others.fault
 form_left-sound Blank number others h = refl

@@ -1,4 +1,3 @@
-pub mod RateLemmas
 pub mod Serving
 pub mod Merging
 pub mod Merges

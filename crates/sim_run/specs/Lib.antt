@@ -1,4 +1,3 @@
-pub mod Report
 pub mod Faults
 pub mod Ends
 pub mod Threads

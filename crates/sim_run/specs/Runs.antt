@@ -11,7 +11,7 @@ use Rattle.stage_core.specs.Merging as rule
 use Rattle.stage_core.specs.declared.message.Side.TheVariants as side
 use Rattle.stage_core.specs.declared.config.Config.{Config}
 use Rattle.stage_core.specs.declared.selection.Selection.{Selection}
-use Rattle.sim_run.specs.Report.{report}
+use Rattle.cache_report.specs.Report.{report}
 use Rattle.sim_run.specs.Faults.{MayAnswer}
 use Rattle.sim_run.specs.Ends.{ArePaired, HaveCapacity, whole, on_order, on_to_i, on_to_d}
 use Rattle.sim_run.specs.Ends.{on_from_i, on_from_d}

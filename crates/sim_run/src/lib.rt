@@ -13,16 +13,17 @@
 //! The modules: `ends` has the rings, and which end each thread owns. `gate` lets tests hold
 //! threads. `split`, `stage_thread` and `merge_thread` are the bodies of the threads. `pipeline`
 //! starts the threads and collects their results, and `joins` joins them. `simulation` and `plain`
-//! are the two runs. `report` writes the report. `fault` has the faults of a run, and which of
-//! several is answered.
+//! are the two runs. `report` calls the crate that writes the report. `fault` has the faults of a
+//! run, and which of several is answered.
 //!
 //! Proved for every reader whose bytes are known, every valid configuration and every selection: if
 //! a run succeeds, the text has no fault. Each ring has the capacity of the configuration and has
 //! carried exactly its stream, each message once and in order, and all of it was received. The
 //! second level got its requests in the order of the trace. The bytes written are exactly the
-//! report (`specs/Report`) of the counts that the definitions give for the whole trace. If a run
-//! fails because of the trace, the fault is that of the text or of its reader. If a run fails,
-//! nothing was written, unless the writer failed. Nothing is claimed of a run that does not end.
+//! report (`specs/Report` of cache_report) of the counts that the definitions give for the whole
+//! trace. If a run fails because of the trace, the fault is that of the text or of its reader. If a
+//! run fails, nothing was written, unless the writer failed. Nothing is claimed of a run that does
+//! not end.
 //!
 //! Only tested: that the threads run at the same time and while the trace is read, that a lost peer
 //! or a missing thread is reported only if there is one, and that the writer is flushed after the

@@ -8,7 +8,7 @@ ghost use Rattle.din_trace.specs.Text.{fault, records};
 ghost use Rattle.din_trace.specs.Faults.{IsFaultOf};
 ghost use Rattle.stage_core.specs.Config.{hierarchy_of, ring_of};
 ghost use Rattle.stage_core.specs.Events.{IsBounded, events};
-ghost use Rattle.sim_run.specs.Report.{report};
+ghost use Rattle.cache_report.specs.Report.{report};
 ghost use Rattle.sim_run.specs.Runs.{HasRun};
 
 use crate::fault::RunFault;

@@ -1,6 +1,7 @@
 //! A use of each library, as its README shows it. Run as a program, it prints what they answer.
 #![tactic(auto)]
 
+mod block;
 mod cache;
 mod ring;
 mod run;
@@ -32,6 +33,11 @@ fn main(rt: HostRuntime) -> anyhow::Result<()> {
         bail!("no counts");
     };
     println!(rt; "stage_core: {misses} misses")?;
+    let Ok(block) = block::one_miss(alloc) else {
+        bail!("no block");
+    };
+    println!(rt; "cache_report:")?;
+    rt.stdout().write_all(block.as_slice())?;
     let Ok(report) = run::report(&rt, alloc, &config, b"1 0\n0 8\n0 10\n") else {
         bail!("no report");
     };

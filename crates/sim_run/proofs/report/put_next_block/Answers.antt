@@ -1,5 +1,0 @@
-use Rattle.din_trace.proofs.WritesLemmas.{writes_then}
-use Rattle.sim_run.proofs.report.put_next_block.Goals as goal
-
-pub returns : goal.returns
-returns g c = writes_then _ _ _ c.in_ok-put.ensures c.put_block.ensures
