@@ -18,6 +18,13 @@ const STEPS: u32 = 64;
 /// How often a thread looks before it sleeps, at most.
 const MOST_LOOKS: u32 = 64;
 
+/// After how many sleeps in a row a thread that looks only once before each of them tries the most
+/// looks again, at first.
+const FIRST_TRIAL: u32 = 8;
+
+/// The same number at most. Each trial that fails doubles it.
+const LAST_TRIAL: u32 = 1024;
+
 /// How many milliseconds a thread sleeps at most, if the other end does not wake it.
 const LONGEST_SLEEP: u64 = 100;
 
@@ -77,24 +84,55 @@ impl Bell {
 pub(crate) struct Patience {
     turn: u32,
     looks: u32,
+    // How often in a row the thread slept after a single look, and at which number it tries the
+    // most looks again.
+    sleeps: u32,
+    trial: u32,
 }
 
 impl Patience {
     /// No look yet.
     pub(crate) fn new() -> Patience {
-        Patience { turn: 0, looks: 1 }
+        Patience {
+            turn: 0,
+            looks: 1,
+            sleeps: 0,
+            trial: FIRST_TRIAL,
+        }
     }
 
-    /// Notes a successful look. If the thread had not slept before it, it will look twice as often
-    /// the next time before it sleeps; else half as often.
+    /// Notes a successful look, and learns from it how often to look the next time.
     pub(crate) fn renew(&mut self) {
-        if self.turn > 0 {
-            self.looks = if self.turn <= self.looks {
-                self.looks.saturating_mul(2).min(MOST_LOOKS)
-            } else {
-                (self.looks / 2).max(1)
-            };
-            self.turn = 0;
+        if self.turn == 0 {
+            return;
+        }
+        if self.turn <= self.looks {
+            self.stayed_awake();
+        } else {
+            self.slept();
+        }
+        self.turn = 0;
+    }
+
+    // The thread did not have to sleep: it looks twice as often the next time.
+    fn stayed_awake(&mut self) {
+        self.looks = self.looks.saturating_mul(2).min(MOST_LOOKS);
+        self.sleeps = 0;
+        self.trial = FIRST_TRIAL;
+    }
+
+    // The thread had to sleep: it looks half as often the next time. To wake a thread can take
+    // longer than a single look. So if all threads slept after one look, none would ever find
+    // anything while awake. Now and then such a thread tries the most looks.
+    fn slept(&mut self) {
+        self.looks = (self.looks / 2).max(1);
+        if self.looks == 1 {
+            self.sleeps = self.sleeps.saturating_add(1);
+        }
+        if self.sleeps >= self.trial {
+            self.sleeps = 0;
+            self.trial = self.trial.saturating_mul(2).min(LAST_TRIAL);
+            self.looks = MOST_LOOKS;
         }
     }
 
