@@ -12,6 +12,9 @@ use std::sync::Wait;
 /// The greatest capacity of an outbox, in items.
 pub const OUTBOX: usize = 512;
 
+/// How many items a sender offers at most before it wakes a sleeping receiver.
+const MOST_UNANNOUNCED: usize = 512;
+
 /// The sending end of a ring. It can move to another thread.
 pub struct Tx<T: Copy> {
     pub(crate) end: Producer<T>,
@@ -20,6 +23,8 @@ pub struct Tx<T: Copy> {
     pub(crate) first: usize,
     // The capacity of the outbox, in items.
     pub(crate) room: usize,
+    // How many items were moved into the ring since the receiver was last woken, or more.
+    pub(crate) unannounced: usize,
     pub(crate) patience: Patience,
     // The bell that wakes this end, and the one that wakes the other end.
     pub(crate) own: Bell,
@@ -65,6 +70,7 @@ impl<T: Copy> Tx<T> {
             outbox,
             first: 0,
             room,
+            unannounced: 0,
             patience: Patience::new(),
             own,
             peer,
@@ -118,8 +124,25 @@ impl<T: Copy> Tx<T> {
         self.outbox.push_reserved(item);
     }
 
-    /// Moves posted items into the ring, as many as fit, and returns how many. Never waits.
+    /// Moves posted items into the ring, as many as fit, and returns how many. Wakes a sleeping
+    /// receiver, also for what was only offered before. Never waits.
     pub fn publish(&mut self) -> usize
+        ensures ring { SameTx self.old self.new }
+        ensures sent { sent self.new ≡ sent self.old }
+        ensures posted { length (posted self.old) ≡ result + length (posted self.new) }
+        ensures looked { LookedForRoom self.new }
+        ensures room { HasRoom self.old → HasRoom self.new }
+        ensures emptied { length (posted self.new) ≡ 0 → HasRoom self.new }
+    {
+        let count = self.offer();
+        self.announce();
+        count
+    }
+
+    /// Like [`publish`](Tx::publish), but lets a sleeping receiver sleep on, so that it finds more
+    /// to do when it wakes. It is woken if the ring is full, or if many items were offered since it
+    /// was last woken. A sender that is about to wait for something else calls `publish` before.
+    pub fn offer(&mut self) -> usize
         ensures ring { SameTx self.old self.new }
         ensures sent { sent self.new ≡ sent self.old }
         ensures posted { length (posted self.old) ≡ result + length (posted self.new) }
@@ -129,7 +152,10 @@ impl<T: Copy> Tx<T> {
     {
         let count = self.move_posted();
         if count > 0 {
-            self.found();
+            self.found(count);
+        }
+        if self.unannounced >= MOST_UNANNOUNCED || self.posted() > 0 {
+            self.announce();
         }
         count
     }
@@ -165,18 +191,19 @@ impl<T: Copy> Tx<T> {
     }
 
     /// Waits between two looks at the ring: for a short time at first, and asleep after several
-    /// looks that found nothing.
+    /// looks that found nothing. Before that it wakes the receiver for what was offered.
     pub fn pause<R: Wait>(&mut self, rt: &R)
         ensures ring { SameTx self.old self.new }
         ensures sent { sent self.new ≡ sent self.old }
         ensures posted { posted self.new ≡ posted self.old }
         ensures room { HasRoom self.old → HasRoom self.new }
     {
+        self.announce();
         self.patience.wait(rt, &self.own);
     }
 
-    // Notes that the ring had room, and wakes the receiver: there is something new.
-    fn found(&mut self)
+    // Notes that the ring had room for so many items.
+    fn found(&mut self, count: usize)
         ensures ring { SameTx self.old self.new }
         ensures sent { sent self.new ≡ sent self.old }
         ensures posted { posted self.new ≡ posted self.old }
@@ -184,7 +211,21 @@ impl<T: Copy> Tx<T> {
         ensures room { HasRoom self.old → HasRoom self.new }
     {
         self.patience.renew();
-        self.peer.ring();
+        self.unannounced = self.unannounced.saturating_add(count);
+    }
+
+    // Wakes the receiver if it sleeps and has not been woken for all items in the ring.
+    fn announce(&mut self)
+        ensures ring { SameTx self.old self.new }
+        ensures sent { sent self.new ≡ sent self.old }
+        ensures posted { posted self.new ≡ posted self.old }
+        ensures looked { LookedForRoom self.old → LookedForRoom self.new }
+        ensures room { HasRoom self.old → HasRoom self.new }
+    {
+        if self.unannounced > 0 {
+            self.unannounced = 0;
+            self.peer.ring();
+        }
     }
 
     // Publishes the posted items, and then sends the item if there is room for it.
@@ -196,7 +237,8 @@ impl<T: Copy> Tx<T> {
         self.publish();
         let pushed = self.outbox.is_empty() && self.end.push(item).is_ok();
         if pushed {
-            self.found();
+            self.found(1);
+            self.announce();
         }
         pushed
     }
@@ -209,6 +251,7 @@ impl<T: Copy> Drop for Tx<T> {
             outbox: _,
             first: _,
             room: _,
+            unannounced: _,
             patience: _,
             own: _,
             peer,

@@ -4,7 +4,6 @@ use crate::NoMemory;
 use std::alloc::Global;
 use std::sync::atomic::{AtomicU64, Ordering};
 use std::sync::{Arc, Wait};
-use std::time::Duration;
 
 /// The thread is awake.
 const AWAKE: u64 = 0;
@@ -24,9 +23,6 @@ const FIRST_TRIAL: u32 = 8;
 
 /// The same number at most. Each trial that fails doubles it.
 const LAST_TRIAL: u32 = 1024;
-
-/// How many milliseconds a thread sleeps at most, if the other end does not wake it.
-const LONGEST_SLEEP: u64 = 100;
 
 /// Wakes one thread. That thread sleeps until its bell is rung, and the threads at the other ends
 /// of its rings ring it. All ends at which one thread waits at the same time share one bell.
@@ -66,15 +62,14 @@ impl Bell {
         self.word.wake_one();
     }
 
-    // Sleeps until the bell is rung, at most for the longest sleep. The first call only marks the
-    // thread as asleep, and the caller then looks once more. So what the other end did before it
-    // could see the mark is not missed.
+    // Sleeps until the bell is rung. The first call only marks the thread as asleep, and the caller
+    // then looks once more. So what the other end did before it could see the mark is not missed,
+    // and a sleep needs no limit: a timer would make each sleep dearer.
     fn sleep<R: Wait>(&self, rt: &R) {
         if self.word.load(Ordering::SeqCst) == AWAKE {
             self.word.store(ASLEEP, Ordering::SeqCst);
         } else {
-            let longest = Duration::from_millis(LONGEST_SLEEP);
-            self.word.park_timeout(rt, ASLEEP as u32, longest);
+            self.word.park(rt, ASLEEP as u32);
         }
     }
 }

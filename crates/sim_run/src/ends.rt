@@ -48,7 +48,7 @@ impl SplitterEnds {
     }
 
     /// Publishes posted messages, as many as fit into each of the three rings. Answers whether any
-    /// was published.
+    /// was published. The stages come first: the merge can do nothing without their answers.
     pub(crate) fn publish(&mut self) -> bool
         ensures rings { SameSplitterEnds self.old self.new }
         ensures sent { SentSame self.old self.new }
@@ -57,10 +57,20 @@ impl SplitterEnds {
         ensures moved { IsTrue result → held self.new < held self.old }
         ensures emptied { held self.new ≡ 0 → HaveRoom self.new }
     {
-        let order = self.order.publish();
         let to_i = self.to_i.publish();
         let to_d = self.to_d.publish();
-        order > 0 || to_i > 0 || to_d > 0
+        let order = self.order.publish();
+        to_i > 0 || to_d > 0 || order > 0
+    }
+
+    /// Offers posted messages, as many as fit into each of the three rings.
+    pub(crate) fn offer(&mut self)
+        ensures rings { SameSplitterEnds self.old self.new }
+        ensures sent { SentSame self.old self.new }
+    {
+        self.to_i.offer();
+        self.to_d.offer();
+        self.order.offer();
     }
 
     /// Whether all posted messages are published.

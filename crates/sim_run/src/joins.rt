@@ -1,7 +1,9 @@
 //! Joins the threads of a run, and collects their results.
 
-ghost use Rattle.std.specs.Prelude.{◌≡◌, ◌⊎◌, None, IsNone, IfOk, IfErr, IsOk, Ok};
+ghost use Rattle.std.specs.Prelude.{◌≡◌, ◌⊎◌, None, IsNone, IfOk, IfErr, IsOk, Ok, Err};
 ghost use Rattle.sim_run.specs.Threads.{StageCounted, MergeCounted};
+ghost use Rattle.sim_run.specs.declared.fault.Stop.TheVariants as Stop;
+ghost use Rattle.sim_run.specs.declared.fault.RunFault.TheVariants as RunFault;
 
 use crate::ends::{MergeEnds, StageEnds};
 use crate::fault::{RunFault, Stop, gravest};
@@ -68,6 +70,12 @@ pub fn all_ended<A: Drop, B: Drop, C: Drop>(
     ensures merge { IfOk result (λ ends. merge ≡ Ok ends.2) }
     ensures all { IsOk i → IsOk d → IsOk merge → IsOk result }
     ensures stopped { IfErr result (λ why. (why ≡ RunFault.Memory) ⊎ (why ≡ RunFault.Cut)) }
+    // It is want of memory exactly if a thread stopped for it.
+    ensures wanted { IfErr result (λ why. why ≡ RunFault.Memory → (i ≡ Err Stop.Memory)
+        ⊎ ((d ≡ Err Stop.Memory) ⊎ (merge ≡ Err Stop.Memory))) }
+    ensures memory_i { i ≡ Err Stop.Memory → result ≡ Err RunFault.Memory }
+    ensures memory_d { d ≡ Err Stop.Memory → result ≡ Err RunFault.Memory }
+    ensures memory_merge { merge ≡ Err Stop.Memory → result ≡ Err RunFault.Memory }
 {
     match (i, d, merge) {
         (Ok(i), Ok(d), Ok(merge)) => Ok((i, d, merge)),

@@ -31,7 +31,7 @@ const INSERTED: DinRecord = DinRecord {
     addr: 0,
 };
 
-/// After how many events the posted messages are published.
+/// After how many events the posted messages are offered.
 const EACH: usize = 32;
 
 // Publishes posted messages, until all are published or there is room for another event. Each round
@@ -143,7 +143,7 @@ fn send_routed<H: Wait>(rt: &H, ends: &mut SplitterEnds, routed: Routed) -> Resu
     }
     ends.post(routed);
     if ends.order.posted() % EACH == 0 {
-        ends.publish();
+        ends.offer();
     }
     Ok(())
 }

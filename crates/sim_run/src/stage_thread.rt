@@ -40,7 +40,7 @@ impl Promise<StageEnd> for StagePromise {
 /// A stage's thread, which is still to be joined.
 pub type StageHandle = PromisedHandle<StageEnd, StagePromise>;
 
-/// After how many messages the posted messages are published.
+/// After how many messages the posted messages are offered.
 const EACH: usize = 32;
 
 // Publishes posted messages, until all are published or there is room for another one.
@@ -137,7 +137,7 @@ fn send_outbox<H: Wait>(
     while let Some(message) = stage.outbox_next() {
         ends.to_merge.post(message);
         if ends.to_merge.posted() % EACH == 0 {
-            ends.to_merge.publish();
+            ends.to_merge.offer();
         }
         if !ends.to_merge.has_room() {
             publish(rt, stage, ends, Until::Room)?;

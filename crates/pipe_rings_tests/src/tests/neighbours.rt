@@ -1,4 +1,4 @@
-//! Two threads, one of which uses `post`, `publish`, `try_recv` and `pause` itself.
+//! Two threads, one of which uses `post`, `publish`, `offer`, `try_recv` and `pause` itself.
 
 use pipe_rings::{Gone, Rx, SenderGone, Tx, ring};
 use std::sync::Wait;
@@ -6,7 +6,7 @@ use std::test::Fail;
 use std::thread::{self, Threads};
 use std::time::{Clock, Duration};
 
-/// Sleeps longer than a thread at a ring ever does.
+/// Sleeps so long that a thread that waits at a ring falls asleep too.
 fn stay_away<R: Clock>(rt: &R) {
     thread::sleep(rt, Duration::from_millis(250));
 }
@@ -142,6 +142,51 @@ fn a_receiver_that_sleeps_sees_what_is_published_and_the_end(rt: HostRuntime) ->
     );
     assert_eq!(rt; published, 1);
     assert_eq!(rt; received, [Ok(7), Err(SenderGone)]);
+    Ok(())
+}
+
+/// Offers a number to a receiver that sleeps, publishes, and waits for the answer, 1,000 times.
+/// Returns how many answers were right.
+fn offer_and_publish<R: Wait + Clock>(rt: &R, mut tx: Tx<u64>, mut rx: Rx<u64>) -> u64 {
+    let mut right = 0u64;
+    for number in 0..1_000 {
+        thread::sleep(rt, Duration::from_millis(1));
+        if tx.has_room() {
+            tx.post(number);
+        }
+        tx.offer();
+        tx.publish();
+        if rx.recv(rt) == Ok(number) {
+            right = right.saturating_add(1);
+        }
+    }
+    right
+}
+
+/// Sends back what it receives, 1,000 times.
+fn send_back<R: Wait>(rt: &R, mut rx: Rx<u64>, mut tx: Tx<u64>) -> bool {
+    for _ in 0..1_000 {
+        let Ok(number) = rx.recv(rt) else {
+            return false;
+        };
+        if tx.send(rt, number).is_err() {
+            return false;
+        }
+    }
+    true
+}
+
+#[test]
+fn a_receiver_that_sleeps_is_woken_for_what_was_offered(rt: HostRuntime) -> Result<(), Fail> {
+    let (there, from_there) = ring(rt.alloc(), 4)?;
+    let (back, from_back) = ring(rt.alloc(), 4)?;
+    let rt = &rt;
+    let ends = thread::join(
+        rt,
+        move || offer_and_publish(rt, there, from_back),
+        move || send_back(rt, from_there, back),
+    );
+    assert_eq!(rt; ends, (1_000, true));
     Ok(())
 }
 

@@ -67,6 +67,24 @@ fn as_much_is_published_as_the_ring_has_room_for(rt: HostRuntime) -> Result<(), 
     Ok(())
 }
 
+/// Posts 100 numbers and offers them: as with `publish`, what fits goes into the ring.
+fn offers_some(rt: &impl Abort, tx: &mut Tx<u64>, rx: &mut Rx<u64>, offered: usize, left: usize) {
+    assert_eq!(rt; post_below(tx, 100), 100);
+    assert_eq!(rt; tx.offer(), offered);
+    assert_eq!(rt; tx.posted(), left);
+    assert_eq!(rt; tx.offer(), 0);
+    assert_eq!(rt; receive_from(rx, 0), offered as u64);
+}
+
+#[test]
+fn as_much_is_offered_as_the_ring_has_room_for(rt: HostRuntime) -> Result<(), Fail> {
+    for (capacity, offered, left) in [(1, 1, 99), (64, 64, 36), (128, 100, 0)] {
+        let (mut tx, mut rx) = ring(rt.alloc(), capacity)?;
+        offers_some(&rt, &mut tx, &mut rx, offered, left);
+    }
+    Ok(())
+}
+
 /// The outbox has room for 512 numbers, and for as many again once they are published.
 fn fills_twice(rt: &impl Abort, tx: &mut Tx<u64>, rx: &mut Rx<u64>) {
     assert_eq!(rt; post_below(tx, 511), 511);
