@@ -12,10 +12,10 @@ const AWAKE: u64 = 0;
 const ASLEEP: u64 = 1;
 
 /// How many atomic additions a thread makes between two looks while it stays awake.
-const STEPS: u32 = 64;
+const STEPS: u32 = 16;
 
 /// How often a thread looks before it sleeps, at most.
-const MOST_LOOKS: u32 = 64;
+const MOST_LOOKS: u32 = 256;
 
 /// After how many sleeps in a row a thread that looks only once before each of them tries the most
 /// looks again, at first.
