@@ -8,7 +8,8 @@
 //! Items can be moved in bulk. A sender may post items into an outbox, which never waits, and
 //! publish them together. A receiver takes several items out of the ring at once. A thread that
 //! waits sleeps until the other end wakes it by its [`Bell`]. A thread that waits at several rings
-//! makes them with [`ring_from`]. The modules: `tx` and `rx` are the ends, `wait` is how they wait.
+//! makes them with [`ring_from`]. The modules: `tx` and `rx` are the ends, `patience` is how they
+//! wait, `bell` how they wake one another, and `yields` what they learn of one another's yields.
 //!
 //! Proved: a successful call appends its item to the list of sent or received items, and nothing
 //! else changes these lists. Posted items count as sent, so publishing does not change the list. An
@@ -19,19 +20,21 @@
 //! end is woken, and that the allocations for a ring succeed.
 #![tactic(auto)]
 
+mod bell;
+mod patience;
 mod rx;
 mod tx;
-mod wait;
+mod yields;
 
 ghost use Rattle.std.specs.Prelude.{◌≡◌, ◌≤◌, [], IfOk};
 ghost use Rattle.pipe_rings.specs.Rings.{sent, received, capacity_of, outbox_of};
 ghost use Rattle.pipe_rings.specs.Rings.{AreEnds, SameTx, SameRx, IsBehindBy};
 
+pub use bell::Bell;
 use rtrb::RingBuffer;
 pub use rx::{Rx, SenderGone};
 use std::alloc::Global;
 pub use tx::{Gone, OUTBOX, Tx};
-pub use wait::Bell;
 
 /// An allocation failed.
 #[derive(Debug, Clone, Copy, PartialEq, Eq)]
@@ -45,18 +48,27 @@ pub fn ring<T: Copy>(alloc: Global, capacity: usize) -> Result<(Tx<T>, Rx<T>), N
     ensures capacity { IfOk result (λ r. capacity_of r.0 ≡ capacity) }
     ensures new { IfOk result (λ r. (sent r.0 ≡ []) × (received r.1 ≡ [])) }
 {
-    ring_from(alloc, capacity, OUTBOX, &Bell::new(alloc)?)
+    ring_from(
+        alloc,
+        capacity,
+        OUTBOX,
+        &Bell::new(alloc)?,
+        &Bell::new(alloc)?,
+    )
 }
 
 /// Like [`ring`], with an outbox that has room for `outbox` items; a number below 1 acts as 1, and
-/// one above [`OUTBOX`] as [`OUTBOX`]. `sender` is the bell of the sending thread. A thread that
-/// waits at several rings uses one bell for all of them, and each of the receivers rings it.
+/// one above [`OUTBOX`] as [`OUTBOX`]. `sender` and `receiver` are bells of the two threads. A
+/// thread that waits at several rings at the same time has one bell for all of them, and each of
+/// its neighbours rings it. For rings at which it waits at other times, it has more bells: see
+/// [`Bell::beside`].
 #[tactic(auto, unfolding(crate::specs::Rings::sent, crate::specs::Rings::received))]
 pub fn ring_from<T: Copy>(
     alloc: Global,
     capacity: usize,
     outbox: usize,
     sender: &Bell,
+    receiver: &Bell,
 ) -> Result<(Tx<T>, Rx<T>), NoMemory>
     requires { (1 ≤ capacity) × (capacity ≤ 65536) }
     ensures one { IfOk result (λ r. AreEnds r.0 r.1) }
@@ -67,9 +79,8 @@ pub fn ring_from<T: Copy>(
     let Ok((producer, consumer)) = RingBuffer::new(alloc, capacity) else {
         return Err(NoMemory);
     };
-    let receiver = Bell::new(alloc)?;
     let tx = Tx::new(alloc, producer, outbox, sender.share()?, receiver.share()?)?;
-    let rx = Rx::new(alloc, consumer, receiver, sender.share()?)?;
+    let rx = Rx::new(alloc, consumer, receiver.share()?, sender.share()?)?;
     Ok((tx, rx))
 }
 

@@ -4,7 +4,8 @@ ghost use Rattle.std.specs.Prelude.{◌≡◌, ◌-◌, ◌≤◌, length, take,
 ghost use Rattle.rtrb.specs.Ring as ring;
 
 use crate::NoMemory;
-use crate::wait::{Bell, Patience};
+use crate::bell::Bell;
+use crate::patience::Patience;
 use rtrb::Consumer;
 use std::alloc::Global;
 use std::sync::Wait;
@@ -144,7 +145,7 @@ impl<T: Copy> Rx<T> {
         ensures ring { SameRx self.old self.new }
         ensures same { received self.new ≡ received self.old }
     {
-        self.patience.wait(rt, &self.own);
+        self.patience.wait(rt, &self.own, &self.peer);
     }
 
     // Receives the next item of the batch.

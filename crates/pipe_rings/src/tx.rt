@@ -4,7 +4,8 @@ ghost use Rattle.std.specs.Prelude.{◌≡◌, ◌≤◌, length, vec_capacity};
 ghost use Rattle.rtrb.specs.Ring as ring;
 
 use crate::NoMemory;
-use crate::wait::{Bell, Patience};
+use crate::bell::Bell;
+use crate::patience::Patience;
 use rtrb::Producer;
 use std::alloc::Global;
 use std::sync::Wait;
@@ -199,7 +200,7 @@ impl<T: Copy> Tx<T> {
         ensures room { HasRoom self.old → HasRoom self.new }
     {
         self.announce();
-        self.patience.wait(rt, &self.own);
+        self.patience.wait(rt, &self.own, &self.peer);
     }
 
     // Notes that the ring had room for so many items.

@@ -135,13 +135,17 @@ impl Rings {
         ensures capacity { IfOk result (λ rings. HaveCapacity capacity rings) }
     {
         let splitter = Bell::new(alloc)?;
-        let (order_tx, order_rx) = ring_from::<Turn>(alloc, capacity, outbox, &splitter)?;
-        let (to_i_tx, to_i_rx) = ring_from::<ToStage>(alloc, capacity, outbox, &splitter)?;
-        let (to_d_tx, to_d_rx) = ring_from::<ToStage>(alloc, capacity, outbox, &splitter)?;
         let i = Bell::new(alloc)?;
-        let (from_i_tx, from_i_rx) = ring_from::<FromStage>(alloc, capacity, outbox, &i)?;
         let d = Bell::new(alloc)?;
-        let (from_d_tx, from_d_rx) = ring_from::<FromStage>(alloc, capacity, outbox, &d)?;
+        let merge = Bell::new(alloc)?;
+        let (order_tx, order_rx) = ring_from(alloc, capacity, outbox, &splitter, &merge)?;
+        let (to_i_tx, to_i_rx) = ring_from(alloc, capacity, outbox, &splitter, &i)?;
+        let (to_d_tx, to_d_rx) = ring_from(alloc, capacity, outbox, &splitter, &d)?;
+        let (i, d) = (i.beside(alloc)?, d.beside(alloc)?);
+        let merge = merge.beside(alloc)?;
+        let (from_i_tx, from_i_rx) = ring_from(alloc, capacity, outbox, &i, &merge)?;
+        let merge = merge.beside(alloc)?;
+        let (from_d_tx, from_d_rx) = ring_from(alloc, capacity, outbox, &d, &merge)?;
         Ok(Rings {
             splitter: SplitterEnds {
                 order: order_tx,

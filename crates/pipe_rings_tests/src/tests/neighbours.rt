@@ -1,12 +1,13 @@
 //! Two threads, one of which uses `post`, `publish`, `offer`, `try_recv` and `pause` itself.
 
-use pipe_rings::{Gone, Rx, SenderGone, Tx, ring};
+use pipe_rings::{Bell, Gone, Rx, SenderGone, Tx, ring, ring_from};
 use std::sync::Wait;
 use std::test::Fail;
 use std::thread::{self, Threads};
 use std::time::{Clock, Duration};
 
-/// Sleeps so long that a thread that waits at a ring falls asleep too.
+/// Sleeps so long that a thread that waits at a ring falls asleep too, and its sleep has no limit
+/// any more.
 fn stay_away<R: Clock>(rt: &R) {
     thread::sleep(rt, Duration::from_millis(250));
 }
@@ -145,12 +146,12 @@ fn a_receiver_that_sleeps_sees_what_is_published_and_the_end(rt: HostRuntime) ->
     Ok(())
 }
 
-/// Offers a number to a receiver that sleeps, publishes, and waits for the answer, 1,000 times.
+/// Offers a number to a receiver that sleeps, publishes, and waits for the answer, ten times.
 /// Returns how many answers were right.
 fn offer_and_publish<R: Wait + Clock>(rt: &R, mut tx: Tx<u64>, mut rx: Rx<u64>) -> u64 {
     let mut right = 0u64;
-    for number in 0..1_000 {
-        thread::sleep(rt, Duration::from_millis(1));
+    for number in 0..10 {
+        stay_away(rt);
         if tx.has_room() {
             tx.post(number);
         }
@@ -163,9 +164,9 @@ fn offer_and_publish<R: Wait + Clock>(rt: &R, mut tx: Tx<u64>, mut rx: Rx<u64>) 
     right
 }
 
-/// Sends back what it receives, 1,000 times.
+/// Sends back what it receives, ten times.
 fn send_back<R: Wait>(rt: &R, mut rx: Rx<u64>, mut tx: Tx<u64>) -> bool {
-    for _ in 0..1_000 {
+    for _ in 0..10 {
         let Ok(number) = rx.recv(rt) else {
             return false;
         };
@@ -186,7 +187,7 @@ fn a_receiver_that_sleeps_is_woken_for_what_was_offered(rt: HostRuntime) -> Resu
         move || offer_and_publish(rt, there, from_back),
         move || send_back(rt, from_there, back),
     );
-    assert_eq!(rt; ends, (1_000, true));
+    assert_eq!(rt; ends, (10, true));
     Ok(())
 }
 
@@ -207,5 +208,52 @@ fn a_sender_that_sleeps_sees_that_the_receiver_is_gone(rt: HostRuntime) -> Resul
         },
     );
     assert_eq!(rt; sent, Err(Gone { item: 2 }));
+    Ok(())
+}
+
+/// Sends each number through the first ring and then through the second. The receiver sleeps each
+/// time.
+fn send_in_turn<R: Wait + Clock>(rt: &R, mut first: Tx<u64>, mut second: Tx<u64>) -> bool {
+    for number in 0..3 {
+        stay_away(rt);
+        if first.send(rt, number).is_err() {
+            return false;
+        }
+        stay_away(rt);
+        if second.send(rt, number).is_err() {
+            return false;
+        }
+    }
+    true
+}
+
+/// Receives from the two rings in turn. Returns how many numbers were right.
+fn receive_in_turn<R: Wait>(rt: &R, mut first: Rx<u64>, mut second: Rx<u64>) -> u64 {
+    let mut right = 0u64;
+    for number in 0..3 {
+        if first.recv(rt) == Ok(number) {
+            right = right.saturating_add(1);
+        }
+        if second.recv(rt) == Ok(number) {
+            right = right.saturating_add(1);
+        }
+    }
+    right
+}
+
+#[test]
+fn a_receiver_with_two_bells_is_woken_at_each_ring(rt: HostRuntime) -> Result<(), Fail> {
+    let sender = Bell::new(rt.alloc())?;
+    let receiver = Bell::new(rt.alloc())?;
+    let beside = receiver.beside(rt.alloc())?;
+    let (to_first, first) = ring_from(rt.alloc(), 1, 1, &sender, &receiver)?;
+    let (to_second, second) = ring_from(rt.alloc(), 1, 1, &sender, &beside)?;
+    let rt = &rt;
+    let ends = thread::join(
+        rt,
+        move || send_in_turn(rt, to_first, to_second),
+        move || receive_in_turn(rt, first, second),
+    );
+    assert_eq!(rt; ends, (true, 6));
     Ok(())
 }

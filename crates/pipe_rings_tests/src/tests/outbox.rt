@@ -111,8 +111,9 @@ fn an_outbox_holds_512_items(rt: HostRuntime) -> Result<(), Fail> {
 #[test]
 fn an_outbox_has_room_for_as_many_items_as_asked_for(rt: HostRuntime) -> Result<(), Fail> {
     for (outbox, room) in [(0, 1), (1, 1), (2, 2), (512, 512), (600, 512)] {
-        let bell = Bell::new(rt.alloc())?;
-        let (mut tx, mut rx) = ring_from(rt.alloc(), 4, outbox, &bell)?;
+        let sender = Bell::new(rt.alloc())?;
+        let receiver = Bell::new(rt.alloc())?;
+        let (mut tx, mut rx) = ring_from(rt.alloc(), 4, outbox, &sender, &receiver)?;
         assert_eq!(rt; post_below(&mut tx, 600), room);
         assert!(rt; !tx.has_room());
         assert_eq!(rt; carry_posted(&mut tx, &mut rx), room);
