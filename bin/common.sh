@@ -58,38 +58,3 @@ place() {
         die 4 "$3 could not be written"
     fi
 }
-
-# The simulator's program, and where it is built.
-top=$(cd -P "$(dirname "${BASH_SOURCE[0]}")/.." && pwd)
-crate=$top/crates/dinero_pipe
-program=$crate/out/dinero_pipe
-
-is_current() {
-    [ -x "$program" ] || return 1
-    local newer
-    newer=$(find "$top/crates" "$top/crates.txt" -path '*/out' -prune -o \
-        -type f -newer "$program" -print -quit)
-    [ -z "$newer" ]
-}
-
-# The program is built by a run of it on the crate's own words and trace.
-build() {
-    local words=()
-    [ ! -f "$crate/args" ] || mapfile -t words < "$crate/args"
-    (cd "$crate" && rt run -- "${words[@]}" < stdin)
-}
-
-# build_where_needed: proves and builds $program, unless it is that of the sources.
-build_where_needed() {
-    ! is_current || return 0
-    complain 'proving and building the program, once; this takes about ten minutes'
-    local log
-    log=$(mktemp)
-    if ! build > "$log" 2>&1; then
-        cat "$log" >&2
-        rm -f "$log"
-        die 70 'the build failed'
-    fi
-    rm -f "$log"
-    touch "$program"
-}

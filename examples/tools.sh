@@ -21,7 +21,7 @@ cd "$work/here" || exit
 bin=$top/bin out=$work/out err=$work/err
 
 # In this order: a later file uses the tables and traces of those before it.
-for subject in checks help record sweep slurm plot install formats; do
+for subject in checks help building record sweep slurm plot install formats; do
     # shellcheck source=/dev/null
     . "$top/examples/tools/$subject.sh"
 done

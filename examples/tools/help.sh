@@ -1,7 +1,7 @@
 # Tests the help of the commands. Read by tools.sh.
 # shellcheck shell=bash disable=SC2154  # names that tools.sh and its other files set
 
-for command in record sweep plot install; do
+for command in record sweep plot install prove release; do
     run "$bin/$command" --help
     [ "$status" -eq 0 ] && [ ! -s "$err" ] && grep -q '^Usage: bin/'"$command" "$out" &&
         grep -q '^Exit status:' "$out"

@@ -1,0 +1,189 @@
+# The programs of the product: where they stand, what they are built from, and the kept ones.
+# shellcheck shell=bash disable=SC2034,SC2154  # commands use what is set here, and set their names
+#
+# release/NAME.gz is the program NAME that the gate proved and built, and release/NAME.sums says
+# what it was built from. Where that is what the checkout holds, nothing has to be proved here.
+
+top=$(cd -P "$(dirname "${BASH_SOURCE[0]}")/.." && pwd)
+programs=(dinero_pipe)
+
+# uses CRATE: the crates of the repository that it names in crates.txt.
+uses() {
+    local name names
+    read -ra names <<<"$(sed -nE "s/^$1( [^:]*)?://p" "$top/crates.txt")"
+    for name in "${names[@]}"; do
+        [ ! -d "$top/crates/$name" ] || echo "$name"
+    done
+}
+
+# all_below CRATE: the crates that it is built from, itself last.
+all_below() {
+    local name
+    { for name in $(uses "$1"); do all_below "$name"; done; echo "$1"; } | awk '!seen[$0]++'
+}
+
+# sum_of FILE
+sum_of() {
+    sha256sum < "$1" | cut -d ' ' -f 1
+}
+
+# kept_word NAME WHAT: what the sums of the kept program NAME say of its sources, of the toolchain
+# or of the program itself.
+kept_word() {
+    sed -n "s/^$2 //p" "$top/release/$1.sums" 2>/dev/null
+}
+
+# list_sources CRATE: its line of crates.txt, and the sums of its code, definitions and proofs.
+list_sources() {
+    local part parts=("crates/$1/src")
+    for part in specs proofs; do
+        [ ! -d "$top/crates/$1/$part" ] || parts+=("crates/$1/$part")
+    done
+    grep -E "^$1( [^:]*)?:" "$top/crates.txt"
+    (cd "$top" && find "${parts[@]}" -type f -print0 | LC_ALL=C sort -z | xargs -0 sha256sum)
+}
+
+# sum_of_sources NAME TOOLCHAIN: of each crate that the program is built from, of HANDLES, and of
+# the toolchain's name.
+sum_of_sources() {
+    local name
+    {
+        for name in $(all_below "$1"); do
+            list_sources "$name"
+        done
+        cat "$top/HANDLES"
+        echo "$2"
+    } | sha256sum | cut -d ' ' -f 1
+}
+
+# standing NAME: what is written beside a program: the sum of its sources, and its own.
+standing() {
+    echo "$(sum_of_sources "$1" "$(kept_word "$1" toolchain)") $(sum_of "$(place_of "$1")")"
+}
+
+place_of() {
+    echo "$top/crates/$1/out/$1"
+}
+
+# is_current NAME: the program that stands there was built from what the checkout holds.
+is_current() {
+    local place
+    place=$(place_of "$1")
+    [ -x "$place" ] && [ -f "$place.from" ] && [ "$(standing "$1")" = "$(< "$place.from")" ]
+}
+
+# unpack_kept NAME FILE: the kept program, if its sum is the one that was written down.
+unpack_kept() {
+    gzip -dc "$top/release/$1.gz" > "$2" 2>/dev/null &&
+        [ "$(sum_of "$2")" = "$(kept_word "$1" program)" ]
+}
+
+# compare_kept NAME FILE: ends the command unless this is the kept program, and of these sources.
+compare_kept() {
+    local kept sources
+    kept=$(mktemp) || die 4 'no room for temporary files'
+    leftovers+=("$kept")
+    unpack_kept "$1" "$kept" || die 1 "release/$1.gz is missing or damaged"
+    cmp -s "$kept" "$2" || die 1 "the kept program $1 is not the one that was built"
+    sources=$(sum_of_sources "$1" "$(rt version)")
+    [ "$sources" = "$(kept_word "$1" sources)" ] || die 1 "release/$1.sums is of other sources"
+    echo "release/$1.gz is, bit for bit, the program that was built"
+}
+
+# take_kept NAME: puts the kept program in its place, if it is of these sources and of the toolchain
+# that is installed, if any is, and if it runs here.
+take_kept() {
+    local place part toolchain
+    place=$(place_of "$1")
+    part=$place.part$$
+    toolchain=$(kept_word "$1" toolchain)
+    [ -n "$toolchain" ] &&
+        [ "$(sum_of_sources "$1" "$toolchain")" = "$(kept_word "$1" sources)" ] || return 1
+    ! command -v rt >/dev/null || [ "$(rt version)" = "$toolchain" ] || return 1
+    mkdir -p "$(dirname "$place")" 2>/dev/null || return 1
+    if unpack_kept "$1" "$part" && chmod +x "$part" && "$part" --help >/dev/null 2>&1 &&
+        mv -fT "$part" "$place"; then
+        standing "$1" > "$place.from"
+    else
+        rm -f "$part"
+        return 1
+    fi 2>/dev/null
+}
+
+# build_where_needed NAME: puts the program in its place, unless it stands there.
+build_where_needed() {
+    ! is_current "$1" || return 0
+    if take_kept "$1"; then
+        complain 'this is the kept program, which the gate proved and built from these very sources; bin/prove does so here'
+    else
+        build "$1"
+    fi
+}
+
+# may_write NAME: a stale checkout that can't be written can't be built either.
+may_write() {
+    local place
+    place=$(place_of "$1")
+    if ! mkdir -p "$(dirname "$place")" 2>/dev/null || [ ! -w "$(dirname "$place")" ]; then
+        die 70 "the program is missing or older than its sources, and $(dirname "$place") can't be written"
+    fi
+}
+
+# build NAME: proves each crate that the program is built from, and then the program, which is built
+# by a run of it on its crate's own words and trace.
+build() {
+    local began=$SECONDS log total
+    may_write "$1"
+    need rt 'the Rattle toolchain'
+    total=$(all_below "$1" | wc -l)
+    complain "proving and building $1 from $total crates, once; this takes about 15 minutes on 4 cores"
+    log=$(mktemp -d) || die 4 'no folder for temporary files'
+    leftovers+=("$log")
+    if ! prove_libraries "$1" "$log" || ! run_once "$1" > "$log/$1" 2>&1; then
+        cat "$log"/* >&2
+        die 70 'the build failed'
+    fi
+    complain "$1: proved and built ($(((SECONDS - began + 59) / 60)) min)"
+    rm -rf "$log"
+    standing "$1" > "$(place_of "$1").from"
+}
+
+# prove_libraries NAME LOGS: those that use no others first, and side by side what can be.
+prove_libraries() {
+    local proved=' ' name ready left
+    left=$(all_below "$1" | head -n -1)
+    while [ -n "$left" ]; do
+        ready=
+        for name in $left; do
+            ! is_ready "$name" "$proved" || ready+="$name "
+        done
+        prove_several "$2" "$ready" || return
+        for name in $ready; do
+            proved+="$name "
+            left=$(grep -vx "$name" <<<"$left") || true
+        done
+    done
+}
+
+# is_ready CRATE PROVED: all that it uses is proved.
+is_ready() {
+    local name
+    for name in $(uses "$1"); do
+        [[ $2 == *" $name "* ]] || return
+    done
+}
+
+# prove_several LOGS CRATES: tells of each as soon as it is proved.
+prove_several() {
+    # shellcheck disable=SC2016,SC2086  # the inner shell's words; names of crates
+    printf '%s\n' $2 | xargs -P "$(nproc)" -I '{}' sh -c \
+        'cd "$1/crates/$4" && rt lib > "$2/$4" 2>&1 && echo "$3: $4 is proved" >&2' \
+        lib "$top" "$1" "$self" '{}'
+}
+
+# run_once NAME
+run_once() {
+    local words=()
+    [ ! -f "$top/crates/$1/args" ] || mapfile -t words < "$top/crates/$1/args"
+    (cd "$top/crates/$1" && rt run -- "${words[@]}" < stdin)
+}
