@@ -1,0 +1,52 @@
+"""What the prover prints of a crate that it does not prove, read function by function."""
+
+import re
+
+# A goal of a function that is open, at a line of the function.
+OPEN = re.compile(r"note: (src/\S+?):(\d+):\d+: (?:it is not proved|`search` found no proof)")
+# A proof that does not fit the function.
+UNFIT = re.compile(r"(?:\./)?(proofs/\S+?)[^/]*:\d+:\d+: error: (.*)")
+# It fits for no other reason than that it names what the edit took away, or cites such a proof.
+NAMES = re.compile(r"has no field|is not in scope|has no `|was not admitted|that depend")
+# A function that is not proved, and the functions that it waits for.
+WAITS = re.compile(r"fn (\S+): (?:no proof|not proved).*?it calls (.*), which (?:is|are) not proved")
+# The text was not understood, so that nothing was tried.
+UNREAD = re.compile(r"\berror\[[\w-]+\]")
+# The prover has a limit of its own, which it meets wherever it checks the same.
+LIMIT = re.compile(
+    r"antt ran out of (?:stack|the (?:steps|memory) that the check of one declaration may)"
+    r"|(?:outgrew the memory limit|stopped at the step limit) \("
+)
+
+
+def open_goal(function, said):
+    """The line that says which goal of the function is open, or that its proof does not fit it; it
+    is not enough that the proof names something which is gone."""
+    for line in said:
+        found = OPEN.match(line)
+        if found and found[1] == function.path:
+            if function.first <= int(found[2]) <= function.last:
+                return line
+        found = UNFIT.match(line)
+        if found and found[1].startswith(function.proofs) and not NAMES.search(found[2]):
+            return line
+    return None
+
+
+def waits(said):
+    """Each function that is not proved, with those that it calls and that are not proved either."""
+    found = {}
+    for line in said:
+        told = WAITS.match(line)
+        if told:
+            found.setdefault(told[1], set()).update(re.findall(r"`([^`]+)`", told[2]))
+    return found
+
+
+def first_word(said):
+    """The first line that says why the crate is not proved, and whether it is more than the name of
+    something that is gone."""
+    told = [it for it in said if re.match(r"(note: )?(\./)?\S+:\d+:\d+:", it)]
+    told = [it for it in told if ": error" in it or it.startswith("note: ")]
+    better = [it for it in told if not ("proofs/" in it and NAMES.search(it))]
+    return (better or told or [""])[0], bool(better)

@@ -1,0 +1,128 @@
+"""Copies of the repository in which crates are checked, beside the work that earlier checks kept."""
+
+import os
+import re
+import shutil
+import subprocess
+import threading
+import time
+from pathlib import Path
+
+from wrong_body import planted
+
+PARTS = ("src", "specs", "proofs")
+# A check takes up to this much memory. A second one begins only if there is as much.
+GIGABYTES = 5
+
+
+class Unsure(Exception):
+    """A check came to no end that says anything of the code."""
+
+
+def lines_of(top):
+    """The lines of crates.txt, by crate."""
+    lines = (top / "crates.txt").read_text(encoding="utf-8").splitlines()
+    return {re.match(r"\w+", it)[0]: it for it in lines if it[:1].isalpha()}
+
+
+def crates_of(top):
+    """The crates of crates.txt, in its order, each with those of the repository that it uses."""
+    lines = lines_of(top)
+    uses = {name: line.partition(":")[2].split() for name, line in lines.items()}
+    return {name: [it for it in uses[name] if it in uses] for name in uses}
+
+
+def all_below(crates, crate):
+    found = []
+    for name in crates[crate]:
+        found += [it for it in [*all_below(crates, name), name] if it not in found]
+    return found
+
+
+def copy_crate(source, target):
+    for part in PARTS:
+        if (source / part).is_dir():
+            shutil.copytree(source / part, target / part)
+
+
+def link(source, target):
+    """Copies kept work. A check writes a module's file anew and changes none, so these can be the
+    same files."""
+
+    def copy(one, other):
+        return (os.link if one.endswith(".oantt") else shutil.copy2)(one, other)
+
+    shutil.copytree(source, target, symlinks=True, copy_function=copy)
+
+
+class Rooms:
+    """`shop` is a copy of the crates as they stand. There each is proved once, over which every
+    check with something planted begins, in a room of its own."""
+
+    def __init__(self, top, work, crates, jobs):
+        self.top, self.work, self.crates = top, work, crates
+        self.shop = work / "shop"
+        self.lanes = threading.Semaphore(jobs)
+        self.alone = threading.Lock()
+        self.running = 0
+        self.begun = {it: threading.Lock() for it in crates}
+        self.seeded = {}
+        self.number = 0
+        self.furnish(self.shop, crates, ())
+
+    def furnish(self, room, crates, with_work_of):
+        room.mkdir()
+        shutil.copy2(self.top / "HANDLES", room / "HANDLES")
+        lines = lines_of(self.top)
+        (room / "crates.txt").write_text("\n".join(lines[it] for it in crates) + "\n")
+        for name in crates:
+            made = room / "crates" / name
+            copy_crate(self.top / "crates" / name, made)
+            if with_work_of:
+                part = "incremental" if name in with_work_of else "rlib"
+                link(self.shop / "crates" / name / "out" / part, made / "out" / part)
+
+    def rt(self, words, room, crate):
+        """Runs `rt` in a crate of the room, when a lane and memory are free."""
+        with self.lanes:
+            with self.alone:
+                while self.running and free_gigabytes() < GIGABYTES:
+                    time.sleep(1)
+                self.running += 1
+            how = {"stdin": subprocess.DEVNULL, "stdout": subprocess.PIPE, "errors": "replace"}
+            how |= {"stderr": subprocess.STDOUT, "cwd": room / "crates" / crate}
+            try:
+                ran = subprocess.run(["rt", *words], check=False, **how)
+            finally:
+                self.running -= 1
+        return ran.returncode, ran.stdout.split("\n")
+
+    def seed(self, crate):
+        """Proves the crate as it stands, and makes the library that those above it use."""
+        for name in all_below(self.crates, crate):
+            self.seed(name)
+        with self.begun[crate]:
+            if crate not in self.seeded:
+                is_library = (self.shop / "crates" / crate / "src/lib.rt").is_file()
+                verb = "lib" if is_library else "check"
+                status, said = self.rt([verb], self.shop, crate)
+                self.seeded[crate] = None if status == 0 else "\n".join(said[-20:])
+        if self.seeded[crate]:
+            raise Unsure(f"{crate} as it stands is not proved:\n{self.seeded[crate]}")
+
+    def check(self, crate, bodies):
+        """Checks the crate with these bodies planted: the status, and the lines that were said."""
+        with self.alone:
+            self.number += 1
+            room = self.work / f"room{self.number}"
+        self.furnish(room, [*all_below(self.crates, crate), crate], (crate,))
+        for path, text in planted(bodies, self.top / "crates" / crate).items():
+            (room / "crates" / crate / path).write_text(text, encoding="utf-8")
+        told = self.rt(["check", "--jobs", "1"], room, crate)
+        shutil.rmtree(room, ignore_errors=True)
+        return told
+
+
+def free_gigabytes():
+    lines = Path("/proc/meminfo").read_text(encoding="ascii")
+    return int(re.search(r"MemAvailable:\s+(\d+)", lines)[1]) / 2**20
