@@ -39,12 +39,6 @@ def all_below(crates, crate):
     return found
 
 
-def copy_crate(source, target):
-    for part in PARTS:
-        if (source / part).is_dir():
-            shutil.copytree(source / part, target / part)
-
-
 def link(source, target):
     """Copies kept work. A check writes a module's file anew and changes none, so these can be the
     same files."""
@@ -56,31 +50,32 @@ def link(source, target):
 
 
 class Rooms:
-    """`shop` is a copy of the crates as they stand. There each is proved once, over which every
-    check with something planted begins, in a room of its own."""
+    """`shop` is a copy of the crates as they stood at the start. There each is proved once. Every
+    check with something planted begins with that work, in a room of its own."""
 
-    def __init__(self, top, work, crates, jobs):
-        self.top, self.work, self.crates = top, work, crates
-        self.shop = work / "shop"
+    def __init__(self, top, work, jobs):
+        self.work, self.shop = work, work / "shop"
+        self.crates = crates_of(top)
         self.lanes = threading.Semaphore(jobs)
         self.alone = threading.Lock()
-        self.running = 0
-        self.begun = {it: threading.Lock() for it in crates}
+        self.running = set()
+        self.ended = False
+        self.begun = {it: threading.Lock() for it in self.crates}
         self.seeded = {}
         self.number = 0
-        self.furnish(self.shop, crates, ())
+        self.furnish(self.shop, top, self.crates)
 
-    def furnish(self, room, crates, with_work_of):
+    def furnish(self, room, source, crates):
+        """Copies these crates, without what was made of them."""
         room.mkdir()
-        shutil.copy2(self.top / "HANDLES", room / "HANDLES")
-        lines = lines_of(self.top)
+        shutil.copy2(source / "HANDLES", room / "HANDLES")
+        lines = lines_of(source)
         (room / "crates.txt").write_text("\n".join(lines[it] for it in crates) + "\n")
         for name in crates:
-            made = room / "crates" / name
-            copy_crate(self.top / "crates" / name, made)
-            if with_work_of:
-                part = "incremental" if name in with_work_of else "rlib"
-                link(self.shop / "crates" / name / "out" / part, made / "out" / part)
+            for part in PARTS:
+                path = Path("crates", name, part)
+                if (source / path).is_dir():
+                    shutil.copytree(source / path, room / path)
 
     def rt(self, words, room, crate):
         """Runs `rt` in a crate of the room, when a lane and memory are free."""
@@ -88,14 +83,26 @@ class Rooms:
             with self.alone:
                 while self.running and free_gigabytes() < GIGABYTES:
                     time.sleep(1)
-                self.running += 1
-            how = {"stdin": subprocess.DEVNULL, "stdout": subprocess.PIPE, "errors": "replace"}
-            how |= {"stderr": subprocess.STDOUT, "cwd": room / "crates" / crate}
-            try:
-                ran = subprocess.run(["rt", *words], check=False, **how)
-            finally:
-                self.running -= 1
-        return ran.returncode, ran.stdout.split("\n")
+                if self.ended:
+                    raise Unsure("the run was ended")
+                check = subprocess.Popen(
+                    ["rt", *words],
+                    cwd=room / "crates" / crate,
+                    stdin=subprocess.DEVNULL,
+                    stdout=subprocess.PIPE,
+                    stderr=subprocess.STDOUT,
+                    errors="replace",
+                )
+                self.running.add(check)
+            said = check.communicate()[0]
+            self.running.discard(check)
+        return check.returncode, said.split("\n")
+
+    def end(self, *_):
+        """Ends what runs, and begins nothing more: what is not told then is not tried."""
+        self.ended = True
+        for check in list(self.running):
+            check.terminate()
 
     def seed(self, crate):
         """Proves the crate as it stands, and makes the library that those above it use."""
@@ -112,12 +119,16 @@ class Rooms:
 
     def check(self, crate, bodies):
         """Checks the crate with these bodies planted: the status, and the lines that were said."""
+        folder = Path("crates", crate)
         with self.alone:
             self.number += 1
             room = self.work / f"room{self.number}"
-        self.furnish(room, [*all_below(self.crates, crate), crate], (crate,))
-        for path, text in planted(bodies, self.top / "crates" / crate).items():
-            (room / "crates" / crate / path).write_text(text, encoding="utf-8")
+        below = all_below(self.crates, crate)
+        self.furnish(room, self.shop, [*below, crate])
+        for path in [*(Path("crates", it, "out/rlib") for it in below), folder / "out/incremental"]:
+            link(self.shop / path, room / path)
+        for path, text in planted(bodies, self.shop / folder).items():
+            (room / folder / path).write_text(text, encoding="utf-8")
         told = self.rt(["check", "--jobs", "1"], room, crate)
         shutil.rmtree(room, ignore_errors=True)
         return told
