@@ -20,6 +20,7 @@
 
 ghost use Rattle.din_trace.specs.Laws.{EachLineHasOneForm, WiderAddressesKeepRecords};
 ghost use Rattle.din_trace.specs.Laws.{SourceHasItsTextLeft};
+ghost use Rattle.std.specs.Prelude.{◌≡◌, ◌^◌};
 
 mod backlog;
 mod buffer;
@@ -54,4 +55,9 @@ pub fn wider_addresses_keep_records()
 /// Law: what a source has left to answer of a whole text is that text's records and its fault.
 pub fn source_has_its_text_left()
     ensures { SourceHasItsTextLeft }
+{}
+
+/// The value of `MAX_LIMIT`: the greatest limit on the bytes of a trace.
+pub fn max_limit_is_two_to_the_forty()
+    ensures { MAX_LIMIT ≡ 2 ^ 40 }
 {}

@@ -1,10 +1,10 @@
-use Rattle.std.proofs.Common.{◌≡◌, Result, Ok, Err, refl, ◌∙◌, false}
+use Rattle.std.proofs.Common.{◌≡◌, Result, Ok, Err, Some, refl, ap, inl, inr, ◌∙◌, false}
 use Rattle.std.specs.Prelude.{MatchResult, IfOk, IfErr}
 use Rattle.din_trace.specs.Line.{ADDRESS_MAX}
 use Rattle.din_trace.specs.Text.{text_left}
 use Rattle.din_trace.specs.Source.{reader_of}
 use Rattle.din_trace.proofs.Scripts.{known-script}
-use Rattle.din_trace.proofs.Texts.{text_left-records}
+use Rattle.din_trace.proofs.Texts.{text_left-records, leaves_text}
 use Rattle.din_trace.proofs.text.read_all.Goals as goal
 
 ok_from : {T E : Type 0} (r : Result T E) (P R : T → Type 0) (Q : E → Type 0) → MatchResult r P Q
@@ -43,3 +43,21 @@ returns-clause-err c =
     (c.new-source.ensures.left (record { given = all; fails = false })) in
     let is : all ≡ c.args.text.now = rw c.new-source.ensures.reader refl in
     err_from c.rest.result _ _ _ told (λ why h other. rw (← is) (h.0 other))
+
+pub returns-clause-memory : goal.returns-clause-memory
+unfolding reader_of
+returns-clause-memory c =
+    let all = c.new-source.result.reader.rest.now in
+    let reads = c.rest.ensures.reads in
+    let later = known-script reads.1 all _ reads.0 0 0 reads.2.reader refl in
+    let told =
+    reads.3 (record { given = all; fails = false }) later.0
+    (text_left ADDRESS_MAX 1 all c.args.limit false) later.1
+    (c.new-source.ensures.left (record { given = all; fails = false })) in
+    let is : all ≡ c.args.text.now = rw c.new-source.ensures.reader refl in
+    err_from c.rest.result _ _ _ told (λ why h same. rw (← is) (
+    elim (h.2 same) [
+      | inl met ↦ absurd
+          ((leaves_text ADDRESS_MAX all c.args.limit).memory false (met ∙ ap Some same))
+      | inr some ↦ some
+    ]))
