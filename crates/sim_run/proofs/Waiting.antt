@@ -66,3 +66,15 @@ taken-answers began start stage was m next now going got same same_side same_rul
     (same_rules ∙ going.rules)
     ∙ ap (λ (x : Side). replies (parts_of rules) x (received now.from_splitter))
     (same_side ∙ going.side))
+
+-- a stage that has sent the answers to all that it received, and has nothing left to send, has
+-- answered
+pub served-answers : (began : L1Stage) (start : StageEnds) (stage : L1Stage) (now : StageEnds)
+    → HasServed began start stage now → outbox_of stage ≡ [] → OfStage HasAnswered stage now
+served-answers began start stage now going empty =
+    ap (λ l. sent now.to_merge ++ l) empty ∙ append-nil (sent now.to_merge) ∙ going.answered
+    ∙ sym (ap (λ (r : Rules). replies (parts_of r) (side_of stage) (received now.from_splitter))
+    going.rules
+    ∙ ap (λ (x : Side).
+    replies (parts_of (rules_of (cache_of began))) x (received now.from_splitter))
+    going.side)

@@ -1,5 +1,5 @@
 -- When a thread may wait, in terms of its machine and its ends.
-use Rattle.std.specs.Prelude.{ℕ, ◌+◌, Bool, List, length}
+use Rattle.std.specs.Prelude.{ℕ, ◌+◌, Bool, true, List, length}
 use Rattle.pipe_rings.specs.Rings as ring
 use Rattle.pipe_rings.specs.Rings.{received, LookedForRoom}
 use Rattle.pipe_rings.specs.declared.tx.Tx.{Tx}
@@ -9,7 +9,8 @@ use Rattle.stage_core.specs.SecondLevel.{Parts, parts_of}
 use Rattle.stage_core.specs.Merging.{MergeState}
 use Rattle.stage_core.specs.Standing.{cache_of, side_of, outbox_of}
 use Rattle.stage_core.specs.Waiting.{Sender, SplitterThread, StageThread, MergeThread}
-use Rattle.stage_core.specs.Waiting.{HasPosted, HasMerged, SplitterMayWait}
+use Rattle.stage_core.specs.Waiting.{HasPosted, HasMerged, SplitterMayWait, SplitterEnded}
+use Rattle.stage_core.specs.Waiting as waiting
 use Rattle.stage_core.specs.declared.message.Side.{Side}
 use Rattle.stage_core.specs.declared.message.Side.TheVariants as side
 use Rattle.stage_core.specs.declared.message.What.{What}
@@ -47,6 +48,10 @@ abbrev pub SplitterMay : SplitterEnds → Type 0
 SplitterMay ends =
     (es : List DinRecord) × (closed : Bool) × SplitterMayWait (splitter_at es closed ends)
 
+-- a splitter with these ends has ended, as the law of waiting threads has it
+abbrev pub SplitterHasEnded : SplitterEnds → Type 0
+SplitterHasEnded ends = (es : List DinRecord) × SplitterEnded (splitter_at es true ends)
+
 -- how many messages the splitter has posted that are not published yet
 abbrev pub held : SplitterEnds → ℕ
 held ends = length (ring.posted ends.order) + length (ring.posted ends.to_i)
@@ -65,6 +70,10 @@ OfStage Rule stage ends = Rule (parts_of (rules_of (cache_of stage))) (side_of s
   from = sender ends.to_merge;
   unposted = outbox_of stage;
 }
+
+-- a stage with these ends has ended, as the law of waiting threads has it
+abbrev pub StageHasEnded : L1Stage → StageEnds → Type 0
+StageHasEnded = OfStage waiting.StageEnded
 
 -- the messages that the merge has received from a side
 abbrev pub received_from : MergeEnds → Side → List FromStage

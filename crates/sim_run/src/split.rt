@@ -14,7 +14,7 @@ ghost use Rattle.sim_run.specs.declared.fault.Stop.{Stop};
 ghost use Rattle.sim_run.specs.declared.fault.RunFault.{RunFault};
 ghost use Rattle.sim_run.specs.Ends.{SameSplitterEnds, SentSame, HaveRoom, UnusedSplitter};
 ghost use Rattle.sim_run.specs.Threads.{HasSent, IsEnd, Sends, SplitUp};
-ghost use Rattle.sim_run.specs.Waits.{PostedWhole, held};
+ghost use Rattle.sim_run.specs.Waits.{PostedWhole, SplitterHasEnded, held};
 ghost use Rattle.sim_run.specs.declared.waits.Until.TheVariants as Until;
 
 use crate::ends::SplitterEnds;
@@ -154,10 +154,12 @@ fn send_end<H: Wait>(rt: &H, ends: &mut SplitterEnds, routed: Routed) -> Result<
     requires finish { IsEnd routed }
     ensures rings { SameSplitterEnds ends.old ends.new }
     ensures sent { OnOk result (Sends ends.old routed ends.new) }
+    ensures rests { OnOk result (SplitterHasEnded ends.new) }
     ensures cut { IfErr result (λ why. why ≡ Stop.Cut) }
 {
     send_routed(rt, ends, routed)?;
-    publish(rt, ends, Until::Published)
+    publish(rt, ends, Until::Published)?;
+    Ok(())
 }
 
 // Routes an event, if there is one, and sends its messages.
@@ -213,6 +215,8 @@ pub fn split<H: Wait, R: ByteReader, G: Gate>(
     requires bounded { IsBounded selection }
     requires unused { UnusedSplitter ends.old }
     ensures rings { SameSplitterEnds ends.old ends.new }
+    // A splitter that has ended holds no message back.
+    ensures rests { OnOk result (SplitterHasEnded ends.new) }
     ensures met { IfErr result IsMet }
     ensures threads { IfErr result (λ why. why ≢ RunFault.Threads) }
     // Whatever the reader did, all selected events were sent, or the splitter stopped with a fault.

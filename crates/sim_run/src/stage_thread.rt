@@ -10,7 +10,7 @@ ghost use Rattle.stage_core.specs.Standing.{outbox_of, took_finish};
 ghost use Rattle.sim_run.specs.declared.fault.Stop.{Stop};
 ghost use Rattle.sim_run.specs.Ends.{UnusedStage};
 ghost use Rattle.sim_run.specs.Threads.{StageEnded};
-ghost use Rattle.sim_run.specs.Waits.{OfStage};
+ghost use Rattle.sim_run.specs.Waits.{OfStage, StageHasEnded};
 ghost use Rattle.sim_run.specs.declared.waits.Until.TheVariants as Until;
 
 use crate::ends::StageEnds;
@@ -160,7 +160,8 @@ fn serve_all<H: Wait, G: Gate>(
     requires ready { IsReady stage.old }
     requires new { StageStandsFor stage.old [] }
     requires unused { UnusedStage ends.old }
-    ensures { OnOk result (StageEnded stage.old ends.old stage.new ends.new) }
+    ensures ended { OnOk result (StageEnded stage.old ends.old stage.new ends.new) }
+    ensures rests { OnOk result (StageHasEnded stage.new ends.new) }
 {
     let mut count = 0;
     for _ in rt.forever() {
@@ -168,15 +169,15 @@ fn serve_all<H: Wait, G: Gate>(
             return Err(Stop::Cut);
         };
         count = pass(rt, gate, who, count)?;
-        let urgent = !gate.is_open() || message == ToStage::Finish;
         if stage.served() >= MAX_EVENTS {
             return Err(Stop::Cut);
         }
         let Ok(()) = stage.on(message) else {
             return Err(Stop::Memory);
         };
-        send_outbox(rt, stage, ends, urgent)?;
+        send_outbox(rt, stage, ends, !gate.is_open())?;
         if stage.finished() {
+            publish(rt, stage, ends, Until::Published)?;
             return Ok(());
         }
     }
@@ -194,7 +195,9 @@ pub fn run_stage<H: Wait, G: Gate>(
     requires ready { IsReady machine }
     requires new { StageStandsFor machine [] }
     requires unused { UnusedStage unused }
-    ensures { IfOk result (λ r. StageEnded machine unused r.0 r.1) }
+    ensures ended { IfOk result (λ r. StageEnded machine unused r.0 r.1) }
+    // A stage that has ended holds no answer back.
+    ensures rests { IfOk result (λ r. StageHasEnded r.0 r.1) }
 {
     let mut stage = machine;
     let mut ends = unused;
