@@ -112,7 +112,7 @@ class Rooms:
             if crate not in self.seeded:
                 is_library = (self.shop / "crates" / crate / "src/lib.rt").is_file()
                 verb = "lib" if is_library else "check"
-                status, said = self.rt([verb], self.shop, crate)
+                status, said = self.rt([verb, "--jobs", "1"], self.shop, crate)
                 self.seeded[crate] = None if status == 0 else "\n".join(said[-20:])
         if self.seeded[crate]:
             raise Unsure(f"{crate} as it stands is not proved:\n{self.seeded[crate]}")

@@ -1,6 +1,9 @@
 # What the commands of bin/ share. Each sets `self`, its name, before it reads this file.
 # shellcheck shell=bash
 
+# A relative name leads from where the command runs, and from nowhere else.
+unset CDPATH
+
 # complain TEXT: a line on standard error, in the name of the command.
 complain() {
     # shellcheck disable=SC2154  # each command sets its name
@@ -29,10 +32,13 @@ show_help() {
     exit 0
 }
 
+# The names of temporary files are absolute, and so begin with no hyphen.
+[[ ${TMPDIR:-/} == /* ]] || TMPDIR=$PWD/$TMPDIR
+
 # What a command leaves in the file system for itself, and takes away at its end.
 leftovers=()
 remove_leftovers() {
-    [ ${#leftovers[@]} -eq 0 ] || rm -rf "${leftovers[@]}"
+    [ ${#leftovers[@]} -eq 0 ] || rm -rf -- "${leftovers[@]}"
 }
 
 # tidy_up_with FUNCTION: it is called at the command's end, also where that is an interrupt.
@@ -53,8 +59,8 @@ interrupt() {
 place() {
     local part=$3.part$$
     leftovers+=("$part")
-    if ! cp "$2" "$part" 2>/dev/null || ! chmod "$1" "$part" ||
-        ! mv -fT "$part" "$3" 2>/dev/null; then
+    if ! cp -- "$2" "$part" 2>/dev/null || ! chmod "$1" -- "$part" ||
+        ! mv -fT -- "$part" "$3" 2>/dev/null; then
         die 4 "$3 could not be written"
     fi
 }

@@ -4,7 +4,9 @@
 # release/NAME.gz is the program NAME that the gate proved and built, and release/NAME.sums says
 # what it was built from. Where that is what the checkout holds, nothing has to be proved here.
 
-top=$(cd -P "$(dirname "${BASH_SOURCE[0]}")/.." && pwd)
+# What stands behind the name keeps the line feeds at its end.
+top=$(CDPATH='' cd -P -- "$(dirname -- "${BASH_SOURCE[0]}")/.." && pwd && echo .)
+top=${top%$'\n.'}
 programs=(dinero_pipe)
 
 # uses CRATE: the crates of the repository that it names in crates.txt.
@@ -56,20 +58,42 @@ sum_of_sources() {
     } | sha256sum | cut -d ' ' -f 1
 }
 
-# standing NAME: what is written beside a program: the sum of its sources, and its own.
+place_of() {
+    echo "$top/crates/$1/out/$1"
+}
+
+# standing NAME: the sum of a program's sources, and its own.
 standing() {
     echo "$(sum_of_sources "$1" "$(kept_word "$1" toolchain)") $(sum_of "$(place_of "$1")")"
 }
 
-place_of() {
-    echo "$top/crates/$1/out/$1"
+# note_standing NAME: writes it beside the program, as of a second before it was looked at. The file
+# system tells the time, since its clock is the one that the sources have, and may be behind ours.
+note_standing() {
+    local from part began
+    from=$(place_of "$1").from
+    part=$from.part$$
+    : > "$part" && began=$(stat -c %Y -- "$part") && standing "$1" > "$part" &&
+        touch -d "@$((began - 1))" -- "$part" && mv -fT -- "$part" "$from"
+}
+
+# is_untouched NAME: by the file system's clock, which no `touch` turns back, nothing that standing
+# looks at has changed since that time.
+is_untouched() {
+    local place
+    place=$(place_of "$1")
+    [ -z "$(find "$place" "$top/release/$1.sums" "$top/HANDLES" "$top/crates.txt" \
+        "$top"/crates/*/{src,specs,proofs} -cnewer "$place.from" -print -quit 2>&1)" ]
 }
 
 # is_current NAME: the program that stands there was built from what the checkout holds.
 is_current() {
     local place
     place=$(place_of "$1")
-    [ -x "$place" ] && [ -f "$place.from" ] && [ "$(standing "$1")" = "$(< "$place.from")" ]
+    [ -x "$place" ] && [ -f "$place.from" ] || return
+    is_untouched "$1" || {
+        [ "$(standing "$1")" = "$(< "$place.from")" ] && { note_standing "$1" 2>/dev/null || true; }
+    }
 }
 
 # unpack_kept NAME FILE: the kept program, if its sum is the one that was written down.
@@ -103,7 +127,7 @@ take_kept() {
     mkdir -p "$(dirname "$place")" 2>/dev/null || return 1
     if unpack_kept "$1" "$part" && chmod +x "$part" && "$part" --help >/dev/null 2>&1 &&
         mv -fT "$part" "$place"; then
-        standing "$1" > "$place.from"
+        note_standing "$1"
     else
         rm -f "$part"
         return 1
@@ -120,20 +144,30 @@ build_where_needed() {
     fi
 }
 
+# can_hold FOLDER: it can be written, or made.
+can_hold() {
+    if [ -e "$1" ]; then
+        [ -d "$1" ] && [ -w "$1" ]
+    else
+        [ -w "$(dirname -- "$1")" ]
+    fi
+}
+
 # may_write NAME: a stale checkout that can't be written can't be built either.
 may_write() {
-    local place
-    place=$(place_of "$1")
-    if ! mkdir -p "$(dirname "$place")" 2>/dev/null || [ ! -w "$(dirname "$place")" ]; then
-        die 70 "the program is missing or older than its sources, and $(dirname "$place") can't be written"
-    fi
+    local name
+    for name in $(all_below "$1"); do
+        can_hold "$top/crates/$name/out" ||
+            die 70 "the program is missing or older than its sources, and $top/crates/$name/out can't be written"
+    done
 }
 
 # build NAME: proves each crate that the program is built from, and then the program, which is built
 # by a run of it on its crate's own words and trace.
 build() {
-    local began=$SECONDS log total
+    local began=$SECONDS log total sources
     may_write "$1"
+    sources=$(sum_of_sources "$1" '')
     need rt 'the Rattle toolchain'
     total=$(all_below "$1" | wc -l)
     complain "proving and building $1 from $total crates, once; this takes about 15 minutes on 4 cores"
@@ -145,7 +179,12 @@ build() {
     fi
     complain "$1: proved and built ($(((SECONDS - began + 59) / 60)) min)"
     rm -rf "$log"
-    standing "$1" > "$(place_of "$1").from"
+    # What is noted is the sources as they stand now, and so they must be those that were read.
+    note_standing "$1"
+    [ "$(sum_of_sources "$1" '')" = "$sources" ] || {
+        rm -f -- "$(place_of "$1").from"
+        die 70 'a source was changed while the program was built: call the command again'
+    }
 }
 
 # prove_libraries NAME LOGS: those that use no others first, and side by side what can be.
@@ -176,9 +215,8 @@ is_ready() {
 # prove_several LOGS CRATES: tells of each as soon as it is proved.
 prove_several() {
     # shellcheck disable=SC2016,SC2086  # the inner shell's words; names of crates
-    printf '%s\n' $2 | xargs -P "$(nproc)" -I '{}' sh -c \
-        'cd "$1/crates/$4" && rt lib > "$2/$4" 2>&1 && echo "$3: $4 is proved" >&2' \
-        lib "$top" "$1" "$self" '{}'
+    printf '%s\n' $2 | top=$top logs=$1 self=$self xargs -P "$(nproc)" -n 1 sh -c \
+        'cd "$top/crates/$1" && rt lib > "$logs/$1" 2>&1 && echo "$self: $1 is proved" >&2' lib
 }
 
 # run_once NAME

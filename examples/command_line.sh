@@ -58,6 +58,70 @@ Writes Sent On               0
 Flushes                      0
 END
 } >"$work/worked"
+# The third to the sixth of these reads: block 0, block 0 again, blocks 1 and 2. The second level
+# has blocks twice as long.
+printf '0 40\n0 10\n0 0\n0 3\n0 4\n0 8\n0 40\n' >"$work/part.din"
+{
+    idle l1-icache
+    cat <<'END'
+
+l1-dcache                Total      Instrn        Read       Write        Misc
+Demand Fetches               4           0           4           0           0
+Demand Misses                3           0           3           0           0
+Miss Rate               0.7500      0.0000      0.7500      0.0000      0.0000
+Compulsory                   3           0           3           0           0
+Capacity                     0           0           0           0           0
+Conflict                     0           0           0           0           0
+Blocks Fetched               3
+Written Back                 0
+Writes Sent On               0
+Flushes                      0
+
+l2-ucache                Total      Instrn        Read       Write        Misc
+Demand Fetches               3           0           3           0           0
+Demand Misses                2           0           2           0           0
+Miss Rate               0.6666      0.0000      0.6666      0.0000      0.0000
+Compulsory                   2           0           2           0           0
+Capacity                     0           0           0           0           0
+Conflict                     0           0           0           0           0
+Blocks Fetched               2
+Written Back                 0
+Writes Sent On               0
+Flushes                      0
+END
+} >"$work/part"
+
+# Reads of one block, more than 2^20 bytes of them: all but the first hit.
+yes '0 0' | head -n 300000 >"$work/long.din"
+{
+    idle l1-icache
+    cat <<'END'
+
+l1-dcache                Total      Instrn        Read       Write        Misc
+Demand Fetches          300000           0      300000           0           0
+Demand Misses                1           0           1           0           0
+Miss Rate               0.0000      0.0000      0.0000      0.0000      0.0000
+Compulsory                   1           0           1           0           0
+Capacity                     0           0           0           0           0
+Conflict                     0           0           0           0           0
+Blocks Fetched               1
+Written Back                 0
+Writes Sent On               0
+Flushes                      0
+
+l2-ucache                Total      Instrn        Read       Write        Misc
+Demand Fetches               1           0           1           0           0
+Demand Misses                1           0           1           0           0
+Miss Rate               1.0000      0.0000      1.0000      0.0000      0.0000
+Compulsory                   1           0           1           0           0
+Capacity                     0           0           0           0           0
+Conflict                     0           0           0           0           0
+Blocks Fetched               1
+Written Back                 0
+Writes Sent On               0
+Flushes                      0
+END
+} >"$work/long"
 : >"$work/nothing"
 printf '1 0\n0 8\n0 10\n' >"$work/worked.din"
 printf '0 0\n\n5 0\n' >"$work/faulty.din"
@@ -97,6 +161,8 @@ call 'no words at all' 2 "$nothing" "$refused" "$trace"
 call 'an option twice' 2 "$nothing" "$refused" "$trace" "${caches[@]}" --ring 3
 call 'an unknown option' 2 "$nothing" "$refused" "$trace" "${caches[@]}" --l3-usize 64
 call 'words that are no text' 2 "$nothing" "$refused" "$trace" "${caches[@]}" $'\xff'
+call 'a part of a trace' 0 "$work/part" '' "$work/part.din" "${caches[@]}" --skipcount 2 --maxcount 4
+call 'a long trace' 0 "$work/long" '' "$work/long.din" "${caches[@]}"
 call 'a bad number' 2 "$nothing" 'dinero_pipe: --maxcount: not a number
 ' "$trace" "${caches[@]}" --maxcount two
 call 'a bad letter' 2 "$nothing" 'dinero_pipe: --l1-irepl: not a lawful letter

@@ -20,8 +20,12 @@ cd "$work/here" || exit
 # shellcheck disable=SC2034  # the files below use them
 bin=$top/bin out=$work/out err=$work/err
 
+# The first call may say which program it runs; the others are then silent.
+"$bin/dinero_pipe" --help >"$out" 2>"$err" || exit
+
 # In this order: a later file uses the tables and traces of those before it.
-for subject in checks help building record sweep slurm plot install formats; do
+for subject in checks names help building record sweep sweep_names sweep_resume slurm plot \
+    plot_names install hostile formats; do
     # shellcheck source=/dev/null
     . "$top/examples/tools/$subject.sh"
 done

@@ -66,6 +66,18 @@ changed() {
 changed crates/sim_run/src/lib.rt
 changed crates/cache_core/specs/Kinds.antt after
 changed crates/stage_core/proofs/Lib.antt
+# A change that the times of the files do not show, and one that leaves no file behind.
+new_checkout
+launch
+sed -i 's/^/ /' "$fresh/crates/sim_run/src/lib.rt"
+touch -d 2001-01-01 "$fresh/crates/sim_run/src/lib.rt"
+launch
+check 'a source that seems to be older builds the program' is_built
+new_checkout
+launch
+rm "$fresh/crates/sim_run/specs/Runs.antt"
+launch
+check 'a source that was removed builds the program' is_built
 new_checkout
 sed -i 's/^din_trace:/din_trace: itoa/' "$fresh/crates.txt"
 launch
@@ -106,9 +118,76 @@ new_checkout
 rm -r "$fresh/release"
 launch
 check 'without a kept program it is built' is_built
-rm -rf "$fresh/crates/dinero_pipe/out"
-: >"$fresh/crates/dinero_pipe/out"
+
+# A toolchain that takes the kept program for what it has built, and under which a source changes.
+cat >"$work/fake/rt" <<'END'
+#!/bin/sh
+case $1 in
+version) echo "$TOOLCHAIN" ;;
+run)
+    mkdir -p out && gzip -dc ../../release/dinero_pipe.gz >out/dinero_pipe
+    chmod +x out/dinero_pipe
+    [ ! -e "$TOP/changes" ] || echo >>src/main.rt
+    ;;
+esac
+END
+# launch_new: of a checkout whose sources are not those of the kept program.
+launch_new() {
+    new_checkout
+    echo >>"$fresh/crates/sim_run/src/lib.rt"
+    [ $# -eq 0 ] || : >"$fresh/changes"
+    TOP=$fresh launch
+}
+launch_new
+is_report && grep -q 'dinero_pipe: proved and built (' "$err"
+verdict 'a program that was built is run' $?
 launch
-[ "$status" -eq 70 ] && [ "$(<"$err")" = "dinero_pipe: the program is missing or older than its sources, and $fresh/crates/dinero_pipe/out can't be written" ]
-verdict 'a stale checkout that can not be written' $?
+is_report && [ ! -s "$err" ]
+verdict 'and then stands there' $?
+launch_new changes
+[ "$status" -eq 70 ] && [ ! -s "$out" ] && [ "$(tail -n 1 "$err")" = \
+    'dinero_pipe: a source was changed while the program was built: call the command again' ]
+verdict 'a source that changes while the program is built' $?
+rm "$fresh/changes"
+TOP=$fresh launch
+is_report && grep -q 'proved and built' "$err"
+verdict 'the next call builds it again' $?
+
+# can_not_write CRATE: it says so in one line, and does not begin to prove.
+can_not_write() {
+    [ "$status" -eq 70 ] && [ "$(<"$err")" = "dinero_pipe: the program is missing or older than its sources, and $fresh/crates/$1/out can't be written" ]
+}
+
+for crate in dinero_pipe sim_run; do
+    rm -rf "$fresh/crates/$crate/out"
+    : >"$fresh/crates/$crate/out"
+    launch
+    check "a stale checkout where crates/$crate can not be written" can_not_write $crate
+    rm "$fresh/crates/$crate/out"
+done
+
+# A checkout of somebody else's, who has the program or not, which then is stale.
+chmod a+rx "$work"
+as_guest() {
+    run setpriv --reuid 65534 --regid 65534 --clear-groups \
+        "$fresh/bin/dinero_pipe" "${words[@]}"
+}
+if [ "$(id -u)" -eq 0 ] && setpriv --reuid 65534 test -r "$fresh/crates.txt"; then
+    new_checkout
+    as_guest
+    check 'a checkout of another user, without the program' can_not_write pipe_rings
+    launch
+    as_guest
+    [ "$status" -eq 0 ] && grep -q '^l1-dcache' "$out" && [ ! -s "$err" ]
+    verdict 'a checkout of another user, with the program' $?
+    echo >>"$fresh/crates/sim_run/src/lib.rt"
+    as_guest
+    check 'a stale checkout of another user' can_not_write pipe_rings
+    mkdir -p "$fresh/crates/dinero_pipe/out"
+    chmod a+rwx "$fresh/crates/dinero_pipe/out"
+    as_guest
+    check 'a stale checkout of another user, but for one folder' can_not_write pipe_rings
+else
+    skip 'a checkout of another user' 'the rights of root'
+fi
 rm -rf "$fresh"

@@ -8,7 +8,6 @@ for format in lackey pinatrace plain dinero; do
         cmp -s "$out" "$top/examples/formats/$format.din"
     verdict "the guide's awk for $format" $?
 done
-line=$(grep -oE "awk '.*'" "$bin/record")
-run awk "$(cut -d "'" -f 2 <<<"$line")" "$top/examples/formats/lackey.txt"
+run awk -v block_bytes=0 -f "$bin/record_filter.awk" "$top/examples/formats/lackey.txt"
 [ "$status" -eq 0 ] && cmp -s "$out" "$top/examples/formats/lackey.din"
 verdict "record's awk" $?

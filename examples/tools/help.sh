@@ -21,6 +21,6 @@ helps_with_options() {
     done <"$work/options"
 }
 
-for command in sweep plot install; do
+for command in record sweep plot install; do
     check "$command --help has each option" helps_with_options $command
 done

@@ -36,6 +36,41 @@ bars() {
     grep -c "fill *= *['\"]rgb($2)" "$1"
 }
 
+# Several values of one option, and of one that the picture does not tell apart.
+test_choice() {
+    run "$plot" rates kinds.tsv two.svg --only l1-dassoc=1 --only l1-dassoc=2
+    run "$plot" rates kinds.tsv one.svg --only l1-dassoc=2
+    shows two.svg '1 way' '2 ways' && shows one.svg '2 ways' && ! shows one.svg '1 way'
+    verdict 'a picture of two values of an option, and of one' $?
+    ends 'plot of two values, one of which no line has' 1 \
+        'plot: kinds.tsv: no line without a fault has l1-dassoc=8' \
+        "$plot" rates kinds.tsv none.svg --only l1-dassoc=1 --only l1-dassoc=8
+    ends 'plot of two traces at once' 1 \
+        'plot: both.tsv: several lines have one size and one number of ways: choose by --only' \
+        "$plot" rates both.tsv none.svg --only trace=kinds.din --only trace=fifo.din
+    ends 'plot of two caches' 2 'plot: --cache is given twice; try --help' \
+        "$plot" rates kinds.tsv none.svg --cache l1-dcache --cache l1-dcache
+}
+
+# A table that is no file, and names that begin with a hyphen.
+test_streams() {
+    local table
+    for table in - /dev/stdin; do
+        rm -f piped.svg
+        "$plot" rates "$table" piped.svg <kinds.tsv >"$out" 2>"$err" && cmp -s piped.svg rates.svg
+        verdict "plot of the table $table" $?
+        "$plot" rates "$table" piped.svg < <(cat kinds.tsv) >"$out" 2>"$err" &&
+            cmp -s piped.svg rates.svg
+        verdict "plot of the table $table from a pipe" $?
+    done
+    run "$plot" rates <(cat kinds.tsv) --only l1-dassoc=2 -- -x.svg
+    [ "$status" -eq 0 ] && shows ./-x.svg 'kinds.din, l1-dcache'
+    verdict 'plot to a name that begins with a hyphen' $?
+    ends 'plot with an unknown option' 2 'plot: unknown option: -x.svg; try --help' \
+        "$plot" rates kinds.tsv -x.svg
+    ends 'plot of a folder' 4 'plot: no table to read: .' "$plot" rates . none.svg
+}
+
 test_plot() {
     run "$plot" kinds kinds.tsv kinds.svg
     [ "$status" -eq 0 ] && [ ! -s "$out$err" ] &&
@@ -57,6 +92,12 @@ test_plot() {
             [ "$(tail -c 8 $kind.png | head -c 4)" = IEND ]
         verdict "a picture of the $kind as PNG" $?
     done
+    test_lacking_tables
+    test_choice
+    test_streams
+}
+
+test_lacking_tables() {
     run "$plot" kinds both.tsv only.svg --only trace=fifo.din
     [ "$status" -eq 0 ] && shows only.svg 'fifo.din, l1-dcache'
     verdict 'a picture of one trace of several' $?
@@ -67,8 +108,17 @@ test_plot() {
         "$plot" rates kinds.din none.svg
     ends 'plot of a cache whose size is not varied' 1 'plot: kinds.tsv: the table has no column l2-usize' \
         "$plot" rates kinds.tsv none.svg --cache l2-ucache
-    ends 'plot of no line' 1 'plot: kinds.tsv: no line of the table is left' \
+    ends 'plot of a value that no line has' 1 'plot: kinds.tsv: no line without a fault has trace=none' \
         "$plot" rates kinds.tsv none.svg --only trace=none
+    head -n 1 kinds.tsv >empty.tsv
+    ends 'plot of no line' 1 'plot: empty.tsv: no line of the table is left' \
+        "$plot" rates empty.tsv none.svg
+    : >empty.tsv
+    ends 'plot of an empty table' 1 'plot: empty.tsv: no table of bin/sweep' \
+        "$plot" rates empty.tsv none.svg
+    head -n 1 kinds.tsv | cat - <(echo $'kinds.din\t8\t1') >short.tsv
+    ends 'plot of a line that is cut off' 1 \
+        'plot: short.tsv: line 2: 3 fields, where the names are 28' "$plot" rates short.tsv none.svg
     ends 'plot into no folder' 4 'plot: nowhere/none.svg could not be written' \
         "$plot" kinds kinds.tsv nowhere/none.svg
     ends 'plot where there is no room' 4 "plot: no room for temporary files in $TMPDIR" no_room 4 "$plot" kinds kinds.tsv none.svg

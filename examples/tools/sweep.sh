@@ -161,7 +161,7 @@ test_parallel() {
     run "$sweep" --gather log.reports
     [ "$status" -eq 0 ] && cmp -s "$out" whole
     verdict "gathering a log's reports" $?
-    ends 'a log of another grid' 2 'sweep: log.reports is of another grid; try --help' \
+    ends 'a log of another grid' 2 'sweep: log.reports is of another grid; --restart begins anew' \
         "$sweep" --resume log "${grid[@]}" -- kinds.din
     cp kinds.din no-log
     ends 'a log that is none' 2 'sweep: no-log is no log of a sweep; try --help' \

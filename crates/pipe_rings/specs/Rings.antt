@@ -21,6 +21,10 @@ module _ {T : Type 0} where
   unfoldable pub LookedForRoom : Tx T → Type 0
   LookedForRoom tx = (posted tx ≡ []) ⊎ (ring.known_free tx.end ≡ 0)
 
+  -- a receiver that slept was woken for every item that the sender moved into the ring
+  abbrev pub IsAnnounced : Tx T → Type 0
+  IsAnnounced tx = tx.unannounced ≡ 0
+
   -- all items received so far, the oldest first: those that were taken out of the ring, without the
   -- ones that still wait in the batch
   unfoldable pub received : Rx T → List T

@@ -28,7 +28,7 @@ mod yields;
 
 ghost use Rattle.std.specs.Prelude.{◌≡◌, ◌≤◌, [], IfOk};
 ghost use Rattle.pipe_rings.specs.Rings.{sent, received, capacity_of, outbox_of};
-ghost use Rattle.pipe_rings.specs.Rings.{AreEnds, SameTx, SameRx, IsBehindBy};
+ghost use Rattle.pipe_rings.specs.Rings.{AreEnds, SameTx, SameRx, IsBehindBy, IsAnnounced};
 
 pub use bell::Bell;
 use rtrb::RingBuffer;
@@ -47,6 +47,7 @@ pub fn ring<T: Copy>(alloc: Global, capacity: usize) -> Result<(Tx<T>, Rx<T>), N
     ensures one { IfOk result (λ r. AreEnds r.0 r.1) }
     ensures capacity { IfOk result (λ r. capacity_of r.0 ≡ capacity) }
     ensures new { IfOk result (λ r. (sent r.0 ≡ []) × (received r.1 ≡ [])) }
+    ensures announced { IfOk result (λ r. IsAnnounced r.0) }
 {
     ring_from(
         alloc,
@@ -75,6 +76,7 @@ pub fn ring_from<T: Copy>(
     ensures capacity { IfOk result (λ r. capacity_of r.0 ≡ capacity) }
     ensures outbox { (1 ≤ outbox) → (outbox ≤ OUTBOX) → IfOk result (λ r. outbox_of r.0 ≡ outbox) }
     ensures new { IfOk result (λ r. (sent r.0 ≡ []) × (received r.1 ≡ [])) }
+    ensures announced { IfOk result (λ r. IsAnnounced r.0) }
 {
     let Ok((producer, consumer)) = RingBuffer::new(alloc, capacity) else {
         return Err(NoMemory);

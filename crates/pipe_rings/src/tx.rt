@@ -47,6 +47,7 @@ impl<T: Copy> Tx<T> {
     ghost use Rattle.std.specs.Prelude.{◌≡◌, ◌<◌, [], ◌∷◌, ◌++◌, ◌↔◌, OnOk, IfErr, IsTrue, false};
     ghost use Rattle.std.specs.Prelude.{length, ◌+◌, IfOk};
     ghost use Rattle.pipe_rings.specs.Rings.{sent, posted, SameTx, HasRoom, LookedForRoom};
+    ghost use Rattle.pipe_rings.specs.Rings.{IsAnnounced};
 
     // The sending end of a new ring, with an outbox for `outbox` items, at least 1 and at most
     // `OUTBOX`. It sleeps at the bell `own`, and rings the bell `peer`.
@@ -61,6 +62,7 @@ impl<T: Copy> Tx<T> {
         ensures end { IfOk result (λ tx. tx.end ≡ end) }
         ensures room { (1 ≤ outbox) → (outbox ≤ OUTBOX) → IfOk result (λ tx. tx.room ≡ outbox) }
         ensures sent { IfOk result (λ tx. sent tx ≡ []) }
+        ensures announced { IfOk result IsAnnounced }
     {
         let room = outbox.clamp(1, OUTBOX);
         let Ok(outbox) = Vec::with_capacity(alloc, room) else {
@@ -83,6 +85,7 @@ impl<T: Copy> Tx<T> {
     pub fn send<R: Wait>(&mut self, rt: &R, item: T) -> Result<(), Gone<T>>
         ensures ring { SameTx self.old self.new }
         ensures ok { OnOk result (sent self.new ≡ sent self.old ++ item ∷ []) }
+        ensures announced { OnOk result (IsAnnounced self.new) }
         ensures gone { IfErr result (λ g. (g.item ≡ item) × (sent self.new ≡ sent self.old)) }
     {
         for _ in rt.forever() {
@@ -121,6 +124,7 @@ impl<T: Copy> Tx<T> {
         ensures ring { SameTx self.old self.new }
         ensures sent { sent self.new ≡ sent self.old ++ item ∷ [] }
         ensures posted { posted self.new ≡ posted self.old ++ item ∷ [] }
+        ensures announced { IsAnnounced self.old → IsAnnounced self.new }
     {
         self.outbox.push_reserved(item);
     }
@@ -134,6 +138,7 @@ impl<T: Copy> Tx<T> {
         ensures looked { LookedForRoom self.new }
         ensures room { HasRoom self.old → HasRoom self.new }
         ensures emptied { length (posted self.new) ≡ 0 → HasRoom self.new }
+        ensures announced { IsAnnounced self.new }
     {
         let count = self.offer();
         self.announce();
@@ -187,6 +192,7 @@ impl<T: Copy> Tx<T> {
         ensures sent { sent self.new ≡ sent self.old }
         ensures posted { posted self.new ≡ posted self.old }
         ensures room { HasRoom self.old → HasRoom self.new }
+        ensures announced { IsAnnounced self.old → IsAnnounced self.new }
     {
         self.end.is_abandoned()
     }
@@ -198,6 +204,7 @@ impl<T: Copy> Tx<T> {
         ensures sent { sent self.new ≡ sent self.old }
         ensures posted { posted self.new ≡ posted self.old }
         ensures room { HasRoom self.old → HasRoom self.new }
+        ensures announced { IsAnnounced self.new }
     {
         self.announce();
         self.patience.wait(rt, &self.own, &self.peer);
@@ -222,6 +229,7 @@ impl<T: Copy> Tx<T> {
         ensures posted { posted self.new ≡ posted self.old }
         ensures looked { LookedForRoom self.old → LookedForRoom self.new }
         ensures room { HasRoom self.old → HasRoom self.new }
+        ensures announced { IsAnnounced self.new }
     {
         if self.unannounced > 0 {
             self.unannounced = 0;
@@ -234,6 +242,7 @@ impl<T: Copy> Tx<T> {
         ensures ring { SameTx self.old self.new }
         ensures pushed { IsTrue result → sent self.new ≡ sent self.old ++ item ∷ [] }
         ensures full { result ≡ false → sent self.new ≡ sent self.old }
+        ensures announced { IsAnnounced self.new }
     {
         self.publish();
         let pushed = self.outbox.is_empty() && self.end.push(item).is_ok();

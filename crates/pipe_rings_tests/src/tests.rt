@@ -1,5 +1,6 @@
 //! One and two threads at a ring.
 
+mod asleep;
 mod memory;
 mod neighbours;
 mod outbox;

@@ -1,6 +1,7 @@
 -- The threads keep the rules for waiting.
 use Rattle.std.proofs.Common.{◌≡◌, ℕ, false, List, [], ◌∷◌, ◌++◌, ap, sym, ◌∙◌, append-nil}
 use Rattle.pipe_rings.specs.Rings.{sent, received}
+use Rattle.pipe_rings.proofs.Ends.{none_held}
 use Rattle.din_trace.specs.declared.record.DinRecord.{DinRecord}
 use Rattle.cache_core.specs.Standing.{rules_of}
 use Rattle.cache_core.specs.History.{Rules}
@@ -18,7 +19,8 @@ use Rattle.stage_core.proofs.Place.{flat_map_with_past-more}
 use Rattle.sim_run.specs.declared.ends.SplitterEnds.{SplitterEnds}
 use Rattle.sim_run.specs.declared.ends.StageEnds.{StageEnds}
 use Rattle.sim_run.specs.Threads.{HasSent, HasServed}
-use Rattle.sim_run.specs.Waits.{PostedWhole, OfStage, sender_to}
+use Rattle.sim_run.specs.Ends.{UnusedStage}
+use Rattle.sim_run.specs.Waits.{AnswersPublished, PostedWhole, OfStage, sender_to}
 
 sent-to : (es : List DinRecord) (place : ℕ) (ends : SplitterEnds) → HasSent es place ends
     → (s : Side)
@@ -40,6 +42,13 @@ events-whole es place ends going = (
     to = sent-to es place ends going;
   },
 )
+
+-- a stage that has sent nothing holds no answer back
+pub unused-published : (ends : StageEnds) → UnusedStage ends → AnswersPublished ends
+unused-published ends new = record {
+  held = none_held ends.to_merge new.to_merge;
+  announced = new.announced;
+}
 
 -- a stage has answered a message that it received, if its outbox is counted too
 pub taken-answers : (began : L1Stage) (start : StageEnds) (stage : L1Stage) (was : StageEnds)

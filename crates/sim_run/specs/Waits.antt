@@ -1,7 +1,7 @@
 -- When a thread may wait, in terms of its machine and its ends.
-use Rattle.std.specs.Prelude.{ℕ, ◌+◌, Bool, true, List, length}
+use Rattle.std.specs.Prelude.{◌≡◌, ℕ, ◌+◌, Bool, true, List, length}
 use Rattle.pipe_rings.specs.Rings as ring
-use Rattle.pipe_rings.specs.Rings.{received, LookedForRoom}
+use Rattle.pipe_rings.specs.Rings.{received, LookedForRoom, IsAnnounced}
 use Rattle.pipe_rings.specs.declared.tx.Tx.{Tx}
 use Rattle.din_trace.specs.declared.record.DinRecord.{DinRecord}
 use Rattle.cache_core.specs.Standing.{rules_of}
@@ -56,6 +56,22 @@ SplitterHasEnded ends = (es : List DinRecord) × SplitterEnded (splitter_at es t
 abbrev pub held : SplitterEnds → ℕ
 held ends = length (ring.posted ends.order) + length (ring.posted ends.to_i)
     + length (ring.posted ends.to_d)
+
+-- the receivers of the three rings were woken for all that the splitter has published
+pub record AllAnnounced (ends : SplitterEnds) : Type 0 where
+  pub order : IsAnnounced ends.order
+  pub to_i : IsAnnounced ends.to_i
+  pub to_d : IsAnnounced ends.to_d
+
+-- all that the splitter has posted is published, and its receivers were woken for it
+pub record AllPublished (ends : SplitterEnds) : Type 0 where
+  pub held : held ends ≡ 0
+  pub announced : AllAnnounced ends
+
+-- all answers that a stage has posted are published, and the merge was woken for them
+pub record AnswersPublished (ends : StageEnds) : Type 0 where
+  pub held : length (ring.posted ends.to_merge) ≡ 0
+  pub announced : IsAnnounced ends.to_merge
 
 -- for each of the three rings: all posted messages are published, or it has no known free place
 pub record LookedEverywhere (ends : SplitterEnds) : Type 0 where

@@ -21,7 +21,7 @@ impl SplitterEnds {
     ghost use Rattle.std.specs.Prelude.{◌↔◌};
     ghost use Rattle.sim_run.specs.Ends.{HaveRoom, SameSplitterEnds, SentSame};
     ghost use Rattle.sim_run.specs.Threads.{Sends};
-    ghost use Rattle.sim_run.specs.Waits.{LookedEverywhere, held};
+    ghost use Rattle.sim_run.specs.Waits.{AllAnnounced, LookedEverywhere, held};
 
     /// Whether there is room to post the messages of one more event.
     #[inline]
@@ -56,6 +56,7 @@ impl SplitterEnds {
         ensures fewer { held self.new ≤ held self.old }
         ensures moved { IsTrue result → held self.new < held self.old }
         ensures emptied { held self.new ≡ 0 → HaveRoom self.new }
+        ensures announced { AllAnnounced self.new }
     {
         let to_i = self.to_i.publish();
         let to_d = self.to_d.publish();

@@ -1,6 +1,6 @@
 //! Lets a caller hold the threads of a run, for tests.
 
-ghost use Rattle.std.specs.Prelude.{◌≡◌, ◌+◌, ◌<◌, ◌≤◌, IfOk, IfErr};
+ghost use Rattle.std.specs.Prelude.{◌≡◌, ◌+◌, ◌<◌, ◌≤◌, Bool, true, false, IsTrue, IfOk, IfErr};
 ghost use Rattle.sim_run.specs.declared.fault.Stop.{Stop};
 
 use crate::fault::Stop;
@@ -23,13 +23,18 @@ pub enum Who {
 /// A gate that each of the four threads passes before it handles a message that it received, or a
 /// record that it read. Each thread numbers these from 1.
 pub trait Gate: Sync {
+    // Whether the gate never holds a thread.
+    ghost open: { Self → Bool } = { λ _. false };
+
     /// Called by the thread `who` before its message or record number `nth`. Returns when the
     /// thread may go on.
     fn arrive<H: Wait>(&self, rt: &H, who: Who, nth: u64);
 
     /// Whether the gate never holds a thread. Before any other gate, a thread publishes all
     /// messages that it has sent.
-    fn is_open(&self) -> bool {
+    fn is_open(&self) -> bool
+        ensures { IsTrue result → Self.open self.now ≡ true }
+    {
         false
     }
 }
@@ -39,6 +44,8 @@ pub trait Gate: Sync {
 pub struct OpenGate;
 
 impl Gate for OpenGate {
+    ghost open = { λ _. true };
+
     fn arrive<H: Wait>(&self, _rt: &H, _who: Who, _nth: u64) {}
 
     fn is_open(&self) -> bool {

@@ -1,7 +1,7 @@
 //! The splitter, which runs in the caller's thread: it reads the source and feeds the rings.
 
 ghost use Rattle.std.specs.Prelude.{◌≡◌, ◌<◌, ◌≤◌, ◌+◌, ◌*◌, ◌++◌, List, ℕ, OnOk};
-ghost use Rattle.std.specs.Prelude.{◌≢◌, ◌⊎◌, IfOk, IfErr, IsSome, IsFalse, MatchResult};
+ghost use Rattle.std.specs.Prelude.{◌≢◌, ◌⊎◌, IfOk, IfErr, IsSome, true, MatchResult};
 ghost use Rattle.std.specs.Prelude.{option_to_list};
 ghost use Rattle.pipe_rings.specs.Rings.{sent};
 ghost use Rattle.din_trace.specs.Text.{Remaining};
@@ -14,7 +14,7 @@ ghost use Rattle.sim_run.specs.declared.fault.Stop.{Stop};
 ghost use Rattle.sim_run.specs.declared.fault.RunFault.{RunFault};
 ghost use Rattle.sim_run.specs.Ends.{SameSplitterEnds, SentSame, HaveRoom, UnusedSplitter};
 ghost use Rattle.sim_run.specs.Threads.{HasSent, IsEnd, Sends, SplitUp};
-ghost use Rattle.sim_run.specs.Waits.{PostedWhole, SplitterHasEnded, held};
+ghost use Rattle.sim_run.specs.Waits.{AllAnnounced, AllPublished, PostedWhole, SplitterHasEnded};
 ghost use Rattle.sim_run.specs.declared.waits.Until.TheVariants as Until;
 
 use crate::ends::SplitterEnds;
@@ -41,7 +41,7 @@ fn publish<H: Wait>(rt: &H, ends: &mut SplitterEnds, until: Until) -> Result<(),
     ensures rings { SameSplitterEnds ends.old ends.new }
     ensures sent { SentSame ends.old ends.new }
     ensures room { OnOk result (HaveRoom ends.new) }
-    ensures published { until ≡ Until.Published → OnOk result (held ends.new ≡ 0) }
+    ensures published { until ≡ Until.Published → OnOk result (AllPublished ends.new) }
     ensures cut { IfErr result (λ why. why ≡ Stop.Cut) }
 {
     for _ in rt.forever() {
@@ -68,7 +68,7 @@ fn ask<R: ByteReader>(
     source: &mut Source<R>,
     ends: &SplitterEnds,
 ) -> Result<Option<DinRecord>, TraceFault>
-    requires published { held ends.now ≡ 0 }
+    requires published { AllPublished ends.now }
     ensures reads { (given : List ℕ) × (fate : Fate)
         × Takes R.remaining R.failures source.old source.new given fate
         × ((before later : Script) (l : Remaining)
@@ -85,16 +85,16 @@ fn ask<R: ByteReader>(
 // Passes the gate with a record. A gate that is not open may hold this thread for long, so all
 // posted messages have to be published before.
 #[inline]
-fn arrive<H: Wait, G: Gate>(rt: &H, gate: &G, is_open: bool, ends: &SplitterEnds, nth: u64)
-    requires published { IsFalse is_open → held ends.now ≡ 0 }
+fn arrive<H: Wait, G: Gate>(rt: &H, gate: &G, ends: &SplitterEnds, nth: u64)
+    requires published { (G.open gate.now ≡ true) ⊎ AllPublished ends.now }
 {
     gate.arrive(rt, Who::Splitter, nth);
 }
 
 // The next record of the source, or its end or fault. Publishes all messages before a long wait.
-fn next_record<H: Wait, R: ByteReader>(
+fn next_record<H: Wait, R: ByteReader, G: Gate>(
     rt: &H,
-    is_open: bool,
+    gate: &G,
     source: &mut Source<R>,
     ends: &mut SplitterEnds,
 ) -> Result<Result<Option<DinRecord>, TraceFault>, Stop>
@@ -102,9 +102,9 @@ fn next_record<H: Wait, R: ByteReader>(
     ensures rings { SameSplitterEnds ends.old ends.new }
     ensures sent { SentSame ends.old ends.new }
     // All messages are published before the reader is asked, and if the gate is not open.
-    ensures published { IsFalse is_open → OnOk result (held ends.new ≡ 0) }
+    ensures published { OnOk result ((G.open gate.now ≡ true) ⊎ AllPublished ends.new) }
     ensures asked { OnOk result ((reader_of source.new ≡ reader_of source.old)
-        ⊎ (held ends.new ≡ 0)) }
+        ⊎ AllPublished ends.new) }
     ensures reads { (given : List ℕ) × (fate : Fate)
         × Takes R.remaining R.failures source.old source.new given fate
         × ((before later : Script) (l : Remaining)
@@ -118,7 +118,7 @@ fn next_record<H: Wait, R: ByteReader>(
     ensures room { OnOk result (room_of source.old ≤ MAX_LIMIT) }
     ensures cut { IfErr result (λ why. why ≡ Stop.Cut) }
 {
-    if !is_open && publish(rt, ends, Until::Published).is_err() {
+    if !gate.is_open() && publish(rt, ends, Until::Published).is_err() {
         return Err(Stop::Cut);
     }
     if let Some(answer) = source.at_hand() {
@@ -155,6 +155,7 @@ fn send_end<H: Wait>(rt: &H, ends: &mut SplitterEnds, routed: Routed) -> Result<
     ensures rings { SameSplitterEnds ends.old ends.new }
     ensures sent { OnOk result (Sends ends.old routed ends.new) }
     ensures rests { OnOk result (SplitterHasEnded ends.new) }
+    ensures announced { OnOk result (AllAnnounced ends.new) }
     ensures cut { IfErr result (λ why. why ≡ Stop.Cut) }
 {
     send_routed(rt, ends, routed)?;
@@ -215,8 +216,9 @@ pub fn split<H: Wait, R: ByteReader, G: Gate>(
     requires bounded { IsBounded selection }
     requires unused { UnusedSplitter ends.old }
     ensures rings { SameSplitterEnds ends.old ends.new }
-    // A splitter that has ended holds no message back.
+    // A splitter that has ended holds no message back, and has woken whoever slept.
     ensures rests { OnOk result (SplitterHasEnded ends.new) }
+    ensures announced { OnOk result (AllAnnounced ends.new) }
     ensures met { IfErr result IsMet }
     ensures threads { IfErr result (λ why. why ≢ RunFault.Threads) }
     // Whatever the reader did, all selected events were sent, or the splitter stopped with a fault.
@@ -228,14 +230,13 @@ pub fn split<H: Wait, R: ByteReader, G: Gate>(
 {
     let mut selector = Selector::new(selection);
     let mut splitter = Splitter::new();
-    let is_open = gate.is_open();
     for _ in rt.forever() {
-        let Ok(answer) = next_record(rt, is_open, source, ends) else {
+        let Ok(answer) = next_record(rt, gate, source, ends) else {
             return Err(RunFault::Cut);
         };
         match answer {
             Ok(Some(next)) => {
-                arrive(rt, gate, is_open, ends, selector.offered() + 1);
+                arrive(rt, gate, ends, selector.offered() + 1);
                 let picked = selector.offer(next);
                 if send_picked(rt, &mut splitter, ends, picked).is_err() {
                     return Err(RunFault::Cut);

@@ -1,8 +1,9 @@
 //! The thread of a first-level stage.
 
-ghost use Rattle.std.specs.Prelude.{◌≡◌, [], ◌∷◌, ◌++◌, length, false, OnOk, IfOk, IfErr};
+ghost use Rattle.std.specs.Prelude.{◌≡◌, ◌⊎◌, ◌+◌, ◌<◌, ◌≤◌, [], ◌∷◌, ◌++◌, true, false};
+ghost use Rattle.std.specs.Prelude.{IsTrue, OnOk, IfOk, IfErr};
 ghost use Rattle.std.specs.List.{list_any};
-ghost use Rattle.pipe_rings.specs.Rings.{sent, posted, received, HasRoom, SameTx, SameRx};
+ghost use Rattle.pipe_rings.specs.Rings.{sent, received, HasRoom, SameTx, SameRx, IsAnnounced};
 ghost use Rattle.stage_core.specs.Streams.{is_finish};
 ghost use Rattle.stage_core.specs.Waiting.{HasAnswered};
 ghost use Rattle.stage_core.specs.Standing.{StageStandsFor, IsReady, cache_of, side_of};
@@ -10,7 +11,7 @@ ghost use Rattle.stage_core.specs.Standing.{outbox_of, took_finish};
 ghost use Rattle.sim_run.specs.declared.fault.Stop.{Stop};
 ghost use Rattle.sim_run.specs.Ends.{UnusedStage};
 ghost use Rattle.sim_run.specs.Threads.{StageEnded};
-ghost use Rattle.sim_run.specs.Waits.{OfStage, StageHasEnded};
+ghost use Rattle.sim_run.specs.Waits.{AnswersPublished, OfStage, StageHasEnded};
 ghost use Rattle.sim_run.specs.declared.waits.Until.TheVariants as Until;
 
 use crate::ends::StageEnds;
@@ -50,8 +51,7 @@ fn publish<H: Wait>(rt: &H, stage: &L1Stage, ends: &mut StageEnds, until: Until)
     ensures ring { SameTx ends.old.to_merge ends.new.to_merge }
     ensures sent { sent ends.new.to_merge ≡ sent ends.old.to_merge }
     ensures room { OnOk result (HasRoom ends.new.to_merge) }
-    ensures published { until ≡ Until.Published
-        → OnOk result (length (posted ends.new.to_merge) ≡ 0) }
+    ensures published { until ≡ Until.Published → OnOk result (AnswersPublished ends.new) }
     ensures cut { IfErr result (λ why. why ≡ Stop.Cut) }
 {
     for _ in rt.forever() {
@@ -72,6 +72,24 @@ fn publish<H: Wait>(rt: &H, stage: &L1Stage, ends: &mut StageEnds, until: Until)
     unreachable!()
 }
 
+// Passes the gate with a message. A gate that is not open may hold this thread for long, so all
+// answers have to be published before.
+#[inline]
+fn arrive<H: Wait, G: Gate>(
+    rt: &H,
+    gate: &G,
+    who: Who,
+    ends: &StageEnds,
+    received: u64,
+) -> Result<u64, Stop>
+    requires published { (G.open gate.now ≡ true) ⊎ AnswersPublished ends.now }
+    ensures counted { IfOk result (λ nth. nth ≡ received + 1) }
+    ensures below { IfOk result (λ nth. nth < MAX_EVENTS) }
+    ensures cut { IfErr result (λ why. (why ≡ Stop.Cut) × (MAX_EVENTS ≤ received + 1)) }
+{
+    pass(rt, gate, who, received)
+}
+
 // Receives the next message.
 #[inline]
 fn receive<H: Wait>(rt: &H, stage: &L1Stage, ends: &mut StageEnds) -> Result<ToStage, Stop>
@@ -83,6 +101,7 @@ fn receive<H: Wait>(rt: &H, stage: &L1Stage, ends: &mut StageEnds) -> Result<ToS
     ensures received { IfOk result (λ message. received ends.new.from_splitter
         ≡ received ends.old.from_splitter ++ message ∷ []) }
     ensures sent { sent ends.new.to_merge ≡ sent ends.old.to_merge }
+    ensures published { AnswersPublished ends.old → OnOk result (AnswersPublished ends.new) }
 {
     match ends.from_splitter.try_recv() {
         Some(message) => Ok(message),
@@ -105,6 +124,7 @@ fn publish_and_receive<H: Wait>(
     ensures received { IfOk result (λ message. received ends.new.from_splitter
         ≡ received ends.old.from_splitter ++ message ∷ []) }
     ensures sent { sent ends.new.to_merge ≡ sent ends.old.to_merge }
+    ensures published { OnOk result (AnswersPublished ends.new) }
 {
     publish(rt, stage, ends, Until::Published)?;
     match ends.from_splitter.try_recv() {
@@ -130,6 +150,7 @@ fn send_outbox<H: Wait>(
     ensures cache { cache_of stage.new ≡ cache_of stage.old }
     ensures side { side_of stage.new ≡ side_of stage.old }
     ensures finish { took_finish stage.new ≡ took_finish stage.old }
+    ensures published { IsTrue urgent → OnOk result (AnswersPublished ends.new) }
 {
     if !ends.to_merge.has_room() {
         publish(rt, stage, ends, Until::Room)?;
@@ -162,13 +183,14 @@ fn serve_all<H: Wait, G: Gate>(
     requires unused { UnusedStage ends.old }
     ensures ended { OnOk result (StageEnded stage.old ends.old stage.new ends.new) }
     ensures rests { OnOk result (StageHasEnded stage.new ends.new) }
+    ensures announced { OnOk result (IsAnnounced ends.new.to_merge) }
 {
     let mut count = 0;
     for _ in rt.forever() {
         let Ok(message) = receive(rt, stage, ends) else {
             return Err(Stop::Cut);
         };
-        count = pass(rt, gate, who, count)?;
+        count = arrive(rt, gate, who, ends, count)?;
         if stage.served() >= MAX_EVENTS {
             return Err(Stop::Cut);
         }
@@ -196,8 +218,9 @@ pub fn run_stage<H: Wait, G: Gate>(
     requires new { StageStandsFor machine [] }
     requires unused { UnusedStage unused }
     ensures ended { IfOk result (λ r. StageEnded machine unused r.0 r.1) }
-    // A stage that has ended holds no answer back.
+    // A stage that has ended holds no answer back, and has woken the merge if it slept.
     ensures rests { IfOk result (λ r. StageHasEnded r.0 r.1) }
+    ensures announced { IfOk result (λ r. IsAnnounced r.1.to_merge) }
 {
     let mut stage = machine;
     let mut ends = unused;

@@ -3,13 +3,14 @@
 
 ghost use Rattle.std.specs.Prelude.{◌≡◌, ◌<◌, [], ◌∷◌, ◌++◌, length, OnOk, IfOk, IfErr};
 ghost use Rattle.pipe_rings.specs.Rings.{sent, posted, received, SameTx, SameRx};
-ghost use Rattle.pipe_rings.specs.Rings.{LookedForRoom, LookedForItem};
+ghost use Rattle.pipe_rings.specs.Rings.{LookedForRoom, LookedForItem, IsAnnounced};
 ghost use Rattle.stage_core.specs.Merging.{wanted};
 ghost use Rattle.stage_core.specs.Waiting.{MayAwaitRoom, MayAwaitMessage};
 ghost use Rattle.stage_core.specs.declared.message.Want.TheVariants as want;
 ghost use Rattle.sim_run.specs.declared.fault.Stop.{Stop};
 ghost use Rattle.sim_run.specs.Ends.{SameSplitterEnds, SentSame};
 ghost use Rattle.sim_run.specs.Waits.{SplitterMay, LookedEverywhere, OfStage, MergeUsed, held};
+ghost use Rattle.sim_run.specs.Waits.{AllAnnounced, AnswersPublished};
 
 use crate::ends::{MergeEnds, SplitterEnds, StageEnds};
 use crate::fault::Stop;
@@ -31,6 +32,7 @@ pub enum Until {
 pub fn await_rooms<H: Wait>(rt: &H, ends: &mut SplitterEnds) -> Result<(), Stop>
     requires may { SplitterMay ends.old }
     requires looked { LookedEverywhere ends.old }
+    requires announced { AllAnnounced ends.old }
     ensures rings { SameSplitterEnds ends.old ends.new }
     ensures sent { SentSame ends.old ends.new }
     ensures room { OnOk result (held ends.new < held ends.old) }
@@ -60,6 +62,7 @@ pub fn await_rooms<H: Wait>(rt: &H, ends: &mut SplitterEnds) -> Result<(), Stop>
 pub fn await_room<H: Wait>(rt: &H, stage: &L1Stage, ends: &mut StageEnds) -> Result<(), Stop>
     requires may { OfStage MayAwaitRoom stage.now ends.old }
     requires looked { LookedForRoom ends.old.to_merge }
+    requires announced { IsAnnounced ends.old.to_merge }
     ensures from_splitter { ends.new.from_splitter ≡ ends.old.from_splitter }
     ensures ring { SameTx ends.old.to_merge ends.new.to_merge }
     ensures sent { sent ends.new.to_merge ≡ sent ends.old.to_merge }
@@ -110,11 +113,13 @@ pub fn await_message<H: Wait>(
 ) -> Result<ToStage, Stop>
     requires may { OfStage MayAwaitMessage stage.now ends.old }
     requires looked { LookedForItem ends.old.from_splitter }
+    requires published { AnswersPublished ends.old }
     ensures from_splitter { SameRx ends.old.from_splitter ends.new.from_splitter }
     ensures received { IfOk result (λ message. received ends.new.from_splitter
         ≡ received ends.old.from_splitter ++ message ∷ []) }
     ensures to_merge { SameTx ends.old.to_merge ends.new.to_merge }
     ensures sent { sent ends.new.to_merge ≡ sent ends.old.to_merge }
+    ensures published { AnswersPublished ends.new }
 {
     for _ in rt.forever() {
         if ends.to_merge.is_cut() {

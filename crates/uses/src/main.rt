@@ -3,6 +3,7 @@
 
 mod block;
 mod cache;
+mod list;
 mod ring;
 mod run;
 mod stages;
@@ -24,6 +25,10 @@ fn main(rt: HostRuntime) -> anyhow::Result<()> {
         bail!("no cache");
     };
     println!(rt; "cache_core: {kind:?}")?;
+    let Ok(hits) = list::hits_of_sizes(alloc) else {
+        bail!("no list");
+    };
+    println!(rt; "marked_list: {hits:?}")?;
     let Ok(ends) = ring::two_ends(alloc) else {
         bail!("no ring");
     };

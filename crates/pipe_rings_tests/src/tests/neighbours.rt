@@ -8,7 +8,7 @@ use std::time::{Clock, Duration};
 
 /// Sleeps so long that a thread that waits at a ring falls asleep too, and its sleep has no limit
 /// any more.
-fn stay_away<R: Clock>(rt: &R) {
+pub(super) fn stay_away<R: Clock>(rt: &R) {
     thread::sleep(rt, Duration::from_millis(250));
 }
 

@@ -163,6 +163,44 @@ fn a_gate_of_arrive_alone_sees_a_message_before_it_is_handled(rt: HostRuntime) -
     Ok(())
 }
 
+/// How often the gate of the first record yields before it goes on.
+const A_WHILE: u32 = 20_000;
+
+/// Holds the splitter at its first record for a while, and notes whether another thread passes a
+/// gate meanwhile.
+#[derive(Drop)]
+struct First {
+    others: AtomicU64,
+    early: AtomicU64,
+}
+
+impl Gate for First {
+    fn arrive<H: Wait>(&self, _rt: &H, who: Who, nth: u64) {
+        if who != Who::Splitter {
+            self.others.fetch_add(1, Ordering::SeqCst);
+        } else if nth == 1 {
+            for _ in 0..A_WHILE {
+                thread::yield_now();
+            }
+            let others = self.others.load(Ordering::SeqCst);
+            self.early.store(others, Ordering::SeqCst);
+        }
+    }
+}
+
+#[test]
+fn a_record_passes_its_gate_before_it_is_sent(rt: HostRuntime) -> Result<(), Fail> {
+    let gate = First {
+        others: AtomicU64::new(0),
+        early: AtomicU64::new(0),
+    };
+    let trace = b"2 0\n0 0\n".as_slice();
+    let totals = run_in_threads(&rt, rt.alloc(), trace, &gate, Vec::new(rt.alloc()))??;
+    assert_eq!(rt; totals, a_fetch_and_a_read());
+    assert_eq!(rt; gate.early.load(Ordering::SeqCst), 0);
+    Ok(())
+}
+
 /// Counts the arrivals of each of the four threads, and notes one with a wrong number.
 #[derive(Drop)]
 struct Counting {

@@ -21,6 +21,8 @@ struct Notes {
 }
 
 impl Gate for Notes {
+    ghost open = { λ gate. gate.open };
+
     fn arrive<H: Wait>(&self, _rt: &H, who: Who, nth: u64) {
         if who == self.awaited.0 && nth == self.awaited.1 {
             self.sign.show();

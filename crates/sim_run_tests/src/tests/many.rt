@@ -2,7 +2,7 @@
 //! The tests of sim_run itself make them with outboxes of one message too.
 
 use super::layout::ONE_WRITE_BACK;
-use super::{EVERYTHING, USUAL, bad, config_of, first_misses, instrs, reads, threaded};
+use super::{EVERYTHING, USUAL, bad, config_of, first_misses, instrs, reads, run, threaded};
 use cache_core::{Counts, PerClass};
 use din_trace::{FromWrite, MAX_LIMIT, Why};
 use sim_run::{RunFault, write_report};
@@ -116,5 +116,41 @@ fn long_runs_write_the_same(rt: HostRuntime) -> Result<(), Fail> {
             ends_alike(&rt, rt.alloc(), &config, &trace, None, &expected);
         }
     }
+    Ok(())
+}
+
+/// More records than any bound on a thread's messages that is not the bound on a whole trace.
+const LONG: u64 = 2_000_000;
+
+/// The totals of so many fetches of one block.
+fn totals_of_fetches() -> Totals {
+    Totals {
+        i: first_misses(instrs(LONG), instrs(1), 1),
+        d: Counts::default(),
+        u: first_misses(instrs(1), instrs(1), 1),
+    }
+}
+
+#[test]
+fn two_million_records_are_all_served(rt: HostRuntime) -> Result<(), Fail> {
+    let mut trace = Vec::new(rt.alloc());
+    for _ in 0..LONG {
+        trace.extend_from_slice(b"2 0\n")?;
+    }
+    let mut expected = Vec::new(rt.alloc());
+    write_report(&totals_of_fetches(), &mut FromWrite::new(&mut expected))?;
+    let config = config_of(USUAL, 1024)?;
+    let mut written = Vec::new(rt.alloc());
+    let ended = run(
+        &rt,
+        rt.alloc(),
+        &config,
+        &EVERYTHING,
+        &trace,
+        MAX_LIMIT,
+        &mut written,
+    );
+    assert_eq!(rt; ended, Ok(()));
+    assert_eq!(rt; written.as_slice(), expected.as_slice());
     Ok(())
 }

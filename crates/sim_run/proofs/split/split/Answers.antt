@@ -30,10 +30,11 @@ composed g c given fate went =
     c.next_record.ensures.settled
 
 pub next_record-requires : goal.next_record-requires
-next_record-requires g c = record {
-  whole = events-whole (events c.args.selection c.loop.invariant.2.past) c.loop.splitter c.loop.ends
-      c.loop.invariant.2.sends;
-}
+next_record-requires g c = (
+  search rules,
+  events-whole (events c.args.selection c.loop.invariant.2.past) c.loop.splitter c.loop.ends
+      c.loop.invariant.2.sends,
+)
 
 pub loop-init : goal.loop-init
 loop-init g c = (

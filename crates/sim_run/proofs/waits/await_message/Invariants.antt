@@ -1,5 +1,6 @@
 use Rattle.std.proofs.Common.{◌≡◌}
 use Rattle.pipe_rings.specs.Rings.{sent, received, SameTx, SameRx}
+use Rattle.sim_run.specs.Waits.{AnswersPublished}
 use Rattle.sim_run.proofs.waits.await_message.Given as goal
 
 abbrev pub invariant-loop : goal.invariant-loop
@@ -10,3 +11,4 @@ invariant-loop g l =
     × SameTx l.fn.ends.to_merge l.ends.to_merge
     × (received l.ends.from_splitter ≡ received l.fn.ends.from_splitter)
     × (sent l.ends.to_merge ≡ sent l.fn.ends.to_merge)
+    × AnswersPublished l.ends

@@ -1,0 +1,76 @@
+# The files that are installed, in a tree, as it is to stand below a prefix. Read by install.
+# shellcheck shell=bash disable=SC2154  # names that install and its other files set
+#
+#   bin/dinero_NAME               the simulator, and a way to each command
+#   lib/dinero_pipe/NAME          the commands themselves, with the files that they read
+#   share/man/man1/dinero_NAME.1  a man page for each
+
+commands=(record sweep plot)
+
+# grow TREE: it fails where a file can't be written.
+grow() {
+    local lib=$1/lib/dinero_pipe pages=$1/share/man/man1 name
+    mkdir -p "$lib" "$pages" "$1/bin" || return
+    ln -s "$(place_of dinero_pipe)" "$1/bin/dinero_pipe" || return
+    cat "$top/docs/dinero_pipe.1" > "$pages/dinero_pipe.1" || return
+    installed_text < "$top/bin/installed_program.sh" > "$lib/program.sh" || return
+    for name in $(list_parts); do
+        installed_text < "$top/bin/$name" > "$lib/$name" || return
+    done
+    for name in "${commands[@]}"; do
+        print_way "$name" > "$1/bin/dinero_$name" || return
+        chmod 755 "$lib/$name" "$1/bin/dinero_$name" || return
+        "$lib/$name" --help | print_page "dinero_$name" > "$pages/dinero_$name.1" || return
+    done
+}
+
+# list_parts: the commands and what they read: a file of one command alone is named for it.
+list_parts() {
+    local name part
+    echo common.sh
+    for name in "${commands[@]}"; do
+        for part in "$top/bin/$name" "$top/bin/$name"_*.*; do
+            [ ! -e "$part" ] || echo "${part##*/}"
+        done
+    done
+}
+
+# installed_text: a command calls itself and the others by the names that they have there.
+installed_text() {
+    local names
+    names=$(IFS='|' && echo "${commands[*]}")
+    sed -E "s,\\bbin/($names)\\b,dinero_\\1,g; s,\\bbin/dinero_pipe\\b,dinero_pipe,g"
+}
+
+# print_way COMMAND: the file that a user calls. It finds the command wherever the tree stands.
+print_way() {
+    cat <<END
+#!/usr/bin/env bash
+exec "\$(dirname -- "\$(readlink -f -- "\$0")")/../lib/dinero_pipe/$1" "\$@"
+END
+}
+
+# print_page NAME: a man page with the words of the help, which it reads.
+print_page() {
+    local first
+    IFS= read -r first
+    first=${first%.}
+    cat <<END
+.TH ${1^^} 1 "" "dinero_pipe" "User Commands"
+.SH NAME
+$1 \\- ${first,}
+.SH DESCRIPTION
+.nf
+END
+    sed -e 's/\\/\\e/g' -e 's/-/\\-/g' -e "s/'/\\\\(aq/g" -e 's/`/\\(ga/g' -e 's/^\./\\\&./'
+    cat <<'END'
+.fi
+.SH "SEE ALSO"
+.BR dinero_pipe (1)
+END
+}
+
+# print_files TREE: one a line.
+print_files() {
+    find "$1" ! -type d -printf '%P\n' | LC_ALL=C sort
+}

@@ -1,0 +1,85 @@
+-- The shapes of cells, and the rows that they name.
+use Rattle.std.proofs.Common.{◌≡◌, ℕ, zero, suc, ◌*◌, ◌<◌, ◌≤◌, Bool, false, true, List, [], ◌∷◌}
+use Rattle.std.proofs.Common.{length, get_or, map}
+use Rattle.std.proofs.Common.{refl, sym, ap, subst, ◌∙◌, arith}
+use Rattle.std.specs.List.{All}
+use Rattle.std.proofs.lemmas.List.{length-map, get_or-map}
+use Rattle.cache_core.specs.declared.geometry.Geometry.{Geometry}
+use Rattle.cache_core.specs.History.{Rules}
+use Rattle.cache_core.specs.Geometry.{bsize_of, sets_of, assoc_of, blocks_of}
+use Rattle.grid_core.specs.declared.cells.Cell.{Cell}
+use Rattle.grid_core.specs.declared.cells.Shape.{Shape}
+use Rattle.grid_core.specs.declared.stack.Stack.{Stack}
+use Rattle.grid_core.specs.Ways.{with_ways, IsStacked}
+use Rattle.grid_core.specs.Standing.{Suits, rules_of, stack_rules}
+use Rattle.grid_core.specs.Cells.{IsPlacedOn, IsPlacedAmong, shape_in, shape_rules}
+use Rattle.grid_core.specs.Shapes.{IsSuitedShape}
+use Rattle.grid_core.proofs.Geometries.{sets-blocks}
+use Rattle.grid_core.proofs.StackRules.{stacked}
+
+-- what holds of each shape at the start holds of that of each cell
+pub shape-at : (P : Shape → Type 0) (first xs : List Cell) → map shape_in xs ≡ map shape_in first
+    → All P (map shape_in first) → (i : ℕ) (e : Cell) → i < length xs → P (get_or xs i e).shape
+shape-at P first xs same all i e lt =
+    let long : i < length (map shape_in first) =
+    omega (arith, ap length same, length-map xs shape_in) in
+    subst P (ap (λ l. get_or l i e.shape) (sym same) ∙ get_or-map shape_in xs i e e.shape lt)
+    (all i e.shape long)
+
+-- the rules of the rows at an index
+pub rules-at : (stacks : List Stack) (j : ℕ) (v : Stack) (s : Shape) → v ≡ get_or stacks j v
+    → j < length stacks → ((d : Rules) → IsPlacedOn (get_or (map rules_of stacks) j d) s)
+    → IsPlacedOn (rules_of v) s
+rules-at stacks j v s is lt on =
+    subst (λ r. IsPlacedOn r s)
+    (get_or-map rules_of stacks j v (rules_of v) lt ∙ ap rules_of (sym is)) (on (rules_of v))
+
+-- a shape names rows that there are
+pub names-rows : (stacks : List Stack) (s : Shape) → IsPlacedAmong (map rules_of stacks) s
+    → s.stack < length stacks
+names-rows stacks s on = let in_all = on.inside in omega (arith, length-map stacks rules_of)
+
+at-map : (P : Rules → Type 0) (xs : List Stack) (i : ℕ) → i < length xs
+    → ((d : Stack) → P (rules_of (get_or xs i d))) → (e : Rules) → P (get_or (map rules_of xs) i e)
+at-map P [] i lt h e = absurd (omega arith)
+at-map P (x ∷ xs) zero lt h e = h x
+at-map P (x ∷ xs) (suc i) lt h e = at-map P xs i (omega arith) h e
+
+make : ℕ → ℕ → ℕ → ℕ → Bool → Bool → Bool → Rules
+make b s a n f w l = record {
+  bsize = b;
+  sets = s;
+  assoc = a;
+  blocks = n;
+  fifo = f;
+  wback = w;
+  walloc = l;
+}
+
+suits-same : (r : Rules) → IsStacked r → (g : Geometry) (ways : ℕ) (wback : Bool)
+    → Suits r g ways wback → ways ≡ assoc_of g → with_ways ways r ≡ stack_rules g wback
+unfolding make
+suits-same r st g ways wback fit w =
+    ap (λ t. make t r.sets ways (r.sets * ways) r.fifo r.wback r.walloc) fit.same_bsize
+    ∙ ap (λ t. make (bsize_of g) t ways (t * ways) r.fifo r.wback r.walloc) fit.same_sets
+    ∙ ap (λ t. make (bsize_of g) (sets_of g) t (sets_of g * t) r.fifo r.wback r.walloc) w
+    ∙ ap (λ t. make (bsize_of g) (sets_of g) (assoc_of g) t r.fifo r.wback r.walloc) (sets-blocks g)
+    ∙ ap (λ t. make (bsize_of g) (sets_of g) (assoc_of g) (blocks_of g) t r.wback r.walloc) st.lru
+    ∙ ap (λ t. make (bsize_of g) (sets_of g) (assoc_of g) (blocks_of g) false t r.walloc)
+    fit.same_wback
+    ∙ ap (λ t. make (bsize_of g) (sets_of g) (assoc_of g) (blocks_of g) false wback t) st.allocates
+
+-- rows that suit a shape serve its cache
+pub suited-placed : (stacks : List Stack) (s : Shape) → IsSuitedShape stacks s
+    → IsPlacedAmong (map rules_of stacks) s
+suited-placed stacks s own = record {
+  inside = let lt = own.suited.inside in omega (arith, length-map stacks rules_of);
+  placed = at-map (λ r. IsPlacedOn r s) stacks s.stack own.suited.inside (λ d.
+      let v = get_or stacks s.stack d in
+      record {
+        same = suits-same (rules_of v) (stacked v) s.geometry s.ways s.wback (own.suited.suits d)
+            own.ways;
+        some = own.some;
+        fits = (own.suited.suits d).fits;
+      });
+}

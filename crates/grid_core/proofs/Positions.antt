@@ -1,0 +1,30 @@
+-- Where a block stands in a row of slots.
+use Rattle.std.proofs.Common.{◌≡◌, ℕ, zero, suc, ◌≤◌, Bool, true, false, cond, eqb, List, [], ◌∷◌}
+use Rattle.std.proofs.Common.{length, take, replicate, refl, ap, ◌∙◌, arith}
+use Rattle.cache_core.specs.Residents.{before}
+use Rattle.cache_core.proofs.Reuse.{has}
+use Rattle.cache_core.proofs.Shift.{padded}
+use Rattle.cache_core.proofs.Cases.{by_cases}
+use Rattle.grid_core.specs.Slots.{index_of}
+
+module _ {X : Type 0} (f : ℕ → X) (empty : X) (k : ℕ) (p : X → Bool) (b : ℕ)
+    (at : (y : ℕ) → p (f y) ≡ eqb y b) (none : p empty ≡ false) where
+  index-replicate : (n j : ℕ) → n ≤ j → index_of p (take n (replicate j empty)) ≡ n
+  index-replicate zero j le = refl
+  index-replicate (suc n) zero le = absurd (omega arith)
+  index-replicate (suc n) (suc j) le = rw none (ap suc (index-replicate n j (omega arith)))
+
+  one-on : (t : Bool) (d n : ℕ) → suc (cond t d n) ≡ cond t (suc d) (suc n)
+  one-on true d n = refl
+  one-on false d n = refl
+
+  -- in a row of n, b stands at its place in the order, or there is no b and the answer is n
+  pub index-padded : (n : ℕ) (ms : List ℕ) → n ≤ k
+      → index_of p (take n (padded f empty k ms))
+      ≡ cond (has (take n ms) b) (length (before b ms)) n
+  index-padded zero ms le = refl
+  index-padded (suc n) [] le = index-replicate (suc n) k le
+  index-padded (suc n) (m ∷ ms) le = by_cases (eqb m b)
+      (λ e. rw (at m, e) refl)
+      (λ e. rw (at m, e) (ap suc (index-padded n ms (omega arith))
+      ∙ one-on (has (take n ms) b) (length (before b ms)) n))

@@ -1,0 +1,26 @@
+use Rattle.std.proofs.Common.{◌≡◌, ◌-◌, false, ltb, sym, ap, ◌∙◌}
+use Rattle.cache_core.specs.Residents.{hits, renewals}
+use Rattle.grid_core.specs.Ways.{with_ways}
+use Rattle.grid_core.specs.Standing.{rules_of}
+use Rattle.grid_core.proofs.Distances.{hits-distance}
+use Rattle.grid_core.proofs.StackStep.{suc-pred}
+use Rattle.grid_core.proofs.Outcomes.{outcome-kept}
+use Rattle.grid_core.proofs.StackRules.{stacked}
+use Rattle.grid_core.proofs.cells.back_in.Goals as goal
+
+pub returns-then-hit : goal.returns-then-hit
+returns-then-hit c = λ h looked is.
+    let s = c.args.stack.now in
+    let w = c.args.ways in
+    outcome-kept (rules_of s) (stacked s) w c.requires.fits h c.args.access (w - 1)
+    (suc-pred w c.requires.some)
+    (ap (λ d. ltb d w) (sym looked.found) ∙ sym is ∙ c.if-hit.true)
+
+pub returns : goal.returns
+returns c = λ h looked is.
+    let s = c.args.stack.now in
+    let w = c.args.ways in
+    let miss : hits (with_ways w (rules_of s)) (renewals (with_ways w (rules_of s)) h) c.args.access
+    ≡ false = hits-distance (rules_of s) (stacked s) w c.requires.fits h c.args.access
+    ∙ ap (λ d. ltb d w) (sym looked.found) ∙ sym is ∙ c.if-hit.false in
+    c.back.ensures h looked.stands miss

@@ -1,0 +1,67 @@
+use Rattle.std.proofs.Common.{◌≡◌, ◌<◌, ◌∷◌, ◌++◌, [], List, length, get_or, map, take, sym, ap}
+use Rattle.std.proofs.Common.{subst}
+use Rattle.std.proofs.Common.{◌∙◌, arith}
+use Rattle.std.specs.List.{All}
+use Rattle.std.proofs.lemmas.List.{map-append, map_more}
+use Rattle.std.proofs.lemmas.List.Elements.{All-push, All-weaker}
+use Rattle.cache_core.specs.declared.geometry.Geometry.{Geometry}
+use Rattle.cache_core.specs.Geometry.{bsize_of, blocks_of}
+use Rattle.grid_core.specs.declared.cells.Cell.{Cell}
+use Rattle.grid_core.specs.declared.cells.Shape.{Shape}
+use Rattle.grid_core.specs.Standing.{stack_rules, rules_of}
+use Rattle.grid_core.specs.Shapes.{has_size, IsSuitedShape}
+use Rattle.grid_core.specs.Cells.{IsPlacedAmong, shape_in, shape_rules}
+use Rattle.grid_core.specs.State.{IsRanked, IsFresh}
+use Rattle.grid_core.proofs.Placed.{suited-placed}
+use Rattle.grid_core.proofs.engine.parts_for.Goals as goal
+
+pub loop-geometry-preserved : goal.loop-geometry-preserved
+loop-geometry-preserved c =
+    let i = c.loop-geometry.geometry-index in
+    let gs = c.args.geometries.now in
+    let e = c.geometry-item.result in
+    let inside : i < length gs = omega arith in
+    let old = c.loop-geometry.cells.items in
+    let new = c.push.new.self.items in
+    let v = c.in_ok-cell.cell in
+    let own = c.in_ok-cell.ensures.own in
+    let is : new ≡ old ++ v ∷ [] = c.in_ok-push.ensures.items in
+    let stacks = c.loop-geometry.stacks.items in
+    let stacks' = c.cell_for.new.stacks.items in
+    let shapes : map shape_in new ≡ map shape_in old ++ v.shape ∷ [] =
+    ap (map shape_in) is ∙ map-append shape_in old (v ∷ []) in
+    let wback = c.args.wback in
+    let rule : shape_rules v.shape ≡ stack_rules (get_or gs i e) wback =
+    ap (λ g. stack_rules g v.shape.wback) own.geometry
+    ∙ ap (λ w. stack_rules e w) own.same_wback
+    ∙ ap (λ g. stack_rules g wback) c.geometry-item.is in
+    let sizes = c.args.sizes.now in
+    let first = c.args.first in
+    record {
+      rules = ap (map shape_rules) shapes
+          ∙ map-append shape_rules (map shape_in old) (v.shape ∷ [])
+          ∙ ap (λ l. l ++ shape_rules v.shape ∷ []) c.loop-geometry.invariant.rules
+          ∙ ap (λ r. map (λ g. stack_rules g wback) (take i gs) ++ r ∷ []) rule
+          ∙ sym (map_more (λ g. stack_rules g wback) gs i e inside);
+      ranked = subst (All (IsRanked sizes first)) (sym shapes)
+          (All-push (IsRanked sizes first) (map shape_in old) v.shape
+          c.loop-geometry.invariant.ranked (record {
+            inside = own.inside;
+            found = own.found ∙ ap blocks_of (sym own.geometry);
+            same = ap bsize_of own.geometry ∙ ap bsize_of c.geometry-item.is
+                ∙ c.requires.one_size i e inside;
+          }));
+      suited = subst (All (IsSuitedShape stacks')) (sym shapes)
+          (All-push (IsSuitedShape stacks') (map shape_in old) v.shape
+          (All-weaker (IsSuitedShape stacks) (IsSuitedShape stacks') c.in_ok-cell.ensures.kept
+          (map shape_in old) c.loop-geometry.invariant.suited) own.suited);
+      stands = c.in_ok-cell.ensures.stands c.loop-geometry.invariant.stands;
+      fresh = subst (All IsFresh) (sym is)
+          (All-push IsFresh old v c.loop-geometry.invariant.fresh own.fresh);
+    }
+
+pub returns-clause-placed : goal.returns-clause-placed
+returns-clause-placed c =
+    let stacks = c.loop-geometry.stacks.items in
+    All-weaker (IsSuitedShape stacks) (IsPlacedAmong (map rules_of stacks)) (suited-placed stacks)
+    (map shape_in c.loop-geometry.cells.items) c.loop-geometry.invariant.suited

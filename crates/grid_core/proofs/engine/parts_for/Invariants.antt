@@ -1,0 +1,18 @@
+use Rattle.std.proofs.Common.{◌≡◌, [], map, take}
+use Rattle.std.specs.List.{All}
+use Rattle.grid_core.specs.Standing.{StandsFor, stack_rules}
+use Rattle.grid_core.specs.Shapes.{IsSuitedShape}
+use Rattle.grid_core.specs.Cells.{shape_in, shape_rules}
+use Rattle.grid_core.specs.State.{IsRanked, IsFresh}
+use Rattle.grid_core.proofs.engine.parts_for.Given as goal
+
+-- there is a cell for each geometry that was passed
+abbrev pub invariant-loop-geometry : goal.invariant-loop-geometry
+invariant-loop-geometry l = record {
+  rules : map shape_rules (map shape_in l.cells.items)
+      ≡ map (λ g. stack_rules g l.wback) (take l.geometry-index l.geometries);
+  ranked : All (IsRanked l.sizes l.fn.first) (map shape_in l.cells.items);
+  suited : All (IsSuitedShape l.stacks.items) (map shape_in l.cells.items);
+  stands : All (λ s. StandsFor s []) l.stacks.items;
+  fresh : All IsFresh l.cells.items;
+}

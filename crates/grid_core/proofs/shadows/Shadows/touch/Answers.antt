@@ -1,0 +1,53 @@
+use Rattle.std.proofs.Common.{◌≡◌, ℕ, Some, false, true, eqb, cond, is_some, nat_eq, unwrap_or}
+use Rattle.std.proofs.Common.{◌||◌}
+use Rattle.std.proofs.Common.{refl, sym, ap, ◌∙◌, Bool, Option, arith}
+use Rattle.std.specs.HashMap.{get}
+use Rattle.std.proofs.lemmas.Bool.{eq-eqb}
+use Rattle.std.proofs.lemmas.Bool.Decides.{nat_tests}
+use Rattle.cache_core.proofs.Reuse.{has}
+use Rattle.marked_list.specs.Recency.{level_of, brought_front}
+use Rattle.grid_core.specs.Shadows.{HoldsOrder, is_known, number_in, shadow_sizes}
+use Rattle.grid_core.proofs.Numbering.{tells, level-map, front-map, known-front}
+use Rattle.grid_core.proofs.shadows.Shadows.touch.Goals as goal
+
+pub returns-clause-level : goal.returns-clause-level
+returns-clause-level c = λ ys held.
+    let s = c.args.self.now in
+    let b = c.args.block in
+    let n = c.in-Ok.found.number in
+    let is = c.in-Ok.ensures.number in
+    let agree : (y : ℕ) → has ys y ≡ true
+    → eqb (number_in s y) n ≡ eqb y b = λ y h. ap (eqb (number_in s y)) is
+    ∙ tells (get nat_eq s.numbers) s.used s.low s.apart b y (held.known y h) in
+    c.in-Ok-touch.ensures.level
+    ∙ ap (λ l. level_of (shadow_sizes s) l n) held.order
+    ∙ level-map (number_in s) n b (shadow_sizes s) ys agree
+
+pub returns-clause-order : goal.returns-clause-order
+returns-clause-order c = λ ys held.
+    let s = c.args.self.now in
+    let b = c.args.block in
+    let n = c.in-Ok.found.number in
+    let is = c.in-Ok.ensures.number in
+    let agree : (y : ℕ) → has ys y ≡ true
+    → eqb (number_in s y) n ≡ eqb y b = λ y h. ap (eqb (number_in s y)) is
+    ∙ tells (get nat_eq s.numbers) s.used s.low s.apart b y (held.known y h) in
+    let next = λ (y : ℕ). unwrap_or (get nat_eq c.number_block.new.numbers y) 0 in
+    let here : next b ≡ n = ap (λ o. unwrap_or o 0) (c.in-Ok.ensures.adds b
+    ∙ ap (λ t. cond t (Some n) (get nat_eq s.numbers b)) (eq-eqb b b refl)) in
+    let others = λ (y : ℕ) (e : eqb y b ≡ false). ap (λ o. unwrap_or o 0) (c.in-Ok.ensures.adds y
+    ∙ ap (λ t. cond t (Some n) (get nat_eq s.numbers y)) (eqb-sym b y ∙ e)) in
+    record {
+      order = c.in-Ok-touch.ensures.order ∙ ap (brought_front n) held.order
+          ∙ front-map (number_in s) n b next here others ys agree;
+      known = λ y h. ap is_some (c.in-Ok.ensures.adds y)
+          ∙ some-or n (eqb b y) (get nat_eq s.numbers y)
+          ∙ known-front (is_known s) b ys held.known y h;
+    }
+  where
+    eqb-sym : (a b : ℕ) → eqb a b ≡ eqb b a
+    eqb-sym a b = grind (arith, nat_tests)
+
+    some-or : (n : ℕ) (t : Bool) (o : Option ℕ) → is_some (cond t (Some n) o) ≡ (t || is_some o)
+    some-or n true o = refl
+    some-or n false o = refl

@@ -1,0 +1,7 @@
+use Rattle.std.proofs.Common.{◌≡◌, ◌==◌, ◌+◌, drop}
+use Rattle.grid_core.specs.Slots.{index_of}
+use Rattle.grid_core.proofs.shapes.rank_of.Given as goal
+
+abbrev pub invariant-loop-index : goal.invariant-loop-index
+invariant-loop-index l = l.index + index_of (λ m. m == l.size) (drop l.index l.sizes)
+    ≡ index_of (λ m. m == l.size) l.sizes

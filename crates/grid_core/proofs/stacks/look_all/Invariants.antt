@@ -1,0 +1,16 @@
+use Rattle.std.proofs.Common.{◌≡◌, ℕ, ◌≤◌, get_or, map}
+use Rattle.std.specs.List.{All, AllWithin}
+use Rattle.cache_core.specs.History.{History}
+use Rattle.grid_core.specs.declared.stack.Stack.{Stack}
+use Rattle.grid_core.specs.Standing.{StandsFor, HasLooked, rules_of}
+use Rattle.grid_core.proofs.stacks.look_all.Given as goal
+
+-- the rows that were passed have looked, and the others are as they were
+abbrev pub invariant-loop-stack : goal.invariant-loop-stack
+invariant-loop-stack l = record {
+  rules : map rules_of l.stacks ≡ map rules_of l.initial.stacks;
+  looked : (h : History) → All (λ s. StandsFor s h) l.initial.stacks →
+      AllWithin (λ s. HasLooked s h l.access) l.stacks 0 l.stack-index;
+  left : (k : ℕ) (d : Stack) → l.stack-index ≤ k →
+      get_or l.stacks k d ≡ get_or l.initial.stacks k d;
+}

@@ -1,0 +1,12 @@
+pub mod Ways
+pub mod Levels
+pub mod FullyAssociative
+pub mod Slots
+pub mod Pushed
+pub mod Standing
+pub mod Shadows
+pub mod Shapes
+pub mod Cells
+pub mod Written
+pub mod State
+pub mod Engines

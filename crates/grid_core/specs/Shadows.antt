@@ -1,0 +1,23 @@
+-- What a contract sees of the blocks that were accessed, and of their order.
+use Rattle.std.specs.Prelude.{◌≡◌, ℕ, ◌==◌, Bool, true, nat_eq, is_some, unwrap_or, List, map}
+use Rattle.std.specs.List.{list_any}
+use Rattle.std.specs.HashMap.{get}
+use Rattle.marked_list.specs.Marked.{order_of, marked_sizes}
+use Rattle.grid_core.specs.declared.shadows.Shadows.{Shadows}
+
+-- whether a block was accessed
+abbrev pub is_known : Shadows → ℕ → Bool
+is_known s b = is_some (get nat_eq s.numbers b)
+
+-- the number of a block that was accessed
+abbrev pub number_in : Shadows → ℕ → ℕ
+number_in s b = unwrap_or (get nat_eq s.numbers b) 0
+
+-- the sizes of the shadows in blocks
+abbrev pub shadow_sizes : Shadows → List ℕ
+shadow_sizes s = marked_sizes s.order
+
+-- the blocks of the list, each of which was accessed, are in the order of the shadows
+pub record HoldsOrder (s : Shadows) (ys : List ℕ) : Type 0 where
+  pub order : order_of s.order ≡ map (number_in s) ys
+  pub known : (y : ℕ) → list_any (λ m. m == y) ys ≡ true → is_known s y ≡ true

@@ -1,0 +1,55 @@
+-- Inside the crate: a row of slots, and what one access does to it.
+use Rattle.std.specs.Prelude.{ℕ, zero, suc, ◌*◌, ◌^◌, ◌<◌, Bool, true, false, ◌&&◌, ◌==◌, cond}
+use Rattle.std.specs.Prelude.{nat_lt, if◌then◌else◌, List, [], ◌∷◌, ◌++◌, length, take, drop}
+use Rattle.std.specs.List.{find, All}
+use Rattle.std.specs.Option.{option_map_or}
+use Rattle.cache_core.specs.Row.{shifted}
+use Rattle.grid_core.specs.declared.slots.Slot.{Slot}
+
+-- the slot holds block b
+abbrev pub holds : ℕ → Slot → Bool
+holds b s = s.valid && s.block == b
+
+-- the dirty level of a slot
+abbrev pub level_of : Slot → ℕ
+level_of s = s.level
+
+-- a slot that holds block b, of this level
+abbrev pub used_slot : ℕ → ℕ → Slot
+used_slot b l = record { block = b; valid = true; level = l }
+
+-- an empty slot
+abbrev pub no_slot : Slot
+no_slot = record { block = 0; valid = false; level = 0 }
+
+-- the index of the first that passes, or the length of the list
+abbrev pub index_of : {X : Type 0} → (X → Bool) → List X → ℕ
+index_of p [] = 0
+index_of p (x ∷ xs) = cond (p x) 0 (suc (index_of p xs))
+
+-- the dirty level after an access, by the level and the distance before it
+abbrev pub level_after : Bool → ℕ → ℕ → ℕ
+level_after write level distance =
+    if write then 0 else (if nat_lt level distance then distance else level)
+
+-- the row after an access to block b
+abbrev pub next_slots : ℕ → Bool → List Slot → List Slot
+next_slots b write row = shifted (holds b) (used_slot b (level_after write
+    (option_map_or level_of (find (holds b) row) (length row)) (index_of (holds b) row))) row
+
+-- each block of a row has a first byte, where blocks have n bytes
+abbrev pub HaveBytes : ℕ → List Slot → Type 0
+HaveBytes n row = All (λ s. s.block * n < 2 ^ 64) row
+
+module _ (bsize : ℕ) (wback : Bool) (n : ℕ) where
+  -- the first bytes of the blocks of a row that are dirty in a cache of n ways
+  abbrev pub dirty_bytes : List Slot → List ℕ
+  dirty_bytes [] = []
+  dirty_bytes (s ∷ row) = if s.valid && (wback && nat_lt s.level n) then s.block * bsize
+      ∷ dirty_bytes row else dirty_bytes row
+
+  -- of the first n slots of each of the first rows, which are so many and so long
+  abbrev pub dirty_in_rows : ℕ → List Slot → ℕ → List ℕ
+  dirty_in_rows most xs zero = []
+  dirty_in_rows most xs (suc k) = dirty_in_rows most xs k
+      ++ dirty_bytes (take n (drop (k * most) xs))

@@ -1,0 +1,245 @@
+//! The caches of one engine: what each counts, and what each did last.
+
+ghost use Rattle.std.specs.Prelude.{◌≡◌, ◌<◌, ◌≤◌, ◌^◌, ◌+◌, ℕ, not, ◌&&◌, nat_lt, map, []};
+ghost use Rattle.std.specs.Prelude.{if◌then◌else◌, Some, None, IfOk, length};
+ghost use Rattle.std.specs.List.{All};
+ghost use Rattle.cache_core.specs.declared.access.MissKind.TheVariants.{Compulsory, Capacity};
+ghost use Rattle.cache_core.specs.declared.access.MissKind.TheVariants.{Conflict};
+ghost use Rattle.cache_core.specs.History.{History};
+ghost use Rattle.cache_core.specs.Parts.{outcome_of};
+ghost use Rattle.cache_core.specs.Counts.{no_counts, none_by_class};
+ghost use Rattle.grid_core.specs.Ways.{with_ways};
+ghost use Rattle.grid_core.specs.Standing.{StandsFor, HasLooked, rules_of, found_in};
+ghost use Rattle.grid_core.specs.Cells.{IsPlacedOn, IsPlacedAmong, shape_rules, shape_in};
+ghost use Rattle.grid_core.specs.Cells.{KnowsPrior, IsDue, IsServed, IsCounted, IsWithinCell};
+ghost use Rattle.grid_core.specs.Cells.{HaveRoom, AreFlushedBy, flushed_by, dirty_bytes_of};
+ghost use Rattle.grid_core.specs.Cells.{items_of};
+
+use crate::counting::{count, count_outcome};
+use crate::shadows::Prior;
+use crate::stack::{Stack, writes};
+use cache_core::{Access, Counts, Geometry, MissKind, Outcome, PerClass};
+use std::alloc::{AllocError, Global};
+
+/// Which cache a cell is: its geometry and write policy, the rows of its number of sets, its number
+/// of ways, and the rank of its number of blocks among the sizes of the shadows.
+#[derive(Clone, Copy, Debug)]
+pub(crate) struct Shape {
+    pub geometry: Geometry,
+    pub wback: bool,
+    pub stack: usize,
+    pub ways: usize,
+    pub rank: usize,
+}
+
+/// One cache: its shape, its counts, how often its shadow missed, and the outcome of the last
+/// access.
+#[derive(Clone, Copy, Debug)]
+pub(crate) struct Cell {
+    pub shape: Shape,
+    pub counts: Counts,
+    pub far: PerClass,
+    pub answer: Outcome,
+}
+
+/// The outcome before any access.
+pub(crate) fn no_outcome() -> Outcome {
+    Outcome {
+        hit: false,
+        kind: None,
+        back: None,
+        fetch: false,
+        through: false,
+    }
+}
+
+/// Counts that are all zero.
+fn zero_counts() -> Counts
+    ensures { result ≡ no_counts }
+{
+    Counts::default()
+}
+
+/// Zero in each class.
+fn zero_per_class() -> PerClass
+    ensures { result ≡ none_by_class }
+{
+    PerClass::default()
+}
+
+/// A cell that has counted nothing.
+pub(crate) fn fresh_cell(shape: Shape) -> Cell
+    ensures shape { result.shape ≡ shape }
+    ensures counted { IsCounted [] result }
+    ensures within { IsWithinCell 0 result }
+{
+    Cell {
+        shape,
+        counts: zero_counts(),
+        far: zero_per_class(),
+        answer: no_outcome(),
+    }
+}
+
+/// Why an access misses, if it does, in the cache whose size has this rank.
+fn kind_in(hit: bool, prior: Prior, rank: usize) -> Option<MissKind>
+    ensures { result ≡ (if hit then None else Some (if prior.known
+        then (if not (nat_lt rank prior.level) then Conflict else Capacity) else Compulsory)) }
+{
+    if hit {
+        None
+    } else if !prior.known {
+        Some(MissKind::Compulsory)
+    } else if rank < prior.level {
+        Some(MissKind::Capacity)
+    } else {
+        Some(MissKind::Conflict)
+    }
+}
+
+/// The first byte of the block that the cache of `ways` ways writes back at this access, if any.
+fn back_in(stack: &Stack, access: Access, ways: usize, hit: bool) -> Option<u64>
+    requires some { 0 < ways }
+    requires fits { ways ≤ (rules_of stack.now).assoc }
+    ensures { (h : History) → HasLooked stack.now h access →
+        hit ≡ nat_lt (found_in stack.now) ways →
+        (outcome_of (with_ways ways (rules_of stack.now)) h access).back ≡ result }
+{
+    if hit {
+        return None;
+    }
+    stack.back(access, ways)
+}
+
+/// Whether a write is sent on, where writes allocate.
+fn sends_on(write: bool, wback: bool) -> bool
+    ensures { result ≡ (write && not wback) }
+{
+    write && !wback
+}
+
+/// The outcome of an access in the cache of this shape.
+fn outcome_in(stack: &Stack, shape: Shape, access: Access, prior: Prior) -> Outcome
+    requires { IsPlacedOn (rules_of stack.now) shape }
+    ensures { (h : History) → HasLooked stack.now h access → KnowsPrior shape h access prior →
+        result ≡ outcome_of (shape_rules shape) h access }
+{
+    let hit = stack.position() < shape.ways;
+    Outcome {
+        hit,
+        kind: kind_in(hit, prior, shape.rank),
+        back: back_in(stack, access, shape.ways, hit),
+        fetch: !hit,
+        through: sends_on(writes(access), stack.wback()),
+    }
+}
+
+/// Serves an access in the cache of one cell.
+fn serve_cell(cell: &mut Cell, stack: &Stack, access: Access, prior: Prior)
+    requires placed { IsPlacedOn (rules_of stack.now) cell.old.shape }
+    requires within { (n : ℕ) × IsWithinCell n cell.old × (n < 2 ^ 46) }
+    ensures shape { cell.new.shape ≡ cell.old.shape }
+    ensures serves { (h : History) → HasLooked stack.now h access →
+        IsDue h access prior cell.old → IsServed h access cell.new }
+    ensures bounds { (n : ℕ) → IsWithinCell n cell.old → IsWithinCell (n + 1) cell.new }
+{
+    let outcome = outcome_in(stack, cell.shape, access, prior);
+    let far = cell.shape.rank < prior.level;
+    count_outcome(&mut cell.counts, access, outcome);
+    count(&mut cell.far, access, far);
+    cell.answer = outcome;
+}
+
+/// Serves an access in the caches of all cells.
+fn serve_all(cells: &mut [Cell], stacks: &[Stack], access: Access, prior: Prior)
+    requires placed { All (λ s. IsPlacedAmong (map rules_of stacks.now) s)
+        (map shape_in cells.old) }
+    requires within { (n : ℕ) × All (IsWithinCell n) cells.old × (n < 2 ^ 46) }
+    ensures shapes { map shape_in cells.new ≡ map shape_in cells.old }
+    ensures serves { (h : History) → All (λ s. HasLooked s h access) stacks.now →
+        All (IsDue h access prior) cells.old → All (IsServed h access) cells.new }
+    ensures bounds { (n : ℕ) → All (IsWithinCell n) cells.old →
+        All (IsWithinCell (n + 1)) cells.new }
+{
+    for cell in cells.iter_mut() {
+        let stack = &stacks[cell.shape.stack];
+        serve_cell(cell, stack, access, prior);
+    }
+}
+
+/// The same for the cells of a vector.
+pub(crate) fn serve_in(cells: &mut Vec<Cell>, stacks: &Vec<Stack>, access: Access, prior: Prior)
+    requires placed { All (λ s. IsPlacedAmong (map rules_of stacks.now.items) s)
+        (map shape_in cells.old.items) }
+    requires within { (n : ℕ) × All (IsWithinCell n) cells.old.items × (n < 2 ^ 46) }
+    ensures shapes { map shape_in cells.new.items ≡ map shape_in cells.old.items }
+    ensures serves { (h : History) → All (λ s. HasLooked s h access) stacks.now.items →
+        All (IsDue h access prior) cells.old.items → All (IsServed h access) cells.new.items }
+    ensures bounds { (n : ℕ) → All (IsWithinCell n) cells.old.items →
+        All (IsWithinCell (n + 1)) cells.new.items }
+{
+    serve_all(cells, stacks, access, prior);
+}
+
+/// The dirty blocks of one cell, by their first bytes, in rising order.
+fn dirty_in(alloc: Global, stacks: &Vec<Stack>, shape: Shape) -> Result<Vec<u64>, AllocError>
+    requires { IsPlacedAmong (map rules_of stacks.now.items) shape }
+    ensures { IfOk result (λ bytes. (h : History) → All (λ s. StandsFor s h) stacks.now.items →
+        bytes.items ≡ dirty_bytes_of h shape) }
+{
+    let bytes = stacks[shape.stack].dirty(alloc, shape.ways)?;
+    Ok(bytes)
+}
+
+/// The dirty blocks of each cell.
+pub(crate) fn dirty_lists(
+    alloc: Global,
+    stacks: &Vec<Stack>,
+    cells: &Vec<Cell>,
+) -> Result<Vec<Vec<u64>>, AllocError>
+    requires { All (λ s. IsPlacedAmong (map rules_of stacks.now.items) s)
+        (map shape_in cells.now.items) }
+    ensures lists { IfOk result (λ lists. (h : History)
+        → All (λ s. StandsFor s h) stacks.now.items →
+        map items_of lists.items ≡ map (dirty_bytes_of h) (map shape_in cells.now.items)) }
+    ensures len { IfOk result (λ lists. length lists.items ≡ length cells.now.items) }
+{
+    let mut lists = Vec::new(alloc);
+    for cell in cells.iter() {
+        let bytes = dirty_in(alloc, stacks, cell.shape)?;
+        lists.push(bytes)?;
+    }
+    Ok(lists)
+}
+
+/// Counts a flush of one cell, which wrote so many blocks back.
+fn count_flush(cell: &mut Cell, written: u64)
+    requires room { cell.old.counts.written_back + written < 2 ^ 64 }
+    requires flushes { cell.old.counts.flushes < 2 ^ 46 }
+    ensures { cell.new ≡ flushed_by cell.old written }
+{
+    cell.counts.written_back += written;
+    cell.counts.flushes += 1;
+}
+
+/// Counts a flush of all cells, each of which wrote its list of blocks back.
+fn count_flushes(cells: &mut [Cell], lists: &[Vec<u64>])
+    requires len { length lists.now ≡ length cells.old }
+    requires room { HaveRoom cells.old lists.now }
+    ensures { AreFlushedBy lists.now cells.old cells.new }
+{
+    for (index, cell) in cells.iter_mut().enumerate() {
+        let written = lists[index].len() as u64;
+        count_flush(cell, written);
+    }
+}
+
+/// The same for the cells of a vector.
+pub(crate) fn flush_in(cells: &mut Vec<Cell>, lists: &Vec<Vec<u64>>)
+    requires len { length lists.now.items ≡ length cells.old.items }
+    requires room { HaveRoom cells.old.items lists.now.items }
+    ensures flushed { AreFlushedBy lists.now.items cells.old.items cells.new.items }
+    ensures len { length cells.new.items ≡ length cells.old.items }
+{
+    count_flushes(cells, lists);
+}

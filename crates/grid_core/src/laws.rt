@@ -1,0 +1,28 @@
+//! Laws of the definitions. Each is a function that does nothing; its contract is the law.
+
+ghost use Rattle.grid_core.specs.Ways.{WiderWaysHoldMore, StackDistancesAreHits, MoreSetsHoldMore};
+ghost use Rattle.grid_core.specs.Levels.{DirtyLevelsAreDirtyBlocks};
+
+/// Inclusion (Mattson and others): of two LRU caches of as many sets that allocate at writes, the
+/// one of more ways holds all that the other holds.
+pub fn wider_ways_hold_more()
+    ensures { WiderWaysHoldMore }
+{}
+
+/// One distance tells the hits of every number of ways.
+pub fn stack_distances_are_hits()
+    ensures { StackDistancesAreHits }
+{}
+
+/// One level tells in which numbers of ways a block is dirty (Thompson and Smith).
+pub fn dirty_levels_are_dirty_blocks()
+    ensures { DirtyLevelsAreDirtyBlocks }
+{}
+
+/// Set refinement (Hill and Smith): of two LRU caches of as many ways that allocate at writes, the
+/// one
+/// of more sets holds all that the other holds. With one way: a block that was used last in its set
+/// was used last in its set of every larger number of sets.
+pub fn more_sets_hold_more()
+    ensures { MoreSetsHoldMore }
+{}

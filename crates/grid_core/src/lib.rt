@@ -1,0 +1,33 @@
+//! Many caches of one block size, served together in one pass over a trace.
+//!
+//! An [`Engine`] is made for a list of geometries of one block size. It serves accesses and flushes
+//! in all these caches, and answers for each what a cache of cache_core alone would: every count,
+//! what it sends to the next level, and how often its shadow missed. The caches are LRU and
+//! allocate
+//! at writes.
+//!
+//! Caches of as many sets share one row for each set, in order of last use (`stack`, `slots`): the
+//! position of a block tells for every number of ways whether it hits, and its dirty level whether
+//! it is written back. One list with a mark for each size is the shadow of all caches (`shadows`).
+//! `laws` has what the definitions say of caches of different sizes.
+//!
+//! Proved for every history that an engine stands for. If an allocation fails, the counts stay, and
+//! every later access or flush answers `NoMemory`.
+#![tactic(auto)]
+
+mod cells;
+mod counting;
+mod engine;
+mod laws;
+mod shadows;
+mod shapes;
+mod slots;
+mod stack;
+mod stacks;
+
+pub use engine::Engine;
+pub use laws::{
+    dirty_levels_are_dirty_blocks, more_sets_hold_more, stack_distances_are_hits,
+    wider_ways_hold_more,
+};
+pub use shapes::share_block_size;

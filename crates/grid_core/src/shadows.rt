@@ -1,0 +1,133 @@
+//! What all caches of one block size share: the blocks that were ever accessed, and the shadows of
+//! all sizes.
+
+ghost use Rattle.std.specs.Prelude.{◌≡◌, ◌<◌, ◌==◌, ℕ, Some, is_some, nat_eq, unwrap_or};
+ghost use Rattle.std.specs.Prelude.{if◌then◌else◌, IfOk, OnErr, ◌+◌};
+ghost use Rattle.std.specs.HashMap.{get};
+
+use marked_list::Marked;
+use std::alloc::{AllocError, Global};
+use std::collections::HashMap;
+
+/// What is known of a block before an access: whether it was ever accessed, and its level, the
+/// index of the smallest size whose shadow has it, or the number of sizes.
+#[derive(Clone, Copy, Debug, PartialEq, Eq)]
+pub(crate) struct Prior {
+    pub known: bool,
+    pub level: usize,
+}
+
+/// A block's number, and whether it had one before.
+#[derive(Clone, Copy, Debug, PartialEq, Eq)]
+struct Numbered {
+    known: bool,
+    number: usize,
+}
+
+/// The blocks that were ever accessed, numbered from 0 as they came, and one list of these numbers
+/// by last use, with a mark at each size.
+#[derive(Drop)]
+pub(crate) struct Shadows {
+    numbers: HashMap<u64, usize>,
+    used: usize,
+    order: Marked,
+    ghost low: { (a n : ℕ) → get nat_eq numbers a ≡ Some n → n < used },
+    ghost apart: { (a b n : ℕ) → get nat_eq numbers a ≡ Some n → get nat_eq numbers b ≡ Some n →
+        a ≡ b },
+}
+
+/// The number of a block. A block that has none gets `next`.
+fn number_block(
+    numbers: &mut HashMap<u64, usize>,
+    next: usize,
+    block: u64,
+) -> Result<Numbered, AllocError>
+    ensures known { IfOk result (λ found. found.known ≡ is_some (get nat_eq numbers.old block)) }
+    ensures number { IfOk result (λ found.
+        found.number ≡ unwrap_or (get nat_eq numbers.old block) next) }
+    ensures adds { IfOk result (λ found. (q : ℕ) → get nat_eq numbers.new q
+        ≡ (if block == q then Some found.number else get nat_eq numbers.old q)) }
+    ensures keeps { OnErr result (numbers.new.entries ≡ numbers.old.entries) }
+{
+    let known = numbers.get(&block).copied();
+    if let Some(number) = known {
+        return Ok(Numbered {
+            known: true,
+            number,
+        });
+    }
+    let Ok(_old) = numbers.insert(block, next) else {
+        return Err(AllocError);
+    };
+    Ok(Numbered {
+        known: false,
+        number: next,
+    })
+}
+
+/// How many numbers are used, after a block got its number.
+fn used_with(used: usize, known: bool) -> usize
+    requires { used < usize.MAX }
+    ensures { result ≡ (if known then used else used + 1) }
+{
+    if known { used } else { used + 1 }
+}
+
+impl Shadows {
+    ghost use Rattle.std.specs.Prelude.{◌≡◌, ◌<◌, ◌==◌, ◌||◌, ℕ, List, [], IfOk, OnOk, OnErr};
+    ghost use Rattle.std.specs.Prelude.{false};
+    ghost use Rattle.std.specs.List.{All};
+    ghost use Rattle.marked_list.specs.Recency.{level_of, brought_front};
+    ghost use Rattle.grid_core.specs.Shadows.{HoldsOrder, is_known, shadow_sizes};
+
+    /// Empty shadows of these sizes in blocks. No block is known.
+    pub fn new(alloc: Global, sizes: &[usize]) -> Result<Shadows, AllocError>
+        requires { All (λ size. 0 < size) sizes.now }
+        ensures order { IfOk result (λ shadows. HoldsOrder shadows []) }
+        ensures known { IfOk result (λ shadows. (q : ℕ) → is_known shadows q ≡ false) }
+        ensures sizes { IfOk result (λ shadows. shadow_sizes shadows ≡ sizes.now) }
+    {
+        let order = Marked::new(alloc, sizes)?;
+        Ok(Shadows {
+            numbers: HashMap::new(alloc),
+            used: 0,
+            order,
+        })
+    }
+
+    /// Uses a block in all shadows, and answers what was known of it before.
+    pub fn touch(&mut self, block: u64) -> Result<Prior, AllocError>
+        ensures known { IfOk result (λ prior. prior.known ≡ is_known self.old block) }
+        ensures level { IfOk result (λ prior. (ys : List ℕ) → HoldsOrder self.old ys →
+            prior.level ≡ level_of (shadow_sizes self.old) ys block) }
+        ensures order { OnOk result ((ys : List ℕ) → HoldsOrder self.old ys →
+            HoldsOrder self.new (brought_front block ys)) }
+        ensures adds { OnOk result ((q : ℕ) →
+            is_known self.new q ≡ (block == q || is_known self.old q)) }
+        ensures sizes { shadow_sizes self.new ≡ shadow_sizes self.old }
+    {
+        if self.used == usize::MAX {
+            return Err(AllocError);
+        }
+        let Ok(found) = number_block(&mut self.numbers, self.used, block) else {
+            return Err(AllocError);
+        };
+        self.used = used_with(self.used, found.known);
+        let Ok(level) = self.order.touch(found.number) else {
+            return Err(AllocError);
+        };
+        Ok(Prior {
+            known: found.known,
+            level,
+        })
+    }
+
+    /// Empties all shadows. Known blocks stay known.
+    pub fn clear(&mut self)
+        ensures order { HoldsOrder self.new [] }
+        ensures known { (q : ℕ) → is_known self.new q ≡ is_known self.old q }
+        ensures sizes { shadow_sizes self.new ≡ shadow_sizes self.old }
+    {
+        self.order.clear();
+    }
+}

@@ -1,0 +1,136 @@
+//! From geometries to rows and shapes.
+
+ghost use Rattle.std.specs.Prelude.{◌≡◌, ◌<◌, ◌==◌, ℕ, Bool, [], true, map, IfOk, OnOk, IfSome};
+ghost use Rattle.std.specs.List.{All};
+ghost use Rattle.cache_core.specs.Geometry.{assoc_of, blocks_of, bsize_of};
+ghost use Rattle.grid_core.specs.Slots.{index_of};
+ghost use Rattle.cache_core.specs.Dirty.{rising};
+ghost use Rattle.grid_core.specs.Standing.{StandsFor};
+ghost use Rattle.grid_core.specs.Shapes.{IsWider, IsSuited, has_size};
+
+use crate::stack::Stack;
+use cache_core::Geometry;
+use std::alloc::{AllocError, Global};
+
+/// How many ways a set has.
+pub(crate) fn ways_of(geometry: Geometry) -> usize
+    ensures { result ≡ assoc_of geometry }
+{
+    (geometry.blocks() / geometry.sets()) as usize
+}
+
+/// Whether all geometries have the block size of `first`.
+pub fn share_block_size(geometries: &[Geometry], first: Geometry) -> bool
+    ensures { result ≡ true → All (λ g. bsize_of g ≡ bsize_of first) geometries.now }
+{
+    for geometry in geometries {
+        if geometry.bsize() != first.bsize() {
+            return false;
+        }
+    }
+    true
+}
+
+/// The numbers of blocks of the caches.
+fn sizes_of(alloc: Global, geometries: &[Geometry]) -> Result<Vec<usize>, AllocError>
+    ensures { IfOk result (λ sizes. sizes.items ≡ map (λ g. blocks_of g) geometries.now) }
+{
+    geometries
+        .iter()
+        .map(|geometry| geometry.blocks() as usize)
+        .collect(alloc)
+}
+
+/// The numbers of blocks of the caches, each once, in rising order.
+pub(crate) fn rising_sizes(alloc: Global, geometries: &[Geometry]) -> Result<Vec<usize>, AllocError>
+    ensures rise { IfOk result (λ sizes. rising sizes.items ≡ sizes.items) }
+    ensures some { IfOk result (λ sizes. All (λ size. 0 < size) sizes.items) }
+    ensures all { IfOk result (λ sizes.
+        All (λ g. has_size sizes.items (blocks_of g) ≡ true) geometries.now) }
+{
+    let mut sizes = sizes_of(alloc, geometries)?;
+    sizes.sort_unstable();
+    sizes.dedup();
+    Ok(sizes)
+}
+
+/// The index of a size among the sizes.
+pub(crate) fn rank_of(sizes: &[usize], size: usize) -> usize
+    ensures { result ≡ index_of (λ m. m == size) sizes.now }
+{
+    for (index, other) in sizes.iter().enumerate() {
+        if *other == size {
+            return index;
+        }
+    }
+    sizes.len()
+}
+
+/// Whether a geometry has as many sets as another, and at least as many ways.
+fn is_wider(geometry: Geometry, other: Geometry) -> bool
+    ensures { result ≡ true → IsWider geometry other }
+{
+    other.bsize() == geometry.bsize()
+        && other.sets() == geometry.sets()
+        && ways_of(geometry) <= ways_of(other)
+}
+
+/// The wider of two geometries, if they have as many sets; else the first.
+fn wider(geometry: Geometry, other: Geometry) -> Geometry
+    ensures { (g : Geometry) → IsWider g geometry → IsWider g result }
+{
+    if is_wider(geometry, other) {
+        return other;
+    }
+    geometry
+}
+
+/// The widest geometry of as many sets.
+fn widest(geometries: &[Geometry], geometry: Geometry) -> Geometry
+    ensures { IsWider geometry result }
+{
+    let mut best = geometry;
+    for other in geometries {
+        best = wider(best, *other);
+    }
+    best
+}
+
+/// Rows that serve a cache of this geometry, if there are some.
+fn find_stack(stacks: &[Stack], geometry: Geometry, ways: usize, wback: bool) -> Option<usize>
+    ensures { IfSome result (λ index. IsSuited stacks.now geometry ways wback index) }
+{
+    for (index, stack) in stacks.iter().enumerate() {
+        if stack.suits(geometry, ways, wback) {
+            return Some(index);
+        }
+    }
+    None
+}
+
+/// The index of rows that serve a cache of this geometry. Where there are none, new ones are made,
+/// as wide as the widest cache of as many sets.
+pub(crate) fn stack_for(
+    alloc: Global,
+    stacks: &mut Vec<Stack>,
+    geometries: &[Geometry],
+    geometry: Geometry,
+    wback: bool,
+) -> Result<usize, AllocError>
+    ensures suited { IfOk result (λ index.
+        IsSuited stacks.new.items geometry (assoc_of geometry) wback index) }
+    ensures kept { OnOk result ((g : Geometry) (ways index : ℕ) (w : Bool) →
+        IsSuited stacks.old.items g ways w index → IsSuited stacks.new.items g ways w index) }
+    ensures stands { OnOk result (All (λ s. StandsFor s []) stacks.old.items →
+        All (λ s. StandsFor s []) stacks.new.items) }
+{
+    let ways = ways_of(geometry);
+    if let Some(index) = find_stack(stacks, geometry, ways, wback) {
+        return Ok(index);
+    }
+    let wide = widest(geometries, geometry);
+    let stack = Stack::new(alloc, wide, ways_of(wide), wback)?;
+    let index = stacks.len();
+    stacks.push(stack)?;
+    Ok(index)
+}

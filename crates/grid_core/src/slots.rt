@@ -1,0 +1,253 @@
+//! The blocks of a set, the one that was used last first, as many as the widest cache holds.
+
+ghost use Rattle.std.specs.Prelude.{◌≡◌, ◌≢◌, ◌≤◌, ◌<◌, ◌+◌, ◌*◌, ℕ, length, vec_len, replicate};
+ghost use Rattle.std.specs.Prelude.{IfOk};
+ghost use Rattle.std.specs.Prelude.{List, nat_eq, ◌++◌, ◌^◌, OnOk};
+ghost use Rattle.std.specs.List.{find, dedup};
+ghost use Rattle.std.specs.List.Sorted.{IsPermutation, IsSorted};
+ghost use Rattle.std.specs.Ordering.{nat_cmp};
+ghost use Rattle.std.specs.Option.{option_map, option_map_or};
+ghost use Rattle.cache_core.specs.Row.{shifted, row};
+ghost use Rattle.grid_core.specs.Pushed.{dirty_in};
+ghost use Rattle.grid_core.specs.Slots.{holds, level_of, index_of, level_after};
+ghost use Rattle.grid_core.specs.Slots.{next_slots, no_slot};
+ghost use Rattle.grid_core.specs.Slots.{HaveBytes, dirty_bytes, dirty_in_rows};
+
+use std::alloc::{AllocError, Global};
+
+/// One place of a row. If `valid`, it holds a block, which is dirty in a cache of `n` ways just if
+/// `level < n`.
+#[derive(Clone, Copy, Debug, PartialEq, Eq)]
+pub(crate) struct Slot {
+    pub block: u64,
+    pub valid: bool,
+    pub level: usize,
+}
+
+/// Where a block stands in its row, and its dirty level. Both are the length of the row if it is
+/// not there.
+#[derive(Clone, Copy, Debug, PartialEq, Eq)]
+pub(crate) struct Seen {
+    pub position: usize,
+    pub level: usize,
+}
+
+/// An empty slot.
+fn empty_slot() -> Slot
+    ensures { result ≡ no_slot }
+{
+    Slot {
+        block: 0,
+        valid: false,
+        level: 0,
+    }
+}
+
+/// `count` empty slots.
+pub(crate) fn empty_slots(alloc: Global, count: usize) -> Result<Vec<Slot>, AllocError>
+    ensures { IfOk result (λ v. (v.items ≡ replicate count no_slot) × (vec_len v ≡ count)) }
+{
+    vec![in alloc; empty_slot(); count]
+}
+
+/// Empties all slots.
+fn clear(slots: &mut [Slot])
+    ensures { slots.new ≡ replicate (length slots.old) no_slot }
+{
+    slots.fill(empty_slot());
+}
+
+/// The same for the slots of a vector.
+pub(crate) fn clear_in(slots: &mut Vec<Slot>)
+    ensures items { slots.new.items ≡ replicate (vec_len slots.old) no_slot }
+    ensures len { vec_len slots.new ≡ vec_len slots.old }
+{
+    clear(slots);
+}
+
+/// The first byte of the block of a slot, if it is dirty in a cache of `ways` ways.
+pub(crate) fn pushed(slot: Slot, wback: bool, ways: usize, bsize: u64) -> Option<u64>
+    requires { slot.block * bsize < 2 ^ 64 }
+    ensures { result ≡ option_map (λ b. b * bsize) (dirty_in wback ways slot) }
+{
+    if slot.valid && wback && slot.level < ways {
+        Some(slot.block * bsize)
+    } else {
+        None
+    }
+}
+
+/// Searches a row for a block.
+pub(crate) fn look(row: &[Slot], block: u64) -> Seen
+    ensures position { result.position ≡ index_of (holds block) row.now }
+    ensures level { result.level
+        ≡ option_map_or level_of (find (holds block) row.now) (length row.now) }
+{
+    for (index, slot) in row.iter().enumerate() {
+        if slot.valid && slot.block == block {
+            return Seen {
+                position: index,
+                level: slot.level,
+            };
+        }
+    }
+    Seen {
+        position: row.len(),
+        level: row.len(),
+    }
+}
+
+/// Where a block stands in the row of its set.
+pub(crate) fn find_in(slots: &Vec<Slot>, set: usize, ways: usize, block: u64) -> usize
+    requires { (set + 1) * ways ≤ vec_len slots.now }
+    ensures { result ≡ index_of (holds block) (row ways set slots.now.items) }
+{
+    let start = set * ways;
+    let end = start + ways;
+    look(&slots[start..end], block).position
+}
+
+/// Puts `front` first and moves each slot back by one, up to the one that holds the block, or else
+/// the last.
+fn bring_front(row: &mut [Slot], block: u64, front: Slot)
+    ensures { row.new ≡ shifted (holds block) front row.old }
+{
+    let mut carried = front;
+    for slot in row.iter_mut() {
+        let found = slot.valid && slot.block == block;
+        let here = *slot;
+        *slot = carried;
+        if found {
+            return;
+        }
+        carried = here;
+    }
+}
+
+/// The dirty level of a block after an access that found it like this.
+fn level_now(write: bool, seen: Seen) -> usize
+    ensures { result ≡ level_after write seen.level seen.position }
+{
+    if write {
+        0
+    } else if seen.level < seen.position {
+        seen.position
+    } else {
+        seen.level
+    }
+}
+
+/// Serves one access to a row: answers where the block stood, and puts it first.
+fn touch_row(row: &mut [Slot], block: u64, write: bool) -> usize
+    ensures position { result ≡ index_of (holds block) row.old }
+    ensures slots { row.new ≡ next_slots block write row.old }
+{
+    let seen = look(row, block);
+    let front = Slot {
+        block,
+        valid: true,
+        level: level_now(write, seen),
+    };
+    bring_front(row, block, front);
+    seen.position
+}
+
+/// Serves one access to the row of its set.
+pub(crate) fn touch(slots: &mut [Slot], set: usize, ways: usize, block: u64, write: bool) -> usize
+    requires { (set + 1) * ways ≤ length slots.old }
+    ensures position { result ≡ index_of (holds block) (row ways set slots.old) }
+    ensures slots { row ways set slots.new ≡ next_slots block write (row ways set slots.old) }
+    ensures others { (s : ℕ) → s ≢ set → row ways s slots.new ≡ row ways s slots.old }
+{
+    let start = set * ways;
+    let end = start + ways;
+    touch_row(&mut slots[start..end], block, write)
+}
+
+/// The same for the rows of a vector.
+pub(crate) fn touch_in(
+    slots: &mut Vec<Slot>,
+    set: usize,
+    ways: usize,
+    block: u64,
+    write: bool,
+) -> usize
+    requires { (set + 1) * ways ≤ vec_len slots.old }
+    ensures position { result ≡ index_of (holds block) (row ways set slots.old.items) }
+    ensures slots { row ways set slots.new.items
+        ≡ next_slots block write (row ways set slots.old.items) }
+    ensures others { (s : ℕ) → s ≢ set →
+        row ways s slots.new.items ≡ row ways s slots.old.items }
+    ensures len { vec_len slots.new ≡ vec_len slots.old }
+{
+    touch(slots, set, ways, block, write)
+}
+
+/// Appends the first bytes of the blocks of a row that are dirty in a cache of `ways` ways.
+fn gather(
+    row: &[Slot],
+    bsize: u64,
+    wback: bool,
+    ways: usize,
+    bytes: &mut Vec<u64>,
+) -> Result<(), AllocError>
+    requires { HaveBytes bsize row.now }
+    ensures { OnOk result (bytes.new.items
+        ≡ bytes.old.items ++ dirty_bytes bsize wback ways row.now) }
+{
+    for slot in row {
+        if slot.valid && wback && slot.level < ways {
+            bytes.push(slot.block * bsize)?;
+        }
+    }
+    Ok(())
+}
+
+/// The first bytes of the blocks that are dirty in a cache of `ways` ways, set by set.
+fn dirty_in_sets(
+    alloc: Global,
+    slots: &Vec<Slot>,
+    sets: usize,
+    most: usize,
+    bsize: u64,
+    wback: bool,
+    ways: usize,
+) -> Result<Vec<u64>, AllocError>
+    requires room { vec_len slots.now ≡ sets * most }
+    requires fits { ways ≤ most }
+    requires bytes { (t : ℕ) → t < sets → HaveBytes bsize (row most t slots.now.items) }
+    ensures { IfOk result (λ v. v.items
+        ≡ dirty_in_rows bsize wback ways most slots.now.items sets) }
+{
+    let mut bytes = Vec::new(alloc);
+    for set in 0..sets {
+        let start = set * most;
+        let end = start + ways;
+        gather(&slots[start..end], bsize, wback, ways, &mut bytes)?;
+    }
+    Ok(bytes)
+}
+
+/// The same in rising order, each once.
+pub(crate) fn dirty_rising(
+    alloc: Global,
+    slots: &Vec<Slot>,
+    sets: usize,
+    most: usize,
+    bsize: u64,
+    wback: bool,
+    ways: usize,
+) -> Result<Vec<u64>, AllocError>
+    requires room { vec_len slots.now ≡ sets * most }
+    requires fits { ways ≤ most }
+    requires bytes { (t : ℕ) → t < sets → HaveBytes bsize (row most t slots.now.items) }
+    ensures { IfOk result (λ v. (ys : List ℕ)
+        × IsPermutation (dirty_in_rows bsize wback ways most slots.now.items sets) ys
+        × IsSorted nat_cmp ys
+        × (v.items ≡ dedup nat_eq ys)) }
+{
+    let mut bytes = dirty_in_sets(alloc, slots, sets, most, bsize, wback, ways)?;
+    bytes.sort_unstable();
+    bytes.dedup();
+    Ok(bytes)
+}

@@ -1,0 +1,173 @@
+//! An engine beside single caches, on pseudo-random accesses and flushes.
+
+use cache_core::{Access, Cache, Class, Geometry, MAX_EVENTS, Policy, Repl};
+use grid_core::{Engine, share_block_size};
+use std::alloc::Global;
+use std::process::Abort;
+use std::test::Fail;
+
+mod memory;
+
+/// The next pseudo-random number, by a linear congruence with Knuth's constants.
+fn next_random(state: &mut u64) -> u64 {
+    *state = state
+        .wrapping_mul(6_364_136_223_846_793_005)
+        .wrapping_add(1_442_695_040_888_963_407);
+    *state >> 33
+}
+
+/// A pseudo-random access to one of some blocks of four bytes: low ones and the highest. Most go to
+/// a few of them.
+fn access_of(state: &mut u64, blocks: u64) -> Access {
+    let class = match next_random(state) % 8 {
+        0 => Class::Instr,
+        1 | 2 | 3 => Class::Write,
+        4 => Class::Misc,
+        _ => Class::Read,
+    };
+    let wide = next_random(state) % 4;
+    let few = if wide == 0 { blocks } else { blocks / 8 };
+    let block = next_random(state).checked_rem(few).unwrap_or(0);
+    let offset = block.wrapping_mul(4).wrapping_add(next_random(state) % 4);
+    let addr = if block % 3 == 0 { !offset } else { offset };
+    Access { class, addr }
+}
+
+/// All geometries of blocks of four bytes with these sizes and numbers of ways.
+fn geometries_of(rt: &impl Abort, alloc: Global, sizes: &[u64], ways: &[u64]) -> Vec<Geometry> {
+    let mut geometries = Vec::new(alloc);
+    for size in sizes.iter() {
+        for way in ways.iter() {
+            if let Ok(geometry) = Geometry::new(*size, 4, *way) {
+                geometries.push(geometry).expect(rt, "memory");
+            }
+        }
+    }
+    geometries
+}
+
+/// The fully associative geometry of the same size.
+fn whole_of(rt: &impl Abort, geometry: Geometry) -> Geometry {
+    let blocks = geometry.blocks();
+    let size = blocks.wrapping_mul(geometry.bsize());
+    Geometry::new(size, geometry.bsize(), blocks).expect(rt, "a lawful geometry")
+}
+
+/// A cache of each geometry.
+fn caches_of(rt: &impl Abort, alloc: Global, geometries: &[Geometry], wback: bool) -> Vec<Cache> {
+    let policy = Policy {
+        repl: Repl::Lru,
+        wback,
+        walloc: true,
+    };
+    let mut caches = Vec::new(alloc);
+    for geometry in geometries.iter() {
+        let cache = Cache::new(alloc, *geometry, policy).expect(rt, "memory");
+        caches.push(cache).expect(rt, "memory");
+    }
+    caches
+}
+
+/// Serves an access in the engine and in each cache. The outcomes have to agree.
+fn access_alike(rt: &impl Abort, engine: &mut Engine, caches: &mut Vec<Cache>, access: Access) {
+    assert!(rt; engine.served() < MAX_EVENTS);
+    engine.access(access).expect(rt, "memory");
+    for (index, cache) in caches.iter_mut().enumerate() {
+        assert!(rt; cache.served() < MAX_EVENTS);
+        let outcome = cache.access(access).expect(rt, "memory");
+        assert!(rt; index < engine.cells());
+        assert_eq!(rt; engine.answer(index), outcome);
+    }
+}
+
+/// Flushes the engine and each cache, which have to write the same blocks back.
+fn flush_alike(rt: &impl Abort, alloc: Global, engine: &mut Engine, caches: &mut Vec<Cache>) {
+    assert!(rt; engine.served() < MAX_EVENTS);
+    let lists = engine.flush().expect(rt, "memory");
+    for (index, cache) in caches.iter_mut().enumerate() {
+        assert!(rt; cache.served() < MAX_EVENTS);
+        let mut bytes = Vec::new(alloc);
+        cache.flush(&mut bytes).expect(rt, "memory");
+        assert!(rt; index < lists.len());
+        assert_eq!(rt; lists[index], bytes);
+    }
+}
+
+/// Serves an access in each shadow.
+fn access_all(rt: &impl Abort, shadows: &mut Vec<Cache>, access: Access) {
+    for cache in shadows.iter_mut() {
+        assert!(rt; cache.served() < MAX_EVENTS);
+        let _outcome = cache.access(access).expect(rt, "memory");
+    }
+}
+
+/// Flushes each shadow.
+fn flush_all(rt: &impl Abort, alloc: Global, shadows: &mut Vec<Cache>) {
+    let mut bytes = Vec::new(alloc);
+    for cache in shadows.iter_mut() {
+        assert!(rt; cache.served() < MAX_EVENTS);
+        cache.flush(&mut bytes).expect(rt, "memory");
+    }
+}
+
+/// The counts of each cell are those of its cache, and the misses of its shadow are those of the
+/// fully associative cache.
+fn expect_counts(rt: &impl Abort, engine: &Engine, caches: &Vec<Cache>, shadows: &Vec<Cache>) {
+    for (index, cache) in caches.iter().enumerate() {
+        assert!(rt; index < engine.cells());
+        assert_eq!(rt; engine.counts(index), cache.counts());
+    }
+    for (index, cache) in shadows.iter().enumerate() {
+        assert!(rt; index < engine.cells());
+        assert_eq!(rt; engine.shadow_misses(index), cache.counts().misses);
+    }
+}
+
+/// An engine of all these caches does on a pseudo-random history what each alone does.
+fn is_alike(rt: &impl Abort, alloc: Global, geometries: &Vec<Geometry>, wback: bool, turns: u64) {
+    let first = geometries.first().copied().expect(rt, "a geometry");
+    assert!(rt; share_block_size(geometries, first));
+    let mut engine = Engine::new(alloc, geometries, first, wback).expect(rt, "memory");
+    let mut wholes = Vec::new(alloc);
+    for geometry in geometries.iter() {
+        wholes.push(whole_of(rt, *geometry)).expect(rt, "memory");
+    }
+    let mut caches = caches_of(rt, alloc, geometries, wback);
+    let mut shadows = caches_of(rt, alloc, &wholes, wback);
+    assert_eq!(rt; engine.cells(), caches.len());
+    let mut state = turns;
+    for turn in 0..turns {
+        let access = access_of(&mut state, 256);
+        access_alike(rt, &mut engine, &mut caches, access);
+        access_all(rt, &mut shadows, access);
+        if turn % 97 == 96 {
+            flush_alike(rt, alloc, &mut engine, &mut caches);
+            flush_all(rt, alloc, &mut shadows);
+        }
+    }
+    expect_counts(rt, &engine, &caches, &shadows);
+}
+
+#[test]
+fn six_cells_are_single_caches(rt: HostRuntime) -> Result<(), Fail> {
+    let geometries = geometries_of(&rt, rt.alloc(), &[32, 64, 128], &[1, 4]);
+    is_alike(&rt, rt.alloc(), &geometries, true, 600);
+    is_alike(&rt, rt.alloc(), &geometries, false, 600);
+    Ok(())
+}
+
+#[test]
+fn many_cells_are_single_caches(rt: HostRuntime) -> Result<(), Fail> {
+    let sizes = [16, 32, 64, 128, 256, 512, 1024];
+    let geometries = geometries_of(&rt, rt.alloc(), &sizes, &[1, 2, 4, 8, 16, 32, 64, 128, 256]);
+    is_alike(&rt, rt.alloc(), &geometries, true, 400);
+    is_alike(&rt, rt.alloc(), &geometries, false, 400);
+    Ok(())
+}
+
+#[test]
+fn a_cache_of_one_block_is_one(rt: HostRuntime) -> Result<(), Fail> {
+    let geometries = geometries_of(&rt, rt.alloc(), &[4, 8], &[1, 2]);
+    is_alike(&rt, rt.alloc(), &geometries, true, 500);
+    Ok(())
+}

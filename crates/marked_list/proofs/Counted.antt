@@ -1,0 +1,89 @@
+-- How many blocks were used, and the marks where each was used once.
+use Rattle.std.proofs.Common.{◌≡◌, ℕ, zero, suc, ◌-◌, ◌<◌, ◌≤◌, true, false}
+use Rattle.std.proofs.Common.{eqb, ltb, List}
+use Rattle.std.proofs.Common.{[], ◌∷◌, take, length, map, refl, sym}
+use Rattle.std.proofs.Common.{ap, subst, ◌∙◌, arith}
+use Rattle.std.proofs.lemmas.Bool.{eqb-true, ltb-true, ltb-false}
+use Rattle.std.proofs.lemmas.Bool.{false≢true}
+use Rattle.std.proofs.lemmas.List.{take_all}
+use Rattle.cache_core.proofs.Reuse.{has, has-distinct}
+use Rattle.cache_core.proofs.Shift.{IsOnce, without, without-absent, IsOnce-distinct, IsOnce-take}
+use Rattle.cache_core.proofs.Cases.{by_cases}
+use Rattle.cache_core.specs.Residents.{distinct}
+use Rattle.marked_list.specs.declared.marks.Mark.{Mark}
+use Rattle.marked_list.specs.Marks.{IsMark, AreMarks, size_of, settled, counted_with}
+use Rattle.marked_list.specs.Uses.{last_in}
+use Rattle.marked_list.proofs.LastUse.{has-last, none-last}
+use Rattle.std.proofs.Common.{add-one}
+
+-- how many blocks were used
+pub count-again : (b : ℕ) (ys : List ℕ) → IsOnce ys → has ys b ≡ true
+    → suc (length (without b ys)) ≡ length ys
+count-again b [] o h = absurd (false≢true h)
+count-again b (y ∷ ys) o h = by_cases (eqb y b)
+    (λ e. rw e (ap (λ l. suc (length l)) (without-absent ys b
+    (subst (λ z. has ys z ≡ false) (eqb-true y b e) o.0))))
+    (λ e. rw e (ap suc (count-again b ys o.1 (sym (rw e refl) ∙ h))))
+
+pub count-new : (b : ℕ) (ys : List ℕ) → has ys b ≡ false
+    → suc (length (without b ys)) ≡ suc (length ys)
+count-new b ys h = ap (λ l. suc (length l)) (without-absent ys b h)
+
+without-le : (b : ℕ) (ys : List ℕ) → length (without b ys) ≤ length ys
+without-le b [] = omega arith
+without-le b (y ∷ ys) = by_cases (eqb y b)
+    (λ e. rw e (omega (arith, without-le b ys)))
+    (λ e. rw e (omega (arith, without-le b ys)))
+
+pub distinct-le : (ms : List ℕ) → length (distinct ms) ≤ length ms
+distinct-le [] = omega arith
+distinct-le (m ∷ ms) = omega (arith, without-le m (distinct ms), distinct-le ms)
+
+-- the number of blocks after a use, by the last use before it
+pub count-next : (ms : List ℕ) (b : ℕ)
+    → length (distinct (b ∷ ms)) ≡ counted_with (last_in ms b) (length (distinct ms))
+count-next ms b = by_cases (has ms b)
+    (λ e. let u = has-last ms b e in
+    count-again b (distinct ms) (IsOnce-distinct ms) (has-distinct ms b ∙ e)
+    ∙ sym (ap (λ o. counted_with o (length (distinct ms))) u.1))
+    (λ e. count-new b (distinct ms) (has-distinct ms b ∙ e)
+    ∙ sym (ap (λ o. counted_with o (length (distinct ms))) (none-last ms b e)
+    ∙ add-one (length (distinct ms))))
+
+-- a list with no repetitions stays as it is
+pub distinct-once : (ys : List ℕ) → IsOnce ys → distinct ys ≡ ys
+distinct-once [] o = refl
+distinct-once (y ∷ ys) o = ap (λ l. y ∷ without y l) (distinct-once ys o.1)
+    ∙ ap (λ l. y ∷ l) (without-absent ys y o.0)
+
+pub distinct-twice : (ms : List ℕ) → distinct (distinct ms) ≡ distinct ms
+distinct-twice ms = distinct-once (distinct ms) (IsOnce-distinct ms)
+
+take-least : (n : ℕ) (ys : List ℕ) → take (length ys - (length ys - n)) ys ≡ take n ys
+take-least n ys = by_cases (ltb (length ys) n)
+    (λ e. let lt = ltb-true (length ys) n e in
+    ap (λ k. take k ys) (let z : length ys - (length ys - n) ≡ length ys = omega arith in z)
+    ∙ take_all (length ys) ys (omega arith) ∙ sym (take_all n ys (omega arith)))
+    (λ e. let ge = ltb-false (length ys) n e in
+    ap (λ k. take k ys) (let z : length ys - (length ys - n) ≡ n = omega arith in z))
+
+settled-mark : (ms : List ℕ) (k : Mark) → 0 < k.size
+    → IsMark (distinct ms) (settled (length (distinct ms)) k)
+settled-mark ms k some = let d = distinct ms in record {
+  some = some;
+  within = omega arith;
+  window = ap (take k.size) (distinct-twice ms) ∙ sym (take-least k.size d)
+      ∙ sym (distinct-once (take (length d - (length d - k.size)) d)
+      (IsOnce-take (length d - (length d - k.size)) d (IsOnce-distinct ms)));
+}
+
+pub settled-marks : (ms : List ℕ) (ks : List Mark) → AreMarks ms ks
+    → AreMarks (distinct ms) (map (settled (length (distinct ms))) ks)
+settled-marks ms [] a i lt = absurd (omega arith)
+settled-marks ms (k ∷ ks) a zero lt = let first = a 0 (omega arith) in settled-mark ms k first.some
+settled-marks ms (k ∷ ks) a (suc i) lt =
+    settled-marks ms ks (λ j below. a (suc j) (omega arith)) i (omega arith)
+
+pub sizes-settled : (n : ℕ) (ks : List Mark) → map size_of (map (settled n) ks) ≡ map size_of ks
+sizes-settled n [] = refl
+sizes-settled n (k ∷ ks) = ap (λ l. k.size ∷ l) (sizes-settled n ks)

@@ -1,0 +1,12 @@
+pub mod Words
+pub mod Scan
+pub mod LastUse
+pub mod Stamps
+pub mod Passing
+pub mod Dead
+pub mod Windows
+pub mod Counted
+pub mod LevelLaws
+pub mod Rising
+pub mod MarkSteps
+pub mod Latest

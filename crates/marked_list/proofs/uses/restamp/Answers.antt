@@ -1,0 +1,49 @@
+use Rattle.std.proofs.Common.{rules, ◌≡◌, ◌<◌, ◌∷◌, ℕ, List, length, take, reverse, get_or, set}
+use Rattle.std.proofs.Common.{arith, sym, ap, subst, ◌∙◌}
+use Rattle.std.proofs.lemmas.List.{length-reverse, length-take-le, take_more, take_all}
+use Rattle.marked_list.specs.Uses.{last_in, no_stamp, stamp_of, or_else}
+use Rattle.marked_list.proofs.LastUse.{has-there, reverse-push}
+use Rattle.marked_list.proofs.Stamps.{restamped-next}
+use Rattle.marked_list.proofs.uses.restamp.Goals as goal
+
+pub bounds-stamps-number : goal.bounds-stamps-number
+bounds-stamps-number c =
+    let log = c.args.log.now in
+    let i = c.loop-place.place in
+    let lt : i < length log = omega arith in
+    let room = c.requires.room (get_or log i 0) (has-there log i lt) in
+    omega arith
+
+pub offset_bounds-stamps-number : goal.offset_bounds-stamps-number
+offset_bounds-stamps-number c =
+    let log = c.args.log.now in
+    let i = c.loop-place.place in
+    let lt : i < length log = omega arith in
+    let room = c.requires.room (get_or log i 0) (has-there log i lt) in
+    let below : get_or log i 0 < length c.loop-place.stamps = omega arith in
+    search rules
+
+pub loop-place-preserved : goal.loop-place-preserved
+loop-place-preserved c =
+    let log = c.args.log.now in
+    let i = c.loop-place.place in
+    let stamps = c.loop-place.stamps in
+    let lt : i < length log = omega arith in
+    let x = get_or log i 0 in
+    let room = c.requires.room x (has-there log i lt) in
+    let below : x < length stamps = omega arith in
+    let ms = reverse (take i log) in
+    let long : length ms ≡ i = length-reverse (take i log) ∙ length-take-le i log (omega arith) in
+    let small : length ms < no_stamp = omega (arith, c.requires.short) in
+    let other = stamp_of c.args.stamps.now in
+    subst (λ l. (q : ℕ) → stamp_of (set stamps x i) q ≡ or_else (last_in l q) (other q))
+    (sym (ap (λ (l : List ℕ). reverse l) (take_more log i 0 lt) ∙ reverse-push (take i log) x))
+    (subst (λ n. (q : ℕ) → stamp_of (set stamps x n) q
+    ≡ or_else (last_in (x ∷ ms) q) (other q)) long
+    (restamped-next ms stamps x other c.loop-place.invariant below small))
+
+pub returns : goal.returns
+returns c =
+    subst (λ l. (q : ℕ) → stamp_of c.loop-place.stamps q
+    ≡ or_else (last_in (reverse l) q) (stamp_of c.args.stamps.now q))
+    (take_all c.loop-place.place c.args.log.now (omega arith)) c.loop-place.invariant

@@ -1,0 +1,7 @@
+pub mod Recency
+pub mod Bits
+pub mod Uses
+pub mod Log
+pub mod Marks
+pub mod Marked
+pub mod Laws

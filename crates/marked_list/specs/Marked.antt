@@ -1,0 +1,14 @@
+-- What a contract sees of a `Marked`.
+use Rattle.std.specs.Prelude.{ℕ, List, map}
+use Rattle.cache_core.specs.Residents.{distinct}
+use Rattle.marked_list.specs.declared.marked.Marked.{Marked}
+use Rattle.marked_list.specs.Log.{uses_of}
+use Rattle.marked_list.specs.Marks.{size_of}
+
+-- the blocks in order of last use, the latest first
+unfoldable pub order_of : Marked → List ℕ
+order_of m = distinct (uses_of m.uses)
+
+-- the sizes
+unfoldable pub marked_sizes : Marked → List ℕ
+marked_sizes m = map size_of m.marks.items

@@ -1,0 +1,54 @@
+-- How a mark for each size relates to the uses of blocks, the latest first.
+use Rattle.std.specs.Prelude.{◌≡◌, ℕ, ◌-◌, ◌+◌, ◌<◌, ◌≤◌, Bool, false, not, nat_lt, List, length}
+use Rattle.std.specs.Prelude.{take, get_or, Option, Some, None}
+use Rattle.cache_core.specs.Residents.{distinct}
+use Rattle.marked_list.specs.declared.marks.Mark.{Mark}
+use Rattle.marked_list.specs.Uses.{since}
+
+-- the last use is at this place or after it
+abbrev pub covers : ℕ → Option ℕ → Bool
+covers place None = false
+covers place (Some last) = not (nat_lt last place)
+
+-- the blocks used from the place of the mark on are the first ones, as many as the size says
+pub record IsMark (ms : List ℕ) (k : Mark) : Type 0 where
+  pub some : 0 < k.size
+  pub within : k.place ≤ length ms
+  pub window : take k.size (distinct ms) ≡ distinct (since k.place ms)
+
+-- a mark for what lies past the end of a list
+abbrev pub no_mark : Mark
+no_mark = record { size = 0; place = 0 }
+
+-- a mark of this size before any use
+abbrev pub fresh_mark : ℕ → Mark
+fresh_mark size = record { size = size; place = 0 }
+
+-- the mark of the same size before any use
+abbrev pub restarted : Mark → Mark
+restarted k = record { size = k.size; place = 0 }
+
+-- the size of a mark
+abbrev pub size_of : Mark → ℕ
+size_of k = k.size
+
+-- each is a mark
+abbrev pub AreMarks : List ℕ → List Mark → Type 0
+AreMarks ms ks = (i : ℕ) → i < length ks → IsMark ms (get_or ks i no_mark)
+
+-- each place is below this one
+abbrev pub AreBelow : ℕ → List Mark → Type 0
+AreBelow n ks = (i : ℕ) → i < length ks → (get_or ks i no_mark).place < n
+
+-- the number of blocks after a use, by the last use of the block before it
+abbrev pub counted_with : Option ℕ → ℕ → ℕ
+counted_with None n = n + 1
+counted_with (Some last) n = n
+
+-- the mark of the same size where each of some blocks was used once
+abbrev pub settled : ℕ → Mark → Mark
+settled used k = record { size = k.size; place = used - k.size }
+
+-- each is larger than the one before it
+abbrev pub IsStepwise : List ℕ → Type 0
+IsStepwise ns = (i : ℕ) → i + 1 < length ns → get_or ns i 0 < get_or ns (i + 1) 0

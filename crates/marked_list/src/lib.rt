@@ -1,0 +1,16 @@
+//! The blocks that were used last, for fully associative LRU caches of many sizes at once.
+//!
+//! A [`Marked`] is one list for all sizes. A use of a block answers the first size whose cache had
+//! the block.
+#![tactic(auto)]
+
+mod bits;
+mod laws;
+mod marked;
+mod marks;
+mod uses;
+
+pub use laws::{
+    accesses_bring_front, levels_tell_shadow_hits, levels_tell_sizes, sizes_hold_by_distance,
+};
+pub use marked::Marked;

@@ -1,0 +1,115 @@
+//! One list of blocks in order of last use, for all sizes.
+
+ghost use Rattle.std.specs.Prelude.{◌≡◌, ◌<◌, length, map, true};
+ghost use Rattle.cache_core.specs.Residents.{distinct};
+ghost use Rattle.marked_list.specs.Log.{uses_of};
+ghost use Rattle.marked_list.specs.Marks.{AreMarks, IsStepwise, counted_with, size_of};
+
+use crate::marks::{Mark, is_rising, move_each, new_marks, restart_each, settle_each};
+use crate::uses::Uses;
+use std::alloc::{AllocError, Global};
+
+/// The blocks by number, in order of last use. For each size it is known whether a block is among
+/// those used last, as many as the size says.
+#[derive(Drop)]
+pub struct Marked {
+    uses: Uses,
+    marks: Vec<Mark>,
+    /// How many different blocks were used.
+    used: usize,
+    /// Whether each size is larger than those before it.
+    rising: bool,
+    ghost marked: { AreMarks (uses_of uses) marks.items },
+    ghost counted: { used ≡ length (distinct (uses_of uses)) },
+    ghost rises: { rising ≡ true → IsStepwise (map size_of marks.items) },
+}
+
+/// How many different blocks were used after a use, by the last use of the block before it.
+fn counted(used: usize, last: Option<usize>) -> usize
+    requires { used < usize.MAX }
+    ensures { result ≡ counted_with last used }
+{
+    match last {
+        None => used + 1,
+        Some(_) => used,
+    }
+}
+
+#[tactic(auto, unfolding(crate::specs::Marked::order_of, crate::specs::Marked::marked_sizes))]
+impl Marked {
+    ghost use Rattle.std.specs.Prelude.{◌≡◌, ◌<◌, [], IfOk, OnOk, OnErr};
+    ghost use Rattle.std.specs.List.{All};
+    ghost use Rattle.marked_list.specs.Recency.{level_of, brought_front};
+    ghost use Rattle.marked_list.specs.Marked.{order_of, marked_sizes};
+
+    /// A list for these sizes, with no block.
+    pub fn new(alloc: Global, sizes: &[usize]) -> Result<Marked, AllocError>
+        requires { All (λ size. 0 < size) sizes.now }
+        ensures order { IfOk result (λ marked. order_of marked ≡ []) }
+        ensures sizes { IfOk result (λ marked. marked_sizes marked ≡ sizes.now) }
+    {
+        let marks = new_marks(alloc, sizes)?;
+        Ok(Marked {
+            uses: Uses::new(alloc),
+            marks,
+            used: 0,
+            rising: is_rising(sizes),
+        })
+    }
+
+    /// Forgets all uses but the last ones.
+    fn shorten(&mut self)
+        ensures order { order_of self.new ≡ order_of self.old }
+        ensures sizes { marked_sizes self.new ≡ marked_sizes self.old }
+    {
+        self.uses.shorten();
+        settle_each(&mut self.marks, self.used);
+    }
+
+    /// Serves a use of a block, as `touch` does.
+    fn serve(&mut self, number: usize) -> Result<usize, AllocError>
+        ensures level { IfOk result (λ level.
+            level ≡ level_of (marked_sizes self.old) (order_of self.old) number) }
+        ensures order { OnOk result (order_of self.new ≡ brought_front number (order_of self.old)) }
+        ensures unchanged { OnErr result (order_of self.new ≡ order_of self.old) }
+        ensures sizes { marked_sizes self.new ≡ marked_sizes self.old }
+    {
+        let last = self.uses.last_use(number);
+        let Ok(()) = self.uses.add(number, last) else {
+            return Err(AllocError);
+        };
+        let level = move_each(&mut self.marks, &self.uses, last, self.used, self.rising);
+        self.used = counted(self.used, last);
+        Ok(level)
+    }
+
+    /// Uses a block, and answers its level before: the index of the first size for which it was
+    /// among the blocks used last, or the number of sizes. After an error nothing is changed.
+    /// Numbers have 32 bits: `u32::MAX` and more answer an error, as if memory were wanting.
+    pub fn touch(&mut self, number: usize) -> Result<usize, AllocError>
+        requires { number < usize.MAX }
+        ensures level { IfOk result (λ level.
+            level ≡ level_of (marked_sizes self.old) (order_of self.old) number) }
+        ensures order { OnOk result (order_of self.new ≡ brought_front number (order_of self.old)) }
+        ensures unchanged { OnErr result (order_of self.new ≡ order_of self.old) }
+        ensures sizes { marked_sizes self.new ≡ marked_sizes self.old }
+    {
+        if self.uses.is_latest(number) {
+            return Ok(0);
+        }
+        if self.uses.is_long(self.used) {
+            self.shorten();
+        }
+        self.serve(number)
+    }
+
+    /// Forgets all blocks.
+    pub fn clear(&mut self)
+        ensures order { order_of self.new ≡ [] }
+        ensures sizes { marked_sizes self.new ≡ marked_sizes self.old }
+    {
+        self.uses.clear();
+        restart_each(&mut self.marks);
+        self.used = 0;
+    }
+}

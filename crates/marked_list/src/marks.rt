@@ -1,0 +1,181 @@
+//! A mark for each size: where the uses begin that have as many different blocks.
+
+ghost use Rattle.std.specs.Prelude.{◌≡◌, ◌<◌, ◌≤◌, ◌∷◌, ℕ, List, length, map, get_or, true, IfOk};
+ghost use Rattle.cache_core.specs.Residents.{distinct};
+ghost use Rattle.marked_list.specs.Recency.{index_of};
+ghost use Rattle.marked_list.specs.Uses.{last_in};
+ghost use Rattle.marked_list.specs.Log.{uses_of};
+ghost use Rattle.marked_list.specs.Marks.{covers, IsMark, AreMarks, AreBelow, no_mark, fresh_mark};
+ghost use Rattle.marked_list.specs.Marks.{IsStepwise, restarted, size_of, settled};
+
+use crate::uses::Uses;
+use std::alloc::{AllocError, Global};
+
+/// The blocks used at `place` or later are those used last, as many as `size` says.
+#[derive(Clone, Copy, Debug)]
+pub(crate) struct Mark {
+    pub size: usize,
+    pub place: usize,
+}
+
+/// Marks of these sizes, before any use.
+pub(crate) fn new_marks(alloc: Global, sizes: &[usize]) -> Result<Vec<Mark>, AllocError>
+    ensures { IfOk result (λ v. v.items ≡ map fresh_mark sizes.now) }
+{
+    sizes
+        .iter()
+        .map(|size| Mark {
+            size: *size,
+            place: 0,
+        })
+        .collect(alloc)
+}
+
+/// Whether each size is larger than those before it.
+pub(crate) fn is_rising(sizes: &[usize]) -> bool
+    ensures { result ≡ true → IsStepwise sizes.now }
+{
+    for index in 1..sizes.len() {
+        if sizes[index] <= sizes[index - 1] {
+            return false;
+        }
+    }
+    true
+}
+
+/// Whether the last use is at this place or after it.
+fn is_since(place: usize, last: Option<usize>) -> bool
+    ensures { result ≡ covers place last }
+{
+    match last {
+        None => false,
+        Some(last) => !(last < place),
+    }
+}
+
+/// Moves a mark after a use, by the last use of the block before it, and the number of blocks used
+/// before.
+fn move_mark(mark: &mut Mark, uses: &Uses, last: Option<usize>, used: usize)
+    requires { mark.old.place < length (uses_of uses.now) }
+    ensures size { mark.new.size ≡ mark.old.size }
+    ensures moves { (b : ℕ) (ms : List ℕ) → uses_of uses.now ≡ b ∷ ms → last ≡ last_in ms b →
+        used ≡ length (distinct ms) → IsMark ms mark.old → IsMark (b ∷ ms) mark.new }
+{
+    if is_since(mark.place, last) {
+        return;
+    }
+    if used < mark.size {
+        return;
+    }
+    mark.place = uses.behind_next(mark.place);
+}
+
+/// Moves the marks before the first that has the last use, and answers the index of that one, or
+/// the number of marks.
+fn move_first(marks: &mut [Mark], uses: &Uses, last: Option<usize>, used: usize) -> usize
+    requires { AreBelow (length (uses_of uses.now)) marks.old }
+    ensures level { result ≡ index_of (λ k. covers k.place last) marks.old }
+    ensures sizes { map size_of marks.new ≡ map size_of marks.old }
+    ensures moves { (b : ℕ) (ms : List ℕ) → uses_of uses.now ≡ b ∷ ms → last ≡ last_in ms b →
+        used ≡ length (distinct ms) → AreMarks ms marks.old → (k : ℕ) → k < result →
+        IsMark (b ∷ ms) (get_or marks.new k no_mark) }
+    ensures left { (k : ℕ) → result ≤ k →
+        get_or marks.new k no_mark ≡ get_or marks.old k no_mark }
+{
+    for (index, mark) in marks.iter_mut().enumerate() {
+        if is_since(mark.place, last) {
+            return index;
+        }
+        move_mark(mark, uses, last, used);
+    }
+    marks.len()
+}
+
+/// Moves the marks from this index on.
+fn move_rest(marks: &mut [Mark], from: usize, uses: &Uses, last: Option<usize>, used: usize)
+    requires { (k : ℕ) → from ≤ k → k < length marks.old →
+        (get_or marks.old k no_mark).place < length (uses_of uses.now) }
+    ensures sizes { map size_of marks.new ≡ map size_of marks.old }
+    ensures moves { (b : ℕ) (ms : List ℕ) → uses_of uses.now ≡ b ∷ ms → last ≡ last_in ms b →
+        used ≡ length (distinct ms) → (k : ℕ) → from ≤ k → k < length marks.old →
+        IsMark ms (get_or marks.old k no_mark) → IsMark (b ∷ ms) (get_or marks.new k no_mark) }
+    ensures left { (k : ℕ) → k < from → get_or marks.new k no_mark ≡ get_or marks.old k no_mark }
+{
+    for index in from..marks.len() {
+        move_mark(&mut marks[index], uses, last, used);
+    }
+}
+
+/// Moves all marks, and answers the level of the block before the use. Of rising sizes, those from
+/// the level on have the block, so that their marks stay.
+fn move_all(
+    marks: &mut [Mark],
+    uses: &Uses,
+    last: Option<usize>,
+    used: usize,
+    rising: bool,
+) -> usize
+    requires { AreBelow (length (uses_of uses.now)) marks.old }
+    ensures level { result ≡ index_of (λ k. covers k.place last) marks.old }
+    ensures sizes { map size_of marks.new ≡ map size_of marks.old }
+    ensures moves { (b : ℕ) (ms : List ℕ) → uses_of uses.now ≡ b ∷ ms → last ≡ last_in ms b →
+        used ≡ length (distinct ms) → (rising ≡ true → IsStepwise (map size_of marks.old)) →
+        AreMarks ms marks.old → AreMarks (b ∷ ms) marks.new }
+{
+    let level = move_first(marks, uses, last, used);
+    if rising {
+        return level;
+    }
+    move_rest(marks, level, uses, last, used);
+    level
+}
+
+/// The same for the marks of a vector.
+pub(crate) fn move_each(
+    marks: &mut Vec<Mark>,
+    uses: &Uses,
+    last: Option<usize>,
+    used: usize,
+    rising: bool,
+) -> usize
+    requires { AreBelow (length (uses_of uses.now)) marks.old.items }
+    ensures level { result ≡ index_of (λ k. covers k.place last) marks.old.items }
+    ensures sizes { map size_of marks.new.items ≡ map size_of marks.old.items }
+    ensures moves { (b : ℕ) (ms : List ℕ) → uses_of uses.now ≡ b ∷ ms → last ≡ last_in ms b →
+        used ≡ length (distinct ms) → (rising ≡ true → IsStepwise (map size_of marks.old.items)) →
+        AreMarks ms marks.old.items → AreMarks (b ∷ ms) marks.new.items }
+{
+    move_all(marks, uses, last, used, rising)
+}
+
+/// Takes all marks back to the start.
+fn restart_all(marks: &mut [Mark])
+    ensures { marks.new ≡ map restarted marks.old }
+{
+    for mark in marks.iter_mut() {
+        mark.place = 0;
+    }
+}
+
+/// The same for the marks of a vector.
+pub(crate) fn restart_each(marks: &mut Vec<Mark>)
+    ensures { marks.new.items ≡ map restarted marks.old.items }
+{
+    restart_all(marks);
+}
+
+/// Puts all marks where they belong if each of `used` blocks was used once.
+fn settle_all(marks: &mut [Mark], used: usize)
+    ensures { marks.new ≡ map (settled used) marks.old }
+{
+    for mark in marks.iter_mut() {
+        mark.place = used.saturating_sub(mark.size);
+    }
+}
+
+/// The same for the marks of a vector.
+pub(crate) fn settle_each(marks: &mut Vec<Mark>, used: usize)
+    ensures { marks.new.items ≡ map (settled used) marks.old.items }
+{
+    settle_all(marks, used);
+}
