@@ -73,6 +73,15 @@ sed -i 's/^/ /' "$fresh/crates/sim_run/src/lib.rt"
 touch -d 2001-01-01 "$fresh/crates/sim_run/src/lib.rt"
 launch
 check 'a source that seems to be older builds the program' is_built
+# A clock that is ahead of the file system's.
+new_checkout
+printf '#!/bin/sh\nexec %q -d "1 hour" "$@"\n' "$(command -v date)" >"$work/fake/date"
+chmod +x "$work/fake/date"
+launch
+echo >>"$fresh/crates/sim_run/src/lib.rt"
+launch
+check 'a source that is older by the clock builds the program' is_built
+rm "$work/fake/date"
 new_checkout
 launch
 rm "$fresh/crates/sim_run/specs/Runs.antt"
