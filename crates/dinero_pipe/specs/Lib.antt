@@ -1,4 +1,1 @@
-pub mod Options
-pub mod Values
-pub mod Answer
 pub mod FaultText

@@ -2,18 +2,14 @@
 
 ghost use Rattle.std.specs.Prelude.{◌≡◌};
 ghost use Rattle.din_trace.specs.Device.{Writes};
-ghost use Rattle.dinero_pipe.specs.FaultText.{asks_for_help, cache_name_text, config_fault_text};
-ghost use Rattle.dinero_pipe.specs.FaultText.{fault_line};
-ghost use Rattle.dinero_pipe.specs.FaultText.{message_of, geometry_fault_text, run_fault_text};
-ghost use Rattle.dinero_pipe.specs.FaultText.{status_of};
-ghost use Rattle.dinero_pipe.specs.FaultText.{trace_fault_text, why_word, words_fault_text};
+ghost use Rattle.dinero_pipe.specs.FaultText.{asks_for_help, fault_line, message_of};
+ghost use Rattle.dinero_pipe.specs.FaultText.{run_fault_text, status_of, trace_fault_text};
+ghost use Rattle.dinero_pipe.specs.FaultText.{why_word};
 
-use crate::words::WordsFault;
-use cache_core::GeometryFault;
 use din_trace::{ByteWriter, DeviceFailed, TraceFault, Why};
+use dinero_options::{WordsFault, put_words};
 use itoa::Buffer;
 use sim_run::RunFault;
-use stage_core::{CacheName, ConfigFault};
 use thiserror::Error;
 
 /// Why the program ends without a report. [`fault_text`] gives the line that is printed.
@@ -79,62 +75,6 @@ fn put_run<W: ByteWriter>(fault: RunFault, writer: &mut W) -> Result<(), DeviceF
         RunFault::Threads => writer.put(b"no thread"),
         RunFault::Cut => writer.put(b"pipeline cut"),
         RunFault::Write => writer.put(b"report write failed"),
-    }
-}
-
-fn cache_text(name: CacheName) -> &'static str
-    ensures { result.now ≡ cache_name_text name }
-{
-    match name {
-        CacheName::I => "l1-icache",
-        CacheName::D => "l1-dcache",
-        CacheName::U => "l2-ucache",
-    }
-}
-
-fn geometry_text(fault: GeometryFault) -> &'static str
-    ensures { result.now ≡ geometry_fault_text fault }
-{
-    match fault {
-        GeometryFault::SizeNotPower => "size is not a power of two",
-        GeometryFault::SizeRange => "size is out of range",
-        GeometryFault::BlockNotPower => "block is not a power of two",
-        GeometryFault::BlockRange => "block is out of range",
-        GeometryFault::AssocNotPower => "associativity is not a power of two",
-        GeometryFault::AssocTooLarge => "associativity is too large",
-    }
-}
-
-fn put_config<W: ByteWriter>(fault: ConfigFault, writer: &mut W) -> Result<(), DeviceFailed>
-    ensures { Writes W.contents W.failures writer.old writer.new result (config_fault_text fault) }
-{
-    match fault {
-        ConfigFault::Geometry(which, fault) => {
-            writer.put(cache_text(which).as_bytes())?;
-            writer.put(b": ")?;
-            writer.put(geometry_text(fault).as_bytes())
-        }
-        ConfigFault::BlockOrder => writer.put(b"l2 block is shorter than an l1 block"),
-        ConfigFault::Ring => writer.put(b"ring is not from 1 to 65536"),
-    }
-}
-
-fn put_words<W: ByteWriter>(fault: WordsFault, writer: &mut W) -> Result<(), DeviceFailed>
-    ensures { Writes W.contents W.failures writer.old writer.new result (words_fault_text fault) }
-{
-    match fault {
-        WordsFault::Words => writer.put(b"command line refused, try --help"),
-        WordsFault::Number(option) => {
-            writer.put(option.name().as_bytes())?;
-            writer.put(b": not a number")
-        }
-        WordsFault::Choice(option) => {
-            writer.put(option.name().as_bytes())?;
-            writer.put(b": not a lawful letter")
-        }
-        WordsFault::Config(fault) => put_config(fault, writer),
-        WordsFault::Help => writer.put(b""),
-        WordsFault::Memory => writer.put(b"out of memory"),
     }
 }
 

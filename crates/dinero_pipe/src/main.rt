@@ -1,34 +1,23 @@
 //! The command line of the simulator: reads a din trace from standard input, and writes the report
 //! of two levels of cache to standard output.
 //!
-//! The modules: `opt` has the names of the options, and `help` says what each one sets. `command`
-//! gives them to clap. `values` reads a size, a count or a letter. `settings` reads the options in
-//! their order, and `words` turns the words into a valid configuration and a selection. `fault` has
-//! the line and the exit status of each fault.
+//! The library dinero_options reads the words. `fault` has the line and the exit status of each
+//! fault.
 //!
-//! Proved: the answer to the words is the one that `specs/Answer` defines, with clap's contracts
-//! for the matches. If the words are refused, the fault is the first one by those definitions, or
-//! out of memory. The line and the status of a fault are those of `specs/FaultText`. Only tested:
-//! the text of the help, and that `main` passes the right streams.
+//! Proved: the line and the status of a fault are those of `specs/FaultText`. Only tested: that
+//! `main` passes the right streams.
 #![tactic(auto)]
 
-mod command;
 mod fault;
-mod help;
-mod opt;
-mod settings;
 #[cfg(test)]
 mod tests;
-mod values;
-mod words;
 
 ghost use Rattle.std.specs.Prelude.{IfOk};
 ghost use Rattle.stage_core.specs.Events.{IsBounded};
 
-use crate::command::help_text;
 use crate::fault::{Fault, fault_text, status};
-use crate::words::{WordsFault, parse_words};
 use din_trace::{FromRead, FromWrite, MAX_LIMIT};
+use dinero_options::{WordsFault, help_text, parse_words};
 use sim_run::{OpenGate, RunFault, simulate};
 use stage_core::{Config, Selection};
 use std::alloc::Global;

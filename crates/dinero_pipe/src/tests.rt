@@ -1,6 +1,3 @@
-//! Tests of the words, the values, the fault lines and failing allocations.
+//! Tests of the fault lines.
 
 mod faults;
-mod memory;
-mod values;
-mod words;

@@ -1,10 +1,9 @@
 //! The lines and the exit statuses of the faults.
 
 use crate::fault::{Fault, fault_text, status};
-use crate::opt::Opt;
-use crate::words::WordsFault;
 use cache_core::GeometryFault;
 use din_trace::{FromWrite, TraceFault, Why};
+use dinero_options::{Opt, WordsFault};
 use sim_run::RunFault;
 use stage_core::{CacheName, ConfigFault};
 use std::io;

@@ -1,0 +1,4 @@
+pub mod Options
+pub mod Values
+pub mod Answer
+pub mod Refusals

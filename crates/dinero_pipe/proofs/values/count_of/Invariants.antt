@@ -1,7 +1,0 @@
-use Rattle.std.proofs.Common.{◌≡◌, ◌<◌, ◌^◌, take}
-use Rattle.std.specs.Str.Parse.{digits_value}
-use Rattle.dinero_pipe.proofs.values.count_of.Given as goal
-
-abbrev pub invariant-loop-digit : goal.invariant-loop-digit
-invariant-loop-digit l = (l.value ≡ digits_value 10 (take l.digit-index l.digits))
-    × (l.value < 10 ^ l.digit-index)
