@@ -10,7 +10,7 @@ new_checkout() {
     mkdir "$fresh"
     tar -C "$top" --exclude=out --exclude=.git --exclude=lab -cf - . | tar -C "$fresh" -xf -
 }
-mkdir "$work/fake"
+mkdir "$work/fake" "$work/builds"
 cat >"$work/fake/rt" <<'END'
 #!/bin/sh
 [ "$1" = version ] || { echo "rt $1: nothing is proved here"; exit 1; }
@@ -18,11 +18,12 @@ echo "$TOOLCHAIN"
 END
 chmod +x "$work/fake/rt"
 
-# launch: a run of the first lesson in that checkout.
+# launch: a run of the first lesson in that checkout, with the toolchain in the folder $tools.
+tools=$work/fake
 mapfile -t words <"$top/examples/1-kinds/kinds.words"
 launch() {
     status=0
-    TOOLCHAIN=${1-$toolchain} PATH=$work/fake:$PATH "$fresh/bin/dinero_pipe" "${words[@]}" \
+    TOOLCHAIN=${1-$toolchain} PATH=$tools:$PATH "$fresh/bin/dinero_pipe" "${words[@]}" \
         <"$top/examples/1-kinds/kinds.din" >"$out" 2>"$err" || status=$?
 }
 
@@ -129,7 +130,7 @@ launch
 check 'without a kept program it is built' is_built
 
 # A toolchain that takes the kept program for what it has built, and under which a source changes.
-cat >"$work/fake/rt" <<'END'
+cat >"$work/builds/rt" <<'END'
 #!/bin/sh
 case $1 in
 version) echo "$TOOLCHAIN" ;;
@@ -140,6 +141,8 @@ run)
     ;;
 esac
 END
+chmod +x "$work/builds/rt"
+tools=$work/builds
 # launch_new: of a checkout whose sources are not those of the kept program.
 launch_new() {
     new_checkout
@@ -161,6 +164,7 @@ rm "$fresh/changes"
 TOP=$fresh launch
 is_report && grep -q 'proved and built' "$err"
 verdict 'the next call builds it again' $?
+tools=$work/fake
 
 # can_not_write CRATE: it says so in one line, and does not begin to prove.
 can_not_write() {
