@@ -1,5 +1,8 @@
 """Copies of the repository in which crates are checked, beside the work that earlier checks kept."""
 
+import contextlib
+import heapq
+import itertools
 import os
 import re
 import shutil
@@ -39,6 +42,39 @@ def all_below(crates, crate):
     return found
 
 
+def chains_above(crates):
+    """For each crate, how many crates stand on one another above it, at most."""
+    above = dict.fromkeys(crates, 0)
+    for name in reversed(crates):
+        for it in crates[name]:
+            above[it] = max(above[it], above[name] + 1)
+    return above
+
+
+class Lanes:
+    """Lets so many checks run at once. Of those that wait, the one with the lowest rank is next."""
+
+    def __init__(self, number):
+        self.free, self.waiting, self.numbers = number, [], itertools.count()
+        self.changed = threading.Condition()
+
+    @contextlib.contextmanager
+    def lane(self, rank):
+        own = (rank, next(self.numbers))
+        with self.changed:
+            heapq.heappush(self.waiting, own)
+            self.changed.wait_for(lambda: self.free and self.waiting[0] == own)
+            heapq.heappop(self.waiting)
+            self.free -= 1
+            self.changed.notify_all()
+        try:
+            yield
+        finally:
+            with self.changed:
+                self.free += 1
+                self.changed.notify_all()
+
+
 def link(source, target):
     """Copies kept work. A check writes a module's file anew and changes none, so these can be the
     same files."""
@@ -56,7 +92,8 @@ class Rooms:
     def __init__(self, top, work, jobs):
         self.work, self.shop = work, work / "shop"
         self.crates = crates_of(top)
-        self.lanes = threading.Semaphore(jobs)
+        self.above = chains_above(self.crates)
+        self.lanes = Lanes(jobs)
         self.alone = threading.Lock()
         self.running = set()
         self.ended = False
@@ -77,9 +114,9 @@ class Rooms:
                 if (source / path).is_dir():
                     shutil.copytree(source / path, room / path)
 
-    def rt(self, words, room, crate):
+    def rt(self, words, room, crate, rank):
         """Runs `rt` in a crate of the room, when a lane and memory are free."""
-        with self.lanes:
+        with self.lanes.lane(rank):
             with self.alone:
                 while self.running and free_gigabytes() < GIGABYTES:
                     time.sleep(1)
@@ -112,7 +149,9 @@ class Rooms:
             if crate not in self.seeded:
                 is_library = (self.shop / "crates" / crate / "src/lib.rt").is_file()
                 verb = "lib" if is_library else "check"
-                status, said = self.rt([verb, "--jobs", "1"], self.shop, crate)
+                # The longest chain of crates decides how long all takes, so it goes first.
+                rank = -self.above[crate]
+                status, said = self.rt([verb, "--jobs", "1"], self.shop, crate, rank)
                 self.seeded[crate] = None if status == 0 else "\n".join(said[-20:])
         if self.seeded[crate]:
             raise Unsure(f"{crate} as it stands is not proved:\n{self.seeded[crate]}")
@@ -129,7 +168,7 @@ class Rooms:
             link(self.shop / path, room / path)
         for path, text in planted(bodies, self.shop / folder).items():
             (room / folder / path).write_text(text, encoding="utf-8")
-        told = self.rt(["check", "--jobs", "1"], room, crate)
+        told = self.rt(["check", "--jobs", "1"], room, crate, 1)
         shutil.rmtree(room, ignore_errors=True)
         return told
 
