@@ -41,6 +41,12 @@ class WrongBody:
     functions: frozenset
 
     @property
+    def by_type(self):
+        """A word of what the compiler says of its types, if that has to refuse it."""
+        found = re.search(r"^by its type: (.+)$", self.text, re.M)
+        return found[1] if found else None
+
+    @property
     def label(self):
         return f"{self.crate}/{self.name}"
 
