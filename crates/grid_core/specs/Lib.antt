@@ -9,4 +9,9 @@ pub mod Shapes
 pub mod Cells
 pub mod Written
 pub mod State
+pub mod StackedCells
+pub mod Singles
+pub mod Places
+pub mod Plans
+pub mod Caches
 pub mod Engines

@@ -10,10 +10,10 @@ use Rattle.grid_core.specs.Shadows.{HoldsOrder, is_known, shadow_sizes}
 use Rattle.grid_core.specs.Standing.{StandsFor, HasLooked, rules_of}
 use Rattle.grid_core.specs.Cells.{IsPlacedAmong, shape_in}
 use Rattle.grid_core.specs.State.{IsRanked}
-use Rattle.grid_core.specs.Engines.{rules_in, served_in, has_failed}
+use Rattle.grid_core.specs.StackedCells.{stacked_rules, stacked_served, stacked_failed}
 use Rattle.grid_core.proofs.After.{cells-due, after-access, lived-next, all-more, same-rules}
 use Rattle.grid_core.proofs.Sizes.{rising-is}
-use Rattle.grid_core.proofs.engine.Engine.access.Goals as goal
+use Rattle.grid_core.proofs.stacked.Stacked.access.Goals as goal
 
 pub serve_in-requires-clause-within : goal.serve_in-requires-clause-within
 serve_in-requires-clause-within c =
@@ -22,7 +22,7 @@ serve_in-requires-clause-within c =
     (2 * old.served, old.bounded, omega arith)
 
 pub invariant_of-self-2 : goal.invariant_of-self-2
-unfolding served_in
+unfolding stacked_served
 invariant_of-self-2 c =
     let old = c.args.self.now in
     let x = c.args.access in
@@ -64,7 +64,7 @@ invariant_of-self-2 c =
     }
 
 pub returns-clause-stands : goal.returns-clause-stands
-unfolding served_in has_failed
+unfolding stacked_served stacked_failed
 returns-clause-stands c = λ h e.
     let old = c.args.self.now in
     let x = c.args.access in
@@ -110,6 +110,6 @@ returns-clause-answers c = λ h e.
     }
 
 pub returns-clause-rules : goal.returns-clause-rules
-unfolding rules_in
+unfolding stacked_rules
 returns-clause-rules c = same-rules c.args.self.now.cells.items c.serve_in.new.cells.items
     c.serve_in.ensures.shapes

@@ -4,9 +4,9 @@ use Rattle.cache_core.specs.Dirty.{rising}
 use Rattle.grid_core.specs.Shadows.{shadow_sizes}
 use Rattle.grid_core.specs.Cells.{shape_in}
 use Rattle.grid_core.specs.State.{IsRanked}
-use Rattle.grid_core.specs.Engines.{rules_in, served_in, has_failed}
+use Rattle.grid_core.specs.StackedCells.{stacked_rules, stacked_served, stacked_failed}
 use Rattle.grid_core.proofs.After.{after-start, rules-shapes}
-use Rattle.grid_core.proofs.engine.Engine.made.Goals as goal
+use Rattle.grid_core.proofs.stacked.Stacked.new.Goals as goal
 
 pub invariant_of-result : goal.invariant_of-result
 invariant_of-result c =
@@ -33,7 +33,7 @@ invariant_of-result c =
     }
 
 pub returns-clause-stands : goal.returns-clause-stands
-unfolding served_in has_failed
+unfolding stacked_served stacked_failed
 returns-clause-stands c = record {
   working = refl;
   served = refl;
@@ -43,5 +43,5 @@ returns-clause-stands c = record {
 }
 
 pub returns-clause-rules : goal.returns-clause-rules
-unfolding rules_in
+unfolding stacked_rules
 returns-clause-rules c = rules-shapes c.in_ok-parts.parts.cells.items ∙ c.in_ok-parts.ensures.rules

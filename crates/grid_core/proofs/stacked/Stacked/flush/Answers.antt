@@ -8,10 +8,10 @@ use Rattle.grid_core.specs.Shadows.{shadow_sizes}
 use Rattle.grid_core.specs.Standing.{rules_of}
 use Rattle.grid_core.specs.Cells.{IsPlacedAmong, shape_in}
 use Rattle.grid_core.specs.State.{IsRanked}
-use Rattle.grid_core.specs.Engines.{rules_in, served_in, has_failed}
+use Rattle.grid_core.specs.StackedCells.{stacked_rules, stacked_served, stacked_failed}
 use Rattle.grid_core.proofs.After.{after-flush, lived-next, paid-of, room-of, flushed-within}
 use Rattle.grid_core.proofs.After.{flushed-counted, flushed-shapes, same-rules, written-shapes}
-use Rattle.grid_core.proofs.engine.Engine.flush.Goals as goal
+use Rattle.grid_core.proofs.stacked.Stacked.flush.Goals as goal
 
 pub flush_in-requires-clause-room : goal.flush_in-requires-clause-room
 flush_in-requires-clause-room c =
@@ -23,7 +23,7 @@ flush_in-requires-clause-room c =
     (old.lived c.if-self.false) c.in-Ok.ensures.lists)
 
 pub invariant_of-self-2 : goal.invariant_of-self-2
-unfolding served_in
+unfolding stacked_served
 invariant_of-self-2 c =
     let old = c.args.self.now in
     let g = old.geometry in
@@ -61,12 +61,12 @@ invariant_of-self-2 c =
     }
 
 pub returns-clause-lists : goal.returns-clause-lists
-unfolding rules_in
+unfolding stacked_rules
 returns-clause-lists c = λ h e. c.in-Ok.ensures.lists h e.state.rows
     ∙ written-shapes h c.args.self.now.cells.items
 
 pub returns-clause-stands : goal.returns-clause-stands
-unfolding served_in has_failed
+unfolding stacked_served stacked_failed
 returns-clause-stands c = λ h e.
     let old = c.args.self.now in
     let lists = c.in-Ok.lists.items in
@@ -83,7 +83,7 @@ returns-clause-stands c = λ h e.
     }
 
 pub returns-clause-rules : goal.returns-clause-rules
-unfolding rules_in
+unfolding stacked_rules
 returns-clause-rules c = same-rules c.args.self.now.cells.items c.flush_in.new.cells.items
     (flushed-shapes c.in-Ok.lists.items c.args.self.now.cells.items c.flush_in.new.cells.items
     c.in-Ok.ensures.len c.flush_in.ensures.len c.flush_in.ensures.flushed)

@@ -9,7 +9,7 @@ use Rattle.grid_core.specs.Slots.{index_of}
 use Rattle.grid_core.specs.Shapes.{has_size, IsSuited, IsSuitedShape}
 use Rattle.grid_core.specs.State.{IsCellFor, IsFresh}
 use Rattle.grid_core.proofs.Sizes.{index-inside, index-found}
-use Rattle.grid_core.proofs.engine.cell_for.Goals as goal
+use Rattle.grid_core.proofs.stacked.cell_for.Goals as goal
 
 pub returns-clause-own : goal.returns-clause-own
 returns-clause-own c =
