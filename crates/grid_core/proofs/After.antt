@@ -315,3 +315,7 @@ pub written-shapes : (h : History) (cells : List Cell) → map (dirty_bytes_of h
     ≡ map (written_by h) (map (λ c. shape_rules c.shape) cells)
 written-shapes h [] = refl
 written-shapes h (c ∷ cells) = ap (λ l. dirty_bytes_of h c.shape ∷ l) (written-shapes h cells)
+
+-- there are as many rules as cells
+pub as-many : (cells : List Cell) → length (map (λ c. shape_rules c.shape) cells) ≡ length cells
+as-many cells = length-map cells (λ c. shape_rules c.shape)

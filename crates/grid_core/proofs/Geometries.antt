@@ -11,7 +11,7 @@ use Rattle.cache_core.proofs.Masks.{zeros, set_is, sets_is}
 
 module _ (g : Geometry) where
   -- all sets together are the whole cache
-  whole : size_of g ≡ sets_of g * (bsize_of g * assoc_of g)
+  pub whole : size_of g ≡ sets_of g * (bsize_of g * assoc_of g)
   unfolding size_of bsize_of assoc_of
   whole =
       let law = lawful_is g.size g.bsize g.assoc g.lawful in

@@ -6,13 +6,14 @@ use Rattle.cache_core.specs.declared.counts.Counts.{Counts}
 use Rattle.cache_core.specs.declared.counts.PerClass.{PerClass}
 use Rattle.cache_core.specs.History.{History, Rules}
 use Rattle.cache_core.specs.Counts.{no_counts}
+use Rattle.cache_core.specs.Standing.{served_of}
 use Rattle.grid_core.specs.declared.caches.Caches.{Caches}
 use Rattle.grid_core.specs.declared.places.Place.{Place}
 use Rattle.grid_core.specs.declared.places.Place.TheVariants.{Together, Apart}
 use Rattle.grid_core.specs.declared.stacked.Stacked.{Stacked}
 use Rattle.grid_core.specs.StackedCells.{StackedStandsFor, StackedHasAnswered, stacked_rules}
 use Rattle.grid_core.specs.StackedCells.{stacked_served, stacked_kept, stacked_failed}
-use Rattle.grid_core.specs.Singles.{single_rules, single_counts, HasServed, SingleStandsFor}
+use Rattle.grid_core.specs.Singles.{single_rules, single_counts, SingleStandsFor}
 use Rattle.grid_core.specs.Singles.{SingleHasAnswered}
 use Rattle.grid_core.specs.Places.{IsPlace}
 use Rattle.grid_core.specs.Written.{none_kept}
@@ -61,7 +62,7 @@ pub record HaveAnswered (h : History) (x : Access) (c : Caches) : Type 0 where
 pub record AreInStep (n : ℕ) (c : Caches) : Type 0 where
   pub works : stacked_failed c.stacked ≡ false
   pub stacked : stacked_served c.stacked ≤ n
-  pub singles : All (HasServed n) c.singles.items
+  pub singles : All (λ s. served_of s.cache ≡ n) c.singles.items
 
 -- the caches have the same rules
 pub record HaveSameRules (c d : Caches) : Type 0 where

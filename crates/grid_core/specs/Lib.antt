@@ -10,6 +10,7 @@ pub mod Cells
 pub mod Written
 pub mod State
 pub mod StackedCells
+pub mod Wholes
 pub mod Singles
 pub mod Places
 pub mod Plans

@@ -11,10 +11,19 @@ use Rattle.grid_core.specs.declared.places.Seat.{Seat}
 use Rattle.grid_core.specs.Standing.{stack_rules}
 use Rattle.grid_core.specs.Written.{rules_at}
 
--- the place is among m caches that are served together, and n caches of their own
+-- the index of a place
+abbrev pub place_index : Place → ℕ
+place_index (Together i) = i
+place_index (Apart i) = i
+
+-- how many places there are of its kind, where m caches are served together, and n apart
+abbrev pub place_count : ℕ → ℕ → Place → ℕ
+place_count m n (Together i) = m
+place_count m n (Apart i) = n
+
+-- there is such a place
 abbrev pub IsPlace : ℕ → ℕ → Place → Type 0
-IsPlace m n (Together i) = i < m
-IsPlace m n (Apart i) = i < n
+IsPlace m n p = place_index p < place_count m n p
 
 -- the rules at a place
 abbrev pub rules_placed : List Rules → List Rules → Place → Rules

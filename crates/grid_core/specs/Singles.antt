@@ -17,11 +17,11 @@ abbrev pub single_counts : Single → Counts
 single_counts s = s.counts
 
 -- it served n events
-abbrev pub HasServed : ℕ → Single → Type 0
+unfoldable pub HasServed : ℕ → Single → Type 0
 HasServed n s = served_of s.cache ≡ n
 
 -- its cache stands for the history, the last event of which may not be counted yet
-abbrev pub HasReached : History → Single → Type 0
+unfoldable pub HasReached : History → Single → Type 0
 HasReached h s = StandsFor s.cache h
 
 -- it stands for the history: its cache does, and the counts are those of the history

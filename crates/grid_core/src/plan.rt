@@ -133,7 +133,8 @@ fn shadow_apart(
         repl: Repl::Lru,
         ..policy
     };
-    push_single(alloc, singles, whole, lru)
+    let index = push_single(alloc, singles, whole, lru)?;
+    Ok(index)
 }
 
 /// The place that counts the misses of the shadow of a cache of its own. Where writes allocate, it
@@ -203,7 +204,8 @@ fn seat_for(
     ensures fresh { OnOk result (All IsNew singles.old.items → All IsNew singles.new.items) }
 {
     if has_stack(geometry, policy) {
-        return seat_together(together, geometry);
+        let seat = seat_together(together, geometry)?;
+        return Ok(seat);
     }
     let cell = push_single(alloc, singles, geometry, policy)?;
     let shade = shade_for(alloc, together, singles, geometry, policy)?;

@@ -1,6 +1,8 @@
 //! A cache of its own: one that has no stack order.
 
+ghost use Rattle.std.specs.Prelude.{◌≡◌, true};
 ghost use Rattle.cache_core.specs.Standing.{rules_of, rules_from};
+ghost use Rattle.grid_core.specs.Wholes.{IsWholeOf, IsLruOf};
 
 use crate::cells::no_outcome;
 use crate::shapes::is_lru;
@@ -19,6 +21,23 @@ pub(crate) struct Single {
     ghost made: { rules_of cache ≡ rules_from geometry policy },
 }
 
+/// Whether a geometry is the fully associative one of the same block size and number of blocks.
+fn is_whole_of(geometry: Geometry, other: Geometry) -> bool
+    ensures { result ≡ true → IsWholeOf geometry other }
+{
+    geometry.sets() == 1
+        && geometry.bsize() == other.bsize()
+        && geometry.blocks() == other.blocks()
+}
+
+/// Whether a policy is LRU, and writes as another does.
+fn is_lru_of(policy: Policy, other: Policy) -> bool
+    ensures { result ≡ true → IsLruOf policy other }
+{
+    is_lru(policy) && policy.wback == other.wback && policy.walloc == other.walloc
+}
+
+#[tactic(auto, unfolding(crate::specs::Singles::HasReached, crate::specs::Singles::HasServed))]
 impl Single {
     ghost use Rattle.std.specs.Prelude.{◌≡◌, ◌<◌, ◌+◌, ◌^◌, ◌∷◌, ℕ, true, [], IfOk, OnOk};
     ghost use Rattle.cache_core.specs.History.{History, access as accessed, flush as flushed};
@@ -54,12 +73,7 @@ impl Single {
         ensures { result ≡ true →
             single_rules self.now ≡ shadow_of (rules_from geometry policy) }
     {
-        self.geometry.sets() == 1
-            && self.geometry.bsize() == geometry.bsize()
-            && self.geometry.blocks() == geometry.blocks()
-            && is_lru(self.policy)
-            && self.policy.wback == policy.wback
-            && self.policy.walloc == policy.walloc
+        is_whole_of(self.geometry, geometry) && is_lru_of(self.policy, policy)
     }
 
     /// Serves one access. It is not counted before `settle`.
@@ -105,7 +119,8 @@ impl Single {
     pub fn settle(&mut self)
         ensures stands { (h : History) → HasReached h self.old → SingleStandsFor h self.new }
         ensures served { (n : ℕ) → HasServed n self.old → HasServed n self.new }
-        ensures answer { self.new.answer ≡ self.old.answer }
+        ensures answers { (h : History) (x : Access) → SingleHasAnswered h x self.old →
+            SingleHasAnswered h x self.new }
         ensures rules { single_rules self.new ≡ single_rules self.old }
     {
         self.counts = self.cache.counts();
