@@ -6,6 +6,7 @@ use Rattle.std.specs.Prelude.{IfErr}
 use Rattle.std.specs.Result.{IsOk}
 use Rattle.std.specs.Int.{is_power_of_two}
 use Rattle.std.proofs.lemmas.Bool.{eq-eqb, le-ltb}
+use Rattle.std.proofs.lemmas.Option.{none-some}
 use Rattle.std.proofs.Math.Nat.{mul_comm, mul_assoc, mul-div_cancel}
 use Rattle.std.proofs.Math.Pow.{pow_pos}
 use Rattle.std.proofs.Math.Nat.{pow-suc}
@@ -39,9 +40,6 @@ power-is-power k = eq-eqb (ones (2 ^ k)) 1 (ones-power k)
 pub one-is-power : is_power_of_two 1 ≡ true
 one-is-power = power-is-power 0
 
-none-some : {E P : Type 0} (e : E) → None ≡ Some e → P
-none-some e ()
-
 passed : {F : Type 0} (t : Bool) (fault : F) (rest : Option F) → cond t (Some fault) rest ≡ None
     → (t ≡ false) × (rest ≡ None)
 passed true fault rest h = cc
@@ -67,8 +65,8 @@ other-ways size bsize assoc ways h power fits =
 -- what has no refusal is not refused
 pub not-refused : {T E : Type 0} {o : Option E} (r : Result T E) → o ≡ None
     → IfErr r (λ e. o ≡ Some e) → IsOk r
-not-refused (Ok v) none h = tt
-not-refused {T} {E} {o} (Err e) none h = none-some e (sym none ∙ h)
+not-refused (Ok v) none h = refl
+not-refused (Err e) none h = absurd (none-some e (sym none ∙ h))
 
 one-times : (n : ℕ) → n ≡ 1 * n
 one-times n = omega arith

@@ -163,8 +163,8 @@ fn shade_for(
         let index = as_large(together, geometry)?;
         return Ok(Place::Together(index));
     }
-    let index = shadow_apart(alloc, singles, geometry, policy)?;
-    Ok(Place::Apart(index))
+    let shadow = shadow_apart(alloc, singles, geometry, policy)?;
+    Ok(Place::Apart(shadow))
 }
 
 /// A seat for a cache that is served together with others.

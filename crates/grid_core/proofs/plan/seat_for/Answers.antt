@@ -55,3 +55,6 @@ returns-clause-apart c =
     let xs'' = map single_rules c.shade_for.new.singles.items in
     extends-more xs xs' xs'' (extends-push xs xs' (rules_from c.args.geometry c.args.policy)
     c.in_ok-cell.ensures.rules) c.in_ok-shade.ensures.apart
+
+pub returns-clause-fresh : goal.returns-clause-fresh
+returns-clause-fresh c = λ all. c.in_ok-shade.ensures.fresh (c.in_ok-cell.ensures.fresh all)

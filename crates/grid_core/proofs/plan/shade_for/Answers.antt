@@ -14,8 +14,8 @@ returns-then-policy-clause-apart c = extends-same (map single_rules c.args.singl
 pub returns-clause-there : goal.returns-clause-there
 returns-clause-there c =
     let xs = c.shadow_apart.new.singles.items in
-    subst (λ n. c.in_ok-index.index < n) (length-map xs single_rules)
-    c.in_ok-index.ensures.found.inside
+    subst (λ n. c.in_ok-shadow.shadow < n) (length-map xs single_rules)
+    c.in_ok-shadow.ensures.found.inside
 
 pub returns-clause-together : goal.returns-clause-together
 returns-clause-together c = extends-same c.args.together.now.items
