@@ -1,5 +1,5 @@
 -- A geometry of the same size with other ways is lawful.
-use Rattle.std.proofs.Common.{◌≡◌, ℕ, zero, suc, ◌+◌, ◌-◌, ◌*◌, ◌/◌, ◌%◌, ◌^◌, ◌<◌, ◌≤◌, Bool}
+use Rattle.std.proofs.Common.{◌≡◌, ℕ, zero, suc, ◌+◌, ◌-◌, ◌*◌, ◌/◌, ◌%◌, ◌^◌, ◌≤◌, Bool}
 use Rattle.std.proofs.Common.{true, false, cond, not, ◌||◌, ltb, Option, Some, None, Result, Ok, Err, refl, sym, ap}
 use Rattle.std.proofs.Common.{subst, ◌∙◌, arith}
 use Rattle.std.specs.Prelude.{IfErr}
@@ -8,7 +8,6 @@ use Rattle.std.specs.Int.{is_power_of_two}
 use Rattle.std.proofs.lemmas.Bool.{eq-eqb, le-ltb}
 use Rattle.std.proofs.lemmas.Option.{none-some}
 use Rattle.std.proofs.Math.Nat.{mul_comm, mul_assoc, mul-div_cancel}
-use Rattle.std.proofs.Math.Pow.{pow_pos}
 use Rattle.std.proofs.Math.Nat.{pow-suc}
 use lib.Count.{ones, ones_step}
 use Rattle.cache_core.specs.declared.geometry.Geometry.{Geometry}

@@ -1,5 +1,5 @@
 -- Seats, while more caches join those that were planned.
-use Rattle.std.proofs.Common.{◌≡◌, ℕ, suc, ◌+◌, ◌*◌, ◌<◌, ◌≤◌, ◌++◌, ◌∷◌, [], Bool, true, false, List, length}
+use Rattle.std.proofs.Common.{◌≡◌, ℕ, suc, ◌*◌, ◌<◌, ◌≤◌, ◌++◌, ◌∷◌, [], Bool, true, false, List, length}
 use Rattle.std.proofs.Common.{get_or, map, refl, sym, ap, subst, ◌∙◌, arith}
 use Rattle.std.specs.List.{All}
 use Rattle.std.proofs.lemmas.List.{append-nil, append_assoc, length-append, get_or_append_left}
@@ -18,7 +18,7 @@ use Rattle.grid_core.specs.declared.places.Place.TheVariants.{Together, Apart}
 use Rattle.grid_core.specs.declared.places.Seat.{Seat}
 use Rattle.grid_core.specs.Places.{IsPlace, rules_placed, shadow_placed, list_placed, IsSeated}
 use Rattle.grid_core.specs.Places.{Extends, planned_rules}
-use Rattle.grid_core.specs.Plans.{IsAsLarge, IsShadowAt}
+use Rattle.grid_core.specs.Plans.{IsAsLarge}
 use Rattle.grid_core.specs.Standing.{stack_rules}
 use Rattle.grid_core.specs.Wholes.{IsWholeOf, IsLruOf}
 use Rattle.grid_core.proofs.Geometries.{sets-blocks}

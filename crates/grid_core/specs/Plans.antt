@@ -1,6 +1,5 @@
 -- Where the caches of some geometries go.
 use Rattle.std.specs.Prelude.{◌≡◌, ℕ, ◌<◌, [], List, length, get_or}
-use Rattle.std.specs.List.{All}
 use Rattle.cache_core.specs.declared.geometry.Geometry.{Geometry}
 use Rattle.cache_core.specs.declared.policy.Policy.{Policy}
 use Rattle.cache_core.specs.Geometry.{bsize_of, blocks_of}

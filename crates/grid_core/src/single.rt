@@ -25,9 +25,7 @@ pub(crate) struct Single {
 fn is_whole_of(geometry: Geometry, other: Geometry) -> bool
     ensures { result ≡ true → IsWholeOf geometry other }
 {
-    geometry.sets() == 1
-        && geometry.bsize() == other.bsize()
-        && geometry.blocks() == other.blocks()
+    geometry.sets() == 1 && geometry.bsize() == other.bsize() && geometry.blocks() == other.blocks()
 }
 
 /// Whether a policy is LRU, and writes as another does.

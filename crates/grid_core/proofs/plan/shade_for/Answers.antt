@@ -1,4 +1,4 @@
-use Rattle.std.proofs.Common.{◌≡◌, ◌<◌, ℕ, List, length, map, sym, ap, subst, ◌∙◌}
+use Rattle.std.proofs.Common.{◌<◌, map, subst}
 use Rattle.std.proofs.lemmas.List.{length-map}
 use Rattle.grid_core.specs.Singles.{single_rules}
 use Rattle.grid_core.proofs.Seats.{extends-same, shadow-as-large}

@@ -1,4 +1,4 @@
-use Rattle.std.proofs.Common.{◌≡◌, ◌<◌, ℕ, true, List, length, map, refl, sym, ap, subst, ◌∙◌}
+use Rattle.std.proofs.Common.{◌≡◌, true, map, refl, sym, subst, ◌∙◌}
 use Rattle.std.specs.Int.{is_power_of_two}
 use Rattle.std.proofs.lemmas.List.{length-map}
 use Rattle.cache_core.specs.declared.policy.Policy.{Policy}
@@ -6,7 +6,7 @@ use Rattle.cache_core.specs.declared.policy.Repl.TheVariants.{Lru}
 use Rattle.cache_core.specs.Standing.{rules_from}
 use Rattle.grid_core.specs.Singles.{single_rules}
 use Rattle.grid_core.proofs.OtherWays.{blocks-power, made-whole}
-use Rattle.grid_core.proofs.Seats.{extends-same, extends-push, whole-shadow, last-inside, last-is}
+use Rattle.grid_core.proofs.Seats.{whole-shadow, last-inside, last-is}
 use Rattle.grid_core.proofs.plan.shadow_apart.Goals as goal
 
 pub with_assoc-whole-requires-clause-power : goal.with_assoc-whole-requires-clause-power

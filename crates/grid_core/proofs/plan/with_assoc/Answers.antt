@@ -1,7 +1,7 @@
-use Rattle.std.proofs.Common.{◌≡◌, ◌*◌, ◌≤◌, ◌<◌, ◌^◌, Some, None, ℕ, sym, ap, subst, ◌∙◌, arith}
+use Rattle.std.proofs.Common.{◌≡◌, ◌*◌, None, sym, ap, subst, ◌∙◌, arith}
 use Rattle.std.specs.Prelude.{IfOk}
 use Rattle.cache_core.specs.declared.geometry.Geometry.{Geometry}
-use Rattle.cache_core.specs.Geometry.{IsMadeOf, size_of, bsize_of, blocks_of}
+use Rattle.cache_core.specs.Geometry.{IsMadeOf, size_of, blocks_of}
 use Rattle.cache_core.specs.Lawful.{refusal_of}
 use Rattle.grid_core.proofs.OtherWays.{bytes-are, ways-lawful, size-high, not-refused}
 use Rattle.grid_core.proofs.plan.with_assoc.Goals as goal

@@ -1,4 +1,4 @@
-use Rattle.std.proofs.Common.{◌≡◌, ◌≢◌, ◌<◌, ◌+◌, ◌∷◌, length, get_or, map, take, [], ◌++◌, sym, ap, subst, ◌∙◌, arith}
+use Rattle.std.proofs.Common.{◌≢◌, ◌<◌, ◌+◌, ◌∷◌, length, get_or, map, take, [], ◌++◌, sym, ap, subst, ◌∙◌, arith}
 use Rattle.std.proofs.Common.{get_or-set_other}
 use Rattle.std.proofs.Math.Seq.{map-set_same}
 use Rattle.std.proofs.lemmas.List.{map-append, map_more, length-append}
@@ -14,8 +14,7 @@ pub flush-requires : goal.flush-requires
 flush-requires c =
     let i = c.loop-single.single-index in
     let e = c.single-item.result in
-    let n = c.requires.0 in
-    (
+    let n = c.requires.0 in (
       n,
       subst (HasServed n) (sym (c.loop-single.invariant.left i e (omega arith)))
           (c.requires.1 i e (omega arith)),

@@ -1,4 +1,4 @@
-use Rattle.std.proofs.Common.{◌≡◌, ◌≢◌, ◌<◌, ◌+◌, ◌∷◌, length, sym, subst, ◌∙◌, arith}
+use Rattle.std.proofs.Common.{◌≢◌, ◌<◌, ◌+◌, ◌∷◌, length, sym, subst, ◌∙◌, arith}
 use Rattle.std.proofs.Common.{get_or-set_other}
 use Rattle.std.proofs.Math.Seq.{map-set_same}
 use Rattle.std.proofs.lemmas.List.Elements.{AllWithin-more_set}
@@ -11,8 +11,7 @@ pub serve-requires : goal.serve-requires
 serve-requires c =
     let i = c.loop-single.single-index in
     let e = c.single-item.result in
-    let n = c.requires.0 in
-    (
+    let n = c.requires.0 in (
       n,
       subst (HasServed n) (sym (c.loop-single.invariant.left i e (omega arith)))
           (c.requires.1 i e (omega arith)),

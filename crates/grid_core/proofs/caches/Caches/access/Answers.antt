@@ -1,7 +1,6 @@
-use Rattle.std.proofs.Common.{◌≡◌, ◌<◌, ◌≤◌, ◌+◌, ◌^◌, ◌∷◌, ℕ, refl, ◌∙◌, arith}
-use Rattle.std.specs.List.{All}
+use Rattle.std.proofs.Common.{◌+◌, ◌∷◌, ◌∙◌, arith}
 use Rattle.std.proofs.lemmas.List.Elements.{All-weaker}
-use Rattle.cache_core.specs.History.{History, access as accessed}
+use Rattle.cache_core.specs.History.{access as accessed}
 use Rattle.grid_core.specs.Singles.{SingleStandsFor, HasReached, HasServed}
 use Rattle.grid_core.proofs.caches.Caches.access.Goals as goal
 

@@ -1,13 +1,12 @@
-use Rattle.std.proofs.Common.{◌≡◌, ◌<◌, ◌≤◌, ◌+◌, ◌^◌, ◌∷◌, ℕ, List, map, length, get_or, refl, sym, ap}
+use Rattle.std.proofs.Common.{◌+◌, ◌∷◌, ℕ, List, map, length, get_or, sym, ap}
 use Rattle.std.proofs.Common.{subst, ◌∙◌, arith}
-use Rattle.std.specs.List.{All}
 use Rattle.std.proofs.lemmas.List.{length-map}
 use Rattle.std.proofs.lemmas.List.Elements.{All-weaker}
-use Rattle.cache_core.specs.History.{History, flush as flushed}
+use Rattle.cache_core.specs.History.{flush as flushed}
 use Rattle.grid_core.specs.declared.places.Seat.{Seat}
 use Rattle.grid_core.specs.Cells.{items_of}
 use Rattle.grid_core.specs.Places.{IsPlace, list_placed}
-use Rattle.grid_core.specs.Caches.{HasPlace, together_rules, apart_rules}
+use Rattle.grid_core.specs.Caches.{together_rules, apart_rules}
 use Rattle.grid_core.specs.Singles.{SingleStandsFor, HasReached, HasServed, single_rules}
 use Rattle.grid_core.specs.Written.{written_by}
 use Rattle.grid_core.proofs.Seats.{written-all}

@@ -1,4 +1,4 @@
-use Rattle.std.proofs.Common.{◌≡◌, ◌∙◌}
+use Rattle.std.proofs.Common.{◌∙◌}
 use Rattle.grid_core.specs.Caches.{together_rules, apart_rules}
 use Rattle.grid_core.specs.Engines.{rules_in}
 use Rattle.grid_core.proofs.Kept.{seated-same}

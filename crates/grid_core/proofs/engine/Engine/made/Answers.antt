@@ -1,12 +1,9 @@
-use Rattle.std.proofs.Common.{◌≡◌, ◌≤◌, List, [], map, refl, sym, ap, subst, ◌∙◌, arith}
+use Rattle.std.proofs.Common.{◌≡◌, List, map, refl, sym, ap, subst, ◌∙◌, arith}
 use Rattle.std.specs.List.{All}
-use Rattle.std.proofs.lemmas.List.Elements.{All-weaker}
 use Rattle.cache_core.specs.History.{Rules}
-use Rattle.cache_core.specs.Standing.{served_of}
 use Rattle.grid_core.specs.Engines.{served_in, has_failed}
-use Rattle.grid_core.specs.Plans.{IsNew}
 use Rattle.grid_core.specs.Places.{IsSeated, planned_rules}
-use Rattle.grid_core.specs.Singles.{single_rules, SingleStandsFor, HasServed}
+use Rattle.grid_core.specs.Singles.{single_rules, HasServed}
 use Rattle.grid_core.specs.StackedCells.{stacked_rules}
 use Rattle.grid_core.proofs.engine.Engine.made.Goals as goal
 

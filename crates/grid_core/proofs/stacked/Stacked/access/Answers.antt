@@ -1,9 +1,9 @@
-use Rattle.std.proofs.Common.{◌≡◌, ◌≤◌, ◌+◌, ◌*◌, ◌^◌, ◌∷◌, ◌||◌, ◌==◌, ℕ, List, map, sym, ap}
+use Rattle.std.proofs.Common.{◌≤◌, ◌+◌, ◌*◌, ◌^◌, ◌||◌, ◌==◌, ℕ, List, map, sym, ap}
 use Rattle.std.proofs.Common.{subst, ◌∙◌, arith}
 use Rattle.std.specs.List.{All}
 use Rattle.std.proofs.lemmas.List.Elements.{All-weaker}
 use Rattle.cache_core.specs.Dirty.{rising}
-use Rattle.cache_core.specs.History.{History, Rules, access as accessed}
+use Rattle.cache_core.specs.History.{Rules, access as accessed}
 use Rattle.marked_list.specs.Recency.{level_of, brought_front}
 use Rattle.grid_core.specs.declared.cells.Shape.{Shape}
 use Rattle.grid_core.specs.Shadows.{HoldsOrder, is_known, shadow_sizes}

@@ -1,4 +1,4 @@
-use Rattle.std.proofs.Common.{◌≡◌, sym, ◌∙◌}
+use Rattle.std.proofs.Common.{sym, ◌∙◌}
 use Rattle.grid_core.specs.StackedCells.{stacked_rules}
 use Rattle.grid_core.proofs.After.{written-shapes, as-many}
 use Rattle.grid_core.proofs.stacked.Stacked.written.Goals as goal
