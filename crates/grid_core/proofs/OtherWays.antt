@@ -1,7 +1,7 @@
 -- A geometry of the same size with other ways is lawful.
 use Rattle.std.proofs.Common.{◌≡◌, ℕ, zero, suc, ◌+◌, ◌-◌, ◌*◌, ◌/◌, ◌%◌, ◌^◌, ◌≤◌, Bool}
-use Rattle.std.proofs.Common.{true, false, cond, not, ◌||◌, ltb, Option, Some, None, Result, Ok, Err, refl, sym, ap}
-use Rattle.std.proofs.Common.{subst, ◌∙◌, arith}
+use Rattle.std.proofs.Common.{true, false, cond, not, ◌||◌, ltb, Option, Some, None}
+use Rattle.std.proofs.Common.{Result, Ok, Err, refl, sym, ap, subst, ◌∙◌, arith}
 use Rattle.std.specs.Prelude.{IfErr}
 use Rattle.std.specs.Result.{IsOk}
 use Rattle.std.specs.Int.{is_power_of_two}

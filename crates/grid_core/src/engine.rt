@@ -1,6 +1,6 @@
 //! Caches of one block size and one policy that are served together.
 
-ghost use Rattle.std.specs.Prelude.{◌≡◌, ◌≤◌, ◌^◌, false};
+ghost use Rattle.std.specs.Prelude.{◌≡◌, false};
 ghost use Rattle.std.specs.List.{All};
 ghost use Rattle.grid_core.specs.Caches.{AreInStep, together_rules, apart_rules};
 ghost use Rattle.grid_core.specs.Places.{IsSeated};

@@ -1,7 +1,7 @@
 //! Where the caches of some geometries go: together with others, or apart.
 
 ghost use Rattle.std.specs.Prelude.{◌≡◌, ◌<◌, ◌≤◌, ◌++◌, ◌∷◌, [], ℕ, true, false, map, length};
-ghost use Rattle.std.specs.Prelude.{get_or, IfOk, OnOk, IfSome};
+ghost use Rattle.std.specs.Prelude.{IfOk, OnOk, IfSome};
 ghost use Rattle.std.specs.Int.{is_power_of_two};
 ghost use Rattle.std.specs.List.{All};
 ghost use Rattle.cache_core.specs.Geometry.{IsMadeOf, bsize_of, size_of, blocks_of};
