@@ -1,5 +1,5 @@
 -- The state of the caches that are served together after one more event.
-use Rattle.std.proofs.Common.{◌≡◌, ℕ, zero, suc, ◌+◌, ◌*◌, ◌^◌, ◌/◌, ◌<◌, ◌≤◌, Bool, true, false}
+use Rattle.std.proofs.Common.{◌≡◌, ℕ, suc, ◌+◌, ◌*◌, ◌^◌, ◌/◌, ◌<◌, ◌≤◌, Bool, false}
 use Rattle.std.proofs.Common.{not, ◌||◌}
 use Rattle.std.proofs.Common.{◌==◌, ltb, List, [], ◌∷◌, length, get_or, map, refl, sym, ap, subst}
 use Rattle.std.proofs.Common.{◌∙◌}
@@ -11,9 +11,8 @@ use Rattle.std.proofs.Math.Logic.{∥∥₁_elim, ∥∥₁_map}
 use Rattle.std.proofs.lemmas.List.{length-map, get_or-map}
 use Rattle.cache_core.specs.declared.geometry.Geometry.{Geometry}
 use Rattle.cache_core.specs.declared.access.Access.{Access}
-use Rattle.cache_core.specs.Geometry.{bsize_of, blocks_of}
 use Rattle.cache_core.specs.History.{History, Rules, Event, block_of, access, flush}
-use Rattle.cache_core.specs.Residents.{distinct, hits, renewals}
+use Rattle.cache_core.specs.Residents.{distinct, renewals}
 use Rattle.cache_core.specs.Dirty.{dirty_blocks}
 use Rattle.cache_core.specs.Kinds.{referenced_blocks, shadow_of}
 use Rattle.cache_core.specs.Counts.{counts_of, tally}
@@ -315,3 +314,7 @@ pub written-shapes : (h : History) (cells : List Cell) → map (dirty_bytes_of h
     ≡ map (written_by h) (map (λ c. shape_rules c.shape) cells)
 written-shapes h [] = refl
 written-shapes h (c ∷ cells) = ap (λ l. dirty_bytes_of h c.shape ∷ l) (written-shapes h cells)
+
+-- there are as many rules as cells
+pub as-many : (cells : List Cell) → length (map (λ c. shape_rules c.shape) cells) ≡ length cells
+as-many cells = length-map cells (λ c. shape_rules c.shape)

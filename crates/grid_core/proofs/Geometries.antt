@@ -1,5 +1,5 @@
 -- The numbers of a geometry fit together.
-use Rattle.std.proofs.Common.{◌≡◌, ℕ, ◌+◌, ◌-◌, ◌*◌, ◌/◌, ◌^◌, ◌<◌, ◌≤◌, sym, ap, ◌∙◌, inl, inr}
+use Rattle.std.proofs.Common.{◌≡◌, ◌+◌, ◌-◌, ◌*◌, ◌/◌, ◌^◌, ◌<◌, ◌≤◌, sym, ap, ◌∙◌, inl, inr}
 use Rattle.std.proofs.Common.{arith}
 use Rattle.std.proofs.Math.Nat.{mul_comm, mul_assoc, mul-div_cancel}
 use Rattle.std.proofs.Math.Pow.{pow-add, pow-lt}
@@ -11,7 +11,7 @@ use Rattle.cache_core.proofs.Masks.{zeros, set_is, sets_is}
 
 module _ (g : Geometry) where
   -- all sets together are the whole cache
-  whole : size_of g ≡ sets_of g * (bsize_of g * assoc_of g)
+  pub whole : size_of g ≡ sets_of g * (bsize_of g * assoc_of g)
   unfolding size_of bsize_of assoc_of
   whole =
       let law = lawful_is g.size g.bsize g.assoc g.lawful in

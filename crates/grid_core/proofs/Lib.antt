@@ -17,3 +17,6 @@ pub mod Sizes
 pub mod Served
 pub mod Placed
 pub mod After
+pub mod OtherWays
+pub mod Seats
+pub mod Kept

@@ -9,4 +9,10 @@ pub mod Shapes
 pub mod Cells
 pub mod Written
 pub mod State
+pub mod StackedCells
+pub mod Wholes
+pub mod Singles
+pub mod Places
+pub mod Plans
+pub mod Caches
 pub mod Engines

@@ -1,125 +1,45 @@
-//! Caches of one block size that are served together: LRU, with write allocation.
+//! Caches of one block size and one policy that are served together.
 
-ghost use Rattle.std.specs.Prelude.{◌≡◌, ◌≤◌, ◌^◌, ◌*◌, [], length, map, true, false, IfOk};
-ghost use Rattle.std.specs.Prelude.{OnOk};
+ghost use Rattle.std.specs.Prelude.{◌≡◌, false};
 ghost use Rattle.std.specs.List.{All};
-ghost use Rattle.cache_core.specs.History.{History};
-ghost use Rattle.cache_core.specs.Dirty.{rising};
-ghost use Rattle.grid_core.specs.Shadows.{shadow_sizes};
-ghost use Rattle.cache_core.specs.Geometry.{bsize_of, blocks_of};
-ghost use Rattle.grid_core.specs.Standing.{StandsFor, rules_of, stack_rules};
-ghost use Rattle.grid_core.specs.declared.cells.Shape.{Shape as Cut};
-ghost use Rattle.grid_core.specs.Shapes.{has_size, IsSuitedShape};
-ghost use Rattle.grid_core.specs.Cells.{IsPlacedAmong, IsWithinCell, shape_in, shape_rules};
-ghost use Rattle.grid_core.specs.State.{IsAfter, IsRanked, IsFresh, IsCellFor};
+ghost use Rattle.grid_core.specs.Caches.{AreInStep, together_rules, apart_rules};
+ghost use Rattle.grid_core.specs.Places.{IsSeated};
 
-use crate::cells::{Cell, Shape, dirty_lists, flush_in, fresh_cell, serve_in};
-use crate::shadows::Shadows;
-use crate::shapes::{rank_of, rising_sizes, stack_for, ways_of};
-use crate::stack::Stack;
-use crate::stacks::{clear_in, look_in, touch_in};
-use cache_core::{Access, Counts, Geometry, NoMemory, Outcome, PerClass};
+use crate::caches::Caches;
+use crate::places::Seat;
+use crate::plan::plan_for;
+use crate::stacked::Stacked;
+use cache_core::{Access, Counts, Geometry, NoMemory, Outcome, PerClass, Policy};
 use std::alloc::{AllocError, Global};
 
-/// LRU caches of one block size that allocate at writes: rows for each number of sets, the shadows
-/// of all sizes, and a cell for each cache. After a failed allocation, every later access or flush
+/// Caches of one block size and one policy. After a failed allocation, every later access or flush
 /// answers `NoMemory`.
 #[derive(Drop)]
 pub struct Engine {
     alloc: Global,
-    /// A geometry of the block size.
-    geometry: Geometry,
-    stacks: Vec<Stack>,
-    shadows: Shadows,
-    cells: Vec<Cell>,
+    policy: Policy,
+    /// Of each geometry: where its cache is served, and where the misses of its shadow are counted.
+    seats: Vec<Seat>,
+    caches: Caches,
     served: u64,
     failed: bool,
-    ghost rises: { rising (shadow_sizes shadows) ≡ shadow_sizes shadows },
-    ghost placed: { All (λ s. IsPlacedAmong (map rules_of stacks.items) s)
-        (map shape_in cells.items) },
-    ghost ranked: { All (IsRanked (shadow_sizes shadows) geometry) (map shape_in cells.items) },
-    ghost bounded: { All (IsWithinCell (2 * served)) cells.items },
-    ghost few: { served ≤ 2 ^ 44 },
-    // Unless it has failed, a history of as many events made it; so a flush has room for its
-    // counts.
-    ghost lived: { failed ≡ false → ∥ ((h : History)
-        × IsAfter geometry stacks.items shadows cells.items h × (length h ≡ served)) ∥₁ },
-}
-
-/// The rows and the cells of some geometries.
-#[derive(Drop)]
-struct Parts {
-    stacks: Vec<Stack>,
-    cells: Vec<Cell>,
-}
-
-/// A cell that has counted nothing, for a geometry, and rows for it.
-fn cell_for(
-    alloc: Global,
-    stacks: &mut Vec<Stack>,
-    geometries: &[Geometry],
-    geometry: Geometry,
-    sizes: &[usize],
-    wback: bool,
-) -> Result<Cell, AllocError>
-    requires { has_size sizes.now (blocks_of geometry) ≡ true }
-    ensures own { IfOk result (λ cell. IsCellFor sizes.now stacks.new.items geometry wback cell) }
-    ensures kept { OnOk result ((s : Cut) → IsSuitedShape stacks.old.items s →
-        IsSuitedShape stacks.new.items s) }
-    ensures stands { OnOk result (All (λ s. StandsFor s []) stacks.old.items →
-        All (λ s. StandsFor s []) stacks.new.items) }
-{
-    let stack = stack_for(alloc, stacks, geometries, geometry, wback)?;
-    let shape = Shape {
-        geometry,
-        wback,
-        stack,
-        ways: ways_of(geometry),
-        rank: rank_of(sizes, geometry.blocks() as usize),
-    };
-    Ok(fresh_cell(shape))
-}
-
-/// Empty rows, and cells that have counted nothing, for these geometries.
-fn parts_for(
-    alloc: Global,
-    geometries: &[Geometry],
-    sizes: &[usize],
-    first: Geometry,
-    wback: bool,
-) -> Result<Parts, AllocError>
-    requires sizes { All (λ g. has_size sizes.now (blocks_of g) ≡ true) geometries.now }
-    requires one_size { All (λ g. bsize_of g ≡ bsize_of first) geometries.now }
-    ensures rules { IfOk result (λ parts. map shape_rules (map shape_in parts.cells.items)
-        ≡ map (λ g. stack_rules g wback) geometries.now) }
-    ensures ranked { IfOk result (λ parts.
-        All (IsRanked sizes.now first) (map shape_in parts.cells.items)) }
-    ensures placed { IfOk result (λ parts.
-        All (IsPlacedAmong (map rules_of parts.stacks.items)) (map shape_in parts.cells.items)) }
-    ensures stands { IfOk result (λ parts. All (λ s. StandsFor s []) parts.stacks.items) }
-    ensures fresh { IfOk result (λ parts. All IsFresh parts.cells.items) }
-{
-    let mut stacks = Vec::new(alloc);
-    let mut cells = Vec::new(alloc);
-    for geometry in geometries {
-        let cell = cell_for(alloc, &mut stacks, geometries, *geometry, sizes, wback)?;
-        cells.push(cell)?;
-    }
-    Ok(Parts { stacks, cells })
+    ghost seated: { All (IsSeated policy (together_rules caches) (apart_rules caches))
+        seats.items },
+    ghost step: { failed ≡ false → AreInStep served caches },
 }
 
 #[tactic(auto, unfolding(crate::specs::Engines::rules_in, crate::specs::Engines::served_in, crate::specs::Engines::kept_in, crate::specs::Engines::has_failed))]
 impl Engine {
-    ghost use Rattle.std.specs.Prelude.{◌≡◌, ◌<◌, ◌≤◌, ◌+◌, ◌*◌, ◌^◌, ◌∷◌, [], map, true, false};
+    ghost use Rattle.std.specs.Prelude.{◌≡◌, ◌<◌, ◌+◌, ◌^◌, ◌∷◌, [], map, true, false};
     ghost use Rattle.std.specs.Prelude.{OnOk, OnErr, IfOk, IsErr, get_or, length};
     ghost use Rattle.std.specs.List.{All};
     ghost use Rattle.cache_core.specs.Geometry.{bsize_of};
     ghost use Rattle.cache_core.specs.History.{History, access as accessed, flush as flushed};
     ghost use Rattle.cache_core.specs.Parts.{outcome_of};
     ghost use Rattle.cache_core.specs.Counts.{counts_of};
+    ghost use Rattle.cache_core.specs.Standing.{rules_from};
     ghost use Rattle.grid_core.specs.FullyAssociative.{shadow_misses};
     ghost use Rattle.grid_core.specs.Cells.{items_of};
-    ghost use Rattle.grid_core.specs.Standing.{stack_rules};
     ghost use Rattle.grid_core.specs.Engines.{EngineStandsFor, HasAnswered, rules_in};
     ghost use Rattle.grid_core.specs.Engines.{served_in, kept_in, has_failed};
     ghost use Rattle.grid_core.specs.Written.{rules_at, written_by, none_kept};
@@ -129,44 +49,45 @@ impl Engine {
         alloc: Global,
         geometries: &[Geometry],
         first: Geometry,
-        wback: bool,
+        policy: Policy,
     ) -> Result<Engine, AllocError>
         requires { All (λ g. bsize_of g ≡ bsize_of first) geometries.now }
         ensures stands { IfOk result (λ engine. EngineStandsFor engine []) }
         ensures rules { IfOk result (λ engine.
-            rules_in engine ≡ map (λ g. stack_rules g wback) geometries.now) }
+            rules_in engine ≡ map (λ g. rules_from g policy) geometries.now) }
         ensures served { IfOk result (λ engine. served_in engine ≡ 0) }
         ensures works { IfOk result (λ engine. has_failed engine ≡ false) }
     {
-        let sizes = rising_sizes(alloc, geometries)?;
-        let shadows = Shadows::new(alloc, &sizes)?;
-        let parts = parts_for(alloc, geometries, &sizes, first, wback)?;
+        let plan = plan_for(alloc, geometries, first, policy)?;
+        let stacked = Stacked::new(alloc, &plan.together, first, policy.wback)?;
         Ok(Engine {
             alloc,
-            geometry: first,
-            stacks: parts.stacks,
-            shadows,
-            cells: parts.cells,
+            policy,
+            seats: plan.seats,
+            caches: Caches {
+                stacked,
+                singles: plan.singles,
+            },
             served: 0,
             failed: false,
         })
     }
 
-    /// Empty caches of these geometries, which have the block size of `first`.
+    /// Empty caches of these geometries, which have the block size of `first`, and of this policy.
     pub fn new(
         alloc: Global,
         geometries: &[Geometry],
         first: Geometry,
-        wback: bool,
+        policy: Policy,
     ) -> Result<Engine, NoMemory>
         requires { All (λ g. bsize_of g ≡ bsize_of first) geometries.now }
         ensures stands { IfOk result (λ engine. EngineStandsFor engine []) }
         ensures rules { IfOk result (λ engine.
-            rules_in engine ≡ map (λ g. stack_rules g wback) geometries.now) }
+            rules_in engine ≡ map (λ g. rules_from g policy) geometries.now) }
         ensures served { IfOk result (λ engine. served_in engine ≡ 0) }
         ensures works { IfOk result (λ engine. has_failed engine ≡ false) }
     {
-        match Engine::made(alloc, geometries, first, wback) {
+        match Engine::made(alloc, geometries, first, policy) {
             Ok(engine) => Ok(engine),
             Err(_) => Err(NoMemory),
         }
@@ -191,14 +112,10 @@ impl Engine {
         if self.failed {
             return Err(NoMemory);
         }
-        let block = self.geometry.block(access.addr);
-        let Ok(prior) = self.shadows.touch(block) else {
+        let Ok(()) = self.caches.access(access) else {
             self.failed = true;
             return Err(NoMemory);
         };
-        look_in(&mut self.stacks, access);
-        serve_in(&mut self.cells, &self.stacks, access, prior);
-        touch_in(&mut self.stacks, access);
         self.served += 1;
         Ok(())
     }
@@ -223,13 +140,10 @@ impl Engine {
         if self.failed {
             return Err(NoMemory);
         }
-        let Ok(lists) = dirty_lists(self.alloc, &self.stacks, &self.cells) else {
+        let Ok(lists) = self.caches.flush(self.alloc, &self.seats) else {
             self.failed = true;
             return Err(NoMemory);
         };
-        flush_in(&mut self.cells, &lists);
-        clear_in(&mut self.stacks);
-        self.shadows.clear();
         self.served += 1;
         Ok(lists)
     }
@@ -238,7 +152,7 @@ impl Engine {
     pub fn cells(&self) -> usize
         ensures { result ≡ length (rules_in self.now) }
     {
-        self.cells.len()
+        self.seats.len()
     }
 
     /// How many accesses and flushes succeeded.
@@ -262,7 +176,7 @@ impl Engine {
         ensures counted { (h : History) → EngineStandsFor self.now h →
             result ≡ counts_of (rules_at (rules_in self.now) index) h }
     {
-        self.cells[index].counts
+        self.caches.counts(self.seats[index].cell)
     }
 
     /// The fully associative misses of one cache.
@@ -272,7 +186,7 @@ impl Engine {
         ensures counted { (h : History) → EngineStandsFor self.now h →
             result ≡ shadow_misses (rules_at (rules_in self.now) index) h }
     {
-        self.cells[index].far
+        self.caches.shadow_misses(self.seats[index].shade)
     }
 
     /// What the last access did in one cache.
@@ -281,6 +195,6 @@ impl Engine {
         ensures { (h : History) (x : Access) → HasAnswered self.now h x →
             result ≡ outcome_of (rules_at (rules_in self.now) index) h x }
     {
-        self.cells[index].answer
+        self.caches.answer(self.seats[index].cell)
     }
 }

@@ -1,28 +1,34 @@
 //! Many caches of one block size, served together in one pass over a trace.
 //!
-//! An [`Engine`] is made for a list of geometries of one block size. It serves accesses and flushes
-//! in all these caches, and answers for each what a cache of cache_core alone would: every count,
-//! what it sends to the next level, and how often its shadow missed. The caches are LRU and
-//! allocate
-//! at writes.
+//! An [`Engine`] is made for a list of geometries of one block size, with one policy. It serves
+//! accesses and flushes in all these caches, and answers for each what a cache of cache_core alone
+//! would: every count, what it sends to the next level, and how often its shadow missed.
 //!
-//! Caches of as many sets share one row for each set, in order of last use (`stack`, `slots`): the
-//! position of a block tells for every number of ways whether it hits, and its dirty level whether
-//! it is written back. One list with a mark for each size is the shadow of all caches (`shadows`).
-//! `laws` has what the definitions say of caches of different sizes.
+//! LRU caches that allocate at writes are served together (`stacked`). Those of as many sets share
+//! one row for each set, in order of last use (`stack`, `slots`): the position of a block tells for
+//! every number of ways whether it hits, and its dirty level whether it is written back. One list
+//! with a mark for each size is the shadow of all caches (`shadows`). The others, and those of more
+//! than 64 ways, are each a cache of its own (`single`). `plan` decides which cache goes where, and
+//! nobody above sees it. `laws` has what the definitions say of caches of different sizes.
 //!
 //! Proved for every history that an engine stands for. If an allocation fails, the counts stay, and
 //! every later access or flush answers `NoMemory`.
 #![tactic(auto)]
 
+mod caches;
 mod cells;
 mod counting;
 mod engine;
 mod laws;
+mod places;
+mod plan;
 mod shadows;
 mod shapes;
+mod single;
+mod singles;
 mod slots;
 mod stack;
+mod stacked;
 mod stacks;
 
 pub use engine::Engine;

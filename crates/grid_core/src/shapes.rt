@@ -1,15 +1,17 @@
 //! From geometries to rows and shapes.
 
-ghost use Rattle.std.specs.Prelude.{◌≡◌, ◌<◌, ◌==◌, ℕ, Bool, [], true, map, IfOk, OnOk, IfSome};
+ghost use Rattle.std.specs.Prelude.{◌≡◌, ◌<◌, ◌==◌, ℕ, Bool, [], true, not, map, IfOk, OnOk};
+ghost use Rattle.std.specs.Prelude.{IfSome};
 ghost use Rattle.std.specs.List.{All};
 ghost use Rattle.cache_core.specs.Geometry.{assoc_of, blocks_of, bsize_of};
 ghost use Rattle.grid_core.specs.Slots.{index_of};
 ghost use Rattle.cache_core.specs.Dirty.{rising};
+ghost use Rattle.cache_core.specs.Policy.{is_fifo};
 ghost use Rattle.grid_core.specs.Standing.{StandsFor};
 ghost use Rattle.grid_core.specs.Shapes.{IsWider, IsSuited, has_size};
 
 use crate::stack::Stack;
-use cache_core::Geometry;
+use cache_core::{Geometry, Policy, Repl};
 use std::alloc::{AllocError, Global};
 
 /// How many ways a set has.
@@ -17,6 +19,16 @@ pub(crate) fn ways_of(geometry: Geometry) -> usize
     ensures { result ≡ assoc_of geometry }
 {
     (geometry.blocks() / geometry.sets()) as usize
+}
+
+/// Whether a policy replaces the block that was used longest ago.
+pub(crate) fn is_lru(policy: Policy) -> bool
+    ensures { result ≡ not (is_fifo policy) }
+{
+    match policy.repl {
+        Repl::Lru => true,
+        Repl::Fifo => false,
+    }
 }
 
 /// Whether all geometries have the block size of `first`.

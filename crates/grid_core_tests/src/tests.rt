@@ -53,13 +53,21 @@ fn whole_of(rt: &impl Abort, geometry: Geometry) -> Geometry {
     Geometry::new(size, geometry.bsize(), blocks).expect(rt, "a lawful geometry")
 }
 
-/// A cache of each geometry.
-fn caches_of(rt: &impl Abort, alloc: Global, geometries: &[Geometry], wback: bool) -> Vec<Cache> {
-    let policy = Policy {
+/// The policy of the shadow of a cache.
+fn shadow_policy(policy: Policy) -> Policy {
+    Policy {
         repl: Repl::Lru,
-        wback,
-        walloc: true,
-    };
+        ..policy
+    }
+}
+
+/// A cache of each geometry.
+fn caches_of(
+    rt: &impl Abort,
+    alloc: Global,
+    geometries: &[Geometry],
+    policy: Policy,
+) -> Vec<Cache> {
     let mut caches = Vec::new(alloc);
     for geometry in geometries.iter() {
         let cache = Cache::new(alloc, *geometry, policy).expect(rt, "memory");
@@ -124,16 +132,22 @@ fn expect_counts(rt: &impl Abort, engine: &Engine, caches: &Vec<Cache>, shadows:
 }
 
 /// An engine of all these caches does on a pseudo-random history what each alone does.
-fn is_alike(rt: &impl Abort, alloc: Global, geometries: &Vec<Geometry>, wback: bool, turns: u64) {
+fn is_alike(
+    rt: &impl Abort,
+    alloc: Global,
+    geometries: &Vec<Geometry>,
+    policy: Policy,
+    turns: u64,
+) {
     let first = geometries.first().copied().expect(rt, "a geometry");
     assert!(rt; share_block_size(geometries, first));
-    let mut engine = Engine::new(alloc, geometries, first, wback).expect(rt, "memory");
+    let mut engine = Engine::new(alloc, geometries, first, policy).expect(rt, "memory");
     let mut wholes = Vec::new(alloc);
     for geometry in geometries.iter() {
         wholes.push(whole_of(rt, *geometry)).expect(rt, "memory");
     }
-    let mut caches = caches_of(rt, alloc, geometries, wback);
-    let mut shadows = caches_of(rt, alloc, &wholes, wback);
+    let mut caches = caches_of(rt, alloc, geometries, policy);
+    let mut shadows = caches_of(rt, alloc, &wholes, shadow_policy(policy));
     assert_eq!(rt; engine.cells(), caches.len());
     let mut state = turns;
     for turn in 0..turns {
@@ -148,26 +162,64 @@ fn is_alike(rt: &impl Abort, alloc: Global, geometries: &Vec<Geometry>, wback: b
     expect_counts(rt, &engine, &caches, &shadows);
 }
 
+/// The same for both write policies, with this replacement and write allocation.
+fn are_alike(
+    rt: &impl Abort,
+    alloc: Global,
+    geometries: &Vec<Geometry>,
+    repl: Repl,
+    walloc: bool,
+    turns: u64,
+) {
+    let back = Policy {
+        repl,
+        wback: true,
+        walloc,
+    };
+    let through = Policy {
+        wback: false,
+        ..back
+    };
+    is_alike(rt, alloc, geometries, back, turns);
+    is_alike(rt, alloc, geometries, through, turns);
+}
+
 #[test]
 fn six_cells_are_single_caches(rt: HostRuntime) -> Result<(), Fail> {
     let geometries = geometries_of(&rt, rt.alloc(), &[32, 64, 128], &[1, 4]);
-    is_alike(&rt, rt.alloc(), &geometries, true, 600);
-    is_alike(&rt, rt.alloc(), &geometries, false, 600);
+    are_alike(&rt, rt.alloc(), &geometries, Repl::Lru, true, 600);
+    are_alike(&rt, rt.alloc(), &geometries, Repl::Lru, false, 600);
+    are_alike(&rt, rt.alloc(), &geometries, Repl::Fifo, true, 600);
+    are_alike(&rt, rt.alloc(), &geometries, Repl::Fifo, false, 600);
+    Ok(())
+}
+
+/// Geometries of up to 256 ways.
+fn many_geometries(rt: &impl Abort, alloc: Global) -> Vec<Geometry> {
+    let sizes = [16, 32, 64, 128, 256, 512, 1024];
+    geometries_of(rt, alloc, &sizes, &[1, 2, 4, 8, 16, 32, 64, 128, 256])
+}
+
+#[test]
+fn many_lru_cells_are_single_caches(rt: HostRuntime) -> Result<(), Fail> {
+    let geometries = many_geometries(&rt, rt.alloc());
+    are_alike(&rt, rt.alloc(), &geometries, Repl::Lru, true, 400);
+    are_alike(&rt, rt.alloc(), &geometries, Repl::Lru, false, 400);
     Ok(())
 }
 
 #[test]
-fn many_cells_are_single_caches(rt: HostRuntime) -> Result<(), Fail> {
-    let sizes = [16, 32, 64, 128, 256, 512, 1024];
-    let geometries = geometries_of(&rt, rt.alloc(), &sizes, &[1, 2, 4, 8, 16, 32, 64, 128, 256]);
-    is_alike(&rt, rt.alloc(), &geometries, true, 400);
-    is_alike(&rt, rt.alloc(), &geometries, false, 400);
+fn many_fifo_cells_are_single_caches(rt: HostRuntime) -> Result<(), Fail> {
+    let geometries = many_geometries(&rt, rt.alloc());
+    are_alike(&rt, rt.alloc(), &geometries, Repl::Fifo, true, 400);
+    are_alike(&rt, rt.alloc(), &geometries, Repl::Fifo, false, 400);
     Ok(())
 }
 
 #[test]
 fn a_cache_of_one_block_is_one(rt: HostRuntime) -> Result<(), Fail> {
     let geometries = geometries_of(&rt, rt.alloc(), &[4, 8], &[1, 2]);
-    is_alike(&rt, rt.alloc(), &geometries, true, 500);
+    are_alike(&rt, rt.alloc(), &geometries, Repl::Lru, true, 500);
+    are_alike(&rt, rt.alloc(), &geometries, Repl::Fifo, false, 500);
     Ok(())
 }

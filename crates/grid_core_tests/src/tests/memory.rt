@@ -1,34 +1,50 @@
 //! Failing allocations. The test passes if there is enough memory. If an allocation is refused, it
 //! checks the state after that, and then fails with the name of the refusal and nothing else.
 
-use cache_core::{Access, Class, Counts, Geometry, MAX_EVENTS, NoMemory, PerClass};
+use cache_core::{Access, Class, Counts, Geometry, MAX_EVENTS, NoMemory, PerClass, Policy, Repl};
 use grid_core::{Engine, share_block_size};
 use std::alloc::Global;
 use std::process::Abort;
 use std::test::Fail;
 
 /// An engine of a direct-mapped, a two-way and a fully associative cache, unless an allocation
-/// fails.
-fn made(rt: &impl Abort, alloc: Global) -> Result<Engine, NoMemory> {
+/// fails. The last has too many ways to be served with others.
+fn made(rt: &impl Abort, alloc: Global, policy: Policy) -> Result<Engine, NoMemory> {
     let narrow = Geometry::new(16, 4, 1).expect(rt, "a lawful geometry");
     let wide = Geometry::new(32, 4, 2).expect(rt, "a lawful geometry");
-    let whole = Geometry::new(64, 4, 16).expect(rt, "a lawful geometry");
+    let whole = Geometry::new(512, 4, 128).expect(rt, "a lawful geometry");
     let geometries = [narrow, wide, whole];
     assert!(rt; share_block_size(&geometries, narrow));
-    let engine = Engine::new(alloc, &geometries, narrow, true)?;
+    let engine = Engine::new(alloc, &geometries, narrow, policy)?;
     assert!(rt; !engine.failed());
     assert_eq!(rt; engine.served(), 0);
     Ok(engine)
 }
 
-/// What the first and the last cache counted, and how many events were served.
-fn kept(rt: &impl Abort, engine: &Engine) -> (Counts, Counts, u64) {
+/// What a call has to leave as it was if it is refused memory.
+#[derive(Clone, Copy, Debug, PartialEq, Eq)]
+struct Snapshot {
+    counts: [Counts; 3],
+    shadow_misses: [PerClass; 3],
+    served: u64,
+}
+
+/// What all caches counted, and how many events were served.
+fn kept(rt: &impl Abort, engine: &Engine) -> Snapshot {
     assert!(rt; 2 < engine.cells());
-    (engine.counts(0), engine.counts(2), engine.served())
+    Snapshot {
+        counts: [engine.counts(0), engine.counts(1), engine.counts(2)],
+        shadow_misses: [
+            engine.shadow_misses(0),
+            engine.shadow_misses(1),
+            engine.shadow_misses(2),
+        ],
+        served: engine.served(),
+    }
 }
 
 /// After a refusal, the counts have to be as before the call, and every later call has to fail.
-fn stays_failed(rt: &impl Abort, engine: &mut Engine, before: (Counts, Counts, u64)) {
+fn stays_failed(rt: &impl Abort, engine: &mut Engine, before: Snapshot) {
     assert!(rt; engine.failed());
     assert_eq!(rt; kept(rt, engine), before);
     assert!(rt; engine.served() < MAX_EVENTS);
@@ -43,14 +59,11 @@ fn stays_failed(rt: &impl Abort, engine: &mut Engine, before: (Counts, Counts, u
     assert_eq!(rt; kept(rt, engine), before);
 }
 
-/// Writes to a block. If an allocation fails, the engine has to stay failed.
-fn wrote(rt: &impl Abort, engine: &mut Engine, addr: u64) -> Result<(), NoMemory> {
+/// Accesses a block. If an allocation fails, the engine has to stay failed.
+fn used(rt: &impl Abort, engine: &mut Engine, class: Class, addr: u64) -> Result<(), NoMemory> {
     let before = kept(rt, engine);
     assert!(rt; engine.served() < MAX_EVENTS);
-    let served = engine.access(Access {
-        class: Class::Write,
-        addr,
-    });
+    let served = engine.access(Access { class, addr });
     if served.is_err() {
         stays_failed(rt, engine, before);
     }
@@ -74,21 +87,57 @@ fn flushed(rt: &impl Abort, engine: &mut Engine) -> Result<usize, NoMemory> {
     }
 }
 
-#[test]
-fn an_engine_serves_all_or_fails(rt: HostRuntime) -> Result<(), Fail> {
-    let mut engine = made(&rt, rt.alloc())?;
+/// Reads and then writes each of 200 blocks, and flushes, unless an allocation fails. Each read
+/// misses, in the caches and their shadows, each write hits, and each block is written back once.
+fn serves_all(rt: &impl Abort, alloc: Global, policy: Policy) -> Result<(), NoMemory> {
+    let mut engine = made(rt, alloc, policy)?;
     for block in 0..200 {
-        wrote(&rt, &mut engine, 4 * block)?;
+        used(rt, &mut engine, Class::Read, 4 * block)?;
+        used(rt, &mut engine, Class::Write, 4 * block)?;
     }
-    let written = flushed(&rt, &mut engine)?;
-    assert_eq!(rt; written, 16);
-    let writes = PerClass {
-        write: 200,
+    let written = flushed(rt, &mut engine)?;
+    assert_eq!(rt; written, 128);
+    let reads = PerClass {
+        read: 200,
         ..PerClass::default()
     };
-    let (first, last, served) = kept(&rt, &engine);
-    assert_eq!(rt; (first.misses, last.misses), (writes, writes));
-    assert_eq!(rt; (first.written_back, last.written_back), (200, 200));
-    assert_eq!(rt; served, 201);
+    let all = kept(rt, &engine);
+    assert_eq!(rt; all.shadow_misses, [reads; 3]);
+    assert_eq!(rt; all.counts.map(|counts| counts.misses), [reads; 3]);
+    assert_eq!(rt; all.counts.map(|counts| counts.written_back), [200; 3]);
+    assert_eq!(rt; all.served, 401);
+    Ok(())
+}
+
+#[test]
+fn caches_with_a_stack_serve_all_or_fail(rt: HostRuntime) -> Result<(), Fail> {
+    let policy = Policy {
+        repl: Repl::Lru,
+        wback: true,
+        walloc: true,
+    };
+    serves_all(&rt, rt.alloc(), policy)?;
+    Ok(())
+}
+
+#[test]
+fn fifo_caches_serve_all_or_fail(rt: HostRuntime) -> Result<(), Fail> {
+    let policy = Policy {
+        repl: Repl::Fifo,
+        wback: true,
+        walloc: true,
+    };
+    serves_all(&rt, rt.alloc(), policy)?;
+    Ok(())
+}
+
+#[test]
+fn caches_that_do_not_allocate_serve_all_or_fail(rt: HostRuntime) -> Result<(), Fail> {
+    let policy = Policy {
+        repl: Repl::Lru,
+        wback: true,
+        walloc: false,
+    };
+    serves_all(&rt, rt.alloc(), policy)?;
     Ok(())
 }

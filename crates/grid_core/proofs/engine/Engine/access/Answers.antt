@@ -1,115 +1,11 @@
-use Rattle.std.proofs.Common.{◌≡◌, ◌≤◌, ◌+◌, ◌*◌, ◌^◌, ◌∷◌, ◌||◌, ◌==◌, ℕ, List, map, sym, ap}
-use Rattle.std.proofs.Common.{subst, ◌∙◌, arith}
-use Rattle.std.specs.List.{All}
-use Rattle.std.proofs.lemmas.List.Elements.{All-weaker}
-use Rattle.cache_core.specs.Dirty.{rising}
-use Rattle.cache_core.specs.History.{History, Rules, access as accessed}
-use Rattle.marked_list.specs.Recency.{level_of, brought_front}
-use Rattle.grid_core.specs.declared.cells.Shape.{Shape}
-use Rattle.grid_core.specs.Shadows.{HoldsOrder, is_known, shadow_sizes}
-use Rattle.grid_core.specs.Standing.{StandsFor, HasLooked, rules_of}
-use Rattle.grid_core.specs.Cells.{IsPlacedAmong, shape_in}
-use Rattle.grid_core.specs.State.{IsRanked}
-use Rattle.grid_core.specs.Engines.{rules_in, served_in, has_failed}
-use Rattle.grid_core.proofs.After.{cells-due, after-access, lived-next, all-more, same-rules}
-use Rattle.grid_core.proofs.Sizes.{rising-is}
+use Rattle.grid_core.proofs.Kept.{seated-same}
 use Rattle.grid_core.proofs.engine.Engine.access.Goals as goal
 
-pub serve_in-requires-clause-within : goal.serve_in-requires-clause-within
-serve_in-requires-clause-within c =
-    let old = c.args.self.now in
-    let few = old.few in
-    (2 * old.served, old.bounded, omega arith)
-
 pub invariant_of-self-2 : goal.invariant_of-self-2
-unfolding served_in
 invariant_of-self-2 c =
     let old = c.args.self.now in
-    let x = c.args.access in
-    let g = old.geometry in
-    let n = old.served in
-    let sizes = shadow_sizes old.shadows in
-    let looked = c.look_in.new.stacks.items in
-    let new = c.serve_in.new.cells.items in
-    let shapes = c.serve_in.ensures.shapes in
-    let same = c.in-Ok.ensures.sizes in
-    let block = c.block-block.ensures in
-    let few : n + 1 ≤ 2 ^ 44 = let lt = c.requires in omega arith in
     record {
-      rises = ap rising same ∙ old.rises ∙ sym same;
-      placed = subst (λ (rs : List Rules). All (IsPlacedAmong rs) (map shape_in new))
-          (sym (c.touch_in.ensures.rules ∙ c.look_in.ensures.rules))
-          (subst (λ (l : List Shape). All (IsPlacedAmong (map rules_of old.stacks.items)) l)
-          (sym shapes) old.placed);
-      ranked = subst (λ (z : List ℕ). All (IsRanked z g) (map shape_in new)) (sym same)
-          (subst (λ (l : List Shape). All (IsRanked sizes g) l) (sym shapes) old.ranked);
-      bounded = all-more (2 * n + 1) (2 * (n + 1)) (omega arith) new
-          (c.serve_in.ensures.bounds (2 * n) old.bounded);
-      few = few;
-      lived = λ _. lived-next g old.stacks.items c.touch_in.new.stacks.items old.shadows
-          c.touch.new.self old.cells.items new n (accessed x) (old.lived c.if-self.false)
-          (λ h st. after-access g h x old.stacks.items c.touch_in.new.stacks.items old.shadows
-          c.touch.new.self old.cells.items new st
-          (c.touch_in.ensures.stands h (All-weaker (λ s. HasLooked s h x) (λ s. StandsFor s h)
-          (λ s l. l.stands) looked (c.look_in.ensures.looked h st.rows)))
-          (λ zs held. subst (λ b. HoldsOrder c.touch.new.self (brought_front b zs)) block
-          (c.in-Ok.ensures.order zs held))
-          (λ q. c.in-Ok.ensures.adds q ∙ ap (λ b. b == q || is_known old.shadows q) block)
-          (c.serve_in.ensures.serves h (c.look_in.ensures.looked h st.rows)
-          (cells-due g h x sizes (rising-is sizes old.rises) old.stacks.items old.shadows
-          old.cells.items c.in-Ok.prior st
-          (c.in-Ok.ensures.known ∙ ap (is_known old.shadows) block)
-          (λ zs held. c.in-Ok.ensures.level zs held ∙ ap (level_of sizes zs) block)
-          old.ranked)));
+      seated = seated-same old.policy c.access.new.self old.caches c.access.ensures.rules
+          old.seats.items old.seated;
+      step = λ works. c.in-Ok.ensures.step old.served (old.step works);
     }
-
-pub returns-clause-stands : goal.returns-clause-stands
-unfolding served_in has_failed
-returns-clause-stands c = λ h e.
-    let old = c.args.self.now in
-    let x = c.args.access in
-    let g = old.geometry in
-    let sizes = shadow_sizes old.shadows in
-    let looked = c.look_in.new.stacks.items in
-    let new = c.serve_in.new.cells.items in
-    let block = c.block-block.ensures in
-    let st = e.state in
-    record {
-      working = e.working;
-      served = (let n = e.served in omega arith);
-      state = after-access g h x old.stacks.items c.touch_in.new.stacks.items old.shadows
-          c.touch.new.self old.cells.items new st
-          (c.touch_in.ensures.stands h (All-weaker (λ s. HasLooked s h x) (λ s. StandsFor s h)
-          (λ s l. l.stands) looked (c.look_in.ensures.looked h st.rows)))
-          (λ zs held. subst (λ b. HoldsOrder c.touch.new.self (brought_front b zs)) block
-          (c.in-Ok.ensures.order zs held))
-          (λ q. c.in-Ok.ensures.adds q ∙ ap (λ b. b == q || is_known old.shadows q) block)
-          (c.serve_in.ensures.serves h (c.look_in.ensures.looked h st.rows)
-          (cells-due g h x sizes (rising-is sizes old.rises) old.stacks.items old.shadows
-          old.cells.items c.in-Ok.prior st
-          (c.in-Ok.ensures.known ∙ ap (is_known old.shadows) block)
-          (λ zs held. c.in-Ok.ensures.level zs held ∙ ap (level_of sizes zs) block)
-          old.ranked));
-    }
-
-pub returns-clause-answers : goal.returns-clause-answers
-returns-clause-answers c = λ h e.
-    let old = c.args.self.now in
-    let x = c.args.access in
-    let g = old.geometry in
-    let sizes = shadow_sizes old.shadows in
-    let block = c.block-block.ensures in
-    let st = e.state in
-    record {
-      answers = λ k d lt. (c.serve_in.ensures.serves h (c.look_in.ensures.looked h st.rows)
-          (cells-due g h x sizes (rising-is sizes old.rises) old.stacks.items old.shadows
-          old.cells.items c.in-Ok.prior st
-          (c.in-Ok.ensures.known ∙ ap (is_known old.shadows) block)
-          (λ zs held. c.in-Ok.ensures.level zs held ∙ ap (level_of sizes zs) block)
-          old.ranked) k d lt).answer;
-    }
-
-pub returns-clause-rules : goal.returns-clause-rules
-unfolding rules_in
-returns-clause-rules c = same-rules c.args.self.now.cells.items c.serve_in.new.cells.items
-    c.serve_in.ensures.shapes

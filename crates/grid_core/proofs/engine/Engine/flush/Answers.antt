@@ -1,89 +1,22 @@
-use Rattle.std.proofs.Common.{◌≡◌, ◌≤◌, ◌+◌, ◌*◌, ◌^◌, ◌∷◌, ℕ, List, map, sym, ap, subst, ◌∙◌}
-use Rattle.std.proofs.Common.{arith}
-use Rattle.std.specs.List.{All}
-use Rattle.cache_core.specs.Dirty.{rising}
-use Rattle.cache_core.specs.History.{Rules, flush as flushed}
-use Rattle.grid_core.specs.declared.cells.Shape.{Shape}
-use Rattle.grid_core.specs.Shadows.{shadow_sizes}
-use Rattle.grid_core.specs.Standing.{rules_of}
-use Rattle.grid_core.specs.Cells.{IsPlacedAmong, shape_in}
-use Rattle.grid_core.specs.State.{IsRanked}
-use Rattle.grid_core.specs.Engines.{rules_in, served_in, has_failed}
-use Rattle.grid_core.proofs.After.{after-flush, lived-next, paid-of, room-of, flushed-within}
-use Rattle.grid_core.proofs.After.{flushed-counted, flushed-shapes, same-rules, written-shapes}
+use Rattle.std.proofs.Common.{◌∙◌}
+use Rattle.grid_core.specs.Caches.{together_rules, apart_rules}
+use Rattle.grid_core.specs.Engines.{rules_in}
+use Rattle.grid_core.proofs.Kept.{seated-same}
+use Rattle.grid_core.proofs.Seats.{written-seated}
 use Rattle.grid_core.proofs.engine.Engine.flush.Goals as goal
 
-pub flush_in-requires-clause-room : goal.flush_in-requires-clause-room
-flush_in-requires-clause-room c =
-    let old = c.args.self.now in
-    let lists = c.in-Ok.lists.items in
-    let cells = old.cells.items in
-    room-of cells old.served lists old.few old.bounded
-    (paid-of old.geometry old.stacks.items old.shadows cells old.served lists c.in-Ok.ensures.len
-    (old.lived c.if-self.false) c.in-Ok.ensures.lists)
-
 pub invariant_of-self-2 : goal.invariant_of-self-2
-unfolding served_in
 invariant_of-self-2 c =
     let old = c.args.self.now in
-    let g = old.geometry in
-    let n = old.served in
-    let lists = c.in-Ok.lists.items in
-    let cells = old.cells.items in
-    let new = c.flush_in.new.cells.items in
-    let len = c.in-Ok.ensures.len in
-    let size = c.flush_in.ensures.len in
-    let done = c.flush_in.ensures.flushed in
-    let shapes = flushed-shapes lists cells new len size done in
-    let same = c.clear.ensures.sizes in
-    let few : n + 1 ≤ 2 ^ 44 = let lt = c.requires in omega arith in
-    let lived = old.lived c.if-self.false in
     record {
-      rises = ap rising same ∙ old.rises ∙ sym same;
-      placed = subst (λ (rs : List Rules). All (IsPlacedAmong rs) (map shape_in new))
-          (sym c.clear_in.ensures.rules)
-          (subst (λ (l : List Shape). All (IsPlacedAmong (map rules_of old.stacks.items)) l)
-          (sym shapes) old.placed);
-      ranked = subst (λ (z : List ℕ). All (IsRanked z g) (map shape_in new)) (sym same)
-          (subst (λ (l : List Shape). All (IsRanked (shadow_sizes old.shadows) g) l)
-          (sym shapes) old.ranked);
-      bounded = flushed-within n lists cells new len size done
-          (paid-of g old.stacks.items old.shadows cells n lists len lived c.in-Ok.ensures.lists)
-          old.bounded;
-      few = few;
-      lived = λ _. lived-next g old.stacks.items c.clear_in.new.stacks.items old.shadows
-          c.clear.new.self cells new n flushed lived
-          (λ h st. after-flush g h old.stacks.items c.clear_in.new.stacks.items old.shadows
-          c.clear.new.self cells new st (c.clear_in.ensures.stands h) c.clear.ensures.order
-          c.clear.ensures.known
-          (flushed-counted h lists cells new (c.in-Ok.ensures.lists h st.rows) len size done
-          st.counted));
+      seated = seated-same old.policy c.flush.new.self old.caches c.flush.ensures.rules
+          old.seats.items old.seated;
+      step = λ works. c.in-Ok.ensures.step old.served (old.step works);
     }
 
 pub returns-clause-lists : goal.returns-clause-lists
 unfolding rules_in
-returns-clause-lists c = λ h e. c.in-Ok.ensures.lists h e.state.rows
-    ∙ written-shapes h c.args.self.now.cells.items
-
-pub returns-clause-stands : goal.returns-clause-stands
-unfolding served_in has_failed
-returns-clause-stands c = λ h e.
+returns-clause-lists c = λ h e.
     let old = c.args.self.now in
-    let lists = c.in-Ok.lists.items in
-    let cells = old.cells.items in
-    let new = c.flush_in.new.cells.items in
-    record {
-      working = e.working;
-      served = (let n = e.served in omega arith);
-      state = after-flush old.geometry h old.stacks.items c.clear_in.new.stacks.items old.shadows
-          c.clear.new.self cells new e.state (c.clear_in.ensures.stands h) c.clear.ensures.order
-          c.clear.ensures.known
-          (flushed-counted h lists cells new (c.in-Ok.ensures.lists h e.state.rows)
-          c.in-Ok.ensures.len c.flush_in.ensures.len c.flush_in.ensures.flushed e.state.counted);
-    }
-
-pub returns-clause-rules : goal.returns-clause-rules
-unfolding rules_in
-returns-clause-rules c = same-rules c.args.self.now.cells.items c.flush_in.new.cells.items
-    (flushed-shapes c.in-Ok.lists.items c.args.self.now.cells.items c.flush_in.new.cells.items
-    c.in-Ok.ensures.len c.flush_in.ensures.len c.flush_in.ensures.flushed)
+    c.in-Ok.ensures.lists h e.caches ∙ written-seated h old.policy (together_rules old.caches)
+    (apart_rules old.caches) old.seats.items old.seated

@@ -1,35 +1,28 @@
-use Rattle.std.proofs.Common.{◌≡◌, List, ℕ, [], map, refl, sym, ap, subst, ◌∙◌, arith}
+use Rattle.std.proofs.Common.{◌≡◌, List, map, refl, sym, ap, subst, ◌∙◌, arith}
 use Rattle.std.specs.List.{All}
-use Rattle.cache_core.specs.Dirty.{rising}
-use Rattle.grid_core.specs.Shadows.{shadow_sizes}
-use Rattle.grid_core.specs.Cells.{shape_in}
-use Rattle.grid_core.specs.State.{IsRanked}
-use Rattle.grid_core.specs.Engines.{rules_in, served_in, has_failed}
-use Rattle.grid_core.proofs.After.{after-start, rules-shapes}
+use Rattle.cache_core.specs.History.{Rules}
+use Rattle.grid_core.specs.Engines.{served_in, has_failed}
+use Rattle.grid_core.specs.Places.{IsSeated, planned_rules}
+use Rattle.grid_core.specs.Singles.{single_rules, HasServed}
+use Rattle.grid_core.specs.StackedCells.{stacked_rules}
 use Rattle.grid_core.proofs.engine.Engine.made.Goals as goal
 
 pub invariant_of-result : goal.invariant_of-result
+unfolding HasServed
 invariant_of-result c =
-    let shadows = c.in_ok-shadows.shadows in
-    let stacks = c.in_ok-parts.parts.stacks.items in
-    let cells = c.in_ok-parts.parts.cells.items in
-    let first = c.args.first in
-    let sizes : shadow_sizes shadows ≡ c.in_ok-sizes.sizes.items =
-    c.in_ok-shadows.ensures.sizes ∙ c.deref.ensures.value in
-    let fresh = c.in_ok-parts.ensures.fresh in
+    let plan = c.in_ok-plan.plan in
+    let p = c.args.policy in
+    let stacked = c.in_ok-stacked.stacked in
+    let rules : stacked_rules stacked ≡ planned_rules p.wback plan.together.items =
+    c.in_ok-stacked.ensures.rules ∙ ap (planned_rules p.wback) c.deref.ensures.value in
     record {
-      rises = ap rising sizes ∙ c.in_ok-sizes.ensures.rise ∙ sym sizes;
-      placed = c.in_ok-parts.ensures.placed;
-      ranked = subst (λ (l : List ℕ). All (IsRanked l first) (map shape_in cells))
-          (sym (sizes ∙ sym c.deref-2.ensures.value)) c.in_ok-parts.ensures.ranked;
-      bounded = λ k d lt. (fresh k d lt).within;
-      few = omega arith;
-      lived = λ _. ∣ (
-        [],
-        after-start first stacks shadows cells c.in_ok-parts.ensures.stands
-            c.in_ok-shadows.ensures.order c.in_ok-shadows.ensures.known fresh,
-        refl,
-      ) ∣₁;
+      seated = subst (λ (l : List Rules). All (IsSeated p l (map single_rules plan.singles.items))
+          plan.seats.items) (sym rules) c.in_ok-plan.ensures.seated;
+      step = λ works. record {
+        works = c.in_ok-stacked.ensures.works;
+        stacked = (let none = c.in_ok-stacked.ensures.served in omega arith);
+        singles = λ k d lt. (c.in_ok-plan.ensures.fresh k d lt).served;
+      };
     }
 
 pub returns-clause-stands : goal.returns-clause-stands
@@ -37,11 +30,8 @@ unfolding served_in has_failed
 returns-clause-stands c = record {
   working = refl;
   served = refl;
-  state = after-start c.args.first c.in_ok-parts.parts.stacks.items c.in_ok-shadows.shadows
-      c.in_ok-parts.parts.cells.items c.in_ok-parts.ensures.stands c.in_ok-shadows.ensures.order
-      c.in_ok-shadows.ensures.known c.in_ok-parts.ensures.fresh;
+  caches = record {
+    stacked = λ some. c.in_ok-stacked.ensures.stands;
+    singles = λ k d lt. (c.in_ok-plan.ensures.fresh k d lt).stands;
+  };
 }
-
-pub returns-clause-rules : goal.returns-clause-rules
-unfolding rules_in
-returns-clause-rules c = rules-shapes c.in_ok-parts.parts.cells.items ∙ c.in_ok-parts.ensures.rules

@@ -1,19 +1,16 @@
-use Rattle.std.proofs.Common.{◌≡◌, ◌<◌, ◌∷◌, ◌++◌, [], List, length, get_or, map, take, sym, ap}
+use Rattle.std.proofs.Common.{◌≡◌, ◌<◌, ◌∷◌, ◌++◌, [], length, get_or, map, take, sym, ap}
 use Rattle.std.proofs.Common.{subst}
 use Rattle.std.proofs.Common.{◌∙◌, arith}
 use Rattle.std.specs.List.{All}
 use Rattle.std.proofs.lemmas.List.{map-append, map_more}
 use Rattle.std.proofs.lemmas.List.Elements.{All-push, All-weaker}
-use Rattle.cache_core.specs.declared.geometry.Geometry.{Geometry}
 use Rattle.cache_core.specs.Geometry.{bsize_of, blocks_of}
-use Rattle.grid_core.specs.declared.cells.Cell.{Cell}
-use Rattle.grid_core.specs.declared.cells.Shape.{Shape}
 use Rattle.grid_core.specs.Standing.{stack_rules, rules_of}
-use Rattle.grid_core.specs.Shapes.{has_size, IsSuitedShape}
+use Rattle.grid_core.specs.Shapes.{IsSuitedShape}
 use Rattle.grid_core.specs.Cells.{IsPlacedAmong, shape_in, shape_rules}
 use Rattle.grid_core.specs.State.{IsRanked, IsFresh}
 use Rattle.grid_core.proofs.Placed.{suited-placed}
-use Rattle.grid_core.proofs.engine.parts_for.Goals as goal
+use Rattle.grid_core.proofs.stacked.parts_for.Goals as goal
 
 pub loop-geometry-preserved : goal.loop-geometry-preserved
 loop-geometry-preserved c =

@@ -1,15 +1,11 @@
-use Rattle.std.proofs.Common.{◌≡◌, ◌<◌, ℕ, ◌==◌, length, get_or, sym, ap, subst, ◌∙◌}
-use Rattle.cache_core.specs.declared.geometry.Geometry.{Geometry}
-use Rattle.cache_core.specs.Geometry.{blocks_of, assoc_of}
+use Rattle.std.proofs.Common.{◌≡◌, ◌<◌, ◌==◌, length, get_or, sym, ap, subst, ◌∙◌}
+use Rattle.cache_core.specs.Geometry.{blocks_of}
 use Rattle.cache_core.proofs.Lawful.{sane_of}
-use Rattle.grid_core.specs.declared.cells.Cell.{Cell}
 use Rattle.grid_core.specs.declared.cells.Shape.{Shape}
-use Rattle.grid_core.specs.declared.stack.Stack.{Stack}
 use Rattle.grid_core.specs.Slots.{index_of}
-use Rattle.grid_core.specs.Shapes.{has_size, IsSuited, IsSuitedShape}
-use Rattle.grid_core.specs.State.{IsCellFor, IsFresh}
+use Rattle.grid_core.specs.Shapes.{IsSuited, IsSuitedShape}
 use Rattle.grid_core.proofs.Sizes.{index-inside, index-found}
-use Rattle.grid_core.proofs.engine.cell_for.Goals as goal
+use Rattle.grid_core.proofs.stacked.cell_for.Goals as goal
 
 pub returns-clause-own : goal.returns-clause-own
 returns-clause-own c =

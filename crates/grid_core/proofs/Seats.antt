@@ -1,0 +1,222 @@
+-- Seats, while more caches join those that were planned.
+use Rattle.std.proofs.Common.{◌≡◌, ℕ, suc, ◌*◌, ◌<◌, ◌≤◌, ◌++◌, ◌∷◌, [], Bool, true, false, List}
+use Rattle.std.proofs.Common.{length, get_or, map, refl, sym, ap, subst, ◌∙◌, arith}
+use Rattle.std.specs.List.{All}
+use Rattle.std.proofs.lemmas.List.{append-nil, append_assoc, length-append, get_or_append_left}
+use Rattle.std.proofs.lemmas.List.{map-append, length-map, get_or-map}
+use Rattle.std.proofs.lemmas.List.Elements.{All-push}
+use Rattle.std.proofs.Math.Seq.{get_or-append_seam}
+use Rattle.cache_core.specs.declared.geometry.Geometry.{Geometry}
+use Rattle.cache_core.specs.declared.policy.Policy.{Policy}
+use Rattle.cache_core.specs.Geometry.{bsize_of, sets_of, assoc_of, blocks_of}
+use Rattle.cache_core.specs.History.{History, Rules}
+use Rattle.cache_core.specs.Kinds.{shadow_of}
+use Rattle.cache_core.specs.Policy.{is_fifo}
+use Rattle.cache_core.specs.Standing.{rules_from}
+use Rattle.grid_core.specs.declared.places.Place.{Place}
+use Rattle.grid_core.specs.declared.places.Place.TheVariants.{Together, Apart}
+use Rattle.grid_core.specs.declared.places.Seat.{Seat}
+use Rattle.grid_core.specs.Places.{IsPlace, rules_placed, shadow_placed, list_placed, IsSeated}
+use Rattle.grid_core.specs.Places.{Extends, planned_rules}
+use Rattle.grid_core.specs.Plans.{IsAsLarge}
+use Rattle.grid_core.specs.Standing.{stack_rules}
+use Rattle.grid_core.specs.Wholes.{IsWholeOf, IsLruOf}
+use Rattle.grid_core.proofs.Geometries.{sets-blocks}
+use Rattle.grid_core.specs.Written.{rules_at, no_rules, written_by}
+
+-- lists that grow
+
+pub extends-same : {X : Type 0} (xs : List X) → Extends xs xs
+extends-same xs = ([], sym (append-nil xs))
+
+pub extends-push : {X : Type 0} (xs ys : List X) (x : X) → ys ≡ xs ++ x ∷ [] → Extends xs ys
+extends-push xs ys x is = (x ∷ [], is)
+
+pub extends-more : {X : Type 0} (xs ys zs : List X) → Extends xs ys → Extends ys zs → Extends xs zs
+extends-more xs ys zs a b =
+    (a.0 ++ b.0, b.1 ∙ ap (λ l. l ++ b.0) a.1 ∙ append_assoc xs a.0 b.0)
+
+pub extends-map : {X Y : Type 0} (f : X → Y) (xs ys : List X) → Extends xs ys
+    → Extends (map f xs) (map f ys)
+extends-map f xs ys a = (map f a.0, ap (map f) a.1 ∙ map-append f xs a.0)
+
+longer : {X : Type 0} (xs ys : List X) → Extends xs ys → length xs ≤ length ys
+longer xs ys a = let len = ap length a.1 ∙ length-append xs a.0 in omega arith
+
+rules-longer : (rs rs' : List Rules) → Extends rs rs' → (i : ℕ) → i < length rs
+    → rules_at rs' i ≡ rules_at rs i
+rules-longer rs rs' a i lt = ap (λ l. rules_at l i) a.1 ∙ get_or_append_left rs a.0 no_rules i lt
+
+module _ (rs rs' ss ss' : List Rules) (a : Extends rs rs') (b : Extends ss ss') where
+  place-longer : (p : Place) → IsPlace (length rs) (length ss) p
+      → IsPlace (length rs') (length ss') p
+  place-longer (Together i) lt = let le = longer rs rs' a in omega arith
+  place-longer (Apart i) lt = let le = longer ss ss' b in omega arith
+
+  placed-longer : (p : Place) → IsPlace (length rs) (length ss) p
+      → rules_placed rs' ss' p ≡ rules_placed rs ss p
+  placed-longer (Together i) lt = rules-longer rs rs' a i lt
+  placed-longer (Apart i) lt = rules-longer ss ss' b i lt
+
+  shadow-longer : (p : Place) → IsPlace (length rs) (length ss) p
+      → shadow_placed rs' ss' p ≡ shadow_placed rs ss p
+  shadow-longer (Together i) lt = ap shadow_of (rules-longer rs rs' a i lt)
+  shadow-longer (Apart i) lt = rules-longer ss ss' b i lt
+
+  -- a seat stays one
+  pub seated-longer : (p : Policy) (s : Seat) → IsSeated p rs ss s → IsSeated p rs' ss' s
+  seated-longer p s own = record {
+    cell_there = place-longer s.cell own.cell_there;
+    cell = placed-longer s.cell own.cell_there ∙ own.cell;
+    shade_there = place-longer s.shade own.shade_there;
+    shade = shadow-longer s.shade own.shade_there ∙ own.shade;
+  }
+
+-- the rules of caches
+
+make : ℕ → ℕ → ℕ → ℕ → Bool → Bool → Bool → Rules
+make b s a n f w l = record {
+  bsize = b;
+  sets = s;
+  assoc = a;
+  blocks = n;
+  fifo = f;
+  wback = w;
+  walloc = l;
+}
+
+-- an LRU cache that allocates at writes is one with a stack order
+pub stack-policy : (g : Geometry) (p : Policy) → is_fifo p ≡ false → p.walloc ≡ true
+    → stack_rules g p.wback ≡ rules_from g p
+unfolding make
+stack-policy g p lru walloc =
+    ap (λ f. make (bsize_of g) (sets_of g) (assoc_of g) (blocks_of g) f p.wback true) (sym lru)
+    ∙ ap (make (bsize_of g) (sets_of g) (assoc_of g) (blocks_of g) (is_fifo p) p.wback)
+    (sym walloc)
+
+-- caches of as many blocks that allocate at writes have the same shadow
+pub stack-shadow : (d g : Geometry) (p : Policy) → bsize_of d ≡ bsize_of g
+    → blocks_of d ≡ blocks_of g → p.walloc ≡ true
+    → shadow_of (stack_rules d p.wback) ≡ shadow_of (rules_from g p)
+unfolding make
+stack-shadow d g p bytes blocks walloc =
+    ap (λ b. make b 1 (blocks_of d) (blocks_of d) false p.wback true) bytes
+    ∙ ap (λ n. make (bsize_of g) 1 n n false p.wback true) blocks
+    ∙ ap (make (bsize_of g) 1 (blocks_of g) (blocks_of g) false p.wback) (sym walloc)
+
+-- where there is one set, it has all blocks
+one-set : (w : Geometry) → sets_of w ≡ 1 → assoc_of w ≡ blocks_of w
+one-set w one =
+    let all : 1 * assoc_of w ≡ blocks_of w = ap (λ s. s * assoc_of w) (sym one) ∙ sets-blocks w in
+    omega arith
+
+-- the shadow is the fully associative LRU cache of as many blocks
+pub whole-shadow : (w g : Geometry) (q p : Policy) → IsWholeOf w g → IsLruOf q p
+    → rules_from w q ≡ shadow_of (rules_from g p)
+unfolding make
+whole-shadow w g q p whole lru =
+    ap (λ b. make b (sets_of w) (assoc_of w) (blocks_of w) (is_fifo q) q.wback q.walloc)
+    whole.same_bsize
+    ∙ ap (λ s. make (bsize_of g) s (assoc_of w) (blocks_of w) (is_fifo q) q.wback q.walloc)
+    whole.one
+    ∙ ap (λ a. make (bsize_of g) 1 a (blocks_of w) (is_fifo q) q.wback q.walloc)
+    (one-set w whole.one)
+    ∙ ap (λ n. make (bsize_of g) 1 n n (is_fifo q) q.wback q.walloc) whole.same_blocks
+    ∙ ap (λ f. make (bsize_of g) 1 (blocks_of g) (blocks_of g) f q.wback q.walloc) lru.lru
+    ∙ ap (λ b. make (bsize_of g) 1 (blocks_of g) (blocks_of g) false b q.walloc) lru.same_wback
+    ∙ ap (make (bsize_of g) 1 (blocks_of g) (blocks_of g) false p.wback) lru.same_walloc
+
+-- what a flush writes back at a place
+pub written-placed : (h : History) (rs ss : List Rules) (p : Place)
+    → IsPlace (length rs) (length ss) p
+    → list_placed (map (written_by h) rs) (map (written_by h) ss) p
+    ≡ written_by h (rules_placed rs ss p)
+written-placed h rs ss (Together i) lt = get_or-map (written_by h) rs i no_rules [] lt
+written-placed h rs ss (Apart i) lt = get_or-map (written_by h) ss i no_rules [] lt
+
+-- at the places of all seats
+pub written-all : (h : History) (rs ss : List Rules) (seats : List Seat)
+    → All (λ s. IsPlace (length rs) (length ss) s.cell) seats
+    → map (λ s. list_placed (map (written_by h) rs) (map (written_by h) ss) s.cell) seats
+    ≡ map (λ s. written_by h (rules_placed rs ss s.cell)) seats
+written-all h rs ss [] all = refl
+written-all h rs ss (s ∷ seats) all =
+    ap (λ l. l ∷ map (λ z. list_placed (map (written_by h) rs) (map (written_by h) ss) z.cell)
+    seats) (written-placed h rs ss s.cell (all 0 s (omega arith)))
+    ∙ ap (λ l. written_by h (rules_placed rs ss s.cell) ∷ l)
+    (written-all h rs ss seats (λ k d lt. all (suc k) d (omega arith)))
+
+-- in the words of the rules of an engine
+pub written-seated : (h : History) (p : Policy) (rs ss : List Rules) (seats : List Seat)
+    → All (IsSeated p rs ss) seats
+    → map (λ s. written_by h (rules_placed rs ss s.cell)) seats
+    ≡ map (written_by h) (map (λ s. rules_from s.geometry p) seats)
+written-seated h p rs ss [] all = refl
+written-seated h p rs ss (s ∷ seats) all =
+    ap (λ r. written_by h r ∷ map (λ z. written_by h (rules_placed rs ss z.cell)) seats)
+    (all 0 s (omega arith)).cell
+    ∙ ap (λ l. written_by h (rules_from s.geometry p) ∷ l)
+    (written-seated h p rs ss seats (λ k d lt. all (suc k) d (omega arith)))
+
+-- what joins a list last
+
+pub last-inside : (rs rs' : List Rules) (r : Rules) (i : ℕ) → rs' ≡ rs ++ r ∷ [] → i ≡ length rs
+    → i < length rs'
+last-inside rs rs' r i is at = let len = ap length is ∙ length-append rs (r ∷ []) in omega arith
+
+pub last-is : (rs rs' : List Rules) (r : Rules) (i : ℕ) → rs' ≡ rs ++ r ∷ [] → i ≡ length rs
+    → rules_at rs' i ≡ r
+last-is rs rs' r i is at = ap (λ l. rules_at l i) is ∙ ap (rules_at (rs ++ r ∷ [])) at
+    ∙ get_or-append_seam rs r [] no_rules
+
+-- a geometry of as many blocks gives the shadow of a cache whose writes allocate
+pub shadow-as-large : (gs : List Geometry) (g : Geometry) (p : Policy) (i : ℕ) → IsAsLarge gs g i
+    → p.walloc ≡ true
+    → shadow_of (rules_at (planned_rules p.wback gs) i) ≡ shadow_of (rules_from g p)
+shadow-as-large gs g p i large walloc =
+    ap shadow_of (get_or-map (λ d. stack_rules d p.wback) gs i g no_rules large.inside)
+    ∙ stack-shadow (get_or gs i g) g p (large.same_bsize g) (large.same_blocks g) walloc
+
+-- a seat of a cache that joins those that are served together
+pub seated-together : (g : Geometry) (p : Policy) (gs gs' : List Geometry) (ss : List Rules)
+    (s : Seat) → is_fifo p ≡ false → p.walloc ≡ true → gs' ≡ gs ++ g ∷ [] → s.geometry ≡ g
+    → s.cell ≡ Together (length gs) → s.shade ≡ Together (length gs)
+    → IsSeated p (planned_rules p.wback gs') ss s
+seated-together g p gs gs' ss s lru walloc is geometry cell shade =
+    let f = λ (d : Geometry). stack_rules d p.wback in
+    let rs = map f gs in
+    let rs' = map f gs' in
+    let joined : rs' ≡ rs ++ f g ∷ [] = ap (map f) is ∙ map-append f gs (g ∷ []) in
+    let last : length gs ≡ length rs = sym (length-map gs f) in
+    let inside = last-inside rs rs' (f g) (length gs) joined last in
+    let at : rules_at rs' (length gs) ≡ rules_from g p =
+    last-is rs rs' (f g) (length gs) joined last ∙ stack-policy g p lru walloc in
+    record {
+      cell_there = subst (λ q. IsPlace (length rs') (length ss) q) (sym cell) inside;
+      cell = ap (rules_placed rs' ss) cell ∙ at ∙ ap (λ d. rules_from d p) (sym geometry);
+      shade_there = subst (λ q. IsPlace (length rs') (length ss) q) (sym shade) inside;
+      shade = ap (shadow_placed rs' ss) shade ∙ ap shadow_of at
+          ∙ ap (λ d. shadow_of (rules_from d p)) (sym geometry);
+    }
+
+-- a seat of a cache of its own
+pub seated-apart : (g : Geometry) (p : Policy) (rs ss ss' ss'' : List Rules) (cell : ℕ)
+    (shade : Place) → ss' ≡ ss ++ rules_from g p ∷ [] → cell ≡ length ss → Extends ss' ss''
+    → IsPlace (length rs) (length ss'') shade
+    → shadow_placed rs ss'' shade ≡ shadow_of (rules_from g p)
+    → IsSeated p rs ss'' (record { geometry = g; cell = Apart cell; shade = shade })
+seated-apart g p rs ss ss' ss'' cell shade is at more there is-shadow =
+    let inside = last-inside ss ss' (rules_from g p) cell is at in
+    record {
+      cell_there = (let le = longer ss' ss'' more in omega arith);
+      cell = rules-longer ss' ss'' more cell inside
+          ∙ last-is ss ss' (rules_from g p) cell is at;
+      shade_there = there;
+      shade = is-shadow;
+    }
+
+-- a geometry of the block size joins others of the block size
+pub joins-all : (b : ℕ) (gs gs' : List Geometry) (g : Geometry) → gs' ≡ gs ++ g ∷ []
+    → bsize_of g ≡ b → All (λ d. bsize_of d ≡ b) gs → All (λ d. bsize_of d ≡ b) gs'
+joins-all b gs gs' g is one all = subst (All (λ d. bsize_of d ≡ b)) (sym is)
+    (All-push (λ d. bsize_of d ≡ b) gs g all one)

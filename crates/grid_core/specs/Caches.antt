@@ -1,0 +1,75 @@
+-- The caches of an engine, and what each counts.
+use Rattle.std.specs.Prelude.{◌≡◌, ℕ, ◌≤◌, ◌<◌, false, List, length, map, get_or}
+use Rattle.std.specs.List.{All}
+use Rattle.cache_core.specs.declared.access.Access.{Access}
+use Rattle.cache_core.specs.declared.counts.Counts.{Counts}
+use Rattle.cache_core.specs.declared.counts.PerClass.{PerClass}
+use Rattle.cache_core.specs.History.{History, Rules}
+use Rattle.cache_core.specs.Counts.{no_counts}
+use Rattle.cache_core.specs.Standing.{served_of}
+use Rattle.grid_core.specs.declared.caches.Caches.{Caches}
+use Rattle.grid_core.specs.declared.places.Place.{Place}
+use Rattle.grid_core.specs.declared.places.Place.TheVariants.{Together, Apart}
+use Rattle.grid_core.specs.declared.stacked.Stacked.{Stacked}
+use Rattle.grid_core.specs.StackedCells.{StackedStandsFor, StackedHasAnswered, stacked_rules}
+use Rattle.grid_core.specs.StackedCells.{stacked_served, stacked_kept, stacked_failed}
+use Rattle.grid_core.specs.Singles.{single_rules, single_counts, SingleStandsFor}
+use Rattle.grid_core.specs.Singles.{SingleHasAnswered}
+use Rattle.grid_core.specs.Places.{IsPlace}
+use Rattle.grid_core.specs.Written.{none_kept}
+
+-- the rules of the caches that are served together
+abbrev pub together_rules : Caches → List Rules
+together_rules c = stacked_rules c.stacked
+
+-- the rules of the caches of their own
+abbrev pub apart_rules : Caches → List Rules
+apart_rules c = map single_rules c.singles.items
+
+-- the caches have this place
+abbrev pub HasPlace : Caches → Place → Type 0
+HasPlace c p = IsPlace (length (together_rules c)) (length (apart_rules c)) p
+
+-- the counts at a place
+abbrev pub counts_in : Caches → Place → Counts
+counts_in c (Together i) = (get_or (stacked_kept c.stacked) i none_kept).0
+counts_in c (Apart i) = get_or (map single_counts c.singles.items) i no_counts
+
+-- the misses of the shadow at a place
+abbrev pub misses_in : Caches → Place → PerClass
+misses_in c (Together i) = (get_or (stacked_kept c.stacked) i none_kept).1
+misses_in c (Apart i) = (get_or (map single_counts c.singles.items) i no_counts).misses
+
+-- caches that are served together stand for the history, if there are any; else none is served
+abbrev pub FollowsStacked : History → Stacked → Type 0
+FollowsStacked h s = 0 < length (stacked_rules s) → StackedStandsFor s h
+
+-- their last access was x, after the history h
+abbrev pub StackedFollowed : History → Access → Stacked → Type 0
+StackedFollowed h x s = 0 < length (stacked_rules s) → StackedHasAnswered s h x
+
+-- each cache stands for the history
+pub record CachesStandFor (h : History) (c : Caches) : Type 0 where
+  pub stacked : FollowsStacked h c.stacked
+  pub singles : All (SingleStandsFor h) c.singles.items
+
+-- the last access of each cache was x, after the history h
+pub record HaveAnswered (h : History) (x : Access) (c : Caches) : Type 0 where
+  pub stacked : StackedFollowed h x c.stacked
+  pub singles : All (SingleHasAnswered h x) c.singles.items
+
+-- no cache has failed, and none has served more than n events
+pub record AreInStep (n : ℕ) (c : Caches) : Type 0 where
+  pub works : stacked_failed c.stacked ≡ false
+  pub stacked : stacked_served c.stacked ≤ n
+  pub singles : All (λ s. served_of s.cache ≡ n) c.singles.items
+
+-- the caches have the same rules
+pub record HaveSameRules (c d : Caches) : Type 0 where
+  pub together : together_rules c ≡ together_rules d
+  pub apart : apart_rules c ≡ apart_rules d
+
+-- the caches have the same counts
+pub record HaveSameCounts (c d : Caches) : Type 0 where
+  pub together : stacked_kept c.stacked ≡ stacked_kept d.stacked
+  pub apart : map single_counts c.singles.items ≡ map single_counts d.singles.items

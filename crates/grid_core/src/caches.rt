@@ -1,0 +1,172 @@
+//! The caches of an engine: those that are served together, and those of their own.
+
+ghost use Rattle.std.specs.Prelude.{◌≡◌, ◌<◌, ◌≤◌, ◌+◌, ◌^◌, ◌∷◌, ℕ, false, length, map};
+ghost use Rattle.std.specs.Prelude.{IfOk, OnOk, OnErr};
+ghost use Rattle.cache_core.specs.History.{History, access as accessed, flush as flushed};
+ghost use Rattle.grid_core.specs.Cells.{items_of};
+ghost use Rattle.grid_core.specs.Caches.{FollowsStacked, StackedFollowed};
+ghost use Rattle.grid_core.specs.StackedCells.{stacked_rules, stacked_served, stacked_kept};
+ghost use Rattle.grid_core.specs.StackedCells.{stacked_failed, AreDirtyIn};
+ghost use Rattle.grid_core.specs.Written.{written_by};
+
+use crate::places::{Place, Seat, lists_of};
+use crate::single::Single;
+use crate::singles::{flush_in, serve_in, settle_in};
+use crate::stacked::Stacked;
+use cache_core::{Access, Counts, Outcome, PerClass};
+use std::alloc::{AllocError, Global};
+
+/// Caches of one policy: those that have a stack order, and those of their own. The shadows of
+/// caches of their own are among them too.
+#[derive(Drop)]
+pub(crate) struct Caches {
+    pub stacked: Stacked,
+    pub singles: Vec<Single>,
+}
+
+/// Serves an access in the caches that are served together, if there are any.
+fn serve_stacked(stacked: &mut Stacked, access: Access) -> Result<(), AllocError>
+    requires { stacked_served stacked.old < 2 ^ 44 }
+    ensures stands { OnOk result ((h : History) → FollowsStacked h stacked.old →
+        FollowsStacked (accessed access ∷ h) stacked.new) }
+    ensures answers { OnOk result ((h : History) → FollowsStacked h stacked.old →
+        StackedFollowed h access stacked.new) }
+    ensures served { OnOk result (stacked_served stacked.new ≤ stacked_served stacked.old + 1) }
+    ensures works { OnOk result (stacked_failed stacked.old ≡ false →
+        stacked_failed stacked.new ≡ false) }
+    ensures keeps { OnErr result (stacked_kept stacked.new ≡ stacked_kept stacked.old) }
+    ensures rules { stacked_rules stacked.new ≡ stacked_rules stacked.old }
+{
+    if stacked.cells() == 0 {
+        return Ok(());
+    }
+    let Ok(()) = stacked.access(access) else {
+        return Err(AllocError);
+    };
+    Ok(())
+}
+
+/// What a flush writes back in each of the caches that are served together.
+fn written_stacked(stacked: &Stacked) -> Result<Vec<Vec<u64>>, AllocError>
+    ensures dirty { IfOk result (λ lists. AreDirtyIn stacked.now lists.items) }
+    ensures lists { IfOk result (λ lists. (h : History) → FollowsStacked h stacked.now →
+        map items_of lists.items ≡ map (written_by h) (stacked_rules stacked.now)) }
+    ensures len { IfOk result (λ lists. length lists.items ≡ length (stacked_rules stacked.now)) }
+{
+    let lists = stacked.written()?;
+    Ok(lists)
+}
+
+/// Flushes the caches that are served together, if there are any.
+fn flush_stacked(stacked: &mut Stacked, lists: &Vec<Vec<u64>>)
+    requires few { stacked_served stacked.old < 2 ^ 44 }
+    requires works { stacked_failed stacked.old ≡ false }
+    requires len { length lists.now.items ≡ length (stacked_rules stacked.old) }
+    requires lists { AreDirtyIn stacked.old lists.now.items }
+    ensures stands { (h : History) → FollowsStacked h stacked.old →
+        FollowsStacked (flushed ∷ h) stacked.new }
+    ensures served { stacked_served stacked.new ≤ stacked_served stacked.old + 1 }
+    ensures works { stacked_failed stacked.new ≡ false }
+    ensures rules { stacked_rules stacked.new ≡ stacked_rules stacked.old }
+{
+    if stacked.cells() == 0 {
+        return;
+    }
+    stacked.flush(lists);
+}
+
+impl Caches {
+    ghost use Rattle.std.specs.Prelude.{◌≡◌, ◌<◌, ◌+◌, ◌^◌, ◌∷◌, ℕ, map, IfOk, OnOk, OnErr};
+    ghost use Rattle.std.specs.List.{All};
+    ghost use Rattle.cache_core.specs.History.{History, access as accessed, flush as flushed};
+    ghost use Rattle.cache_core.specs.Counts.{counts_of};
+    ghost use Rattle.cache_core.specs.Parts.{outcome_of};
+    ghost use Rattle.grid_core.specs.Cells.{items_of};
+    ghost use Rattle.grid_core.specs.Caches.{CachesStandFor, HaveAnswered, AreInStep, HasPlace};
+    ghost use Rattle.grid_core.specs.Caches.{HaveSameRules, HaveSameCounts, counts_in, misses_in};
+    ghost use Rattle.grid_core.specs.Caches.{together_rules, apart_rules};
+    ghost use Rattle.grid_core.specs.Places.{rules_placed, shadow_placed};
+    ghost use Rattle.grid_core.specs.Written.{written_by};
+
+    /// Serves an access in all caches. What can fail comes first, and only then is it counted.
+    pub fn access(&mut self, access: Access) -> Result<(), AllocError>
+        requires { (n : ℕ) × AreInStep n self.old × (n < 2 ^ 44) }
+        ensures stands { OnOk result ((h : History) → CachesStandFor h self.old →
+            CachesStandFor (accessed access ∷ h) self.new) }
+        ensures answers { OnOk result ((h : History) → CachesStandFor h self.old →
+            HaveAnswered h access self.new) }
+        ensures step { OnOk result ((n : ℕ) → AreInStep n self.old →
+            AreInStep (n + 1) self.new) }
+        ensures keeps { OnErr result (HaveSameCounts self.new self.old) }
+        ensures rules { HaveSameRules self.new self.old }
+    {
+        serve_in(&mut self.singles, access)?;
+        serve_stacked(&mut self.stacked, access)?;
+        settle_in(&mut self.singles);
+        Ok(())
+    }
+
+    /// Empties all caches, and answers for each seat what its cache writes back. What can fail
+    /// comes first, and only then is it counted.
+    pub fn flush(&mut self, alloc: Global, seats: &Vec<Seat>) -> Result<Vec<Vec<u64>>, AllocError>
+        requires step { (n : ℕ) × AreInStep n self.old × (n < 2 ^ 44) }
+        requires seats { All (λ s. HasPlace self.old s.cell) seats.now.items }
+        ensures lists { IfOk result (λ lists. (h : History) → CachesStandFor h self.old →
+            map items_of lists.items ≡ map (λ s. written_by h (rules_placed
+            (together_rules self.old) (apart_rules self.old) s.cell)) seats.now.items) }
+        ensures stands { OnOk result ((h : History) → CachesStandFor h self.old →
+            CachesStandFor (flushed ∷ h) self.new) }
+        ensures step { OnOk result ((n : ℕ) → AreInStep n self.old →
+            AreInStep (n + 1) self.new) }
+        ensures keeps { OnErr result (HaveSameCounts self.new self.old) }
+        ensures rules { HaveSameRules self.new self.old }
+    {
+        let apart = flush_in(alloc, &mut self.singles)?;
+        let together = written_stacked(&self.stacked)?;
+        let lists = lists_of(alloc, seats, &together, &apart)?;
+        flush_stacked(&mut self.stacked, &together);
+        settle_in(&mut self.singles);
+        Ok(lists)
+    }
+
+    /// The counts at a place.
+    pub fn counts(&self, place: Place) -> Counts
+        requires { HasPlace self.now place }
+        ensures kept { result ≡ counts_in self.now place }
+        ensures counted { (h : History) → CachesStandFor h self.now →
+            result ≡ counts_of (rules_placed (together_rules self.now) (apart_rules self.now)
+            place) h }
+    {
+        match place {
+            Place::Together(index) => self.stacked.counts(index),
+            Place::Apart(index) => self.singles[index].counts(),
+        }
+    }
+
+    /// The misses of the shadow at a place.
+    pub fn shadow_misses(&self, place: Place) -> PerClass
+        requires { HasPlace self.now place }
+        ensures kept { result ≡ misses_in self.now place }
+        ensures counted { (h : History) → CachesStandFor h self.now →
+            result ≡ (counts_of (shadow_placed (together_rules self.now) (apart_rules self.now)
+            place) h).misses }
+    {
+        match place {
+            Place::Together(index) => self.stacked.shadow_misses(index),
+            Place::Apart(index) => self.singles[index].counts().misses,
+        }
+    }
+
+    /// What the last access did at a place.
+    pub fn answer(&self, place: Place) -> Outcome
+        requires { HasPlace self.now place }
+        ensures { (h : History) (x : Access) → HaveAnswered h x self.now →
+            result ≡ outcome_of (rules_placed (together_rules self.now) (apart_rules self.now)
+            place) h x }
+    {
+        match place {
+            Place::Together(index) => self.stacked.answer(index),
+            Place::Apart(index) => self.singles[index].answer(),
+        }
+    }
+}
