@@ -18,6 +18,7 @@
 mod cells;
 mod counting;
 mod engine;
+mod front;
 mod laws;
 mod shadows;
 mod shapes;
