@@ -1,6 +1,6 @@
 //! The caches of one engine: what each counts, and what each did last.
 
-ghost use Rattle.std.specs.Prelude.{◌≡◌, ◌<◌, ◌≤◌, ◌^◌, ◌+◌, ℕ, not, ◌&&◌, nat_lt, map, []};
+ghost use Rattle.std.specs.Prelude.{◌≡◌, ◌<◌, ◌≤◌, ◌^◌, ◌+◌, ℕ, not, ◌&&◌, nat_lt, map, [], true};
 ghost use Rattle.std.specs.Prelude.{if◌then◌else◌, Some, None, IfOk, length};
 ghost use Rattle.std.specs.List.{All};
 ghost use Rattle.cache_core.specs.declared.access.MissKind.TheVariants.{Compulsory, Capacity};
@@ -14,6 +14,7 @@ ghost use Rattle.grid_core.specs.Cells.{IsPlacedOn, IsPlacedAmong, shape_rules, 
 ghost use Rattle.grid_core.specs.Cells.{KnowsPrior, IsDue, IsServed, IsCounted, IsWithinCell};
 ghost use Rattle.grid_core.specs.Cells.{HaveRoom, AreFlushedBy, flushed_by, dirty_bytes_of};
 ghost use Rattle.grid_core.specs.Cells.{items_of};
+ghost use Rattle.grid_core.specs.Hits.{IsPlainHit};
 
 use crate::counting::{count, count_outcome};
 use crate::shadows::Prior;
@@ -101,9 +102,10 @@ fn kind_in(hit: bool, prior: Prior, rank: usize) -> Option<MissKind>
 fn back_in(stack: &Stack, access: Access, ways: usize, hit: bool) -> Option<u64>
     requires some { 0 < ways }
     requires fits { ways ≤ (rules_of stack.now).assoc }
-    ensures { (h : History) → HasLooked stack.now h access →
+    ensures back { (h : History) → HasLooked stack.now h access →
         hit ≡ nat_lt (found_in stack.now) ways →
         (outcome_of (with_ways ways (rules_of stack.now)) h access).back ≡ result }
+    ensures none { hit ≡ true → result ≡ None }
 {
     if hit {
         return None;
@@ -121,8 +123,9 @@ fn sends_on(write: bool, wback: bool) -> bool
 /// The outcome of an access in the cache of this shape.
 fn outcome_in(stack: &Stack, shape: Shape, access: Access, prior: Prior) -> Outcome
     requires { IsPlacedOn (rules_of stack.now) shape }
-    ensures { (h : History) → HasLooked stack.now h access → KnowsPrior shape h access prior →
-        result ≡ outcome_of (shape_rules shape) h access }
+    ensures outcome { (h : History) → HasLooked stack.now h access →
+        KnowsPrior shape h access prior → result ≡ outcome_of (shape_rules shape) h access }
+    ensures hit { result.hit ≡ true → IsPlainHit result }
 {
     let hit = stack.position() < shape.ways;
     Outcome {

@@ -1,7 +1,9 @@
 //! How one access is counted.
 
-ghost use Rattle.std.specs.Prelude.{◌≡◌, ◌^◌};
+ghost use Rattle.std.specs.Prelude.{◌≡◌, ◌^◌, true};
 ghost use Rattle.cache_core.specs.Counting.{with_one, with_kind, with_access, IsWithin, AreWithin};
+ghost use Rattle.cache_core.specs.Parts.{one_if};
+ghost use Rattle.grid_core.specs.Hits.{IsPlainHit};
 
 use cache_core::{Access, Class, Counts, MissKind, Outcome, PerClass};
 
@@ -35,15 +37,27 @@ fn count_kind(counts: &mut Counts, access: Access, kind: Option<MissKind>)
     }
 }
 
-/// Counts an access, which had this outcome.
+/// One if the flag is true, else zero.
+fn one(flag: bool) -> u64
+    ensures { result ≡ one_if flag }
+{
+    flag as u64
+}
+
+/// Counts an access, which had this outcome. A hit takes few steps: it has no kind, loads no block
+/// and writes none back.
 pub(crate) fn count_outcome(counts: &mut Counts, access: Access, outcome: Outcome)
-    requires { AreWithin counts.old (2 ^ 46) }
+    requires within { AreWithin counts.old (2 ^ 46) }
+    requires hit { outcome.hit ≡ true → IsPlainHit outcome }
     ensures { counts.new ≡ with_access access outcome counts.old }
 {
     count(&mut counts.fetches, access, true);
+    counts.sent_on += one(outcome.through);
+    if outcome.hit {
+        return;
+    }
     count(&mut counts.misses, access, !outcome.hit);
     count_kind(counts, access, outcome.kind);
     counts.loaded += outcome.fetch as u64;
     counts.written_back += outcome.back.is_some() as u64;
-    counts.sent_on += outcome.through as u64;
 }

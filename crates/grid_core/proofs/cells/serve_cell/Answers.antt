@@ -13,7 +13,7 @@ returns-clause-serves c = λ h looked due.
     let x = c.args.access in
     let r = shape_rules s in
     let old = c.args.cell.now in
-    let is = c.outcome_in-outcome.ensures h looked due.prior in
+    let is = c.outcome_in-outcome.ensures.outcome h looked due.prior in
     record {
       counted = record {
         counts = c.count_outcome.ensures ∙ ap (λ o. with_access x o old.counts) is
