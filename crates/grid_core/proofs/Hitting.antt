@@ -1,13 +1,14 @@
 -- What a hit counts.
 use Rattle.std.proofs.Common.{◌≡◌, ℕ, ◌+◌, Bool, true, false, ◌&&◌, not, None, refl, sym, ap, ◌∙◌, arith}
+use Rattle.std.proofs.Common.{◌<◌, ltb}
+use Rattle.std.proofs.lemmas.Bool.{ltb-false}
 use Rattle.cache_core.specs.declared.access.Access.{Access}
-use Rattle.cache_core.specs.declared.access.Outcome.{Outcome}
 use Rattle.cache_core.specs.declared.counts.PerClass.{PerClass}
 use Rattle.cache_core.specs.declared.counts.Counts.{Counts}
 use Rattle.cache_core.specs.History.{is_instr, is_read, is_write, is_misc}
 use Rattle.cache_core.specs.Parts.{one_if}
 use Rattle.cache_core.specs.Counting.{with_one, with_access}
-use Rattle.grid_core.specs.Hits.{IsPlainHit}
+use Rattle.grid_core.specs.Hits.{hit_made}
 
 and-false : (t : Bool) → (t && false) ≡ false
 and-false true = refl
@@ -42,9 +43,6 @@ with-none x p =
     ∙ ap (λ n. record { instr = p.instr; read = p.read; write = p.write; misc = n })
     (none-more (is_misc x) p.misc)
 
-abbrev hit-made : Bool → Outcome
-hit-made t = record { hit = true; kind = None; back = None; fetch = false; through = t }
-
 abbrev counted : PerClass → PerClass → PerClass → PerClass → PerClass → ℕ → ℕ → ℕ → ℕ → Counts
 counted f m a b d l w s n = record {
   fetches = f;
@@ -58,46 +56,15 @@ counted f m a b d l w s n = record {
   flushes = n;
 }
 
-plain : (o : Outcome) → o.hit ≡ true → IsPlainHit o → o ≡ hit-made o.through
-plain o hit is =
-    ap (λ t. record {
-      hit = t;
-      kind = o.kind;
-      back = o.back;
-      fetch = o.fetch;
-      through = o.through;
-    }) hit
-    ∙ ap (λ t. record {
-      hit = true;
-      kind = t;
-      back = o.back;
-      fetch = o.fetch;
-      through = o.through;
-    }) is.no_kind
-    ∙ ap (λ t. record {
-      hit = true;
-      kind = None;
-      back = t;
-      fetch = o.fetch;
-      through = o.through;
-    }) is.no_back
-    ∙ ap (λ t. record {
-      hit = true;
-      kind = None;
-      back = None;
-      fetch = t;
-      through = o.through;
-    }) is.no_fetch
-
 -- a hit adds to the fetches, and to the writes that are sent on
-pub hit-counts : (x : Access) (o : Outcome) (c : Counts) → o.hit ≡ true → IsPlainHit o
-    → record c { fetches = with_one x true c.fetches; sent_on = one_if o.through + c.sent_on }
-    ≡ with_access x o c
-hit-counts x o c hit is =
+pub hit-counts : (x : Access) (through : Bool) (c : Counts)
+    → record c { fetches = with_one x true c.fetches; sent_on = one_if through + c.sent_on }
+    ≡ with_access x (hit_made through) c
+hit-counts x through c =
     let l : c.loaded ≡ 0 + c.loaded = omega arith in
     let w : c.written_back ≡ 0 + c.written_back = omega arith in
     let f : PerClass = with_one x true c.fetches in
-    let s : ℕ = one_if o.through + c.sent_on in
+    let s : ℕ = one_if through + c.sent_on in
     ap (λ p. counted f p c.compulsory c.capacity c.conflict c.loaded c.written_back s c.flushes)
     (sym (with-none x c.misses))
     ∙ ap (λ p. counted f (with_one x false c.misses) p c.capacity c.conflict c.loaded
@@ -111,4 +78,9 @@ hit-counts x o c hit is =
     (with_one x false c.capacity) (with_one x false c.conflict) n c.written_back s c.flushes) l
     ∙ ap (λ n. counted f (with_one x false c.misses) (with_one x false c.compulsory)
     (with_one x false c.capacity) (with_one x false c.conflict) (0 + c.loaded) n s c.flushes) w
-    ∙ ap (λ z. with_access x z c) (sym (plain o hit is))
+
+pub as-true : (m n : ℕ) → m < n → ltb m n ≡ true
+as-true m n lt = (elim (ltb m n) as (λ t. ltb m n ≡ t → t ≡ true) [
+  | true ↦ λ e. refl
+  | false ↦ λ e. let ge = ltb-false m n e in absurd (omega arith)
+]) refl

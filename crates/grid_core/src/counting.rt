@@ -1,9 +1,9 @@
 //! How one access is counted.
 
-ghost use Rattle.std.specs.Prelude.{◌≡◌, ◌^◌, true};
+ghost use Rattle.std.specs.Prelude.{◌≡◌, ◌^◌};
 ghost use Rattle.cache_core.specs.Counting.{with_one, with_kind, with_access, IsWithin, AreWithin};
 ghost use Rattle.cache_core.specs.Parts.{one_if};
-ghost use Rattle.grid_core.specs.Hits.{IsPlainHit};
+ghost use Rattle.grid_core.specs.Hits.{hit_made};
 
 use cache_core::{Access, Class, Counts, MissKind, Outcome, PerClass};
 
@@ -44,20 +44,24 @@ fn one(flag: bool) -> u64
     flag as u64
 }
 
-/// Counts an access, which had this outcome. A hit takes few steps: it has no kind, loads no block
-/// and writes none back.
+/// Counts a hit.
+pub(crate) fn count_hit(counts: &mut Counts, access: Access, through: bool)
+    requires { AreWithin counts.old (2 ^ 46) }
+    ensures { counts.new ≡ with_access access (hit_made through) counts.old }
+{
+    count(&mut counts.fetches, access, true);
+    counts.sent_on += one(through);
+}
+
+/// Counts an access, which had this outcome.
 pub(crate) fn count_outcome(counts: &mut Counts, access: Access, outcome: Outcome)
-    requires within { AreWithin counts.old (2 ^ 46) }
-    requires hit { outcome.hit ≡ true → IsPlainHit outcome }
+    requires { AreWithin counts.old (2 ^ 46) }
     ensures { counts.new ≡ with_access access outcome counts.old }
 {
     count(&mut counts.fetches, access, true);
-    counts.sent_on += one(outcome.through);
-    if outcome.hit {
-        return;
-    }
     count(&mut counts.misses, access, !outcome.hit);
     count_kind(counts, access, outcome.kind);
     counts.loaded += outcome.fetch as u64;
     counts.written_back += outcome.back.is_some() as u64;
+    counts.sent_on += outcome.through as u64;
 }

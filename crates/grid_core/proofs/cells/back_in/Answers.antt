@@ -8,16 +8,16 @@ use Rattle.grid_core.proofs.Outcomes.{outcome-kept}
 use Rattle.grid_core.proofs.StackRules.{stacked}
 use Rattle.grid_core.proofs.cells.back_in.Goals as goal
 
-pub returns-then-hit-clause-back : goal.returns-then-hit-clause-back
-returns-then-hit-clause-back c = λ h looked is.
+pub returns-then-hit : goal.returns-then-hit
+returns-then-hit c = λ h looked is.
     let s = c.args.stack.now in
     let w = c.args.ways in
     outcome-kept (rules_of s) (stacked s) w c.requires.fits h c.args.access (w - 1)
     (suc-pred w c.requires.some)
     (ap (λ d. ltb d w) (sym looked.found) ∙ sym is ∙ c.if-hit.true)
 
-pub returns-clause-back : goal.returns-clause-back
-returns-clause-back c = λ h looked is.
+pub returns : goal.returns
+returns c = λ h looked is.
     let s = c.args.stack.now in
     let w = c.args.ways in
     let miss : hits (with_ways w (rules_of s)) (renewals (with_ways w (rules_of s)) h) c.args.access

@@ -5,13 +5,13 @@ use Rattle.grid_core.proofs.Served.{outcome-is}
 use Rattle.grid_core.proofs.StackRules.{stacked}
 use Rattle.grid_core.proofs.cells.outcome_in.Goals as goal
 
-pub returns-clause-outcome : goal.returns-clause-outcome
-returns-clause-outcome c = λ h looked prior.
+pub returns : goal.returns
+returns c = λ h looked prior.
     let s = c.args.stack.now in
     outcome-is (rules_of s) (stacked s) c.args.shape c.requires h c.args.access c.args.prior prior
     c.position.result (c.position.ensures ∙ looked.found)
     c.kind_in.result c.back_in.result c.sends_on.result
     c.kind_in.ensures
-    (c.back_in.ensures.back h looked (ap (λ d. ltb d c.args.shape.ways) c.position.ensures))
+    (c.back_in.ensures h looked (ap (λ d. ltb d c.args.shape.ways) c.position.ensures))
     (c.sends_on.ensures ∙ ap (λ t. t && not c.wback.result) c.writes.ensures
     ∙ ap (λ t. is_write c.args.access && not t) c.wback.ensures)
