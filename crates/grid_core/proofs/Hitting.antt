@@ -1,5 +1,6 @@
 -- What a hit counts.
-use Rattle.std.proofs.Common.{◌≡◌, ℕ, ◌+◌, Bool, true, false, ◌&&◌, not, None, refl, sym, ap, ◌∙◌, arith}
+use Rattle.std.proofs.Common.{◌≡◌, ℕ, ◌+◌, Bool, true, false, ◌&&◌}
+use Rattle.std.proofs.Common.{not, None, refl, sym, ap, ◌∙◌, arith}
 use Rattle.std.proofs.Common.{◌<◌, ltb}
 use Rattle.std.proofs.lemmas.Bool.{ltb-false}
 use Rattle.cache_core.specs.declared.access.Access.{Access}

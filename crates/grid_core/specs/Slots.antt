@@ -1,5 +1,6 @@
 -- Inside the crate: a row of slots, and what one access does to it.
-use Rattle.std.specs.Prelude.{◌≡◌, ℕ, zero, suc, ◌*◌, ◌%◌, ◌^◌, ◌<◌, Bool, true, false, ◌&&◌, ◌==◌, cond}
+use Rattle.std.specs.Prelude.{◌≡◌, ℕ, zero, suc, ◌*◌, ◌%◌, ◌^◌}
+use Rattle.std.specs.Prelude.{◌<◌, Bool, true, false, ◌&&◌, ◌==◌, cond}
 use Rattle.std.specs.Prelude.{nat_lt, if◌then◌else◌, List, [], ◌∷◌, ◌++◌, length, take, drop}
 use Rattle.std.specs.List.{find, All}
 use Rattle.std.specs.Option.{option_map_or}

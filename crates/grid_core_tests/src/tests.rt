@@ -123,8 +123,15 @@ fn expect_counts(rt: &impl Abort, engine: &Engine, caches: &Vec<Cache>, shadows:
     }
 }
 
+/// A pseudo-random history: how many accesses, to how many blocks.
+#[derive(Clone, Copy)]
+struct Long {
+    turns: u64,
+    blocks: u64,
+}
+
 /// An engine of all these caches does on a pseudo-random history what each alone does.
-fn is_alike(rt: &impl Abort, alloc: Global, geometries: &Vec<Geometry>, wback: bool, turns: u64) {
+fn is_alike(rt: &impl Abort, alloc: Global, geometries: &Vec<Geometry>, wback: bool, long: Long) {
     let first = geometries.first().copied().expect(rt, "a geometry");
     assert!(rt; share_block_size(geometries, first));
     let mut engine = Engine::new(alloc, geometries, first, wback).expect(rt, "memory");
@@ -135,9 +142,9 @@ fn is_alike(rt: &impl Abort, alloc: Global, geometries: &Vec<Geometry>, wback: b
     let mut caches = caches_of(rt, alloc, geometries, wback);
     let mut shadows = caches_of(rt, alloc, &wholes, wback);
     assert_eq!(rt; engine.cells(), caches.len());
-    let mut state = turns;
-    for turn in 0..turns {
-        let access = access_of(&mut state, 256);
+    let mut state = long.turns;
+    for turn in 0..long.turns {
+        let access = access_of(&mut state, long.blocks);
         access_alike(rt, &mut engine, &mut caches, access);
         access_all(rt, &mut shadows, access);
         if turn % 97 == 96 {
@@ -148,26 +155,61 @@ fn is_alike(rt: &impl Abort, alloc: Global, geometries: &Vec<Geometry>, wback: b
     expect_counts(rt, &engine, &caches, &shadows);
 }
 
+/// The direct-mapped and the fully associative geometry of each size.
+fn extremes_of(rt: &impl Abort, alloc: Global, sizes: &[u64]) -> Vec<Geometry> {
+    let mut geometries = geometries_of(rt, alloc, sizes, &[1]);
+    for size in sizes.iter() {
+        let whole = Geometry::new(*size, 4, *size / 4).expect(rt, "a lawful geometry");
+        geometries.push(whole).expect(rt, "memory");
+    }
+    geometries
+}
+
 #[test]
 fn six_cells_are_single_caches(rt: HostRuntime) -> Result<(), Fail> {
     let geometries = geometries_of(&rt, rt.alloc(), &[32, 64, 128], &[1, 4]);
-    is_alike(&rt, rt.alloc(), &geometries, true, 600);
-    is_alike(&rt, rt.alloc(), &geometries, false, 600);
+    let long = Long {
+        turns: 600,
+        blocks: 256,
+    };
+    is_alike(&rt, rt.alloc(), &geometries, true, long);
+    is_alike(&rt, rt.alloc(), &geometries, false, long);
     Ok(())
 }
 
 #[test]
-fn many_cells_are_single_caches(rt: HostRuntime) -> Result<(), Fail> {
-    let sizes = [16, 32, 64, 128, 256, 512, 1024];
-    let geometries = geometries_of(&rt, rt.alloc(), &sizes, &[1, 2, 4, 8, 16, 32, 64, 128, 256]);
-    is_alike(&rt, rt.alloc(), &geometries, true, 400);
-    is_alike(&rt, rt.alloc(), &geometries, false, 400);
+fn sixty_cells_are_single_caches(rt: HostRuntime) -> Result<(), Fail> {
+    let sizes = [16, 32, 64, 128, 256, 512, 1024, 2048, 4096, 8192, 16_384];
+    let geometries = geometries_of(&rt, rt.alloc(), &sizes, &[1, 2, 4, 8, 16, 32]);
+    assert_eq!(&rt; geometries.len(), 60);
+    let long = Long {
+        turns: 1_000,
+        blocks: 2_048,
+    };
+    is_alike(&rt, rt.alloc(), &geometries, true, long);
+    is_alike(&rt, rt.alloc(), &geometries, false, long);
     Ok(())
 }
 
 #[test]
 fn a_cache_of_one_block_is_one(rt: HostRuntime) -> Result<(), Fail> {
     let geometries = geometries_of(&rt, rt.alloc(), &[4, 8], &[1, 2]);
-    is_alike(&rt, rt.alloc(), &geometries, true, 500);
+    let long = Long {
+        turns: 500,
+        blocks: 64,
+    };
+    is_alike(&rt, rt.alloc(), &geometries, true, long);
+    Ok(())
+}
+
+#[test]
+fn one_way_and_all_ways_are_single_caches(rt: HostRuntime) -> Result<(), Fail> {
+    let geometries = extremes_of(&rt, rt.alloc(), &[4, 8, 16, 32, 64, 128, 256, 512]);
+    let long = Long {
+        turns: 800,
+        blocks: 256,
+    };
+    is_alike(&rt, rt.alloc(), &geometries, true, long);
+    is_alike(&rt, rt.alloc(), &geometries, false, long);
     Ok(())
 }

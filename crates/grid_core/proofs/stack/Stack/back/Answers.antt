@@ -56,7 +56,11 @@ returns c = λ h st miss.
     let in_all = last-inside (c.args.access.addr / bsize_of g % sets_of g) (sets_of g) (assoc_of g)
     (assoc_of g) c.args.ways lt refl c.requires.some c.requires.fits in
     let room : vec_len old.slots ≡ sets_of g * assoc_of g = rw old.width at old.room in
-    let slot = rw (c.set_of-set.ensures, c.block-block.ensures, old.width) at c.index-slot.ensures in
+    let slot = rw (
+      c.set_of-set.ensures,
+      c.block-block.ensures,
+      old.width,
+    ) at c.index-slot.ensures in
     back-now (rules_of old)
     (record { lru = refl; allocates = refl }) h c.args.access old.slots.items
     st.rows below c.args.ways (c.args.ways - 1) (suc-pred c.args.ways c.requires.some)
