@@ -1,18 +1,19 @@
 -- The block of each slot has a first byte.
 use Rattle.std.proofs.Common.{◌≡◌, ◌≢◌, ℕ, ◌*◌, ◌<◌, ◌^◌, Bool, true, false, cond}
 use Rattle.std.proofs.Common.{eqb, List, [], ◌∷◌, length, sym, subst, ◌∙◌}
-use Rattle.std.proofs.Common.{◌+◌, ◌≤◌, get_or, take, drop, arith}
+use Rattle.std.proofs.Common.{◌+◌, ◌-◌, ◌≤◌, get_or, take, drop, replicate, ap, arith}
 use Rattle.std.proofs.Math.Seq.{get_or-take, get_or-drop}
-use Rattle.std.proofs.lemmas.List.{length-take-le, length-drop}
+use Rattle.std.proofs.Math.Nat.{mul-le-mul_right}
+use Rattle.std.proofs.lemmas.List.{length-take-le, length-drop, take-replicate, drop-replicate}
 use Rattle.std.specs.List.{All, AllByRecursion, find}
 use Rattle.std.specs.Option.{option_map_or}
 use Rattle.std.proofs.lemmas.Bool.{eqb-true, eqb-false}
-use Rattle.std.proofs.lemmas.List.Elements.{All-from_recursion, recursion_from_All}
+use Rattle.std.proofs.lemmas.List.Elements.{All-from_recursion, recursion_from_All, All-replicate}
 use Rattle.cache_core.specs.Row.{shifted, row}
 use Rattle.cache_core.proofs.Cases.{by_cases}
 use Rattle.grid_core.specs.declared.slots.Slot.{Slot}
 use Rattle.grid_core.specs.Slots.{holds, used_slot, next_slots, level_after, level_of, index_of}
-use Rattle.grid_core.specs.Slots.{HaveBytes}
+use Rattle.grid_core.specs.Slots.{HaveBytes, no_slot}
 
 -- what holds of each slot of a row, and of the new front, holds of each after a pass
 module _ (P : Slot → Type 0) (p : Slot → Bool) where
@@ -57,3 +58,14 @@ first-byte n ways s m xs v low inside is all =
     ∙ sym (get_or-take ways (drop (s * ways) xs) m v low) in
     let P : Slot → Type 0 = λ w. w.block * n < 2 ^ 64 in
     subst P (sym here) (all m v short)
+
+-- so have the slots of empty rows
+pub bytes-empty : (n sets ways t : ℕ) → t < sets
+    → HaveBytes n (row ways t (replicate (sets * ways) no_slot))
+bytes-empty n sets ways t below =
+    let fits : (t + 1) * ways ≤ sets * ways = mul-le-mul_right ways (omega arith) in
+    let e : row ways t (replicate (sets * ways) no_slot) ≡ replicate ways no_slot =
+    ap (take ways) (drop-replicate (t * ways) (sets * ways) no_slot)
+    ∙ take-replicate ways (sets * ways - t * ways) no_slot (omega arith) in
+    subst (HaveBytes n) (sym e)
+    (All-replicate (λ s. s.block * n < 2 ^ 64) ways no_slot (omega arith))

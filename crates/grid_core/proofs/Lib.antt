@@ -1,6 +1,8 @@
 pub mod Distances
 pub mod Levels
 pub mod Positions
+pub mod Hitting
+pub mod Fronts
 pub mod SlotTurns
 pub mod Victims
 pub mod StackStep

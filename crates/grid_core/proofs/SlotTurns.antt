@@ -42,7 +42,7 @@ distance-le r h b = (elim (is_resident r (renewals r h) b) as (λ t.
       | false ↦ λ e. omega arith
     ]) refl
 
-after-le : (w : Bool) (l d n : ℕ) → l ≤ n → d ≤ n → level_after w l d ≤ n
+pub after-le : (w : Bool) (l d n : ℕ) → l ≤ n → d ≤ n → level_after w l d ≤ n
 after-le true l d n a b = omega arith
 after-le false l d n a b = (elim (ltb l d) as (λ t. cond t d l ≤ n) [ true ↦ b | false ↦ a ])
 

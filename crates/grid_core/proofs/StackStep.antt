@@ -14,8 +14,9 @@ use Rattle.cache_core.specs.Parts.{outcome_of}
 use Rattle.cache_core.specs.Row.{row}
 use Rattle.cache_core.proofs.Cases.{by_cases}
 use Rattle.grid_core.specs.declared.slots.Slot.{Slot}
-use Rattle.grid_core.specs.Ways.{with_ways, IsStacked}
-use Rattle.grid_core.specs.Slots.{holds, index_of, next_slots, no_slot}
+use Rattle.grid_core.specs.declared.slots.Place.{Place}
+use Rattle.grid_core.specs.Ways.{with_ways, IsStacked, stack_distance}
+use Rattle.grid_core.specs.Slots.{holds, index_of, next_slots, no_slot, IsPlaceIn}
 use Rattle.grid_core.specs.Pushed.{dirty_in}
 use Rattle.grid_core.specs.Standing.{slots_of}
 use Rattle.grid_core.proofs.Distances.{hits-distance}
@@ -48,6 +49,16 @@ module _ (r : Rules) (st : IsStacked r) (h : History) (x : Access) (xs : List Sl
   hits-now p is n le = hits-distance r st n le h x
       ∙ ap (λ d. ltb d n)
       (sym (is ∙ ap (index_of (holds b)) (rows s inside) ∙ index-slots r st h b))
+
+  -- so does the place of the block
+  pub place-now : (ways : ℕ) → ways ≡ r.assoc → (p : Place) → p.block ≡ b
+      → IsPlaceIn r.sets ways xs p → p.position ≡ stack_distance r h b
+  place-now ways wide p same place =
+      let set : p.set ≡ s = place.set ∙ ap (λ z. z % r.sets) same in
+      place.position ∙ ap (λ z. index_of (holds z) (row ways p.set xs)) same
+      ∙ ap (λ t. index_of (holds b) (row ways t xs)) set
+      ∙ ap (λ n. index_of (holds b) (row n s xs)) wide
+      ∙ ap (index_of (holds b)) (rows s inside) ∙ index-slots r st h b
 
   -- the rows are those after the access
   pub rows-next : (ys : List Slot) → row r.assoc s ys ≡ next_slots b (is_write x) (row r.assoc s xs)

@@ -5,12 +5,13 @@ use Rattle.std.specs.Prelude.{◌∷◌}
 use Rattle.std.specs.List.{list_any}
 use Rattle.std.specs.Global.{Vec}
 use Rattle.cache_core.specs.declared.access.Access.{Access}
+use Rattle.cache_core.specs.declared.access.Outcome.{Outcome}
 use Rattle.cache_core.specs.History.{History, Rules, block_of, access}
 use Rattle.cache_core.specs.Residents.{hits, renewals}
 use Rattle.cache_core.specs.Kinds.{referenced_blocks, shadow_of}
 use Rattle.cache_core.specs.Parts.{outcome_of}
 use Rattle.cache_core.specs.Counts.{counts_of}
-use Rattle.cache_core.specs.Counting.{AreWithin, IsWithin, with_flush}
+use Rattle.cache_core.specs.Counting.{AreWithin, IsWithin, with_access, with_flush}
 use Rattle.grid_core.specs.declared.cells.Cell.{Cell}
 use Rattle.grid_core.specs.declared.cells.Shape.{Shape}
 use Rattle.grid_core.specs.declared.shadows.Prior.{Prior}
@@ -64,6 +65,10 @@ pub record IsServed (h : History) (x : Access) (c : Cell) : Type 0 where
 pub record IsWithinCell (n : ℕ) (c : Cell) : Type 0 where
   pub counts : AreWithin c.counts n
   pub far : IsWithin c.far n
+
+-- the cell after an access of this outcome, but for the misses of its shadow
+abbrev pub after_outcome : Access → Outcome → Cell → Cell
+after_outcome x o c = record c { counts = with_access x o c.counts; answer = o }
 
 -- what a flush writes back in the cache of a shape
 abbrev pub dirty_bytes_of : History → Shape → List ℕ

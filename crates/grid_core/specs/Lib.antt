@@ -3,6 +3,7 @@ pub mod Levels
 pub mod FullyAssociative
 pub mod Slots
 pub mod Pushed
+pub mod Hits
 pub mod Standing
 pub mod Shadows
 pub mod Shapes

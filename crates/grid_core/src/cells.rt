@@ -13,9 +13,11 @@ ghost use Rattle.grid_core.specs.Standing.{StandsFor, HasLooked, rules_of, found
 ghost use Rattle.grid_core.specs.Cells.{IsPlacedOn, IsPlacedAmong, shape_rules, shape_in};
 ghost use Rattle.grid_core.specs.Cells.{KnowsPrior, IsDue, IsServed, IsCounted, IsWithinCell};
 ghost use Rattle.grid_core.specs.Cells.{HaveRoom, AreFlushedBy, flushed_by, dirty_bytes_of};
-ghost use Rattle.grid_core.specs.Cells.{items_of};
+ghost use Rattle.grid_core.specs.Cells.{items_of, after_outcome};
+ghost use Rattle.cache_core.specs.Counting.{AreWithin};
+ghost use Rattle.grid_core.specs.Hits.{hit_made};
 
-use crate::counting::{count, count_outcome};
+use crate::counting::{count, count_hit, count_outcome};
 use crate::shadows::Prior;
 use crate::stack::{Stack, writes};
 use cache_core::{Access, Counts, Geometry, MissKind, Outcome, PerClass};
@@ -134,6 +136,39 @@ fn outcome_in(stack: &Stack, shape: Shape, access: Access, prior: Prior) -> Outc
     }
 }
 
+/// The outcome of a hit.
+fn hit_outcome(through: bool) -> Outcome
+    ensures { result ≡ hit_made through }
+{
+    Outcome {
+        hit: true,
+        kind: None,
+        back: None,
+        fetch: false,
+        through,
+    }
+}
+
+/// Serves an access in the cache of one cell, but for its shadow. A hit takes few steps.
+fn serve_ways(cell: &mut Cell, stack: &Stack, access: Access, prior: Prior)
+    requires placed { IsPlacedOn (rules_of stack.now) cell.old.shape }
+    requires within { AreWithin cell.old.counts (2 ^ 46) }
+    ensures { (o : Outcome) × (cell.new ≡ after_outcome access o cell.old)
+        × ((h : History) → HasLooked stack.now h access →
+        KnowsPrior cell.old.shape h access prior →
+        o ≡ outcome_of (shape_rules cell.old.shape) h access) }
+{
+    if stack.position() < cell.shape.ways {
+        let through = sends_on(writes(access), stack.wback());
+        count_hit(&mut cell.counts, access, through);
+        cell.answer = hit_outcome(through);
+        return;
+    }
+    let outcome = outcome_in(stack, cell.shape, access, prior);
+    count_outcome(&mut cell.counts, access, outcome);
+    cell.answer = outcome;
+}
+
 /// Serves an access in the cache of one cell.
 fn serve_cell(cell: &mut Cell, stack: &Stack, access: Access, prior: Prior)
     requires placed { IsPlacedOn (rules_of stack.now) cell.old.shape }
@@ -143,11 +178,9 @@ fn serve_cell(cell: &mut Cell, stack: &Stack, access: Access, prior: Prior)
         IsDue h access prior cell.old → IsServed h access cell.new }
     ensures bounds { (n : ℕ) → IsWithinCell n cell.old → IsWithinCell (n + 1) cell.new }
 {
-    let outcome = outcome_in(stack, cell.shape, access, prior);
+    serve_ways(cell, stack, access, prior);
     let far = cell.shape.rank < prior.level;
-    count_outcome(&mut cell.counts, access, outcome);
     count(&mut cell.far, access, far);
-    cell.answer = outcome;
 }
 
 /// Serves an access in the caches of all cells.

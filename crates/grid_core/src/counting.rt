@@ -2,6 +2,8 @@
 
 ghost use Rattle.std.specs.Prelude.{◌≡◌, ◌^◌};
 ghost use Rattle.cache_core.specs.Counting.{with_one, with_kind, with_access, IsWithin, AreWithin};
+ghost use Rattle.cache_core.specs.Parts.{one_if};
+ghost use Rattle.grid_core.specs.Hits.{hit_made};
 
 use cache_core::{Access, Class, Counts, MissKind, Outcome, PerClass};
 
@@ -33,6 +35,22 @@ fn count_kind(counts: &mut Counts, access: Access, kind: Option<MissKind>)
         Some(MissKind::Capacity) => count(&mut counts.capacity, access, true),
         Some(MissKind::Conflict) => count(&mut counts.conflict, access, true),
     }
+}
+
+/// One if the flag is true, else zero.
+fn one(flag: bool) -> u64
+    ensures { result ≡ one_if flag }
+{
+    flag as u64
+}
+
+/// Counts a hit.
+pub(crate) fn count_hit(counts: &mut Counts, access: Access, through: bool)
+    requires { AreWithin counts.old (2 ^ 46) }
+    ensures { counts.new ≡ with_access access (hit_made through) counts.old }
+{
+    count(&mut counts.fetches, access, true);
+    counts.sent_on += one(through);
 }
 
 /// Counts an access, which had this outcome.

@@ -19,6 +19,7 @@ mod caches;
 mod cells;
 mod counting;
 mod engine;
+mod front;
 mod laws;
 mod places;
 mod plan;

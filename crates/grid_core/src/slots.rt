@@ -1,16 +1,15 @@
 //! The blocks of a set, the one that was used last first, as many as the widest cache holds.
 
-ghost use Rattle.std.specs.Prelude.{◌≡◌, ◌≢◌, ◌≤◌, ◌<◌, ◌+◌, ◌*◌, ℕ, length, vec_len, replicate};
+ghost use Rattle.std.specs.Prelude.{◌≡◌, ◌≤◌, ◌<◌, ◌+◌, ◌*◌, ℕ, length, vec_len, replicate};
 ghost use Rattle.std.specs.Prelude.{IfOk};
 ghost use Rattle.std.specs.Prelude.{List, nat_eq, ◌++◌, ◌^◌, OnOk};
 ghost use Rattle.std.specs.List.{find, dedup};
 ghost use Rattle.std.specs.List.Sorted.{IsPermutation, IsSorted};
 ghost use Rattle.std.specs.Ordering.{nat_cmp};
 ghost use Rattle.std.specs.Option.{option_map, option_map_or};
-ghost use Rattle.cache_core.specs.Row.{shifted, row};
+ghost use Rattle.cache_core.specs.Row.{row};
 ghost use Rattle.grid_core.specs.Pushed.{dirty_in};
-ghost use Rattle.grid_core.specs.Slots.{holds, level_of, index_of, level_after};
-ghost use Rattle.grid_core.specs.Slots.{next_slots, no_slot};
+ghost use Rattle.grid_core.specs.Slots.{holds, level_of, index_of, no_slot};
 ghost use Rattle.grid_core.specs.Slots.{HaveBytes, dirty_bytes, dirty_in_rows};
 
 use std::alloc::{AllocError, Global};
@@ -20,8 +19,8 @@ use std::alloc::{AllocError, Global};
 #[derive(Clone, Copy, Debug, PartialEq, Eq)]
 pub(crate) struct Slot {
     pub block: u64,
+    pub level: u32,
     pub valid: bool,
-    pub level: usize,
 }
 
 /// Where a block stands in its row, and its dirty level. Both are the length of the row if it is
@@ -30,6 +29,26 @@ pub(crate) struct Slot {
 pub(crate) struct Seen {
     pub position: usize,
     pub level: usize,
+}
+
+/// A block, its set, and its position in the row of that set, which is the length of the row if it
+/// is not there.
+#[derive(Clone, Copy, Debug)]
+pub(crate) struct Place {
+    pub block: u64,
+    pub set: usize,
+    pub position: usize,
+}
+
+/// The place of a block in empty rows.
+pub(crate) fn no_place(ways: usize) -> Place
+    ensures { result ≡ record { block = 0; set = 0; position = ways } }
+{
+    Place {
+        block: 0,
+        set: 0,
+        position: ways,
+    }
 }
 
 /// An empty slot.
@@ -70,7 +89,7 @@ pub(crate) fn pushed(slot: Slot, wback: bool, ways: usize, bsize: u64) -> Option
     requires { slot.block * bsize < 2 ^ 64 }
     ensures { result ≡ option_map (λ b. b * bsize) (dirty_in wback ways slot) }
 {
-    if slot.valid && wback && slot.level < ways {
+    if slot.valid && wback && (slot.level as usize) < ways {
         Some(slot.block * bsize)
     } else {
         None
@@ -84,10 +103,10 @@ pub(crate) fn look(row: &[Slot], block: u64) -> Seen
         ≡ option_map_or level_of (find (holds block) row.now) (length row.now) }
 {
     for (index, slot) in row.iter().enumerate() {
-        if slot.valid && slot.block == block {
+        if slot.block == block && slot.valid {
             return Seen {
                 position: index,
-                level: slot.level,
+                level: slot.level as usize,
             };
         }
     }
@@ -107,82 +126,6 @@ pub(crate) fn find_in(slots: &Vec<Slot>, set: usize, ways: usize, block: u64) ->
     look(&slots[start..end], block).position
 }
 
-/// Puts `front` first and moves each slot back by one, up to the one that holds the block, or else
-/// the last.
-fn bring_front(row: &mut [Slot], block: u64, front: Slot)
-    ensures { row.new ≡ shifted (holds block) front row.old }
-{
-    let mut carried = front;
-    for slot in row.iter_mut() {
-        let found = slot.valid && slot.block == block;
-        let here = *slot;
-        *slot = carried;
-        if found {
-            return;
-        }
-        carried = here;
-    }
-}
-
-/// The dirty level of a block after an access that found it like this.
-fn level_now(write: bool, seen: Seen) -> usize
-    ensures { result ≡ level_after write seen.level seen.position }
-{
-    if write {
-        0
-    } else if seen.level < seen.position {
-        seen.position
-    } else {
-        seen.level
-    }
-}
-
-/// Serves one access to a row: answers where the block stood, and puts it first.
-fn touch_row(row: &mut [Slot], block: u64, write: bool) -> usize
-    ensures position { result ≡ index_of (holds block) row.old }
-    ensures slots { row.new ≡ next_slots block write row.old }
-{
-    let seen = look(row, block);
-    let front = Slot {
-        block,
-        valid: true,
-        level: level_now(write, seen),
-    };
-    bring_front(row, block, front);
-    seen.position
-}
-
-/// Serves one access to the row of its set.
-pub(crate) fn touch(slots: &mut [Slot], set: usize, ways: usize, block: u64, write: bool) -> usize
-    requires { (set + 1) * ways ≤ length slots.old }
-    ensures position { result ≡ index_of (holds block) (row ways set slots.old) }
-    ensures slots { row ways set slots.new ≡ next_slots block write (row ways set slots.old) }
-    ensures others { (s : ℕ) → s ≢ set → row ways s slots.new ≡ row ways s slots.old }
-{
-    let start = set * ways;
-    let end = start + ways;
-    touch_row(&mut slots[start..end], block, write)
-}
-
-/// The same for the rows of a vector.
-pub(crate) fn touch_in(
-    slots: &mut Vec<Slot>,
-    set: usize,
-    ways: usize,
-    block: u64,
-    write: bool,
-) -> usize
-    requires { (set + 1) * ways ≤ vec_len slots.old }
-    ensures position { result ≡ index_of (holds block) (row ways set slots.old.items) }
-    ensures slots { row ways set slots.new.items
-        ≡ next_slots block write (row ways set slots.old.items) }
-    ensures others { (s : ℕ) → s ≢ set →
-        row ways s slots.new.items ≡ row ways s slots.old.items }
-    ensures len { vec_len slots.new ≡ vec_len slots.old }
-{
-    touch(slots, set, ways, block, write)
-}
-
 /// Appends the first bytes of the blocks of a row that are dirty in a cache of `ways` ways.
 fn gather(
     row: &[Slot],
@@ -196,7 +139,7 @@ fn gather(
         ≡ bytes.old.items ++ dirty_bytes bsize wback ways row.now) }
 {
     for slot in row {
-        if slot.valid && wback && slot.level < ways {
+        if slot.valid && wback && (slot.level as usize) < ways {
             bytes.push(slot.block * bsize)?;
         }
     }

@@ -4,9 +4,10 @@ ghost use Rattle.std.specs.Prelude.{◌≡◌, ◌<◌, ◌*◌, ℕ, vec_len};
 ghost use Rattle.cache_core.specs.History.{is_write};
 ghost use Rattle.cache_core.specs.Geometry.{bsize_of, sets_of, assoc_of};
 ghost use Rattle.cache_core.specs.Row.{row};
-ghost use Rattle.grid_core.specs.Slots.{HaveBytes};
+ghost use Rattle.grid_core.specs.Slots.{HaveBytes, IsPlaceIn};
 
-use crate::slots::{Slot, clear_in, dirty_rising, empty_slots, find_in, pushed, touch_in};
+use crate::front::touch_in;
+use crate::slots::{Place, Slot, clear_in, dirty_rising, empty_slots, find_in, no_place, pushed};
 use cache_core::{Access, Class, Geometry};
 use std::alloc::{AllocError, Global};
 
@@ -19,10 +20,13 @@ pub struct Stack {
     slots: Vec<Slot>,
     /// Where `look` found the block of its access.
     found: usize,
+    /// Where the block of the last access is now.
+    place: Place,
     ghost width: { ways ≡ assoc_of geometry },
     ghost room: { vec_len slots ≡ sets_of geometry * ways },
     ghost bytes: { (t : ℕ) → t < sets_of geometry →
         HaveBytes (bsize_of geometry) (row ways t slots.items) },
+    ghost placed: { IsPlaceIn (sets_of geometry) ways slots.items place },
 }
 
 /// Whether an access writes.
@@ -44,7 +48,7 @@ fn address(access: Access) -> u64
 
 #[tactic(auto, unfolding(crate::specs::Standing::rules_of, crate::specs::Standing::found_in))]
 impl Stack {
-    ghost use Rattle.std.specs.Prelude.{◌≡◌, ◌<◌, ◌≤◌, ◌*◌, ◌∷◌, ℕ, true, false, [], IfOk};
+    ghost use Rattle.std.specs.Prelude.{◌≡◌, ◌<◌, ◌≤◌, ◌*◌, ◌%◌, ◌∷◌, ℕ, true, false, [], IfOk};
     ghost use Rattle.std.specs.Prelude.{map};
     ghost use Rattle.cache_core.specs.History.{History, block_of, access as accessed};
     ghost use Rattle.cache_core.specs.History.{flush as flushed};
@@ -73,7 +77,36 @@ impl Stack {
             wback,
             slots,
             found: 0,
+            place: no_place(ways),
         })
+    }
+
+    /// The set of a block.
+    fn set_of(&self, block: u64) -> usize
+        ensures { result ≡ block % sets_of self.now.geometry }
+    {
+        if self.place.block == block {
+            return self.place.set;
+        }
+        self.geometry.set(block) as usize
+    }
+
+    /// Where a block is.
+    fn place_of(&self, block: u64) -> Place
+        ensures block { result.block ≡ block }
+        ensures place { IsPlaceIn (sets_of self.now.geometry) self.now.ways self.now.slots.items
+            result }
+    {
+        if self.place.block == block {
+            return self.place;
+        }
+        let set = self.geometry.set(block) as usize;
+        let position = find_in(&self.slots, set, self.ways, block);
+        Place {
+            block,
+            set,
+            position,
+        }
     }
 
     /// Serves one access: its block is then the one used last in its set.
@@ -85,8 +118,19 @@ impl Stack {
         let write = writes(access);
         let addr = address(access);
         let block = self.geometry.block(addr);
-        let set = self.geometry.set(block);
-        let _position = touch_in(&mut self.slots, set as usize, self.ways, block, write);
+        let place = self.place_of(block);
+        touch_in(
+            &mut self.slots,
+            place.set,
+            self.ways,
+            place.position,
+            block,
+            write,
+        );
+        self.place = Place {
+            position: 0,
+            ..place
+        };
     }
 
     /// Looks for the block of an access in its set, and keeps its position.
@@ -94,7 +138,9 @@ impl Stack {
         ensures looked { (h : History) → StandsFor self.old h → HasLooked self.new h access }
         ensures rules { rules_of self.new ≡ rules_of self.old }
     {
-        self.found = self.find(access);
+        let block = self.geometry.block(access.addr);
+        self.place = self.place_of(block);
+        self.found = self.place.position;
     }
 
     /// The position that `look` found.
@@ -128,8 +174,7 @@ impl Stack {
             result ≡ stack_distance (rules_of self.now) h (block_of (rules_of self.now) access) }
     {
         let block = self.geometry.block(access.addr);
-        let set = self.geometry.set(block);
-        find_in(&self.slots, set as usize, self.ways, block)
+        self.place_of(block).position
     }
 
     /// How many sets there are.
@@ -157,8 +202,8 @@ impl Stack {
             (outcome_of (with_ways ways (rules_of self.now)) h access).back ≡ result }
     {
         let block = self.geometry.block(access.addr);
-        let set = self.geometry.set(block);
-        let slot = self.slots[set as usize * self.ways + (ways - 1)];
+        let set = self.set_of(block);
+        let slot = self.slots[set * self.ways + (ways - 1)];
         let bsize = self.geometry.bsize();
         pushed(slot, self.wback, ways, bsize)
     }
@@ -185,5 +230,6 @@ impl Stack {
         ensures rules { rules_of self.new ≡ rules_of self.old }
     {
         clear_in(&mut self.slots);
+        self.place = no_place(self.ways);
     }
 }

@@ -131,13 +131,20 @@ fn expect_counts(rt: &impl Abort, engine: &Engine, caches: &Vec<Cache>, shadows:
     }
 }
 
+/// A pseudo-random history: how many accesses, to how many blocks.
+#[derive(Clone, Copy)]
+struct Long {
+    turns: u64,
+    blocks: u64,
+}
+
 /// An engine of all these caches does on a pseudo-random history what each alone does.
 fn is_alike(
     rt: &impl Abort,
     alloc: Global,
     geometries: &Vec<Geometry>,
     policy: Policy,
-    turns: u64,
+    long: Long,
 ) {
     let first = geometries.first().copied().expect(rt, "a geometry");
     assert!(rt; share_block_size(geometries, first));
@@ -149,9 +156,9 @@ fn is_alike(
     let mut caches = caches_of(rt, alloc, geometries, policy);
     let mut shadows = caches_of(rt, alloc, &wholes, shadow_policy(policy));
     assert_eq!(rt; engine.cells(), caches.len());
-    let mut state = turns;
-    for turn in 0..turns {
-        let access = access_of(&mut state, 256);
+    let mut state = long.turns;
+    for turn in 0..long.turns {
+        let access = access_of(&mut state, long.blocks);
         access_alike(rt, &mut engine, &mut caches, access);
         access_all(rt, &mut shadows, access);
         if turn % 97 == 96 {
@@ -169,7 +176,7 @@ fn are_alike(
     geometries: &Vec<Geometry>,
     repl: Repl,
     walloc: bool,
-    turns: u64,
+    long: Long,
 ) {
     let back = Policy {
         repl,
@@ -180,17 +187,21 @@ fn are_alike(
         wback: false,
         ..back
     };
-    is_alike(rt, alloc, geometries, back, turns);
-    is_alike(rt, alloc, geometries, through, turns);
+    is_alike(rt, alloc, geometries, back, long);
+    is_alike(rt, alloc, geometries, through, long);
 }
 
 #[test]
 fn six_cells_are_single_caches(rt: HostRuntime) -> Result<(), Fail> {
     let geometries = geometries_of(&rt, rt.alloc(), &[32, 64, 128], &[1, 4]);
-    are_alike(&rt, rt.alloc(), &geometries, Repl::Lru, true, 600);
-    are_alike(&rt, rt.alloc(), &geometries, Repl::Lru, false, 600);
-    are_alike(&rt, rt.alloc(), &geometries, Repl::Fifo, true, 600);
-    are_alike(&rt, rt.alloc(), &geometries, Repl::Fifo, false, 600);
+    let long = Long {
+        turns: 600,
+        blocks: 256,
+    };
+    are_alike(&rt, rt.alloc(), &geometries, Repl::Lru, true, long);
+    are_alike(&rt, rt.alloc(), &geometries, Repl::Lru, false, long);
+    are_alike(&rt, rt.alloc(), &geometries, Repl::Fifo, true, long);
+    are_alike(&rt, rt.alloc(), &geometries, Repl::Fifo, false, long);
     Ok(())
 }
 
@@ -203,23 +214,69 @@ fn many_geometries(rt: &impl Abort, alloc: Global) -> Vec<Geometry> {
 #[test]
 fn many_lru_cells_are_single_caches(rt: HostRuntime) -> Result<(), Fail> {
     let geometries = many_geometries(&rt, rt.alloc());
-    are_alike(&rt, rt.alloc(), &geometries, Repl::Lru, true, 400);
-    are_alike(&rt, rt.alloc(), &geometries, Repl::Lru, false, 400);
+    let long = Long {
+        turns: 400,
+        blocks: 256,
+    };
+    are_alike(&rt, rt.alloc(), &geometries, Repl::Lru, true, long);
+    are_alike(&rt, rt.alloc(), &geometries, Repl::Lru, false, long);
     Ok(())
 }
 
 #[test]
 fn many_fifo_cells_are_single_caches(rt: HostRuntime) -> Result<(), Fail> {
     let geometries = many_geometries(&rt, rt.alloc());
-    are_alike(&rt, rt.alloc(), &geometries, Repl::Fifo, true, 400);
-    are_alike(&rt, rt.alloc(), &geometries, Repl::Fifo, false, 400);
+    let long = Long {
+        turns: 400,
+        blocks: 256,
+    };
+    are_alike(&rt, rt.alloc(), &geometries, Repl::Fifo, true, long);
+    are_alike(&rt, rt.alloc(), &geometries, Repl::Fifo, false, long);
+    Ok(())
+}
+
+#[test]
+fn sixty_cells_are_single_caches(rt: HostRuntime) -> Result<(), Fail> {
+    let sizes = [16, 32, 64, 128, 256, 512, 1024, 2048, 4096, 8192, 16_384];
+    let geometries = geometries_of(&rt, rt.alloc(), &sizes, &[1, 2, 4, 8, 16, 32]);
+    assert_eq!(&rt; geometries.len(), 60);
+    let long = Long {
+        turns: 1_000,
+        blocks: 2_048,
+    };
+    are_alike(&rt, rt.alloc(), &geometries, Repl::Lru, true, long);
     Ok(())
 }
 
 #[test]
 fn a_cache_of_one_block_is_one(rt: HostRuntime) -> Result<(), Fail> {
     let geometries = geometries_of(&rt, rt.alloc(), &[4, 8], &[1, 2]);
-    are_alike(&rt, rt.alloc(), &geometries, Repl::Lru, true, 500);
-    are_alike(&rt, rt.alloc(), &geometries, Repl::Fifo, false, 500);
+    let long = Long {
+        turns: 500,
+        blocks: 64,
+    };
+    are_alike(&rt, rt.alloc(), &geometries, Repl::Lru, true, long);
+    are_alike(&rt, rt.alloc(), &geometries, Repl::Fifo, false, long);
+    Ok(())
+}
+
+/// The direct-mapped and the fully associative geometry of each size.
+fn extremes_of(rt: &impl Abort, alloc: Global, sizes: &[u64]) -> Vec<Geometry> {
+    let mut geometries = geometries_of(rt, alloc, sizes, &[1]);
+    for size in sizes.iter() {
+        let whole = Geometry::new(*size, 4, *size / 4).expect(rt, "a lawful geometry");
+        geometries.push(whole).expect(rt, "memory");
+    }
+    geometries
+}
+
+#[test]
+fn one_way_and_all_ways_are_single_caches(rt: HostRuntime) -> Result<(), Fail> {
+    let geometries = extremes_of(&rt, rt.alloc(), &[4, 8, 16, 32, 64, 128, 256, 512]);
+    let long = Long {
+        turns: 800,
+        blocks: 256,
+    };
+    are_alike(&rt, rt.alloc(), &geometries, Repl::Lru, true, long);
     Ok(())
 }

@@ -15,9 +15,9 @@ unfolding rules_of
 overflow_mul-set c =
     let old = c.args.self.now in
     let g = old.geometry in
-    let lt : c.set-set.result < sets_of g =
-    rw c.set-set.ensures (mod-lt c.block-block.result (sane_of g).sets_pos) in
-    let in_all = last-inside c.set-set.result (sets_of g) old.ways (assoc_of g) c.args.ways lt
+    let lt : c.set_of-set.result < sets_of g =
+    rw c.set_of-set.ensures (mod-lt c.block-block.result (sane_of g).sets_pos) in
+    let in_all = last-inside c.set_of-set.result (sets_of g) old.ways (assoc_of g) c.args.ways lt
     old.width c.requires.some c.requires.fits in
     let high = (sane_of g).ways_fit in
     omega arith
@@ -27,9 +27,9 @@ unfolding rules_of
 overflow_add-set c =
     let old = c.args.self.now in
     let g = old.geometry in
-    let lt : c.set-set.result < sets_of g =
-    rw c.set-set.ensures (mod-lt c.block-block.result (sane_of g).sets_pos) in
-    let in_all = last-inside c.set-set.result (sets_of g) old.ways (assoc_of g) c.args.ways lt
+    let lt : c.set_of-set.result < sets_of g =
+    rw c.set_of-set.ensures (mod-lt c.block-block.result (sane_of g).sets_pos) in
+    let in_all = last-inside c.set_of-set.result (sets_of g) old.ways (assoc_of g) c.args.ways lt
     old.width c.requires.some c.requires.fits in
     let high = (sane_of g).ways_fit in
     omega arith
@@ -39,9 +39,9 @@ unfolding rules_of
 index-slot-requires c =
     let old = c.args.self.now in
     let g = old.geometry in
-    let lt : c.set-set.result < sets_of g =
-    rw c.set-set.ensures (mod-lt c.block-block.result (sane_of g).sets_pos) in
-    let in_all = last-inside c.set-set.result (sets_of g) old.ways (assoc_of g) c.args.ways lt
+    let lt : c.set_of-set.result < sets_of g =
+    rw c.set_of-set.ensures (mod-lt c.block-block.result (sane_of g).sets_pos) in
+    let in_all = last-inside c.set_of-set.result (sets_of g) old.ways (assoc_of g) c.args.ways lt
     old.width c.requires.some c.requires.fits in
     let room : vec_len old.slots ≡ sets_of g * assoc_of g = rw old.width at old.room in
     omega arith
@@ -56,7 +56,11 @@ returns c = λ h st miss.
     let in_all = last-inside (c.args.access.addr / bsize_of g % sets_of g) (sets_of g) (assoc_of g)
     (assoc_of g) c.args.ways lt refl c.requires.some c.requires.fits in
     let room : vec_len old.slots ≡ sets_of g * assoc_of g = rw old.width at old.room in
-    let slot = rw (c.set-set.ensures, c.block-block.ensures, old.width) at c.index-slot.ensures in
+    let slot = rw (
+      c.set_of-set.ensures,
+      c.block-block.ensures,
+      old.width,
+    ) at c.index-slot.ensures in
     back-now (rules_of old)
     (record { lru = refl; allocates = refl }) h c.args.access old.slots.items
     st.rows below c.args.ways (c.args.ways - 1) (suc-pred c.args.ways c.requires.some)
@@ -70,14 +74,14 @@ unfolding rules_of
 pushed-requires c =
     let old = c.args.self.now in
     let g = old.geometry in
-    let lt : c.set-set.result < sets_of g =
-    rw c.set-set.ensures (mod-lt c.block-block.result (sane_of g).sets_pos) in
-    let up : c.set-set.result + 1 ≤ sets_of g = omega arith in
+    let lt : c.set_of-set.result < sets_of g =
+    rw c.set_of-set.ensures (mod-lt c.block-block.result (sane_of g).sets_pos) in
+    let up : c.set_of-set.result + 1 ≤ sets_of g = omega arith in
     let le = mul-le-mul_right old.ways up in
     let room = old.room in
     let low : c.args.ways - 1 < old.ways =
     let fits = c.requires.fits in let some = c.requires.some in let w = old.width in omega arith in
-    let at = first-byte (bsize_of g) old.ways c.set-set.result (c.args.ways - 1) old.slots.items
+    let at = first-byte (bsize_of g) old.ways c.set_of-set.result (c.args.ways - 1) old.slots.items
     c.index-slot.result.now low (omega (arith, old.slots.ok.0)) c.index-slot.ensures
-    (old.bytes c.set-set.result lt) in
+    (old.bytes c.set_of-set.result lt) in
     rw c.bsize-bsize.ensures at

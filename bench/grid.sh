@@ -1,0 +1,93 @@
+#!/usr/bin/env bash
+# What a grid of caches costs. grid_bench serves the data references of a trace in 4, 28 and 60
+# caches at once, all of blocks of 32 bytes, write back and write allocation. plain_bench simulates
+# the same trace on one thread: an instruction cache, one data cache, and a second level.
+#
+#   bench/grid.sh [REFERENCES [ROUNDS]]      1,000,000 references and 5 rounds, if none are given
+#
+# Two traces are made with a fixed seed in a temporary folder: a tame one, of which most data
+# references are to 16 KiB, and a hard one, which spreads half of them over 64 KiB and the others
+# over 1 and 16 MiB. The third is recorded from ls; without valgrind it is left out.
+#
+# All runs of a table read the same file, in turn. Below the table stands how many times the
+# processor time of one run of plain_bench each took, by the medians, and how much more memory. With
+# valgrind the script also prints the instructions for each reference.
+set -euo pipefail
+references=${1:-1000000}
+rounds=${2:-5}
+top=$(cd "$(dirname "$0")/.." && pwd)
+plain=$top/crates/plain_bench/out/plain_bench
+grid=$top/crates/grid_bench/out/grid_bench
+folder=$(mktemp -d)
+trap 'rm -rf "$folder"' EXIT
+
+# rt run builds a program if it is missing or older than the sources.
+for crate in plain_bench grid_bench; do
+    (cd "$top/crates/$crate" && mapfile -t words < args && rt run -- "${words[@]}" < stdin) \
+        > "$folder/build.log" 2>&1 || { cat "$folder/build.log" >&2; exit 1; }
+done
+
+# make NEAR SHARE MIDDLE SHARE: six in ten references are fetches, which run on and sometimes jump
+# to one of 64 loops. Of the data references, three in ten are writes. The first share of them is to
+# so many bytes, what is left of the second share to more, and the rest to 16 MiB.
+make() {
+    awk -v references="$references" -v near="$1" -v first="$2" -v middle="$3" -v second="$4" \
+        'BEGIN {
+        srand(1)
+        for (i = 0; i < references; i++) {
+            if (rand() < 0.6) {
+                counter = rand() < 0.1 ? 4194304 + 1024 * int(64 * rand()) : counter + 4
+                printf "2 %x\n", counter
+            } else {
+                where = rand()
+                reach = where < first ? near : where < second ? middle : 16777216
+                printf "%d %x\n", rand() < 0.3, 268435456 + 8 * int(reach / 8 * rand())
+            }
+        }
+    }'
+}
+
+sizes=1024,2048,4096,8192,16384,32768,65536
+names=('plain_bench' 'grid of 4' 'grid of 28' 'grid of 60')
+commands=(
+    "$plain 8192 32 2 8192 32 2 262144 32 4"
+    "$grid 32 4096,16384 1,4"
+    "$grid 32 $sizes 1,2,4,8"
+    "$grid 32 512,$sizes,131072,262144,524288,1048576 1,2,4,8,16"
+)
+
+# instructions TRACE COMMAND..: how many the processor takes for it.
+instructions() {
+    local trace=$1
+    shift
+    valgrind --tool=callgrind --callgrind-out-file=/dev/null "$@" < "$trace" 2>&1 > /dev/null |
+        awk '/Collected/ { print $4 }'
+}
+
+# measure TITLE TRACE
+measure() {
+    echo "== $1"
+    for index in "${!names[@]}"; do
+        printf '%s\t%s\n' "${names[index]}" "${commands[index]}"
+    done > "$folder/runs"
+    "$top/bench/in_turn.py" "$rounds" "$2" < "$folder/runs" | tee "$folder/table"
+    awk 'NR == 2 { processor = $(NF - 2); memory = $(NF - 1) }
+        NR > 2 { printf "%s %s %s: %.2f times the processor time, %+d MB\n", $1, $2, $3,
+            $(NF - 2) / processor, $(NF - 1) - memory }' "$folder/table"
+    command -v valgrind > /dev/null || return 0
+    head -n 100000 "$2" > "$folder/short"
+    for index in "${!names[@]}"; do
+        read -ra words <<< "${commands[index]}"
+        all=$(instructions "$folder/short" "${words[@]}")
+        echo "${names[index]}: $((all / $(wc -l < "$folder/short"))) instructions a reference"
+    done
+}
+
+make 16384 0.8 262144 0.97 > "$folder/tame.din"
+measure 'tame' "$folder/tame.din"
+if command -v valgrind > /dev/null; then
+    "$top/bin/record" ls /usr/lib 2> /dev/null > "$folder/ls.din"
+    measure 'the references of ls' "$folder/ls.din"
+fi
+make 65536 0.5 1048576 0.8 > "$folder/hard.din"
+measure 'hard' "$folder/hard.din"

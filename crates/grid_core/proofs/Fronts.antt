@@ -1,0 +1,196 @@
+-- How a row of slots changes where the position of the block is known.
+use Rattle.std.proofs.Common.{◌≡◌, ◌⊎◌, ℕ, zero, suc, ◌+◌, ◌-◌, ◌*◌, ◌^◌}
+use Rattle.std.proofs.Common.{◌<◌, ◌≤◌, replicate, Bool, true, false, cond, eqb, ltb}
+use Rattle.std.proofs.Common.{List, [], ◌∷◌, ◌++◌, length, get_or, set}
+use Rattle.std.proofs.Common.{take, drop, refl, sym, ap, subst, ◌∙◌}
+use Rattle.std.proofs.Common.{inl, inr, Some, None, arith}
+use Rattle.std.specs.List.{find, copy_within}
+use Rattle.std.specs.Option.{option_map_or}
+use Rattle.std.proofs.lemmas.Bool.{eqb-true, eq-eqb, ltb-true, ltb-false, and_parts}
+use Rattle.std.proofs.Math.Nat.{zero-mod, mul_comm, le-mul_of_pos_right}
+use Rattle.cache_core.specs.declared.geometry.Geometry.{Geometry}
+use Rattle.cache_core.specs.Geometry.{bsize_of, assoc_of}
+use Rattle.cache_core.proofs.Lawful.{sane_of}
+use Rattle.cache_core.specs.Row.{shifted, row}
+use Rattle.grid_core.specs.declared.slots.Slot.{Slot}
+use Rattle.grid_core.specs.declared.slots.Place.{Place}
+use Rattle.grid_core.specs.Slots.{IsPlaceIn, no_slot}
+use Rattle.grid_core.specs.Slots.{holds, used_slot, level_of, level_after, index_of, next_slots}
+
+-- no index is above the length
+pub index-le : {X : Type 0} (p : X → Bool) (xs : List X) → index_of p xs ≤ length xs
+index-le p [] = omega arith
+index-le p (x ∷ xs) = (elim (p x) as (λ t. cond t 0 (suc (index_of p xs)) ≤ suc (length xs)) [
+  | true ↦ omega arith
+  | false ↦ let le = index-le p xs in omega arith
+])
+
+-- the level of the first slot that passes
+pub level-there : (p : Slot → Bool) (xs : List Slot) (d : Slot) (k : ℕ)
+    → index_of p xs < length xs
+    → option_map_or level_of (find p xs) k ≡ (get_or xs (index_of p xs) d).level
+level-there p [] d k lt = absurd (omega arith)
+level-there p (x ∷ xs) d k lt = (elim (p x) as (λ t. cond t 0 (suc (index_of p xs))
+    < suc (length xs) → option_map_or level_of (cond t (Some x) (find p xs)) k
+    ≡ (get_or (x ∷ xs) (cond t 0 (suc (index_of p xs))) d).level) [
+      | true ↦ λ below. refl
+      | false ↦ λ below. level-there p xs d k (omega arith)
+    ]) lt
+
+-- where none passes
+pub level-nowhere : (p : Slot → Bool) (xs : List Slot) (k : ℕ) → length xs ≤ index_of p xs
+    → option_map_or level_of (find p xs) k ≡ k
+level-nowhere p [] k le = refl
+level-nowhere p (x ∷ xs) k le = (elim (p x) as (λ t. suc (length xs)
+    ≤ cond t 0 (suc (index_of p xs)) → option_map_or level_of (cond t (Some x) (find p xs)) k ≡ k) [
+      | true ↦ λ above. absurd (omega arith)
+      | false ↦ λ above. level-nowhere p xs k (omega arith)
+    ]) le
+
+shifted-none : {X : Type 0} (p : X → Bool) (ys : List X) (y : X) → length ys ≡ 0
+    → shifted p y ys ≡ ys
+shifted-none p [] y e = refl
+shifted-none p (z ∷ ys) y e = absurd (omega arith)
+
+-- each slot moves back by one, up to the first that passes, or else the last
+pub shifted-last : {X : Type 0} (p : X → Bool) (c : X) (xs : List X) (last : ℕ) → last < length xs
+    → last ≤ index_of p xs → (last ≡ index_of p xs) ⊎ (suc last ≡ length xs)
+    → shifted p c xs ≡ c ∷ (take last xs ++ drop (suc last) xs)
+shifted-last p c [] last lt le at = absurd (omega arith)
+shifted-last p c (x ∷ xs) zero lt le at = (elim (p x) as (λ t.
+    (0 ≡ cond t 0 (suc (index_of p xs))) ⊎ (1 ≡ suc (length xs))
+    → c ∷ cond t xs (shifted p x xs) ≡ c ∷ xs) [
+      | true ↦ λ at. refl
+      | false ↦ λ at. elim at [
+        | inl e ↦ absurd (omega arith)
+        | inr e ↦ ap (λ l. c ∷ l) (shifted-none p xs x (omega arith))
+      ]
+    ]) at
+shifted-last p c (x ∷ xs) (suc last) lt le at = (elim (p x) as (λ t.
+    suc last ≤ cond t 0 (suc (index_of p xs))
+    → (suc last ≡ cond t 0 (suc (index_of p xs))) ⊎ (suc (suc last) ≡ suc (length xs))
+    → c ∷ cond t xs (shifted p x xs) ≡ c ∷ (x ∷ (take last xs ++ drop (suc last) xs))) [
+      | true ↦ λ le at. absurd (omega arith)
+      | false ↦ λ le at. ap (λ l. c ∷ l) (shifted-last p x xs last (omega arith) (omega arith)
+          (elim at [ inl e ↦ inl (omega arith) | inr e ↦ inr (omega arith) ]))
+    ]) le at
+
+-- a slot that holds a block is the used slot of its level
+slot-is : (b : ℕ) (s : Slot) → holds b s ≡ true → used_slot b s.level ≡ s
+slot-is b s e =
+    let parts = and_parts s.valid (eqb s.block b) e in
+    ap (λ z. record { block = z; valid = true; level = s.level }) (sym (eqb-true s.block b parts.1))
+    ∙ ap (λ v. record { block = s.block; valid = v; level = s.level }) (sym parts.0)
+
+low-level : (l : ℕ) → level_after false l 0 ≡ l
+low-level l = (elim (ltb l 0) as (λ t. ltb l 0 ≡ t → cond t 0 l ≡ l) [
+  | true ↦ λ e. let lt = ltb-true l 0 e in absurd (omega arith)
+  | false ↦ λ e. refl
+]) refl
+
+-- a read of the block that is first changes nothing
+pub read-first : (b : ℕ) (xs : List Slot) → 0 ≡ index_of (holds b) xs → next_slots b false xs ≡ xs
+read-first b [] e = refl
+read-first b (s ∷ xs) e = (elim (holds b s) as (λ t. holds b s ≡ t
+    → 0 ≡ cond t 0 (suc (index_of (holds b) xs))
+    → used_slot b (level_after false (option_map_or level_of (cond t (Some s) (find (holds b) xs))
+    (suc (length xs))) (cond t 0 (suc (index_of (holds b) xs))))
+    ∷ cond t xs (shifted (holds b) s xs) ≡ s ∷ xs) [
+      | true ↦ λ h e. ap (λ v. v ∷ xs) (ap (used_slot b) (low-level s.level) ∙ slot-is b s h)
+      | false ↦ λ h e. absurd (omega arith)
+    ]) refl e
+
+-- a slot after a write
+abbrev leveled : Slot → Slot
+leveled s = record s { level = 0 }
+
+-- a write to the block that is first sets its level to 0
+pub write-first : (b : ℕ) (s : Slot) (xs : List Slot) → 0 ≡ index_of (holds b) (s ∷ xs)
+    → next_slots b true (s ∷ xs) ≡ leveled s ∷ xs
+write-first b s xs e = (elim (holds b s) as (λ t. holds b s ≡ t
+    → 0 ≡ cond t 0 (suc (index_of (holds b) xs))
+    → used_slot b 0 ∷ cond t xs (shifted (holds b) s xs) ≡ leveled s ∷ xs) [
+      | true ↦ λ h e. ap (λ v. v ∷ xs) (ap leveled (slot-is b s h))
+      | false ↦ λ h e. absurd (omega arith)
+    ]) refl e
+
+-- after an access its block is first
+pub front-first : (b l : ℕ) (xs : List Slot)
+    → index_of (holds b) (shifted (holds b) (used_slot b l) xs) ≡ 0
+front-first b l [] = refl
+front-first b l (s ∷ xs) = ap (λ t. cond t 0 (suc (index_of (holds b)
+    (cond (holds b s) xs (shifted (holds b) s xs))))) (eq-eqb b b refl)
+
+-- in an empty row there is nothing to change
+pub write-empty : (b : ℕ) (write : Bool) (xs : List Slot) → length xs ≤ 0
+    → next_slots b write xs ≡ xs
+write-empty b write [] e = refl
+write-empty b write (s ∷ xs) e = absurd (omega arith)
+
+-- the slot that leaves a row
+pub last-is : (p : Slot → Bool) (xs : List Slot) (position : ℕ) → position ≡ index_of p xs
+    → (last : ℕ) → 0 < length xs
+    → last ≡ cond (ltb position (length xs)) position (length xs - 1)
+    → (last < length xs) × (last ≤ index_of p xs)
+    × ((last ≡ index_of p xs) ⊎ (suc last ≡ length xs))
+last-is p xs position is last some e = (elim (ltb position (length xs)) as (λ t.
+    ltb position (length xs) ≡ t → last ≡ cond t position (length xs - 1)
+    → (last < length xs) × (last ≤ index_of p xs)
+    × ((last ≡ index_of p xs) ⊎ (suc last ≡ length xs))) [
+      | true ↦ λ t e. let lt = ltb-true position (length xs) t in
+          (omega arith, omega arith, inl (e ∙ is))
+      | false ↦ λ t e. let ge = ltb-false position (length xs) t in
+          (omega arith, omega arith, inr (omega arith))
+    ]) refl e
+
+-- the slots up to a place are copied behind the first, which is then replaced
+pub copied-first : (xs ys : List Slot) (last : ℕ) (c : Slot) → last < length xs
+    → ys ≡ copy_within xs 0 last 1 → set ys 0 c ≡ c ∷ (take last xs ++ drop (suc last) xs)
+copied-first [] ys last c lt e = absurd (omega arith)
+copied-first (x ∷ xs) ys last c lt e = ap (λ l. set l 0 c) (e ∙ paste-one)
+  where
+    paste-one : copy_within (x ∷ xs) 0 last 1 ≡ x ∷ (take last (x ∷ xs) ++ drop last xs)
+    paste-one =
+        let n : last - 0 ≡ last = omega arith in
+        let k : 1 + last ≡ suc last = omega arith in
+        ap (λ n. x ∷ (take n (x ∷ xs) ++ drop (1 + n) (x ∷ xs))) n
+        ∙ ap (λ k. x ∷ (take last (x ∷ xs) ++ drop k (x ∷ xs))) k
+
+-- in empty rows no block has a place
+index-empty : (n j : ℕ) → n ≤ j → index_of (holds 0) (take n (replicate j no_slot)) ≡ n
+index-empty zero j le = refl
+index-empty (suc n) zero le = absurd (omega arith)
+index-empty (suc n) (suc j) le = ap suc (index-empty n j (omega arith))
+
+pub place-empty : (sets ways n : ℕ) → ways ≤ n
+    → IsPlaceIn sets ways (replicate n no_slot) (record { block = 0; set = 0; position = ways })
+place-empty sets ways n le =
+    let start : 0 * ways ≡ 0 = omega arith in
+    record {
+      set = sym (zero-mod sets);
+      position = sym (ap (λ k. index_of (holds 0) (take ways (drop k (replicate n no_slot)))) start
+          ∙ index-empty ways n le);
+    }
+
+-- after an access the place of its block is the first of its row
+pub place-next : (sets ways : ℕ) (write : Bool) (xs ys : List Slot) (p : Place)
+    → IsPlaceIn sets ways xs p
+    → row ways p.set ys ≡ next_slots p.block write (row ways p.set xs)
+    → IsPlaceIn sets ways ys (record p { position = 0 })
+place-next sets ways write xs ys p before now = record {
+  set = before.set;
+  position = sym (ap (index_of (holds p.block)) now ∙ front-first p.block (level_after write
+      (option_map_or level_of (find (holds p.block) (row ways p.set xs))
+      (length (row ways p.set xs))) (index_of (holds p.block) (row ways p.set xs)))
+      (row ways p.set xs));
+}
+
+-- a set has few ways
+pub few-ways : (g : Geometry) → assoc_of g < 2 ^ 32
+few-ways g =
+    let sane = sane_of g in
+    let low = sane.block_low in
+    let wide : assoc_of g ≤ bsize_of g * assoc_of g = subst (λ n. assoc_of g ≤ n)
+    (mul_comm (assoc_of g) (bsize_of g)) (le-mul_of_pos_right (assoc_of g) (omega arith)) in
+    let high = sane.set_high in
+    omega arith

@@ -1,0 +1,17 @@
+use Rattle.std.proofs.Common.{◌≡◌, ◌<◌, ◌≤◌, ◌^◌, ◌-◌, length, sym, ap, subst, arith}
+use Rattle.grid_core.specs.Slots.{holds}
+use Rattle.grid_core.proofs.Fronts.{index-le}
+use Rattle.grid_core.proofs.SlotTurns.{after-le}
+use Rattle.grid_core.proofs.front.move_front.Goals as goal
+
+pub overflow_cast-front : goal.overflow_cast-front
+overflow_cast-front c =
+    let xs = c.args.row.now in
+    let small = c.requires.small in
+    let level = c.level_at-level.ensures.small small in
+    let is = c.requires.position in
+    let inside = index-le (holds c.args.block) xs in
+    let le = after-le c.args.write c.level_at-level.result c.args.position (2 ^ 32 - 1)
+    (omega arith) (omega arith) in
+    let e = c.level_now.ensures in
+    omega arith

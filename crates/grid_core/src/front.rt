@@ -1,0 +1,139 @@
+//! What one access does to the row of its set.
+
+ghost use Rattle.std.specs.Prelude.{◌≡◌, ◌≢◌, ◌≤◌, ◌<◌, ◌+◌, ◌-◌};
+ghost use Rattle.std.specs.Prelude.{◌*◌, ◌^◌, ℕ, Bool, length, vec_len};
+ghost use Rattle.std.specs.Prelude.{nat_lt, if◌then◌else◌};
+ghost use Rattle.std.specs.List.{find};
+ghost use Rattle.std.specs.Option.{option_map_or};
+ghost use Rattle.cache_core.specs.Row.{shifted, row};
+ghost use Rattle.grid_core.specs.Slots.{holds, level_of, index_of, level_after, next_slots};
+
+use crate::slots::{Seen, Slot};
+
+/// Where the slot stands that leaves a row of this length.
+fn last_moved(position: usize, len: usize) -> usize
+    requires { 0 < len }
+    ensures { result ≡ (if nat_lt position len then position else len - 1) }
+{
+    if position < len { position } else { len - 1 }
+}
+
+/// Puts `front` first and moves each slot back by one, up to the one at this position, or else the
+/// last.
+fn bring_front(row: &mut [Slot], position: usize, front: Slot)
+    ensures { (p : Slot → Bool) → position ≡ index_of p row.old →
+        row.new ≡ shifted p front row.old }
+{
+    if row.len() == 0 {
+        return;
+    }
+    let last = last_moved(position, row.len());
+    row.copy_within(0..last, 1);
+    row[0] = front;
+}
+
+/// The dirty level of the block at this position of a row, or the length of the row past its end.
+fn level_at(row: &[Slot], position: usize) -> usize
+    ensures level { (p : Slot → Bool) → position ≡ index_of p row.now →
+        result ≡ option_map_or level_of (find p row.now) (length row.now) }
+    ensures small { length row.now < 2 ^ 32 → result < 2 ^ 32 }
+{
+    if position < row.len() {
+        row[position].level as usize
+    } else {
+        row.len()
+    }
+}
+
+/// The dirty level of a block after an access that found it like this.
+fn level_now(write: bool, seen: Seen) -> usize
+    ensures { result ≡ level_after write seen.level seen.position }
+{
+    if write {
+        0
+    } else if seen.level < seen.position {
+        seen.position
+    } else {
+        seen.level
+    }
+}
+
+/// Serves one access to the block at this position of a row, or past its end: it is loaded.
+fn move_front(row: &mut [Slot], position: usize, block: u64, write: bool)
+    requires small { length row.old < 2 ^ 32 }
+    requires position { position ≡ index_of (holds block) row.old }
+    ensures { row.new ≡ next_slots block write row.old }
+{
+    let level = level_at(row, position);
+    let front = Slot {
+        block,
+        valid: true,
+        level: level_now(write, Seen { position, level }) as u32,
+    };
+    bring_front(row, position, front);
+}
+
+/// Serves one access to the block that is first in a row.
+fn keep_front(row: &mut [Slot], block: u64, write: bool)
+    requires { 0 ≡ index_of (holds block) row.old }
+    ensures { row.new ≡ next_slots block write row.old }
+{
+    if write && row.len() > 0 {
+        row[0].level = 0;
+    }
+}
+
+/// Serves one access to a row, in which its block has this position.
+fn touch_row(row: &mut [Slot], position: usize, block: u64, write: bool)
+    requires small { length row.old < 2 ^ 32 }
+    requires position { position ≡ index_of (holds block) row.old }
+    ensures { row.new ≡ next_slots block write row.old }
+{
+    if position == 0 {
+        keep_front(row, block, write);
+    } else {
+        move_front(row, position, block, write);
+    }
+}
+
+/// Serves one access to the row of its set, in which its block has this position.
+pub(crate) fn touch(
+    slots: &mut [Slot],
+    set: usize,
+    ways: usize,
+    position: usize,
+    block: u64,
+    write: bool,
+)
+    requires room { (set + 1) * ways ≤ length slots.old }
+    requires small { ways < 2 ^ 32 }
+    requires position { position ≡ index_of (holds block) (row ways set slots.old) }
+    ensures slots { row ways set slots.new ≡ next_slots block write (row ways set slots.old) }
+    ensures others { (s : ℕ) → s ≢ set → row ways s slots.new ≡ row ways s slots.old }
+    ensures len { length slots.new ≡ length slots.old }
+{
+    let start = set * ways;
+    let end = start + ways;
+    touch_row(&mut slots[start..end], position, block, write);
+}
+
+/// The same for the rows of a vector.
+pub(crate) fn touch_in(
+    slots: &mut Vec<Slot>,
+    set: usize,
+    ways: usize,
+    position: usize,
+    block: u64,
+    write: bool,
+)
+    requires room { (set + 1) * ways ≤ vec_len slots.old }
+    requires small { ways < 2 ^ 32 }
+    requires position { position ≡ index_of (holds block) (row ways set slots.old.items) }
+    ensures slots { row ways set slots.new.items
+        ≡ next_slots block write (row ways set slots.old.items) }
+    ensures others { (s : ℕ) → s ≢ set →
+        row ways s slots.new.items ≡ row ways s slots.old.items }
+    ensures len { vec_len slots.new ≡ vec_len slots.old }
+{
+    touch(slots, set, ways, position, block, write);
+}
