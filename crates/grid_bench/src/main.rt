@@ -6,12 +6,19 @@
 #![tactic(auto)]
 
 use anyhow::{Context, bail};
-use cache_core::{Access, Class, Counts, Geometry, MAX_EVENTS, NoMemory};
+use cache_core::{Access, Class, Counts, Geometry, MAX_EVENTS, NoMemory, Policy, Repl};
 use din_trace::{DinRecord, FromRead, Label, MAX_LIMIT, Source};
 use grid_core::{Engine, share_block_size};
 use std::alloc::Global;
 use std::env;
 use std::io::{BufWriter, Write};
+
+/// The policy of all caches.
+static POLICY: Policy = Policy {
+    repl: Repl::Lru,
+    wback: true,
+    walloc: true,
+};
 
 /// The numbers of a word, which commas join.
 fn numbers(alloc: Global, word: &str) -> anyhow::Result<Vec<u64>> {
@@ -120,7 +127,7 @@ fn main(rt: HostRuntime) -> anyhow::Result<()> {
     if !share_block_size(&geometries, first) {
         bail!("several block sizes");
     }
-    let Ok(mut engine) = Engine::new(rt.alloc(), &geometries, first, true) else {
+    let Ok(mut engine) = Engine::new(rt.alloc(), &geometries, first, POLICY) else {
         bail!("no memory");
     };
     serve_all(&rt, &mut engine)?;

@@ -1,6 +1,6 @@
 //! A use of grid_core.
 
-use cache_core::{Access, Class, Geometry, MAX_EVENTS, NoMemory};
+use cache_core::{Access, Class, Geometry, MAX_EVENTS, NoMemory, Policy, Repl};
 use grid_core::{Engine, share_block_size};
 use std::alloc::Global;
 
@@ -17,7 +17,12 @@ pub fn misses_of_ways(alloc: Global) -> Result<Option<[u128; 3]>, NoMemory> {
     if !share_block_size(&geometries, one) {
         return Ok(None);
     }
-    let mut engine = Engine::new(alloc, &geometries, one, true)?;
+    let policy = Policy {
+        repl: Repl::Lru,
+        wback: true,
+        walloc: true,
+    };
+    let mut engine = Engine::new(alloc, &geometries, one, policy)?;
     for addr in [0x0, 0x10, 0x20, 0x0, 0x20u64] {
         if engine.served() >= MAX_EVENTS {
             return Ok(None);
