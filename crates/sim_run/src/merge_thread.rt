@@ -21,7 +21,7 @@ use cache_core::MAX_EVENTS;
 use stage_core::{FromStage, L2Stage, Merge, Turn, Want};
 use std::snapshot::Snapshot;
 use std::sync::Wait;
-use std::thread::{Promise, PromisedHandle, Scope, Threads};
+use std::thread::{Promise, PromisedHandle, Scope};
 
 /// The result of the merge's thread.
 pub type MergeEnd = Result<(L2Stage, MergeEnds), Stop>;
@@ -203,9 +203,9 @@ pub fn run_merge<H: Wait, G: Gate>(
 
 /// Starts the thread of the merge. If it cannot be started, the second level and the ends are
 /// dropped.
-pub fn start_merge<'s, E, H: Threads + Wait + Sync, G: Gate>(
+pub fn start_merge<'s, E, H: Wait + Sync, G: Gate>(
     scope: &Scope<'s, E>,
-    rt: &'s BodyRuntime<'_, H>,
+    rt: &'s BodyRuntime<H>,
     gate: &'s G,
     machine: L2Stage,
     ends: MergeEnds,

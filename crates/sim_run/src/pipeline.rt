@@ -111,10 +111,10 @@ fn give_up<H: Threads, L: Drop>(
 
 // Starts the three threads. If one cannot be started, all ends are dropped, so that the threads
 // that were started end too.
-fn start<'s, E, T: Threads, H: Threads + Wait + Sync, G: Gate>(
+fn start<'s, E, T: Threads, H: Wait + Sync, G: Gate>(
     scope: &Scope<'s, E>,
     rt: &T,
-    body_rt: &'s BodyRuntime<'_, H>,
+    body_rt: &'s BodyRuntime<H>,
     gate: &'s G,
     machines: Machines,
     rings: Rings,
@@ -211,10 +211,10 @@ fn finish<H: Threads>(
 }
 
 // Runs the records of the source through the machines, inside a scope of threads.
-pub(crate) fn run_in<'s, E, T: Threads, H: Threads + Wait + Sync, R: ByteReader + Drop, G: Gate>(
+pub(crate) fn run_in<'s, E, T: Threads, H: Wait + Sync, R: ByteReader + Drop, G: Gate>(
     scope: &Scope<'s, E>,
     rt: &T,
-    body_rt: &'s BodyRuntime<'_, H>,
+    body_rt: &'s BodyRuntime<H>,
     gate: &'s G,
     selection: Selection,
     source: Source<R>,

@@ -22,7 +22,7 @@ use cache_core::MAX_EVENTS;
 use stage_core::{L1Stage, ToStage};
 use std::snapshot::Snapshot;
 use std::sync::Wait;
-use std::thread::{Promise, PromisedHandle, Scope, Threads};
+use std::thread::{Promise, PromisedHandle, Scope};
 
 /// The result of a stage's thread.
 pub type StageEnd = Result<(L1Stage, StageEnds), Stop>;
@@ -238,9 +238,9 @@ pub fn run_stage<H: Wait, G: Gate>(
 }
 
 /// Starts the thread of a stage. If it cannot be started, the stage and its ends are dropped.
-pub fn start_stage<'s, E, H: Threads + Wait + Sync, G: Gate>(
+pub fn start_stage<'s, E, H: Wait + Sync, G: Gate>(
     scope: &Scope<'s, E>,
-    rt: &'s BodyRuntime<'_, H>,
+    rt: &'s BodyRuntime<H>,
     gate: &'s G,
     who: Who,
     machine: L1Stage,

@@ -25,18 +25,18 @@ use std::sync::{Forever, Wait};
 /// The runtime, as the body of a thread has it: it lets the body wait in the functions of this
 /// module, go round without end and pass its gate, and nothing else.
 #[derive(Drop)]
-pub struct BodyRuntime<'a, H> {
-    rt: &'a H,
+pub struct BodyRuntime<H> {
+    rt: H,
 }
 
-impl<'a, H> BodyRuntime<'a, H> {
+impl<H> BodyRuntime<H> {
     /// This runtime, for the bodies of threads.
-    pub fn new(rt: &'a H) -> BodyRuntime<'a, H> {
+    pub fn new(rt: H) -> BodyRuntime<H> {
         BodyRuntime { rt }
     }
 }
 
-impl<H: Wait> BodyRuntime<'_, H> {
+impl<H: Wait> BodyRuntime<H> {
     /// Rounds without end.
     #[inline(always)]
     pub fn forever(&self) -> Forever<'_, H> {
@@ -46,7 +46,7 @@ impl<H: Wait> BodyRuntime<'_, H> {
     /// Calls the gate, which may hold this thread.
     #[inline(always)]
     pub fn arrive<G: Gate>(&self, gate: &G, who: Who, nth: u64) {
-        gate.arrive(self.rt, who, nth);
+        gate.arrive(&self.rt, who, nth);
     }
 }
 
@@ -73,11 +73,11 @@ pub fn await_rooms<H: Wait>(rt: &BodyRuntime<H>, ends: &mut SplitterEnds) -> Res
     for _ in rt.forever() {
         // The three ends share one bell, so it is enough to sleep at one of them.
         if ends.order.posted() > 0 {
-            ends.order.pause(rt.rt);
+            ends.order.pause(&rt.rt);
         } else if ends.to_i.posted() > 0 {
-            ends.to_i.pause(rt.rt);
+            ends.to_i.pause(&rt.rt);
         } else {
-            ends.to_d.pause(rt.rt);
+            ends.to_d.pause(&rt.rt);
         }
         if ends.are_cut() {
             return Err(Stop::Cut);
@@ -107,7 +107,7 @@ pub fn await_room<H: Wait>(
     ensures cut { IfErr result (λ why. why ≡ Stop.Cut) }
 {
     for _ in rt.forever() {
-        ends.to_merge.pause(rt.rt);
+        ends.to_merge.pause(&rt.rt);
         if ends.to_merge.is_cut() {
             return Err(Stop::Cut);
         }
@@ -132,7 +132,7 @@ fn await_item<T: Copy, H: Wait>(rt: &BodyRuntime<H>, rx: &mut Rx<T>) -> Result<T
             // A message that was published before the sender was dropped is still there.
             return rx.try_recv().ok_or(Stop::Cut);
         }
-        rx.pause(rt.rt);
+        rx.pause(&rt.rt);
         if let Some(item) = rx.try_recv() {
             return Ok(item);
         }
@@ -165,7 +165,7 @@ pub fn await_message<H: Wait>(
             // A message that was published before the sender was dropped is still there.
             return ends.from_splitter.try_recv().ok_or(Stop::Cut);
         }
-        ends.from_splitter.pause(rt.rt);
+        ends.from_splitter.pause(&rt.rt);
         if let Some(message) = ends.from_splitter.try_recv() {
             return Ok(message);
         }

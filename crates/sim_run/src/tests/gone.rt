@@ -194,9 +194,9 @@ fn a_merge_without_the_side_that_it_wants_stops(rt: HostRuntime) -> Result<(), F
 }
 
 /// The thread of a stage, if it is to be started. If not, the stage and its ends are dropped.
-fn thread_of<'s, E, H: Threads + Wait + Sync>(
+fn thread_of<'s, E, H: Wait + Sync>(
     scope: &Scope<'s, E>,
-    rt: &'s BodyRuntime<'_, H>,
+    rt: &'s BodyRuntime<H>,
     who: Who,
     machine: L1Stage,
     ends: StageEnds,
@@ -214,10 +214,10 @@ fn thread_of<'s, E, H: Threads + Wait + Sync>(
 }
 
 /// Starts this many stages, and ends them as if the next thread could not be started.
-fn wind_up_in<'s, E, H: Threads + Wait + Sync>(
+fn wind_up_in<'s, E, T: Threads, H: Wait + Sync>(
     scope: &Scope<'s, E>,
-    rt: &'s H,
-    body_rt: &'s BodyRuntime<'_, H>,
+    rt: &T,
+    body_rt: &'s BodyRuntime<H>,
     i: L1Stage,
     d: L1Stage,
     rings: Rings,
