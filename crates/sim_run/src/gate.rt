@@ -4,6 +4,7 @@ ghost use Rattle.std.specs.Prelude.{◌≡◌, ◌+◌, ◌<◌, ◌≤◌, Bool
 ghost use Rattle.sim_run.specs.declared.fault.Stop.{Stop};
 
 use crate::fault::Stop;
+use crate::waits::BodyRuntime;
 use cache_core::MAX_EVENTS;
 use std::sync::Wait;
 
@@ -56,7 +57,12 @@ impl Gate for OpenGate {
 /// Counts one more message and passes the gate with it. The contract of a thread does not say how
 /// many messages it will receive, so the thread stops if the count would reach `MAX_EVENTS`.
 #[inline]
-pub fn pass<H: Wait, G: Gate>(rt: &H, gate: &G, who: Who, received: u64) -> Result<u64, Stop>
+pub fn pass<H: Wait, G: Gate>(
+    rt: &BodyRuntime<H>,
+    gate: &G,
+    who: Who,
+    received: u64,
+) -> Result<u64, Stop>
     ensures counted { IfOk result (λ nth. nth ≡ received + 1) }
     ensures below { IfOk result (λ nth. nth < MAX_EVENTS) }
     ensures cut { IfErr result (λ why. (why ≡ Stop.Cut) × (MAX_EVENTS ≤ received + 1)) }
@@ -65,6 +71,6 @@ pub fn pass<H: Wait, G: Gate>(rt: &H, gate: &G, who: Who, received: u64) -> Resu
         return Err(Stop::Cut);
     }
     let nth = received + 1;
-    gate.arrive(rt, who, nth);
+    rt.arrive(gate, who, nth);
     Ok(nth)
 }

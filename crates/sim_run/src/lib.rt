@@ -6,9 +6,10 @@
 //! without writing a report, and [`simulate_plain`] does it on one thread. [`write_report`] writes
 //! the report of given totals, and [`write_block`] the block of one cache.
 //!
-//! The threads wait for one another only in the functions of `waits`. Each of these functions
-//! requires that its thread may wait there and has found nothing to do. By a law of stage_core,
-//! threads that wait only like this never all wait for one another.
+//! The threads wait for one another only in the functions of `waits`: the body of a thread has no
+//! runtime with which an end of a ring could wait. Each of these functions requires that its thread
+//! may wait there and has found nothing to do. By a law of stage_core, threads that wait only like
+//! this never all wait for one another.
 //!
 //! The modules: `ends` has the rings, and which end each thread owns. `gate` lets tests hold
 //! threads. `split`, `stage_thread` and `merge_thread` are the bodies of the threads. `pipeline`

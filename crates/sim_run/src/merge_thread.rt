@@ -16,12 +16,12 @@ ghost use Rattle.sim_run.specs.Waits.{MergeUsed};
 use crate::ends::MergeEnds;
 use crate::fault::{NoThread, Stop};
 use crate::gate::{Gate, Who, pass};
-use crate::waits::{await_from_d, await_from_i, await_turn};
+use crate::waits::{BodyRuntime, await_from_d, await_from_i, await_turn};
 use cache_core::MAX_EVENTS;
 use stage_core::{FromStage, L2Stage, Merge, Turn, Want};
 use std::snapshot::Snapshot;
 use std::sync::Wait;
-use std::thread::{Promise, PromisedHandle, Scope, Threads};
+use std::thread::{Promise, PromisedHandle, Scope};
 
 /// The result of the merge's thread.
 pub type MergeEnd = Result<(L2Stage, MergeEnds), Stop>;
@@ -62,7 +62,11 @@ fn take_and_serve(merge: &mut Merge, u: &mut L2Stage, message: FromStage) -> Res
 
 // The next turn.
 #[inline(always)]
-fn next_turn<H: Wait>(rt: &H, merge: &Merge, ends: &mut MergeEnds) -> Result<Turn, Stop>
+fn next_turn<H: Wait>(
+    rt: &BodyRuntime<H>,
+    merge: &Merge,
+    ends: &mut MergeEnds,
+) -> Result<Turn, Stop>
     requires used { MergeUsed merge.now ends.old }
     requires wants { wanted merge.now ≡ want.Order }
     ensures order { SameRx ends.old.order ends.new.order }
@@ -79,7 +83,11 @@ fn next_turn<H: Wait>(rt: &H, merge: &Merge, ends: &mut MergeEnds) -> Result<Tur
 
 // The next message from the I stage.
 #[inline(always)]
-fn next_from_i<H: Wait>(rt: &H, merge: &Merge, ends: &mut MergeEnds) -> Result<FromStage, Stop>
+fn next_from_i<H: Wait>(
+    rt: &BodyRuntime<H>,
+    merge: &Merge,
+    ends: &mut MergeEnds,
+) -> Result<FromStage, Stop>
     requires used { MergeUsed merge.now ends.old }
     requires wants { wanted merge.now ≡ want.I }
     ensures order { ends.new.order ≡ ends.old.order }
@@ -96,7 +104,11 @@ fn next_from_i<H: Wait>(rt: &H, merge: &Merge, ends: &mut MergeEnds) -> Result<F
 
 // The next message from the D stage.
 #[inline(always)]
-fn next_from_d<H: Wait>(rt: &H, merge: &Merge, ends: &mut MergeEnds) -> Result<FromStage, Stop>
+fn next_from_d<H: Wait>(
+    rt: &BodyRuntime<H>,
+    merge: &Merge,
+    ends: &mut MergeEnds,
+) -> Result<FromStage, Stop>
     requires used { MergeUsed merge.now ends.old }
     requires wants { wanted merge.now ≡ want.D }
     ensures order { ends.new.order ≡ ends.old.order }
@@ -114,7 +126,7 @@ fn next_from_d<H: Wait>(rt: &H, merge: &Merge, ends: &mut MergeEnds) -> Result<F
 // Passes the gate with a message of a side, and then serves it.
 #[inline(always)]
 fn take_in<H: Wait, G: Gate>(
-    rt: &H,
+    rt: &BodyRuntime<H>,
     gate: &G,
     merge: &mut Merge,
     u: &mut L2Stage,
@@ -134,7 +146,7 @@ fn take_in<H: Wait, G: Gate>(
 
 // Receives messages, each from the ring that the merge wants next, until the merge is at its end.
 fn merge_all<H: Wait, G: Gate>(
-    rt: &H,
+    rt: &BodyRuntime<H>,
     gate: &G,
     u: &mut L2Stage,
     ends: &mut MergeEnds,
@@ -174,7 +186,7 @@ fn merge_all<H: Wait, G: Gate>(
 
 /// Merges all messages of the rings. If it stops before the end, its ends are dropped.
 pub fn run_merge<H: Wait, G: Gate>(
-    rt: &H,
+    rt: &BodyRuntime<H>,
     gate: &G,
     machine: L2Stage,
     unused: MergeEnds,
@@ -191,9 +203,9 @@ pub fn run_merge<H: Wait, G: Gate>(
 
 /// Starts the thread of the merge. If it cannot be started, the second level and the ends are
 /// dropped.
-pub fn start_merge<'s, E, H: Threads + Wait + Sync, G: Gate>(
+pub fn start_merge<'s, E, H: Wait + Sync, G: Gate>(
     scope: &Scope<'s, E>,
-    rt: &'s H,
+    rt: &'s BodyRuntime<H>,
     gate: &'s G,
     machine: L2Stage,
     ends: MergeEnds,

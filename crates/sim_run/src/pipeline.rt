@@ -22,6 +22,7 @@ use crate::joins::{all_ended, join_merge, join_stage, why_stopped, wind_up};
 use crate::merge_thread::{MergeEnd, MergeHandle, start_merge};
 use crate::split::split;
 use crate::stage_thread::{StageEnd, StageHandle, start_stage};
+use crate::waits::BodyRuntime;
 use cache_core::Counts;
 use din_trace::{ByteReader, Source};
 use pipe_rings::OUTBOX;
@@ -110,9 +111,10 @@ fn give_up<H: Threads, L: Drop>(
 
 // Starts the three threads. If one cannot be started, all ends are dropped, so that the threads
 // that were started end too.
-fn start<'s, E, H: Threads + Wait + Sync, G: Gate>(
+fn start<'s, E, T: Threads, H: Wait + Sync, G: Gate>(
     scope: &Scope<'s, E>,
-    rt: &'s H,
+    rt: &T,
+    body_rt: &'s BodyRuntime<H>,
     gate: &'s G,
     machines: Machines,
     rings: Rings,
@@ -123,15 +125,15 @@ fn start<'s, E, H: Threads + Wait + Sync, G: Gate>(
     ensures rings { IfOk result (λ s. rings_at s ≡ rings) }
     ensures refused { IfErr result (λ why. (why ≡ RunFault.Memory) ⊎ (why ≡ RunFault.Threads)) }
 {
-    let Ok(i) = start_stage(scope, rt, gate, Who::I, machines.i, rings.i) else {
+    let Ok(i) = start_stage(scope, body_rt, gate, Who::I, machines.i, rings.i) else {
         let left = (rings.splitter, machines.d, rings.d, machines.u, rings.merge);
         return Err(give_up(rt, left, None, None));
     };
-    let Ok(d) = start_stage(scope, rt, gate, Who::D, machines.d, rings.d) else {
+    let Ok(d) = start_stage(scope, body_rt, gate, Who::D, machines.d, rings.d) else {
         let left = (rings.splitter, machines.u, rings.merge);
         return Err(give_up(rt, left, Some(i), None));
     };
-    let Ok(merge) = start_merge(scope, rt, gate, machines.u, rings.merge) else {
+    let Ok(merge) = start_merge(scope, body_rt, gate, machines.u, rings.merge) else {
         return Err(give_up(rt, rings.splitter, Some(i), Some(d)));
     };
     Ok(Started {
@@ -209,9 +211,10 @@ fn finish<H: Threads>(
 }
 
 // Runs the records of the source through the machines, inside a scope of threads.
-pub(crate) fn run_in<'s, E, H: Threads + Wait + Sync, R: ByteReader + Drop, G: Gate>(
+pub(crate) fn run_in<'s, E, T: Threads, H: Wait + Sync, R: ByteReader + Drop, G: Gate>(
     scope: &Scope<'s, E>,
-    rt: &'s H,
+    rt: &T,
+    body_rt: &'s BodyRuntime<H>,
     gate: &'s G,
     selection: Selection,
     source: Source<R>,
@@ -230,11 +233,11 @@ pub(crate) fn run_in<'s, E, H: Threads + Wait + Sync, R: ByteReader + Drop, G: G
         → RunsOver ring (rules_in machines) selection l (HasLeft result.0 later) result.1) }
 {
     let mut source = source;
-    let mut started = match start(scope, rt, gate, machines, rings) {
+    let mut started = match start(scope, rt, body_rt, gate, machines, rings) {
         Ok(started) => started,
         Err(fault) => return (source, Err(fault)),
     };
-    let fed = split(rt, gate, selection, &mut source, &mut started.splitter);
+    let fed = split(body_rt, gate, selection, &mut source, &mut started.splitter);
     (source, finish(rt, started, fed))
 }
 
@@ -267,6 +270,7 @@ pub fn run_pipeline<H: Threads + Wait + Sync, R: ByteReader + Drop, G: Gate>(
         return (source, Err(RunFault::Memory));
     };
     let selection = *selection;
+    let body_rt = &BodyRuntime::new(rt);
     thread::scope(
         thread::scope_env(),
         rt,
@@ -282,6 +286,6 @@ pub fn run_pipeline<H: Threads + Wait + Sync, R: ByteReader + Drop, G: Gate>(
                 → Follows fate given before later → HasLeft source before l
                 → RunsOver ring (rules_in machines) selection l (HasLeft result.0 later)
                 result.1) }
-        { run_in(scope, rt, gate, selection, source, machines, rings) },
+        { run_in(scope, rt, body_rt, gate, selection, source, machines, rings) },
     )
 }

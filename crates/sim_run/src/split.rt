@@ -20,7 +20,7 @@ ghost use Rattle.sim_run.specs.declared.waits.Until.TheVariants as Until;
 use crate::ends::SplitterEnds;
 use crate::fault::{RunFault, Stop, fault_of_source};
 use crate::gate::{Gate, Who};
-use crate::waits::{Until, await_rooms};
+use crate::waits::{BodyRuntime, Until, await_rooms};
 use din_trace::{ByteReader, DinRecord, Label, MAX_LIMIT, Source, TraceFault};
 use stage_core::{Picked, Routed, Selection, Selector, Splitter};
 use std::sync::Wait;
@@ -36,7 +36,7 @@ const EACH: usize = 32;
 
 // Publishes posted messages, until all are published or there is room for another event. Each round
 // publishes as many as fit into each of the three rings, so that no ring waits for another one.
-fn publish<H: Wait>(rt: &H, ends: &mut SplitterEnds, until: Until) -> Result<(), Stop>
+fn publish<H: Wait>(rt: &BodyRuntime<H>, ends: &mut SplitterEnds, until: Until) -> Result<(), Stop>
     requires whole { PostedWhole ends.old }
     ensures rings { SameSplitterEnds ends.old ends.new }
     ensures sent { SentSame ends.old ends.new }
@@ -85,15 +85,15 @@ fn ask<R: ByteReader>(
 // Passes the gate with a record. A gate that is not open may hold this thread for long, so all
 // posted messages have to be published before.
 #[inline]
-fn arrive<H: Wait, G: Gate>(rt: &H, gate: &G, ends: &SplitterEnds, nth: u64)
+fn arrive<H: Wait, G: Gate>(rt: &BodyRuntime<H>, gate: &G, ends: &SplitterEnds, nth: u64)
     requires published { (G.open gate.now ≡ true) ⊎ AllPublished ends.now }
 {
-    gate.arrive(rt, Who::Splitter, nth);
+    rt.arrive(gate, Who::Splitter, nth);
 }
 
 // The next record of the source, or its end or fault. Publishes all messages before a long wait.
 fn next_record<H: Wait, R: ByteReader, G: Gate>(
-    rt: &H,
+    rt: &BodyRuntime<H>,
     gate: &G,
     source: &mut Source<R>,
     ends: &mut SplitterEnds,
@@ -132,7 +132,11 @@ fn next_record<H: Wait, R: ByteReader, G: Gate>(
 
 // Sends the messages of one event, or those of the end.
 #[inline(always)]
-fn send_routed<H: Wait>(rt: &H, ends: &mut SplitterEnds, routed: Routed) -> Result<(), Stop>
+fn send_routed<H: Wait>(
+    rt: &BodyRuntime<H>,
+    ends: &mut SplitterEnds,
+    routed: Routed,
+) -> Result<(), Stop>
     requires whole { PostedWhole ends.old }
     ensures rings { SameSplitterEnds ends.old ends.new }
     ensures sent { OnOk result (Sends ends.old routed ends.new) }
@@ -149,7 +153,11 @@ fn send_routed<H: Wait>(rt: &H, ends: &mut SplitterEnds, routed: Routed) -> Resu
 }
 
 // Sends the messages of the end, and publishes all messages.
-fn send_end<H: Wait>(rt: &H, ends: &mut SplitterEnds, routed: Routed) -> Result<(), Stop>
+fn send_end<H: Wait>(
+    rt: &BodyRuntime<H>,
+    ends: &mut SplitterEnds,
+    routed: Routed,
+) -> Result<(), Stop>
     requires sent { (es : List DinRecord) × (place : ℕ) × HasSent es place ends.old }
     requires finish { IsEnd routed }
     ensures rings { SameSplitterEnds ends.old ends.new }
@@ -166,7 +174,7 @@ fn send_end<H: Wait>(rt: &H, ends: &mut SplitterEnds, routed: Routed) -> Result<
 // Routes an event, if there is one, and sends its messages.
 #[inline(always)]
 fn send_some<H: Wait>(
-    rt: &H,
+    rt: &BodyRuntime<H>,
     splitter: &mut Splitter,
     ends: &mut SplitterEnds,
     event: Option<DinRecord>,
@@ -187,7 +195,7 @@ fn send_some<H: Wait>(
 
 // Sends the messages of the events that the selection made of a record.
 fn send_picked<H: Wait>(
-    rt: &H,
+    rt: &BodyRuntime<H>,
     splitter: &mut Splitter,
     ends: &mut SplitterEnds,
     picked: Picked,
@@ -207,7 +215,7 @@ fn send_picked<H: Wait>(
 /// Reads the records one by one, sends the messages of the selected events, and then those of the
 /// end. Stops at a fault of the trace, and if a peer is gone; the rest is then not read.
 pub fn split<H: Wait, R: ByteReader, G: Gate>(
-    rt: &H,
+    rt: &BodyRuntime<H>,
     gate: &G,
     selection: Selection,
     source: &mut Source<R>,

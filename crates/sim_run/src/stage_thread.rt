@@ -17,12 +17,12 @@ ghost use Rattle.sim_run.specs.declared.waits.Until.TheVariants as Until;
 use crate::ends::StageEnds;
 use crate::fault::{NoThread, Stop};
 use crate::gate::{Gate, Who, pass};
-use crate::waits::{Until, await_message, await_room};
+use crate::waits::{BodyRuntime, Until, await_message, await_room};
 use cache_core::MAX_EVENTS;
 use stage_core::{L1Stage, ToStage};
 use std::snapshot::Snapshot;
 use std::sync::Wait;
-use std::thread::{Promise, PromisedHandle, Scope, Threads};
+use std::thread::{Promise, PromisedHandle, Scope};
 
 /// The result of a stage's thread.
 pub type StageEnd = Result<(L1Stage, StageEnds), Stop>;
@@ -45,7 +45,12 @@ pub type StageHandle = PromisedHandle<StageEnd, StagePromise>;
 const EACH: usize = 32;
 
 // Publishes posted messages, until all are published or there is room for another one.
-fn publish<H: Wait>(rt: &H, stage: &L1Stage, ends: &mut StageEnds, until: Until) -> Result<(), Stop>
+fn publish<H: Wait>(
+    rt: &BodyRuntime<H>,
+    stage: &L1Stage,
+    ends: &mut StageEnds,
+    until: Until,
+) -> Result<(), Stop>
     requires answered { OfStage HasAnswered stage.now ends.old }
     ensures from_splitter { ends.new.from_splitter ≡ ends.old.from_splitter }
     ensures ring { SameTx ends.old.to_merge ends.new.to_merge }
@@ -76,7 +81,7 @@ fn publish<H: Wait>(rt: &H, stage: &L1Stage, ends: &mut StageEnds, until: Until)
 // answers have to be published before.
 #[inline]
 fn arrive<H: Wait, G: Gate>(
-    rt: &H,
+    rt: &BodyRuntime<H>,
     gate: &G,
     who: Who,
     ends: &StageEnds,
@@ -92,7 +97,11 @@ fn arrive<H: Wait, G: Gate>(
 
 // Receives the next message.
 #[inline]
-fn receive<H: Wait>(rt: &H, stage: &L1Stage, ends: &mut StageEnds) -> Result<ToStage, Stop>
+fn receive<H: Wait>(
+    rt: &BodyRuntime<H>,
+    stage: &L1Stage,
+    ends: &mut StageEnds,
+) -> Result<ToStage, Stop>
     requires answered { OfStage HasAnswered stage.now ends.old }
     requires ready { IsReady stage.now }
     requires goes_on { list_any is_finish (received ends.old.from_splitter) ≡ false }
@@ -112,7 +121,7 @@ fn receive<H: Wait>(rt: &H, stage: &L1Stage, ends: &mut StageEnds) -> Result<ToS
 // Publishes all posted messages, and then receives the next message.
 #[cold]
 fn publish_and_receive<H: Wait>(
-    rt: &H,
+    rt: &BodyRuntime<H>,
     stage: &L1Stage,
     ends: &mut StageEnds,
 ) -> Result<ToStage, Stop>
@@ -135,7 +144,7 @@ fn publish_and_receive<H: Wait>(
 
 // Sends all messages of the stage's outbox. If `urgent`, all of them are published at once.
 fn send_outbox<H: Wait>(
-    rt: &H,
+    rt: &BodyRuntime<H>,
     stage: &mut L1Stage,
     ends: &mut StageEnds,
     urgent: bool,
@@ -172,7 +181,7 @@ fn send_outbox<H: Wait>(
 
 // Serves the messages of the splitter and sends the answers, up to `Finish`.
 fn serve_all<H: Wait, G: Gate>(
-    rt: &H,
+    rt: &BodyRuntime<H>,
     gate: &G,
     who: Who,
     stage: &mut L1Stage,
@@ -208,7 +217,7 @@ fn serve_all<H: Wait, G: Gate>(
 
 /// Serves all messages of the splitter. If it stops before `Finish`, its ends are dropped.
 pub fn run_stage<H: Wait, G: Gate>(
-    rt: &H,
+    rt: &BodyRuntime<H>,
     gate: &G,
     who: Who,
     machine: L1Stage,
@@ -229,9 +238,9 @@ pub fn run_stage<H: Wait, G: Gate>(
 }
 
 /// Starts the thread of a stage. If it cannot be started, the stage and its ends are dropped.
-pub fn start_stage<'s, E, H: Threads + Wait + Sync, G: Gate>(
+pub fn start_stage<'s, E, H: Wait + Sync, G: Gate>(
     scope: &Scope<'s, E>,
-    rt: &'s H,
+    rt: &'s BodyRuntime<H>,
     gate: &'s G,
     who: Who,
     machine: L1Stage,

@@ -1,5 +1,8 @@
 //! The only functions in which the threads of a run wait for one another. Each of them requires
 //! that its thread may wait there, and that it has looked and found nothing to do.
+//!
+//! The body of a thread has no runtime, only a [`BodyRuntime`], whose runtime no other module can
+//! reach. Without a runtime no end of a ring can be asked to wait.
 
 ghost use Rattle.std.specs.Prelude.{◌≡◌, ◌<◌, [], ◌∷◌, ◌++◌, length, OnOk, IfOk, IfErr};
 ghost use Rattle.pipe_rings.specs.Rings.{sent, posted, received, SameTx, SameRx};
@@ -14,9 +17,38 @@ ghost use Rattle.sim_run.specs.Waits.{AllAnnounced, AnswersPublished};
 
 use crate::ends::{MergeEnds, SplitterEnds, StageEnds};
 use crate::fault::Stop;
+use crate::gate::{Gate, Who};
 use pipe_rings::Rx;
 use stage_core::{FromStage, L1Stage, Merge, ToStage, Turn};
-use std::sync::Wait;
+use std::sync::{Forever, Wait};
+
+/// The runtime, as the body of a thread has it: it lets the body wait in the functions of this
+/// module, go round without end and pass its gate, and nothing else.
+#[derive(Drop)]
+pub struct BodyRuntime<H> {
+    rt: H,
+}
+
+impl<H> BodyRuntime<H> {
+    /// This runtime, for the bodies of threads.
+    pub fn new(rt: H) -> BodyRuntime<H> {
+        BodyRuntime { rt }
+    }
+}
+
+impl<H: Wait> BodyRuntime<H> {
+    /// Rounds without end.
+    #[inline(always)]
+    pub fn forever(&self) -> Forever<'_, H> {
+        self.rt.forever()
+    }
+
+    /// Calls the gate, which may hold this thread.
+    #[inline(always)]
+    pub fn arrive<G: Gate>(&self, gate: &G, who: Who, nth: u64) {
+        gate.arrive(&self.rt, who, nth);
+    }
+}
 
 /// How far to publish posted messages.
 #[derive(Clone, Copy, PartialEq, Eq)]
@@ -29,7 +61,7 @@ pub enum Until {
 
 /// The splitter waits until at least one of its posted messages is published.
 #[cold]
-pub fn await_rooms<H: Wait>(rt: &H, ends: &mut SplitterEnds) -> Result<(), Stop>
+pub fn await_rooms<H: Wait>(rt: &BodyRuntime<H>, ends: &mut SplitterEnds) -> Result<(), Stop>
     requires may { SplitterMay ends.old }
     requires looked { LookedEverywhere ends.old }
     requires announced { AllAnnounced ends.old }
@@ -41,11 +73,11 @@ pub fn await_rooms<H: Wait>(rt: &H, ends: &mut SplitterEnds) -> Result<(), Stop>
     for _ in rt.forever() {
         // The three ends share one bell, so it is enough to sleep at one of them.
         if ends.order.posted() > 0 {
-            ends.order.pause(rt);
+            ends.order.pause(&rt.rt);
         } else if ends.to_i.posted() > 0 {
-            ends.to_i.pause(rt);
+            ends.to_i.pause(&rt.rt);
         } else {
-            ends.to_d.pause(rt);
+            ends.to_d.pause(&rt.rt);
         }
         if ends.are_cut() {
             return Err(Stop::Cut);
@@ -59,7 +91,11 @@ pub fn await_rooms<H: Wait>(rt: &H, ends: &mut SplitterEnds) -> Result<(), Stop>
 
 /// A stage waits until at least one of its posted messages is published.
 #[cold]
-pub fn await_room<H: Wait>(rt: &H, stage: &L1Stage, ends: &mut StageEnds) -> Result<(), Stop>
+pub fn await_room<H: Wait>(
+    rt: &BodyRuntime<H>,
+    stage: &L1Stage,
+    ends: &mut StageEnds,
+) -> Result<(), Stop>
     requires may { OfStage MayAwaitRoom stage.now ends.old }
     requires looked { LookedForRoom ends.old.to_merge }
     requires announced { IsAnnounced ends.old.to_merge }
@@ -71,7 +107,7 @@ pub fn await_room<H: Wait>(rt: &H, stage: &L1Stage, ends: &mut StageEnds) -> Res
     ensures cut { IfErr result (λ why. why ≡ Stop.Cut) }
 {
     for _ in rt.forever() {
-        ends.to_merge.pause(rt);
+        ends.to_merge.pause(&rt.rt);
         if ends.to_merge.is_cut() {
             return Err(Stop::Cut);
         }
@@ -85,7 +121,7 @@ pub fn await_room<H: Wait>(rt: &H, stage: &L1Stage, ends: &mut StageEnds) -> Res
 // Waits at a ring until it has a message.
 #[cold]
 #[inline(never)]
-fn await_item<T: Copy, H: Wait>(rt: &H, rx: &mut Rx<T>) -> Result<T, Stop>
+fn await_item<T: Copy, H: Wait>(rt: &BodyRuntime<H>, rx: &mut Rx<T>) -> Result<T, Stop>
     requires looked { LookedForItem rx.old }
     ensures ring { SameRx rx.old rx.new }
     ensures received { IfOk result (λ item. received rx.new ≡ received rx.old ++ item ∷ []) }
@@ -96,7 +132,7 @@ fn await_item<T: Copy, H: Wait>(rt: &H, rx: &mut Rx<T>) -> Result<T, Stop>
             // A message that was published before the sender was dropped is still there.
             return rx.try_recv().ok_or(Stop::Cut);
         }
-        rx.pause(rt);
+        rx.pause(&rt.rt);
         if let Some(item) = rx.try_recv() {
             return Ok(item);
         }
@@ -107,7 +143,7 @@ fn await_item<T: Copy, H: Wait>(rt: &H, rx: &mut Rx<T>) -> Result<T, Stop>
 /// A stage waits for a message. If its own receiver is gone, it stops too.
 #[cold]
 pub fn await_message<H: Wait>(
-    rt: &H,
+    rt: &BodyRuntime<H>,
     stage: &L1Stage,
     ends: &mut StageEnds,
 ) -> Result<ToStage, Stop>
@@ -129,7 +165,7 @@ pub fn await_message<H: Wait>(
             // A message that was published before the sender was dropped is still there.
             return ends.from_splitter.try_recv().ok_or(Stop::Cut);
         }
-        ends.from_splitter.pause(rt);
+        ends.from_splitter.pause(&rt.rt);
         if let Some(message) = ends.from_splitter.try_recv() {
             return Ok(message);
         }
@@ -139,7 +175,11 @@ pub fn await_message<H: Wait>(
 
 /// The merge waits for a turn.
 #[inline(always)]
-pub fn await_turn<H: Wait>(rt: &H, merge: &Merge, ends: &mut MergeEnds) -> Result<Turn, Stop>
+pub fn await_turn<H: Wait>(
+    rt: &BodyRuntime<H>,
+    merge: &Merge,
+    ends: &mut MergeEnds,
+) -> Result<Turn, Stop>
     requires may { MergeUsed merge.now ends.old }
     requires wants { wanted merge.now ≡ want.Order }
     requires looked { LookedForItem ends.old.order }
@@ -154,7 +194,11 @@ pub fn await_turn<H: Wait>(rt: &H, merge: &Merge, ends: &mut MergeEnds) -> Resul
 
 /// The merge waits for a message from the I stage.
 #[inline(always)]
-pub fn await_from_i<H: Wait>(rt: &H, merge: &Merge, ends: &mut MergeEnds) -> Result<FromStage, Stop>
+pub fn await_from_i<H: Wait>(
+    rt: &BodyRuntime<H>,
+    merge: &Merge,
+    ends: &mut MergeEnds,
+) -> Result<FromStage, Stop>
     requires may { MergeUsed merge.now ends.old }
     requires wants { wanted merge.now ≡ want.I }
     requires looked { LookedForItem ends.old.from_i }
@@ -169,7 +213,11 @@ pub fn await_from_i<H: Wait>(rt: &H, merge: &Merge, ends: &mut MergeEnds) -> Res
 
 /// The merge waits for a message from the D stage.
 #[inline(always)]
-pub fn await_from_d<H: Wait>(rt: &H, merge: &Merge, ends: &mut MergeEnds) -> Result<FromStage, Stop>
+pub fn await_from_d<H: Wait>(
+    rt: &BodyRuntime<H>,
+    merge: &Merge,
+    ends: &mut MergeEnds,
+) -> Result<FromStage, Stop>
     requires may { MergeUsed merge.now ends.old }
     requires wants { wanted merge.now ≡ want.D }
     requires looked { LookedForItem ends.old.from_d }

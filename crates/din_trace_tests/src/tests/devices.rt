@@ -1,7 +1,9 @@
 //! Devices over std's readers and writers.
 
-use super::fakes::{Tape, in_pieces, with_a_pause};
+use super::fakes::{Tape, in_pieces, with_a_pause, with_an_interruption};
 use din_trace::{ByteReader, ByteWriter, DeviceFailed, FromRead, FromWrite};
+use std::alloc::Global;
+use std::test::Fail;
 
 #[test]
 fn hands_on_the_bytes_of_a_good_reader(rt: HostRuntime) {
@@ -34,6 +36,39 @@ fn tries_no_failed_read_again(rt: HostRuntime) {
     assert!(rt; buffer == *b"2 0\n");
     assert!(rt; reader.fill(&mut buffer) == Ok(4));
     assert!(rt; buffer == *b"2 4\n");
+}
+
+#[test]
+fn tries_no_interrupted_read_again(rt: HostRuntime) {
+    let mut buffer = [0; 4];
+    let mut reader = with_an_interruption(b"2 0\n");
+    assert!(rt; reader.fill(&mut buffer) == Err(DeviceFailed));
+    assert!(rt; buffer == [0; 4]);
+    assert!(rt; reader.fill(&mut buffer) == Ok(4));
+    assert!(rt; buffer == *b"2 0\n");
+}
+
+/// How many lines of eight bytes the large text has.
+const LINES: usize = 2_500;
+
+/// So many lines, one after another.
+fn repeated(alloc: Global, line: &[u8]) -> Result<Vec<u8>, Fail> {
+    let mut text = Vec::new(alloc);
+    for _ in 0..LINES {
+        text.extend_from_slice(line)?;
+    }
+    Ok(text)
+}
+
+#[test]
+fn fills_a_large_buffer(rt: HostRuntime) -> Result<(), Fail> {
+    let text = repeated(rt.alloc(), b"2 7fff8\n")?;
+    let mut buffer = repeated(rt.alloc(), b"........")?;
+    let mut reader = FromRead::new(text.as_slice());
+    assert!(rt; reader.fill(buffer.as_mut_slice()) == Ok(text.len()));
+    assert!(rt; buffer.as_slice() == text.as_slice());
+    assert!(rt; reader.fill(buffer.as_mut_slice()) == Ok(0));
+    Ok(())
 }
 
 #[test]

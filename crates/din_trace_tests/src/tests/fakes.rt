@@ -77,6 +77,35 @@ pub fn with_a_pause<'a>(
     })
 }
 
+/// Says once that it was interrupted, and would give its text if it were asked again.
+#[derive(Drop)]
+pub struct Interrupted<'a> {
+    text: Pieces<'a>,
+    was_interrupted: bool,
+}
+
+impl Read for Interrupted<'_> {
+    fn read(&mut self, buffer: &mut [u8]) -> io::Result<usize> {
+        if !self.was_interrupted {
+            self.was_interrupted = true;
+            return Err(Error::from(ErrorKind::Interrupted));
+        }
+        self.text.read(buffer)
+    }
+}
+
+/// A reader that is interrupted once before the text.
+pub fn with_an_interruption(text: &[u8]) -> FromRead<Interrupted<'_>> {
+    FromRead::new(Interrupted {
+        text: Pieces {
+            rest: text,
+            size: 65536,
+            fails: false,
+        },
+        was_interrupted: false,
+    })
+}
+
 /// Fails the first `failing` calls, and then takes at most 3 bytes at a time.
 #[derive(Drop)]
 pub struct Tape {

@@ -1,6 +1,6 @@
 //! Sources, record by record.
 
-use super::fakes::{SIZES, bad, fetch, in_pieces, read, with_a_pause, write};
+use super::fakes::{SIZES, bad, fetch, in_pieces, read, with_a_pause, with_an_interruption, write};
 use super::texts::expect_left;
 use din_trace::{DinRecord, MAX_LIMIT, Source, TraceFault, Why};
 
@@ -51,6 +51,14 @@ fn repeats_a_failed_read_though_more_would_come(rt: HostRuntime) {
             assert!(rt; source.next() == Err(TraceFault::Read));
             assert!(rt; source.at_hand() == Some(Err(TraceFault::Read)));
         }
+    }
+}
+
+#[test]
+fn takes_an_interrupted_read_for_a_failed_one(rt: HostRuntime) {
+    let mut source = Source::new(with_an_interruption(b"2 0\n"), MAX_LIMIT);
+    for _ in 0..3 {
+        assert!(rt; source.next() == Err(TraceFault::Read));
     }
 }
 

@@ -11,6 +11,7 @@ use crate::gate::{OpenGate, Who};
 use crate::joins::wind_up;
 use crate::merge_thread::run_merge;
 use crate::stage_thread::{StageHandle, run_stage, start_stage};
+use crate::waits::BodyRuntime;
 use cache_core::Class;
 use pipe_rings::{OUTBOX, Rx, SenderGone, Tx, ring};
 use stage_core::{FromStage, L1Stage, L2Stage, Side, ToStage, Turn, What};
@@ -77,7 +78,7 @@ fn stop_of_stage<H: Wait>(
 {
     let (side, who, _) = row;
     let stage = stage(alloc, side)?;
-    Ok(run_stage(rt, &OpenGate, who, stage, ends).err())
+    Ok(run_stage(&BodyRuntime::new(rt), &OpenGate, who, stage, ends).err())
 }
 
 fn reference(class: Class) -> ToStage {
@@ -144,7 +145,7 @@ fn stop_of_merge<H: Wait>(rt: &H, alloc: Global, ends: MergeEnds) -> Result<Opti
     requires { UnusedMerge ends }
 {
     let u = second_level(alloc)?;
-    Ok(run_merge(rt, &OpenGate, u, ends).err())
+    Ok(run_merge(&BodyRuntime::new(rt), &OpenGate, u, ends).err())
 }
 
 #[test]
@@ -193,9 +194,9 @@ fn a_merge_without_the_side_that_it_wants_stops(rt: HostRuntime) -> Result<(), F
 }
 
 /// The thread of a stage, if it is to be started. If not, the stage and its ends are dropped.
-fn thread_of<'s, E, H: Threads + Wait + Sync>(
+fn thread_of<'s, E, H: Wait + Sync>(
     scope: &Scope<'s, E>,
-    rt: &'s H,
+    rt: &'s BodyRuntime<H>,
     who: Who,
     machine: L1Stage,
     ends: StageEnds,
@@ -213,9 +214,10 @@ fn thread_of<'s, E, H: Threads + Wait + Sync>(
 }
 
 /// Starts this many stages, and ends them as if the next thread could not be started.
-fn wind_up_in<'s, E, H: Threads + Wait + Sync>(
+fn wind_up_in<'s, E, T: Threads, H: Wait + Sync>(
     scope: &Scope<'s, E>,
-    rt: &'s H,
+    rt: &T,
+    body_rt: &'s BodyRuntime<H>,
     i: L1Stage,
     d: L1Stage,
     rings: Rings,
@@ -234,8 +236,8 @@ fn wind_up_in<'s, E, H: Threads + Wait + Sync>(
         merge,
     } = rings;
     drop(merge);
-    let i = thread_of(scope, rt, Who::I, i, i_ends, started > 0);
-    let d = thread_of(scope, rt, Who::D, d, d_ends, started > 1);
+    let i = thread_of(scope, body_rt, Who::I, i, i_ends, started > 0);
+    let d = thread_of(scope, body_rt, Who::D, d, d_ends, started > 1);
     drop(splitter);
     wind_up(rt, i, d)
 }
@@ -253,6 +255,7 @@ fn wind_up_after<H: Threads + Wait + Sync>(
     requires d_new { StageStandsFor d [] }
     requires unused { AreUnused rings }
 {
+    let body_rt = &BodyRuntime::new(rt);
     thread::scope(
         thread::scope_env(),
         rt,
@@ -262,7 +265,7 @@ fn wind_up_after<H: Threads + Wait + Sync>(
             requires d_ready { IsReady d }
             requires d_new { StageStandsFor d [] }
             requires unused { AreUnused rings }
-        { wind_up_in(scope, rt, i, d, rings, started) },
+        { wind_up_in(scope, rt, body_rt, i, d, rings, started) },
     )
 }
 

@@ -9,6 +9,7 @@ use crate::fault::RunFault;
 use crate::gate::OpenGate;
 use crate::pipeline::{Settled, prepare, run_in};
 use crate::report::write_report;
+use crate::waits::BodyRuntime;
 use cache_core::{Counts, PerClass};
 use din_trace::{FromRead, FromWrite, MAX_LIMIT, Source, TraceFault, Why};
 use pipe_rings::OUTBOX;
@@ -52,6 +53,7 @@ fn run_with<H: Threads + Wait + Sync>(
 ) -> Result<Option<RunFault>, Fail> {
     let (machines, rings) = prepare(alloc, config, outbox)?;
     let source = Source::new(FromRead::new(trace), MAX_LIMIT);
+    let body_rt = &BodyRuntime::new(rt);
     let (source, ended) = thread::scope(
         thread::scope_env(),
         rt,
@@ -59,7 +61,11 @@ fn run_with<H: Threads + Wait + Sync>(
             requires new { AreNew machines }
             requires paired { ArePaired rings }
             requires unused { AreUnused rings }
-        { run_in(scope, rt, &OpenGate, EVERYTHING, source, machines, rings) },
+        {
+            run_in(
+                scope, rt, body_rt, &OpenGate, EVERYTHING, source, machines, rings,
+            )
+        },
     );
     drop(source);
     match ended {
