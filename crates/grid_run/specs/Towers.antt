@@ -1,5 +1,5 @@
 -- What the caches of one configuration are asked for, and what they have served.
-use Rattle.std.specs.Prelude.{◌+◌, ◌≤◌, ◌^◌, ⊤, List, [], ◌∷◌, length, Option, Some, None}
+use Rattle.std.specs.Prelude.{◌+◌, ◌<◌, ◌≤◌, ◌^◌, ⊤, List, [], ◌∷◌, length, Option, Some, None}
 use Rattle.cache_core.specs.History.{Event, History, access, flush}
 use Rattle.din_trace.specs.declared.record.DinRecord.{DinRecord}
 use Rattle.stage_core.specs.Config.{hierarchy_of}
@@ -36,6 +36,13 @@ pub record HasRoom (u : Shadowed) (ws : List What) : Type 0 where
   pub past : List What
   pub stands : SecondServed u past
   pub short : length past + length ws ≤ 2 ^ 44
+
+-- a first-level cache can serve one more request, and the second level what it sends for that
+pub record CanSend (first u : Shadowed) (sent : History → List What) : Type 0 where
+  pub past : History
+  pub stands : BothStand first past
+  pub short : length past < 2 ^ 44
+  pub room : HasRoom u (sent past)
 
 -- what a first-level cache sends for a request after a history, or for none
 abbrev pub sent_for : Shadowed → Side → History → Option Request → List What

@@ -4,6 +4,7 @@ ghost use Rattle.std.specs.Prelude.{◌≡◌, map, option_to_list};
 ghost use Rattle.stage_core.specs.Places.{list_if};
 ghost use Rattle.stage_core.specs.Events.{asked};
 ghost use Rattle.stage_core.specs.SecondLevel.{back, fetch_class, flush_all};
+ghost use Rattle.stage_core.specs.declared.message.Side.TheVariants as side;
 ghost use Rattle.stage_core.specs.declared.message.What.TheVariants as what;
 ghost use Rattle.grid_run.specs.Towers.{event_of};
 
@@ -18,26 +19,39 @@ pub(crate) enum Request {
     Flush,
 }
 
-/// The request to this class of access.
-fn access_to(class: Class, addr: u64) -> Option<Request> {
-    Some(Request::Access(Access { class, addr }))
-}
-
 /// The request of an event to the instruction cache, if there is one.
-fn asked_of_i(event: DinRecord) -> Option<Request> {
+fn asked_of_i(event: DinRecord) -> Option<Request>
+    ensures { map event_of (option_to_list result) ≡ asked side.I event }
+{
+    let addr = event.addr;
     match event.label {
-        Label::Instr => access_to(Class::Instr, event.addr),
+        Label::Instr => Some(Request::Access(Access {
+            class: Class::Instr,
+            addr,
+        })),
         Label::Flush => Some(Request::Flush),
         Label::Read | Label::Write | Label::Misc => None,
     }
 }
 
 /// The request of an event to the data cache, if there is one.
-fn asked_of_d(event: DinRecord) -> Option<Request> {
+fn asked_of_d(event: DinRecord) -> Option<Request>
+    ensures { map event_of (option_to_list result) ≡ asked side.D event }
+{
+    let addr = event.addr;
     match event.label {
-        Label::Read => access_to(Class::Read, event.addr),
-        Label::Write => access_to(Class::Write, event.addr),
-        Label::Misc => access_to(Class::Misc, event.addr),
+        Label::Read => Some(Request::Access(Access {
+            class: Class::Read,
+            addr,
+        })),
+        Label::Write => Some(Request::Access(Access {
+            class: Class::Write,
+            addr,
+        })),
+        Label::Misc => Some(Request::Access(Access {
+            class: Class::Misc,
+            addr,
+        })),
         Label::Flush => Some(Request::Flush),
         Label::Instr => None,
     }

@@ -4,8 +4,9 @@ ghost use Rattle.std.specs.Prelude.{◌≡◌, ◌++◌, ◌∷◌, [], List, On
 ghost use Rattle.cache_core.specs.History.{History, access as accessed, flush as flushed};
 ghost use Rattle.stage_core.specs.SecondLevel.{back, parts_of};
 ghost use Rattle.stage_core.specs.declared.message.What.{What as Sent};
-ghost use Rattle.grid_run.specs.Shadows.{BothStand, CanServe, rules_in};
-ghost use Rattle.grid_run.specs.Towers.{HasRoom, SecondServed, after_request, sent_for};
+ghost use Rattle.grid_run.specs.Shadows.{BothStand, rules_in};
+ghost use Rattle.grid_run.specs.Towers.{CanSend, HasRoom, SecondServed, after_request};
+ghost use Rattle.grid_run.specs.Towers.{sent_for};
 
 use crate::figures::{Figures, ShadowMisses};
 use crate::requests::{Request, asked_of, back_part, fetch_part, flush_part, through_part};
@@ -74,9 +75,8 @@ fn serve_access(
     access: Access,
     u: &mut Shadowed,
 ) -> Result<(), NoMemory>
-    requires room { CanServe first.old }
-    requires above { (h : History) → BothStand first.old h →
-        HasRoom u.old (parts_of (rules_in first.old) side h (accessed access)) }
+    requires { CanSend first.old u.old
+        (λ h. parts_of (rules_in first.old) side h (accessed access)) }
     ensures stands { OnOk result ((h : History) → BothStand first.old h →
         BothStand first.new (accessed access ∷ h)) }
     ensures sends { OnOk result ((h : History) (ws : List Sent) → BothStand first.old h →
@@ -94,9 +94,7 @@ fn serve_access(
 
 /// Serves a flush at the first level, and what it sends at the second.
 fn serve_flush(first: &mut Shadowed, side: Side, u: &mut Shadowed) -> Result<(), NoMemory>
-    requires room { CanServe first.old }
-    requires above { (h : History) → BothStand first.old h →
-        HasRoom u.old (parts_of (rules_in first.old) side h flushed) }
+    requires { CanSend first.old u.old (λ h. parts_of (rules_in first.old) side h flushed) }
     ensures stands { OnOk result ((h : History) → BothStand first.old h →
         BothStand first.new (flushed ∷ h)) }
     ensures sends { OnOk result ((h : History) (ws : List Sent) → BothStand first.old h →
@@ -116,9 +114,7 @@ fn serve_side(
     request: Option<Request>,
     u: &mut Shadowed,
 ) -> Result<(), NoMemory>
-    requires room { CanServe first.old }
-    requires above { (h : History) → BothStand first.old h →
-        HasRoom u.old (sent_for first.old side h request) }
+    requires { CanSend first.old u.old (λ h. sent_for first.old side h request) }
     ensures stands { OnOk result ((h : History) → BothStand first.old h →
         BothStand first.new (after_request request h)) }
     ensures sends { OnOk result ((h : History) (ws : List Sent) → BothStand first.old h →
