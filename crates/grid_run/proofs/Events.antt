@@ -1,15 +1,17 @@
 -- What one more event asks of each cache, and what the first level sends for it.
-use Rattle.std.proofs.Common.{◌≡◌, ℕ, ◌<◌, ◌*◌, ◌/◌, ◌^◌, List, [], ◌∷◌, ◌++◌, length, map}
+use Rattle.std.proofs.Common.{◌≡◌, ℕ, ◌<◌, ◌≤◌, ◌*◌, ◌/◌, ◌^◌, List, [], ◌∷◌, ◌++◌, length, map}
 use Rattle.std.proofs.Common.{Option, Some, None, option_to_list, refl, sym, ap, subst, ◌∙◌, append-nil, arith}
 use Rattle.std.specs.List.{flat_map}
-use Rattle.cache_core.specs.History.{History, Event, Rules, access}
+use Rattle.cache_core.specs.History.{History, Event, Rules, access, flush}
+use Rattle.cache_core.specs.Dirty.{dirty_blocks}
 use Rattle.cache_core.specs.Parts.{outcome_of}
 use Rattle.cache_core.specs.declared.access.Access.{Access}
 use Rattle.cache_core.specs.declared.access.Outcome.{Outcome}
 use Rattle.din_trace.specs.declared.record.DinRecord.{DinRecord}
 use Rattle.stage_core.specs.Events.{asked, history, newest_first}
 use Rattle.stage_core.specs.Places.{list_if}
-use Rattle.stage_core.specs.SecondLevel.{access_parts, back, fetch_class, parts_of, sent_up}
+use Rattle.stage_core.specs.SecondLevel.{access_parts, back, fetch_class, flush_all, parts_of}
+use Rattle.stage_core.specs.SecondLevel.{sent_up}
 use Rattle.stage_core.specs.declared.message.Side.{Side}
 use Rattle.stage_core.specs.declared.message.What.{What}
 use Rattle.stage_core.specs.declared.message.What.TheVariants as what
@@ -48,6 +50,11 @@ sent-event first s es e o is =
     sent-requests first s (history s es) o
     ∙ ap (flat_map (parts_of (rules_in first) s (history s es))) is
 
+-- an event may be there or not
+pub few-option : {A : Type 0} (o : Option A) → length (option_to_list o) ≤ 1
+few-option None = omega arith
+few-option (Some x) = omega arith
+
 -- a side that has served its requests for few events has room for one more
 pub few-served : (first : Shadowed) (s : Side) (es : List DinRecord)
     → BothStand first (history s es) → length es < 2 ^ 41 → length (history s es) < 2 ^ 44
@@ -68,3 +75,12 @@ access-parts r s h x o first a b c is at backs fetches throughs =
     ++ list_if o.fetch (what.Fetch (fetch_class s) first)) ++ l) throughs
     ∙ ap (λ n. access_parts s n x o) at
     ∙ ap (λ p. access_parts s (x.addr / r.bsize * r.bsize) x p) is
+
+-- what a flush sends up
+pub flush-parts : (r : Rules) (s : Side) (h : History) (addrs : List ℕ) (more : List What)
+    → addrs ≡ map (λ b. b * r.bsize) (dirty_blocks r h) → more ≡ flush_all s
+    → map back addrs ++ more ≡ parts_of r s h flush
+unfolding parts_of
+flush-parts r s h addrs more backs last =
+    ap (λ l. map back l ++ more) backs
+    ∙ ap (λ l. map back (map (λ b. b * r.bsize) (dirty_blocks r h)) ++ l) last

@@ -1,6 +1,7 @@
 -- Reading a source record by record.
 use Rattle.std.proofs.Common.{◌≡◌, ℕ, ◌+◌, ◌≤◌, ◌^◌, List, [], ◌∷◌, ◌++◌, drop, Option, Some, None}
-use Rattle.std.proofs.Common.{Result, Ok, Err, refl, ap, sym, ◌∙◌, subst, append_assoc, append-nil}
+use Rattle.std.proofs.Common.{true, OnOk, Result, Ok, Err, refl, ap, sym, ◌∙◌, subst, append_assoc, append-nil}
+use Rattle.std.specs.Result.{is_ok}
 use Rattle.din_trace.specs.Text.{Remaining}
 use Rattle.din_trace.specs.Remaining.{Script, Fate, Open, Follows, first_answer, after_first}
 use Rattle.din_trace.specs.Source.{HasLeft, Takes}
@@ -92,3 +93,8 @@ answers-fault left (Bad line why) is = is
 answers-fault left TooLong is = is
 answers-fault left Read is = is
 answers-fault left Memory is = tt
+
+-- what holds of a call that succeeds holds if it did
+pub when-ok : {T E P : Type 0} (r : Result T E) → is_ok r ≡ true → OnOk r P → P
+when-ok (Ok value) e p = p
+when-ok (Err why) e p = absurd cc

@@ -1,10 +1,11 @@
 -- Room at the second level, and requests one after another.
-use Rattle.std.proofs.Common.{◌≡◌, ℕ, ◌+◌, ◌≤◌, ◌^◌, List, [], ◌∷◌, ◌++◌, length, map, sym, ap, subst}
-use Rattle.std.proofs.Common.{◌∙◌, append_assoc, append-nil, length-append, arith}
-use Rattle.cache_core.specs.History.{History, access}
-use Rattle.cache_core.specs.Parts.{outcome_of}
-use Rattle.cache_core.specs.declared.access.Access.{Access}
-use Rattle.stage_core.specs.SecondLevel.{read_as, second_history}
+use Rattle.std.proofs.Common.{◌≡◌, ℕ, suc, ◌+◌, ◌<◌, ◌≤◌, ◌^◌, List, [], ◌∷◌, ◌++◌, length, map}
+use Rattle.std.proofs.Common.{drop, take, get_or, sym, ap, subst, ◌∙◌, append_assoc, append-nil}
+use Rattle.std.proofs.Common.{length-append, arith}
+use Rattle.std.proofs.Math.Seq.{drop-cons}
+use Rattle.std.proofs.lemmas.List.{map-append, take_more}
+use Rattle.cache_core.specs.History.{History}
+use Rattle.stage_core.specs.SecondLevel.{back, read_as, second_history}
 use Rattle.stage_core.specs.declared.message.What.{What}
 use Rattle.stage_core.proofs.Stands.{second_history-more}
 use Rattle.stage_core.proofs.Worked.{length-second_history}
@@ -62,3 +63,22 @@ served-three u ws a b c st =
     subst (λ (l : List What). SecondServed u l)
     (append_assoc (ws ++ a) b c ∙ append_assoc ws a (b ++ c)
     ∙ ap (λ l. ws ++ l) (sym (append_assoc a b c))) st
+
+one-more : (i : ℕ) → suc i ≡ i + 1
+one-more i = omega arith
+
+-- of the write-backs from one on, that one comes first
+pub backs-from : (xs : List ℕ) (i : ℕ) (more : List What) → i < length xs
+    → map back (drop i xs) ++ more ≡ back (get_or xs i 0) ∷ (map back (drop (i + 1) xs) ++ more)
+backs-from xs i more lt =
+    ap (λ l. map back l ++ more) (drop-cons xs i 0 lt)
+    ∙ ap (λ n. back (get_or xs i 0) ∷ (map back (drop n xs) ++ more)) (one-more i)
+
+-- the write-backs up to one end with that one
+pub backs-to : (ws : List What) (xs : List ℕ) (i : ℕ) → i < length xs
+    → (ws ++ map back (take i xs)) ++ back (get_or xs i 0) ∷ []
+    ≡ ws ++ map back (take (i + 1) xs)
+backs-to ws xs i lt =
+    append_assoc ws (map back (take i xs)) (back (get_or xs i 0) ∷ [])
+    ∙ ap (λ l. ws ++ l) (sym (map-append back (take i xs) (get_or xs i 0 ∷ []))
+    ∙ ap (map back) (sym (take_more xs i 0 lt)))

@@ -13,7 +13,7 @@ use crate::fault::{GridFault, fault_of_source};
 use crate::tower::Tower;
 use crate::towers::take_picked;
 use din_trace::{ByteReader, Source, TraceFault};
-use stage_core::{Selection, Selector};
+use stage_core::{Selection, Selector, selections_make_at_most_two};
 
 /// Reads the records one by one, and serves the selected events in the caches of all rows. Stops at
 /// a fault of the trace; the rest is then not read.
@@ -34,6 +34,7 @@ pub(crate) fn serve_trace<R: ByteReader>(
         → Follows fate given before later → HasLeft source.old before l
         → ServedAll selection l towers.new.items result) }
 {
+    selections_make_at_most_two();
     let mut selector = Selector::new(selection);
     'records: loop {
         match source.next() {

@@ -1,9 +1,10 @@
 //! A grid, from the bytes of a trace to the bytes of its table.
 
-ghost use Rattle.std.specs.Prelude.{◌≡◌, ◌≢◌, ℕ, List, Some, None, ◌≤◌, OnOk, IfErr, map};
+ghost use Rattle.std.specs.Prelude.{◌≡◌, ◌≢◌, ℕ, List, Some, None, ◌≤◌, OnOk, OnErr, IfErr, map};
+ghost use Rattle.std.specs.Prelude.{IsOkUnless};
 ghost use Rattle.std.specs.List.{All, flat_map};
 ghost use Rattle.std.specs.Io.KnownBytes.{Appends};
-ghost use Rattle.din_trace.specs.Device.{Writes, once_more};
+ghost use Rattle.din_trace.specs.Device.{once_more};
 ghost use Rattle.din_trace.specs.Line.{ADDRESS_MAX};
 ghost use Rattle.din_trace.specs.Text.{fault};
 ghost use Rattle.din_trace.specs.Faults.{IsFaultOf};
@@ -30,8 +31,10 @@ fn write_row<W: ByteWriter>(
     writer: &mut W,
 ) -> Result<(), DeviceFailed>
     requires { rules_had tower.now ≡ rules_of_row row.now }
-    ensures { (es : List DinRecord) → RowServed es tower.now →
-        Writes W.contents W.failures writer.old writer.new result (row_line es row.now) }
+    ensures line { (es : List DinRecord) → RowServed es tower.now → OnOk result
+        (Appends (W.contents writer.old) (W.contents writer.new) (row_line es row.now)) }
+    ensures sound { OnOk result (W.failures writer.new ≡ W.failures writer.old) }
+    ensures failed { OnErr result (W.failures writer.new ≡ once_more (W.failures writer.old)) }
 {
     match &row.setup {
         Setup::Refused(fault) => write_refused(&row.words, fault.as_str(), writer),
@@ -49,9 +52,11 @@ fn write_rows<W: ByteWriter>(
     writer: &mut W,
 ) -> Result<(), DeviceFailed>
     requires { map rules_had towers.now ≡ map rules_of_row rows.now }
-    ensures { (es : List DinRecord) → All (RowServed es) towers.now →
-        Writes W.contents W.failures writer.old writer.new result
-        (flat_map (row_line es) rows.now) }
+    ensures lines { (es : List DinRecord) → All (RowServed es) towers.now → OnOk result
+        (Appends (W.contents writer.old) (W.contents writer.new)
+        (flat_map (row_line es) rows.now)) }
+    ensures sound { OnOk result (W.failures writer.new ≡ W.failures writer.old) }
+    ensures failed { OnErr result (W.failures writer.new ≡ once_more (W.failures writer.old)) }
 {
     for (index, row) in rows.iter().enumerate() {
         write_row(row, &towers[index], writer)?;
@@ -59,19 +64,37 @@ fn write_rows<W: ByteWriter>(
     Ok(())
 }
 
-/// Writes the table and flushes the writer.
-fn write_table<W: ByteWriter>(
+/// Writes the lines of a table and flushes the writer.
+fn write_lines<W: ByteWriter>(
     grid: &Grid,
     towers: &Vec<Option<Tower>>,
     writer: &mut W,
 ) -> Result<(), DeviceFailed>
     requires { map rules_had towers.now.items ≡ map rules_of_row grid.now.rows.items }
-    ensures { (es : List DinRecord) → All (RowServed es) towers.now.items →
-        Writes W.contents W.failures writer.old writer.new result (table grid.now es) }
+    ensures table { (es : List DinRecord) → All (RowServed es) towers.now.items → OnOk result
+        (Appends (W.contents writer.old) (W.contents writer.new) (table grid.now es)) }
+    ensures sound { OnOk result (W.failures writer.new ≡ W.failures writer.old) }
+    ensures failed { OnErr result (W.failures writer.new ≡ once_more (W.failures writer.old)) }
 {
     write_heads(&grid.names, writer)?;
     write_rows(&grid.rows, towers, writer)?;
     writer.flush()
+}
+
+/// Writes the table and flushes the writer, with the fault of a grid.
+fn write_table<W: ByteWriter>(
+    grid: &Grid,
+    towers: &Vec<Option<Tower>>,
+    writer: &mut W,
+) -> Result<(), GridFault>
+    requires { map rules_had towers.now.items ≡ map rules_of_row grid.now.rows.items }
+    ensures table { (es : List DinRecord) → All (RowServed es) towers.now.items → OnOk result
+        (Appends (W.contents writer.old) (W.contents writer.new) (table grid.now es)) }
+    ensures sound { OnOk result (W.failures writer.new ≡ W.failures writer.old) }
+    ensures failed { OnErr result (W.failures writer.new ≡ once_more (W.failures writer.old)) }
+    ensures fault { IsOkUnless result GridFault.Write }
+{
+    write_lines(grid, towers, writer).or(Err(GridFault::Write))
 }
 
 /// Reads a trace of at most `limit` bytes once, simulates the selected records in the caches of
@@ -108,5 +131,5 @@ pub fn simulate_grid<R: ByteReader + Drop, W: ByteWriter>(
     };
     let mut source = Source::new(reader, limit);
     serve_trace(*selection, &mut source, &mut towers)?;
-    write_table(grid, &towers, writer).or(Err(GridFault::Write))
+    write_table(grid, &towers, writer)
 }

@@ -13,11 +13,11 @@ abbrev pub invariant-records : goal.invariant-records
 invariant-records g l = record {
   past : List DinRecord;
   read : HasRead g.R.ByteReader.remaining g.R.ByteReader.failures l.initial.source l.source past;
-  chosen : l.selector.selection ≡ l.selection;
+  chosen : l.selector.selection ≡ l.fn.selection;
   offered : WasOffered l.selector past;
   -- the records read and those that the source can still give are at most 2 ^ 40
   room : (l.selector.records ≡ 0) ⊎ (l.selector.records + room_of l.source ≤ 2 ^ 40);
-  served : All (RowServed (events l.selection past)) l.towers.items;
+  served : All (RowServed (events l.fn.selection past)) l.towers.items;
   rules : map rules_had l.towers.items ≡ map rules_had l.initial.towers.items;
 }
 

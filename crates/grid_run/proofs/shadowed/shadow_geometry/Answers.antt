@@ -13,7 +13,8 @@ pub unreachable-requires : goal.unreachable-requires
 unreachable-requires c =
     let never = never-refused c.args.geometry in
     let why = c.in-Err.ensures.refused in
-    rw (c.blocks-blocks.ensures, c.bsize-bsize.ensures, never) at why
+    let bad = rw (c.blocks-blocks.ensures, c.bsize-bsize.ensures, never) at why in
+    absurd cc
 
 pub returns : goal.returns
 returns c = λ p. shadow-rules c.args.geometry c.in-Ok.whole

@@ -11,9 +11,12 @@ serve_part-requires-3 c =
     let b = option_to_list c.args.fetch in
     let first = c.in_ok-serve_part.ensures.stands in
     let second = c.in_ok-serve_part-2.ensures.stands in
-    room-next c.args.u.now c.serve_part-2.new.u (a ++ b) (option_to_list c.args.through) c.requires
-    (λ ws st. subst (λ (l : List What). SecondServed c.serve_part-2.new.u l)
-    (append_assoc ws a b) (second (ws ++ a) (first ws st)))
+    record {
+      room = room-next c.args.u.now c.serve_part-2.new.u (a ++ b) (option_to_list c.args.through)
+          c.requires.room
+          (λ ws st. subst (λ (l : List What). SecondServed c.serve_part-2.new.u l)
+          (append_assoc ws a b) (second (ws ++ a) (first ws st)));
+    }
 
 pub returns-clause-stands : goal.returns-clause-stands
 returns-clause-stands c =
