@@ -53,7 +53,7 @@ records-preserved g c =
     ∙ sym (flat_map_with_past-more (events_at sel) now.past next) in
     let answered : c.next.result ≡ Ok (Some next) =
     c.in-Ok-Some.is ∙ ap (λ (found : Option DinRecord). Ok found)
-    (rw c.in-Ok-Some.is at c.in-Ok-Some.field-0-is) in
+    c.in-Ok-Some.field-0-is in
     let served = when-ok c.take_picked.result c.if-is_err.ensures.negation
     c.take_picked.ensures.served in
     let less : room_of c.next.new.self < room_of c.records.source =
@@ -80,7 +80,7 @@ take_picked-requires g c =
     let es : List DinRecord = events c.args.selection now.past in
     let answered : c.next.result ≡ Ok (Some c.in-Ok-Some.next) =
     c.in-Ok-Some.is ∙ ap (λ (found : Option DinRecord). Ok found)
-    (rw c.in-Ok-Some.is at c.in-Ok-Some.field-0-is) in
+    c.in-Ok-Some.field-0-is in
     let less : room_of c.next.new.self < room_of c.records.source =
     (rw answered at c.next.ensures.records) refl in
     let few : length es ≤ 2 * length now.past =
@@ -108,7 +108,7 @@ returns-in-Ok-None-clause-reads g c =
     let now = c.records.invariant in
     let answered : c.next.result ≡ Ok None =
     c.in-Ok-None.is ∙ ap (λ (found : Option DinRecord). Ok found)
-    (rw c.in-Ok-None.is at c.in-Ok-None.field-0-is) in (
+    c.in-Ok-None.field-0-is in (
       all.given,
       all.fate,
       all.went,
