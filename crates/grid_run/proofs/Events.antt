@@ -1,6 +1,7 @@
 -- What one more event asks of each cache, and what the first level sends for it.
 use Rattle.std.proofs.Common.{◌≡◌, ℕ, ◌<◌, ◌≤◌, ◌*◌, ◌/◌, ◌^◌, List, [], ◌∷◌, ◌++◌, length, map}
-use Rattle.std.proofs.Common.{Option, Some, None, option_to_list, refl, sym, ap, subst, ◌∙◌, append-nil, arith}
+use Rattle.std.proofs.Common.{Option, Some, None, option_to_list, refl, sym, ap, ◌∙◌, append-nil}
+use Rattle.std.proofs.Common.{arith}
 use Rattle.std.specs.List.{flat_map}
 use Rattle.cache_core.specs.History.{History, Event, Rules, access, flush}
 use Rattle.cache_core.specs.Dirty.{dirty_blocks}
@@ -18,7 +19,7 @@ use Rattle.stage_core.specs.declared.message.What.TheVariants as what
 use Rattle.stage_core.proofs.Stands.{history-more}
 use Rattle.stage_core.proofs.Few.{few-history}
 use Rattle.grid_run.specs.Shadows.{BothStand, rules_in}
-use Rattle.grid_run.specs.Towers.{CanSend, HasRoom, after_request, event_of, sent_for}
+use Rattle.grid_run.specs.Towers.{after_request, event_of, sent_for}
 use Rattle.grid_run.specs.declared.requests.Request.{Request}
 use Rattle.grid_run.specs.declared.shadowed.Shadowed.{Shadowed}
 

@@ -1,6 +1,7 @@
 -- Reading a source record by record.
-use Rattle.std.proofs.Common.{◌≡◌, ℕ, ◌+◌, ◌≤◌, ◌^◌, List, [], ◌∷◌, ◌++◌, drop, Option, Some, None}
-use Rattle.std.proofs.Common.{true, OnOk, Result, Ok, Err, refl, ap, sym, ◌∙◌, subst, append_assoc, append-nil}
+use Rattle.std.proofs.Common.{◌≡◌, ℕ, List, [], ◌∷◌, ◌++◌, drop, Option, Some, None}
+use Rattle.std.proofs.Common.{true, OnOk, Result, Ok, Err, refl, ap, sym, ◌∙◌, subst, append_assoc}
+use Rattle.std.proofs.Common.{append-nil}
 use Rattle.std.specs.Result.{is_ok}
 use Rattle.din_trace.specs.Text.{Remaining}
 use Rattle.din_trace.specs.Remaining.{Script, Fate, Open, Follows, first_answer, after_first}

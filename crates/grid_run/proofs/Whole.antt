@@ -2,7 +2,7 @@
 use Rattle.std.proofs.Common.{◌≡◌, ℕ, zero, suc, ◌+◌, ◌-◌, ◌*◌, ◌/◌, ◌%◌, ◌^◌, ◌<◌, ◌≤◌, true, None}
 use Rattle.std.proofs.Common.{refl, sym, ap, subst, ◌∙◌, inl, inr, arith}
 use Rattle.std.proofs.Math.Nat.{mul_comm, mul-div_cancel, mul-pos, div_self, pow-suc}
-use Rattle.std.proofs.Math.Pow.{pow_pos, pow-add, pow-lt}
+use Rattle.std.proofs.Math.Pow.{pow-add, pow-lt}
 use Rattle.std.proofs.lemmas.Bool.{cases_lt, eq-eqb, le-ltb}
 use Rattle.std.specs.Int.{is_power_of_two}
 use lib.Count.{ones, ones_step}

@@ -48,7 +48,7 @@ fn shadow_policy(policy: Policy) -> Policy
 
 #[tactic(auto, unfolding(crate::specs::Shadows::rules_in))]
 impl Shadowed {
-    ghost use Rattle.std.specs.Prelude.{◌≡◌, ◌<◌, ◌*◌, ◌/◌, ◌++◌, ◌∷◌, [], IfOk, OnOk, map, length};
+    ghost use Rattle.std.specs.Prelude.{◌≡◌, ◌<◌, ◌*◌, ◌/◌, ◌∷◌, [], IfOk, OnOk, map};
     ghost use Rattle.cache_core.specs.History.{History, access as accessed, flush as flushed};
     ghost use Rattle.cache_core.specs.Dirty.{dirty_blocks};
     ghost use Rattle.cache_core.specs.Parts.{outcome_of};

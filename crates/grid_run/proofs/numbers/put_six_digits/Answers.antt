@@ -1,4 +1,4 @@
-use Rattle.std.proofs.Common.{◌≡◌, ◌∙◌, ℕ, ◌-◌, ◌≤◌, ◌++◌, [], ◌∷◌, length, take, replicate, decimal}
+use Rattle.std.proofs.Common.{◌≡◌, ◌∙◌, ℕ, ◌-◌, ◌≤◌, [], ◌∷◌, length, take, replicate, decimal}
 use Rattle.std.proofs.Common.{arith, append_assoc, sym}
 use Rattle.std.proofs.lemmas.List.{take-replicate}
 use Rattle.din_trace.proofs.WritesLemmas.{writes_then, writes_as}

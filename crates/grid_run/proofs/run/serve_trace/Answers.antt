@@ -1,4 +1,4 @@
-use Rattle.std.proofs.Common.{rules, ◌≡◌, ◌<◌, ◌≤◌, ◌+◌, ◌*◌, ◌^◌, ◌++◌, ◌∷◌, [], List, length, Option}
+use Rattle.std.proofs.Common.{◌≡◌, ◌<◌, ◌≤◌, ◌*◌, ◌++◌, ◌∷◌, [], List, length, Option}
 use Rattle.std.proofs.Common.{Some, None, Ok, count_by, ap, sym, subst, refl, ◌∙◌, arith, inl, inr}
 use Rattle.std.specs.List.{All}
 use Rattle.din_trace.specs.Source.{room_of}

@@ -1,5 +1,4 @@
-use Rattle.std.proofs.Common.{◌≡◌, ◌*◌, ◌^◌, ◌<◌, ◌≤◌, ap, sym, subst, ◌∙◌, arith}
-use Rattle.cache_core.specs.Geometry.{IsMadeOf, bsize_of, blocks_of, size_of}
+use Rattle.std.proofs.Common.{arith}
 use Rattle.grid_run.proofs.Whole.{blocks-fill, never-refused, shadow-rules, size-high}
 use Rattle.grid_run.proofs.shadowed.shadow_geometry.Goals as goal
 

@@ -1,9 +1,7 @@
-use Rattle.std.proofs.Common.{rules, ◌≡◌, ◌∙◌, Err, List, ap, refl, subst, sym}
+use Rattle.std.proofs.Common.{rules, ◌≡◌, Err, List, ap, refl, subst}
 use Rattle.std.proofs.lemmas.Result.{on_ok_weaker}
 use Rattle.std.specs.Io.KnownBytes.{Appends}
-use Rattle.din_trace.specs.Line.{ADDRESS_MAX}
 use Rattle.din_trace.specs.Source.{reader_of}
-use Rattle.din_trace.specs.Text.{records}
 use Rattle.din_trace.specs.declared.record.DinRecord.{DinRecord}
 use Rattle.din_trace.proofs.Told.{script_of_told}
 use Rattle.stage_core.specs.Events.{events}

@@ -1,11 +1,10 @@
-use Rattle.std.proofs.Common.{◌≡◌, List, Option, Some, map, ap, sym, subst, unwrap_or, ◌∙◌}
+use Rattle.std.proofs.Common.{◌≡◌, Option, Some, map, ap, sym, subst, unwrap_or, ◌∙◌}
 use Rattle.std.specs.Io.KnownBytes.{Appends}
 use Rattle.std.specs.Prelude.{string_bytes}
 use Rattle.std.proofs.lemmas.Result.{on_ok_weaker}
 use Rattle.stage_core.specs.Config.{hierarchy_of}
 use Rattle.stage_core.specs.SecondLevel.{Hierarchy}
 use Rattle.grid_run.specs.Grids.{figures_of, setup_line}
-use Rattle.grid_run.specs.Rows.{rules_of_row}
 use Rattle.grid_run.specs.Table.{counted_line}
 use Rattle.grid_run.specs.Towers.{RowServed, hierarchy_in, rules_asked, rules_had}
 use Rattle.grid_run.proofs.simulation.write_row.Goals as goal

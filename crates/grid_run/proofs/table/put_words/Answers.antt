@@ -1,4 +1,4 @@
-use Rattle.std.proofs.Common.{◌≡◌, ◌<◌, ◌+◌, ◌++◌, length, get_or, map, take, refl, ap, sym, subst, ◌∙◌}
+use Rattle.std.proofs.Common.{◌<◌, ◌++◌, length, get_or, map, take, refl, ap, sym, subst, ◌∙◌}
 use Rattle.std.proofs.Common.{arith}
 use Rattle.std.proofs.lemmas.List.{take_more}
 use Rattle.std.specs.Io.KnownBytes.{Appends}

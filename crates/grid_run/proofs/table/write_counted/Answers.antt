@@ -7,6 +7,7 @@ use Rattle.grid_run.proofs.table.write_counted.Goals as goal
 pub returns : goal.returns
 unfolding counted_line
 returns g c =
-    writes_as _ _ _ (line-parts (map string_bytes c.args.words.now) (figure_columns c.args.figures.now) (codes "-"))
+    let words = map string_bytes c.args.words.now in
+    writes_as _ _ _ (line-parts words (figure_columns c.args.figures.now) (codes "-"))
     (writes_then _ _ _ c.in_ok-put_words.ensures
     (writes_then _ _ _ c.in_ok-put_figures.ensures c.put_last.ensures))

@@ -7,6 +7,7 @@ use Rattle.grid_run.proofs.table.write_refused.Goals as goal
 pub returns : goal.returns
 unfolding refused_line
 returns g c =
-    writes_as _ _ _ (line-parts (map string_bytes c.args.words.now) (replicate 33 (codes "-")) c.args.fault.now)
+    let words = map string_bytes c.args.words.now in
+    writes_as _ _ _ (line-parts words (replicate 33 (codes "-")) c.args.fault.now)
     (writes_then _ _ _ c.in_ok-put_words.ensures
     (writes_then _ _ _ c.in_ok-put_no_figures.ensures c.put_last.ensures))

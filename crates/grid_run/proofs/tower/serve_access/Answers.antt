@@ -1,4 +1,4 @@
-use Rattle.std.proofs.Common.{◌*◌, ◌/◌, ◌++◌, List, ap, option_to_list, subst, sym, ◌∙◌}
+use Rattle.std.proofs.Common.{◌*◌, ◌/◌, ◌++◌, List, ap, subst, sym, ◌∙◌}
 use Rattle.cache_core.specs.History.{Rules}
 use Rattle.std.proofs.lemmas.Result.{on_ok_weaker}
 use Rattle.stage_core.specs.declared.message.What.{What}

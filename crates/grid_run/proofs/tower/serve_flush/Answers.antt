@@ -1,6 +1,5 @@
-use Rattle.std.proofs.Common.{◌++◌, List, map, option_to_list, subst, sym, ◌∙◌}
+use Rattle.std.proofs.Common.{◌++◌, List, option_to_list, subst, sym, ◌∙◌}
 use Rattle.std.proofs.lemmas.Result.{on_ok_weaker}
-use Rattle.stage_core.specs.SecondLevel.{back}
 use Rattle.stage_core.specs.declared.message.What.{What}
 use Rattle.grid_run.specs.Shadows.{rules_in}
 use Rattle.grid_run.specs.Towers.{HasRoom, SecondServed}

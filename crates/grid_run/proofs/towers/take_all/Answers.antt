@@ -1,11 +1,8 @@
-use Rattle.std.proofs.Common.{◌≡◌, ◌≢◌, ◌<◌, ◌≤◌, ◌+◌, ◌∷◌, ◌++◌, [], ℕ, List, Option, length, get_or}
-use Rattle.std.proofs.Common.{map, sym, subst, ◌∙◌, arith, get_or-set_other}
-use Rattle.std.specs.List.{All}
+use Rattle.std.proofs.Common.{◌≢◌, ◌<◌, ◌∷◌, ◌++◌, [], length}
+use Rattle.std.proofs.Common.{sym, subst, ◌∙◌, arith, get_or-set_other}
 use Rattle.std.proofs.Math.Seq.{map-set_same}
 use Rattle.std.proofs.lemmas.List.Elements.{AllWithin-more_set}
-use Rattle.din_trace.specs.declared.record.DinRecord.{DinRecord}
 use Rattle.grid_run.specs.Towers.{RowServed, rules_had}
-use Rattle.grid_run.specs.declared.tower.Tower.{Tower}
 use Rattle.grid_run.proofs.towers.take_all.Goals as goal
 
 pub take_in-requires : goal.take_in-requires

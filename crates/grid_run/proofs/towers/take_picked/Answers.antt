@@ -1,4 +1,4 @@
-use Rattle.std.proofs.Common.{◌≡◌, ◌++◌, Bool, true, false, List, length}
+use Rattle.std.proofs.Common.{◌≡◌, ◌++◌, Bool, true, false, List}
 use Rattle.std.proofs.Common.{option_to_list, refl, ap, subst, ◌∙◌, append_assoc, length-append}
 use Rattle.std.proofs.Common.{arith}
 use Rattle.std.specs.Bool.{then_some}

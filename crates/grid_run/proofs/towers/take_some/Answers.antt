@@ -1,4 +1,5 @@
-use Rattle.std.proofs.Common.{◌≡◌, ◌++◌, List, Option, length, take, drop, option_to_list, sym, subst}
+use Rattle.std.proofs.Common.{◌≡◌, ◌++◌, List, Option, length, take, drop, option_to_list, sym}
+use Rattle.std.proofs.Common.{subst}
 use Rattle.std.proofs.Common.{arith}
 use Rattle.std.specs.List.{All}
 use Rattle.std.proofs.lemmas.Grind.{common_steps}
@@ -11,7 +12,8 @@ use Rattle.grid_run.proofs.towers.take_some.Goals as goal
 pub returns-in-Some-clause-served : goal.returns-in-Some-clause-served
 returns-in-Some-clause-served c =
     let new = c.take_all.new.towers in
-    let whole : take c.args.towers.now.len (new ++ drop (length new) c.args.towers.now.items) ≡ new =
+    let old = c.args.towers.now in
+    let whole : take old.len (new ++ drop (length new) old.items) ≡ new =
     grind (arith, common_steps) in
     on_ok_weaker c.take_all.result (λ served es all.
     subst (λ (l : List (Option Tower)). All (RowServed (es ++ option_to_list c.args.event)) l)
