@@ -1,5 +1,6 @@
 //! Tables, and grids over traces in memory. The expected texts were worked out by hand.
 
+mod beside;
 mod grids;
 mod lines;
 mod narrow;
