@@ -3,6 +3,7 @@
 mod beside;
 mod grids;
 mod lines;
+mod memory;
 mod narrow;
 
 use std::alloc::Global;

@@ -172,22 +172,20 @@ fn agrees(rt: &impl Abort, alloc: Global, selection: &Selection, trace: &[u8]) -
 
 #[test]
 fn rows_are_as_runs_alone(rt: HostRuntime) -> Result<(), Fail> {
+    let everything = Selection {
+        skip: 0,
+        max: 0,
+        every: 0,
+    };
+    let part = Selection {
+        skip: 17,
+        max: 400,
+        every: 31,
+    };
     for seed in 0..4 {
         let trace = trace_of(rt.alloc(), seed, 600)?;
-        for selection in [
-            Selection {
-                skip: 0,
-                max: 0,
-                every: 0,
-            },
-            Selection {
-                skip: 17,
-                max: 400,
-                every: 31,
-            },
-        ] {
-            agrees(&rt, rt.alloc(), &selection, &trace)?;
-        }
+        agrees(&rt, rt.alloc(), &everything, &trace)?;
+        agrees(&rt, rt.alloc(), &part, &trace)?;
     }
     Ok(())
 }

@@ -13,7 +13,7 @@ use std::io::{Read, Write};
 use std::process::Abort;
 use std::test::Fail;
 
-static EVERYTHING: Selection = Selection {
+pub(super) static EVERYTHING: Selection = Selection {
     skip: 0,
     max: 0,
     every: 0,
@@ -66,7 +66,7 @@ static REFUSED: &str = concat!(
 );
 
 /// The result of the grid over a trace, read from any reader and written to any writer.
-fn run<R: Read + Drop, W: Write + Drop>(
+pub(super) fn run<R: Read + Drop, W: Write + Drop>(
     alloc: Global,
     selection: &Selection,
     reader: R,
@@ -108,7 +108,7 @@ fn writes(
 
 /// Two blocks of one set of the small data cache, the first of them twice. The large one has a set
 /// for each.
-static CONFLICT: &[u8] = b"0 0\n0 8\n0 0\n2 0\n";
+pub(super) static CONFLICT: &[u8] = b"0 0\n0 8\n0 0\n2 0\n";
 
 static CONFLICT_SMALL: &str = concat!(
     "8\t1\t1\t1.000000\t1\t0\t0\t1\t1\t0\t0\t0\t",
@@ -211,7 +211,7 @@ fn nothing_is_written_for_a_faulty_trace(rt: HostRuntime) -> Result<(), Fail> {
 }
 
 /// How many bytes the table over the trace of a conflict has.
-fn table_len() -> usize {
+pub(super) fn table_len() -> usize {
     let lines = CONFLICT_SMALL
         .len()
         .saturating_add(CONFLICT_LARGE.len())

@@ -116,7 +116,7 @@ fn rates_are_rounded_down(rt: HostRuntime) -> Result<(), Fail> {
 }
 
 #[test]
-fn a_refused_row_has_hyphens(rt: HostRuntime) -> Result<(), Fail> {
+fn hyphens_stand_for_the_figures_of_a_refused_row(rt: HostRuntime) -> Result<(), Fail> {
     let words = words_of(rt.alloc(), &["3"])?;
     let mut written = Vec::new(rt.alloc());
     write_refused(
