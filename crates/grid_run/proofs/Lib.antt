@@ -1,0 +1,5 @@
+pub mod TableLemmas
+pub mod Whole
+pub mod Rooms
+pub mod Events
+pub mod Readings

@@ -1,0 +1,139 @@
+use Rattle.std.proofs.Common.{◌≡◌, ◌<◌, ◌≤◌, ◌*◌, ◌++◌, ◌∷◌, [], List, length, Option}
+use Rattle.std.proofs.Common.{Some, None, Ok, count_by, ap, sym, subst, refl, ◌∙◌, arith, inl, inr}
+use Rattle.std.specs.List.{All}
+use Rattle.din_trace.specs.Source.{room_of}
+use Rattle.din_trace.specs.declared.record.DinRecord.{DinRecord}
+use Rattle.din_trace.proofs.Calls.{Calls, calls}
+use Rattle.stage_core.specs.Events.{events, events_at, picked, picked_events, is_reference}
+use Rattle.stage_core.specs.declared.selection.Selection.{Selection}
+use Rattle.stage_core.proofs.Place.{flat_map_with_past-more}
+use Rattle.grid_run.specs.Faults.{MayAnswer}
+use Rattle.grid_run.specs.Towers.{RowServed}
+use Rattle.grid_run.proofs.Readings.{answers-fault, read-end, read-fault, read-more, read-nothing}
+use Rattle.grid_run.proofs.Readings.{when-ok}
+use Rattle.grid_run.proofs.run.serve_trace.Goals as goal
+use Rattle.grid_run.proofs.run.serve_trace.Goals.{After-next}
+use Rattle.grid_run.proofs.run.serve_trace.Given.{Over}
+
+-- the calls of the source so far, and then this one, are calls too
+composed : (g : Over) (c : After-next g)
+    → Calls g.R.ByteReader.remaining g.R.ByteReader.failures c.args.source.now c.next.new.self
+    c.records.invariant.read.given c.next.ensures.reads.0 c.records.invariant.read.fate
+    c.next.ensures.reads.1
+composed g c =
+    let read = c.records.invariant.read in
+    let next = c.next.ensures.reads in
+    calls g.R.ByteReader.remaining g.R.ByteReader.failures c.args.source.now c.records.source
+    c.next.new.self read.given next.0 read.fate next.1 read.went next.2 c.next.ensures.settled
+
+pub records-init : goal.records-init
+records-init g c = record {
+  past = [];
+  read = read-nothing g.R.ByteReader.remaining g.R.ByteReader.failures c.args.source.now;
+  chosen = c.new-selector.ensures.selection;
+  offered = c.new-selector.ensures.none;
+  room = inl c.new-selector.ensures.none.count;
+  served = c.requires.fresh;
+  rules = refl;
+}
+
+pub records-preserved : goal.records-preserved
+records-preserved g c =
+    let c₁ = (goal.at.records-preserved g c).After-next in
+    let all = composed g c₁ in
+    let now = c.records.invariant in
+    let next = c.in-Ok-Some.next in
+    let offers = c.offer-picked.ensures in
+    let sel = c.args.selection in
+    let picks = offers.picked now.past now.offered
+    ∙ ap (λ (s : Selection). picked s (count_by is_reference (now.past ++ next ∷ [])) next)
+    now.chosen in
+    let es : List DinRecord = events sel now.past in
+    let longer = ap (λ p. es ++ picked_events p) picks
+    ∙ sym (flat_map_with_past-more (events_at sel) now.past next) in
+    let answered : c.next.result ≡ Ok (Some next) =
+    c.in-Ok-Some.is ∙ ap (λ (found : Option DinRecord). Ok found)
+    c.in-Ok-Some.field-0-is in
+    let served = when-ok c.take_picked.result c.if-is_err.ensures.negation
+    c.take_picked.ensures.served in
+    let less : room_of c.next.new.self < room_of c.records.source =
+    (rw answered at c.next.ensures.records) refl in
+    record {
+      past = now.past ++ next ∷ [];
+      read = read-more g.R.ByteReader.remaining g.R.ByteReader.failures c.args.source.now
+          c.records.source c.next.new.self now.past now.read c.next.result _ _ all
+          c.next.ensures.reads.3 next answered;
+      chosen = offers.selection ∙ now.chosen;
+      offered = offers.stands now.past now.offered;
+      room = inr (elim now.room [
+        | inl e ↦ omega (arith, offers.offered, c.next.ensures.room)
+        | inr h ↦ omega (arith, offers.offered)
+      ]);
+      served = subst (λ (l : List DinRecord). All (RowServed l) c.take_picked.new.towers.items)
+          longer (served es now.served);
+      rules = c.take_picked.ensures.rules ∙ now.rules;
+    }
+
+pub take_picked-requires : goal.take_picked-requires
+take_picked-requires g c =
+    let now = c.records.invariant in
+    let es : List DinRecord = events c.args.selection now.past in
+    let answered : c.next.result ≡ Ok (Some c.in-Ok-Some.next) =
+    c.in-Ok-Some.is ∙ ap (λ (found : Option DinRecord). Ok found)
+    c.in-Ok-Some.field-0-is in
+    let less : room_of c.next.new.self < room_of c.records.source =
+    (rw answered at c.next.ensures.records) refl in
+    let few : length es ≤ 2 * length now.past =
+    c.selections_make_at_most_two.ensures c.args.selection now.past in
+    let count = now.offered.count in
+    record {
+      room = (
+        es,
+        now.served,
+        elim now.room [
+          | inl e ↦ omega (arith, few, count)
+          | inr h ↦ omega (arith, few, count, less)
+        ],
+      );
+    }
+
+pub returns-then-is_err-clause-reads : goal.returns-then-is_err-clause-reads
+returns-then-is_err-clause-reads g c =
+    let all = composed g (goal.at.returns-then-is_err-clause-reads g c).After-next in
+    (all.given, all.fate, all.went, λ first last l is left. tt)
+
+pub returns-in-Ok-None-clause-reads : goal.returns-in-Ok-None-clause-reads
+returns-in-Ok-None-clause-reads g c =
+    let all = composed g (goal.at.returns-in-Ok-None-clause-reads g c).After-next in
+    let now = c.records.invariant in
+    let answered : c.next.result ≡ Ok None =
+    c.in-Ok-None.is ∙ ap (λ (found : Option DinRecord). Ok found)
+    c.in-Ok-None.field-0-is in (
+      all.given,
+      all.fate,
+      all.went,
+      λ first last l is left.
+          let end = read-end g.R.ByteReader.remaining g.R.ByteReader.failures c.args.source.now
+          c.records.source c.next.new.self now.past now.read c.next.result _ _ all
+          c.next.ensures.reads.3 answered first last l is left in (
+            end.0,
+            subst (λ (rs : List DinRecord).
+                All (RowServed (events c.args.selection rs)) c.records.towers.items)
+                (sym end.1) now.served,
+          ),
+    )
+
+pub returns-in-Err-clause-reads : goal.returns-in-Err-clause-reads
+returns-in-Err-clause-reads g c =
+    let all = composed g (goal.at.returns-in-Err-clause-reads g c).After-next in
+    let now = c.records.invariant in (
+      all.given,
+      all.fate,
+      all.went,
+      λ first last l is left.
+          subst (MayAnswer l.fault) (sym c.fault_of_source.ensures)
+          (answers-fault l.fault c.in-Err.fault
+          (read-fault g.R.ByteReader.remaining g.R.ByteReader.failures c.args.source.now
+          c.records.source c.next.new.self now.past now.read c.next.result _ _ all
+          c.next.ensures.reads.3 c.in-Err.fault c.in-Err.is first last l is left)),
+    )

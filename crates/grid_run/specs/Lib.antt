@@ -1,0 +1,7 @@
+pub mod Table
+pub mod Grids
+pub mod Lru
+pub mod Shadows
+pub mod Towers
+pub mod Rows
+pub mod Faults

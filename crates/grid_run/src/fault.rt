@@ -1,0 +1,28 @@
+//! Why a grid gives no table.
+
+ghost use Rattle.std.specs.Prelude.{◌≡◌};
+ghost use Rattle.grid_run.specs.Faults.{source_fault};
+
+use din_trace::TraceFault;
+
+/// Why a grid gave no table. Except for `Write`, nothing was written.
+#[derive(Clone, Copy, Debug, PartialEq, Eq)]
+pub enum GridFault {
+    /// The trace is faulty, too long or could not be read. Never holds `TraceFault::Memory`.
+    Trace(TraceFault),
+    /// An allocation failed.
+    Memory,
+    /// The writer failed. It is not known how much of the table was written.
+    Write,
+}
+
+/// The fault of a grid whose source has this fault. `TraceFault::Memory` becomes
+/// `GridFault::Memory`.
+pub(crate) fn fault_of_source(fault: TraceFault) -> GridFault
+    ensures { result ≡ source_fault fault }
+{
+    match fault {
+        TraceFault::Memory => GridFault::Memory,
+        _ => GridFault::Trace(fault),
+    }
+}

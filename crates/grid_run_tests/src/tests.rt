@@ -1,0 +1,35 @@
+//! Tables, and grids over traces in memory. The expected texts were worked out by hand.
+
+mod beside;
+mod grids;
+mod lines;
+mod memory;
+mod narrow;
+
+use std::alloc::Global;
+use std::test::Fail;
+
+/// The columns of one cache: the heads after its name.
+static HEADS: &str = concat!(
+    "l1-icache-fetches\tl1-icache-misses\tl1-icache-miss-rate\tl1-icache-compulsory\t",
+    "l1-icache-capacity\tl1-icache-conflict\tl1-icache-fully-associative-misses\t",
+    "l1-icache-blocks-fetched\tl1-icache-written-back\tl1-icache-writes-sent-on\t",
+    "l1-icache-flushes\t",
+    "l1-dcache-fetches\tl1-dcache-misses\tl1-dcache-miss-rate\tl1-dcache-compulsory\t",
+    "l1-dcache-capacity\tl1-dcache-conflict\tl1-dcache-fully-associative-misses\t",
+    "l1-dcache-blocks-fetched\tl1-dcache-written-back\tl1-dcache-writes-sent-on\t",
+    "l1-dcache-flushes\t",
+    "l2-ucache-fetches\tl2-ucache-misses\tl2-ucache-miss-rate\tl2-ucache-compulsory\t",
+    "l2-ucache-capacity\tl2-ucache-conflict\tl2-ucache-fully-associative-misses\t",
+    "l2-ucache-blocks-fetched\tl2-ucache-written-back\tl2-ucache-writes-sent-on\t",
+    "l2-ucache-flushes\tfault\n",
+);
+
+/// Words as a line has them.
+fn words_of(alloc: Global, words: &[&str]) -> Result<Vec<String>, Fail> {
+    let mut made = Vec::new(alloc);
+    for word in words {
+        made.push(String::from_str(alloc, word)?)?;
+    }
+    Ok(made)
+}

@@ -1,0 +1,191 @@
+//! A grid over pseudo-random traces, beside a run of each configuration alone.
+
+ghost use Rattle.stage_core.specs.Events.{IsBounded};
+
+use super::words_of;
+use cache_core::{Policy, Repl};
+use din_trace::{FromRead, FromWrite, MAX_LIMIT, read_all};
+use grid_run::{
+    Figures, Grid, Row, Setup, ShadowMisses, simulate_grid, write_counted, write_heads,
+};
+use stage_core::{CacheSpec, Config, Selection, run_plain};
+use std::alloc::Global;
+use std::process::Abort;
+use std::test::Fail;
+
+/// The next pseudo-random number, by a linear congruence with Knuth's constants.
+fn next_random(state: &mut u64) -> u64 {
+    *state = state
+        .wrapping_mul(6_364_136_223_846_793_005)
+        .wrapping_add(1_442_695_040_888_963_407);
+    *state >> 33
+}
+
+/// A trace of so many records. One in 21 is a flush.
+fn trace_of(alloc: Global, seed: u64, records: usize) -> Result<Vec<u8>, Fail> {
+    let mut state = seed;
+    let mut trace = Vec::new(alloc);
+    for _ in 0..records {
+        let label: &[u8] = match next_random(&mut state) % 21 {
+            0 => b"4 ",
+            1 | 2 | 3 => b"3 ",
+            4 | 5 | 6 | 7 | 8 => b"2 ",
+            9 | 10 | 11 | 12 | 13 => b"1 ",
+            _ => b"0 ",
+        };
+        trace.extend_from_slice(label)?;
+        let addr = next_random(&mut state) % 96;
+        trace.extend_from_slice(format!(in alloc; "{addr:x}\n")?.as_bytes())?;
+    }
+    Ok(trace)
+}
+
+/// The three caches of a configuration.
+#[derive(Clone, Copy)]
+struct Specs {
+    i: CacheSpec,
+    d: CacheSpec,
+    u: CacheSpec,
+}
+
+fn spec(size: u64, bsize: u64, assoc: u64, policy: Policy) -> CacheSpec {
+    CacheSpec {
+        size,
+        bsize,
+        assoc,
+        policy,
+    }
+}
+
+fn policy(repl: Repl, wback: bool, walloc: bool) -> Policy {
+    Policy {
+        repl,
+        wback,
+        walloc,
+    }
+}
+
+/// Configurations of all policies.
+fn all_specs() -> [Specs; 4] {
+    let lru = policy(Repl::Lru, true, true);
+    let fifo = policy(Repl::Fifo, true, true);
+    let through = policy(Repl::Lru, false, false);
+    let mixed = policy(Repl::Fifo, true, false);
+    [
+        Specs {
+            i: spec(16, 4, 1, lru),
+            d: spec(32, 4, 2, lru),
+            u: spec(64, 8, 2, lru),
+        },
+        Specs {
+            i: spec(32, 4, 2, fifo),
+            d: spec(16, 4, 2, fifo),
+            u: spec(64, 16, 1, fifo),
+        },
+        Specs {
+            i: spec(8, 4, 1, lru),
+            d: spec(32, 8, 1, through),
+            u: spec(64, 8, 4, through),
+        },
+        Specs {
+            i: spec(64, 4, 16, lru),
+            d: spec(32, 4, 8, mixed),
+            u: spec(32, 8, 1, mixed),
+        },
+    ]
+}
+
+/// The fully associative LRU cache of the same size.
+fn whole(spec: CacheSpec) -> CacheSpec {
+    CacheSpec {
+        assoc: spec.size.checked_div(spec.bsize).unwrap_or(1),
+        policy: Policy {
+            repl: Repl::Lru,
+            ..spec.policy
+        },
+        ..spec
+    }
+}
+
+/// What a run of one configuration alone counts. Its shadows are caches of other runs: those of the
+/// first level in place of its caches, and that of the second level above the same first level.
+fn figures_alone(
+    rt: &impl Abort,
+    alloc: Global,
+    specs: Specs,
+    selection: &Selection,
+    trace: &[u8],
+) -> Result<Figures, Fail>
+    requires { IsBounded selection.now }
+{
+    let records = read_all(alloc, trace, MAX_LIMIT)?;
+    assert!(rt; records.len() as u64 <= MAX_LIMIT);
+    let Specs { i, d, u } = specs;
+    let alone = Config::new(i, d, u, 1)?;
+    let first = Config::new(whole(i), whole(d), u, 1)?;
+    let second = Config::new(i, d, whole(u), 1)?;
+    let totals = run_plain(alloc, &alone, selection, &records)?;
+    let first_whole = run_plain(alloc, &first, selection, &records)?;
+    let second_whole = run_plain(alloc, &second, selection, &records)?;
+    let shadows = ShadowMisses {
+        i: first_whole.i.misses,
+        d: first_whole.d.misses,
+        u: second_whole.u.misses,
+    };
+    Ok(Figures { totals, shadows })
+}
+
+/// A grid of all configurations has to write what they count alone.
+fn agrees(rt: &impl Abort, alloc: Global, selection: &Selection, trace: &[u8]) -> Result<(), Fail>
+    requires { IsBounded selection.now }
+{
+    let mut rows = Vec::new(alloc);
+    let mut expected = Vec::new(alloc);
+    let mut lines = FromWrite::new(&mut expected);
+    write_heads(&[], &mut lines)?;
+    for specs in all_specs() {
+        let setup = Setup::Simulated(Config::new(specs.i, specs.d, specs.u, 1)?);
+        rows.push(Row {
+            words: words_of(alloc, &[])?,
+            setup,
+        })?;
+        let figures = figures_alone(rt, alloc, specs, selection, trace)?;
+        write_counted(&[], &figures, &mut lines)?;
+    }
+    let grid = Grid {
+        names: words_of(alloc, &[])?,
+        rows,
+    };
+    let mut written = Vec::new(alloc);
+    let mut writer = FromWrite::new(&mut written);
+    simulate_grid(
+        alloc,
+        &grid,
+        selection,
+        FromRead::new(trace),
+        MAX_LIMIT,
+        &mut writer,
+    )?;
+    assert!(rt; written.as_slice() == expected.as_slice());
+    Ok(())
+}
+
+#[test]
+fn rows_are_as_runs_alone(rt: HostRuntime) -> Result<(), Fail> {
+    let everything = Selection {
+        skip: 0,
+        max: 0,
+        every: 0,
+    };
+    let part = Selection {
+        skip: 17,
+        max: 400,
+        every: 31,
+    };
+    for seed in 0..4 {
+        let trace = trace_of(rt.alloc(), seed, 600)?;
+        agrees(&rt, rt.alloc(), &everything, &trace)?;
+        agrees(&rt, rt.alloc(), &part, &trace)?;
+    }
+    Ok(())
+}

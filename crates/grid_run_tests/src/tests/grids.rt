@@ -1,0 +1,253 @@
+//! Whole grids, with their tables as literal bytes.
+
+ghost use Rattle.stage_core.specs.Events.{IsBounded};
+
+use super::narrow::{Narrow, with_room};
+use super::{HEADS, words_of};
+use cache_core::{Policy, Repl};
+use din_trace::{FromRead, FromWrite, MAX_LIMIT, TraceFault, Why};
+use grid_run::{Grid, GridFault, Row, Setup, simulate_grid};
+use stage_core::{CacheSpec, Config, Selection};
+use std::alloc::Global;
+use std::io::{Read, Write};
+use std::process::Abort;
+use std::test::Fail;
+
+pub(super) static EVERYTHING: Selection = Selection {
+    skip: 0,
+    max: 0,
+    every: 0,
+};
+
+/// LRU, write back, write allocation.
+static USUAL: Policy = Policy {
+    repl: Repl::Lru,
+    wback: true,
+    walloc: true,
+};
+
+fn spec(size: u64, bsize: u64, assoc: u64) -> CacheSpec {
+    CacheSpec {
+        size,
+        bsize,
+        assoc,
+        policy: USUAL,
+    }
+}
+
+/// An instruction cache of 16 bytes, a direct-mapped data cache of this size, and a second level of
+/// 32 bytes in two ways.
+fn config(data: u64) -> Result<Config, Fail> {
+    Ok(Config::new(spec(16, 4, 1), spec(data, 4, 1), spec(32, 8, 2), 1)?)
+}
+
+fn row(alloc: Global, word: &str, setup: Setup) -> Result<Row, Fail> {
+    let words = words_of(alloc, &[word])?;
+    Ok(Row { words, setup })
+}
+
+/// Data caches of 8 and of 16 bytes, and one of 3 bytes, which is refused, between them.
+fn grid(alloc: Global) -> Result<Grid, Fail> {
+    let refusal = String::from_str(alloc, "l1-dsize is not a power of two")?;
+    let mut rows = Vec::new(alloc);
+    rows.push(row(alloc, "8", Setup::Simulated(config(8)?))?)?;
+    rows.push(row(alloc, "3", Setup::Refused(refusal))?)?;
+    rows.push(row(alloc, "16", Setup::Simulated(config(16)?))?)?;
+    let names = words_of(alloc, &["l1-dsize"])?;
+    Ok(Grid { names, rows })
+}
+
+/// The line of the refused row.
+static REFUSED: &str = concat!(
+    "3\t-\t-\t-\t-\t-\t-\t-\t-\t-\t-\t-",
+    "\t-\t-\t-\t-\t-\t-\t-\t-\t-\t-\t-",
+    "\t-\t-\t-\t-\t-\t-\t-\t-\t-\t-\t-",
+    "\tl1-dsize is not a power of two\n",
+);
+
+/// The result of the grid over a trace, read from any reader and written to any writer.
+pub(super) fn run<R: Read + Drop, W: Write + Drop>(
+    alloc: Global,
+    selection: &Selection,
+    reader: R,
+    writer: W,
+) -> Result<Result<(), GridFault>, Fail>
+    requires { IsBounded selection.now }
+{
+    Ok(simulate_grid(
+        alloc,
+        &grid(alloc)?,
+        selection,
+        FromRead::new(reader),
+        MAX_LIMIT,
+        &mut FromWrite::new(writer),
+    ))
+}
+
+/// The table of the grid over a trace has to have these lines of its first and last rows.
+fn writes(
+    rt: &impl Abort,
+    alloc: Global,
+    selection: &Selection,
+    trace: &[u8],
+    small: &str,
+    large: &str,
+) -> Result<(), Fail>
+    requires { IsBounded selection.now }
+{
+    let mut written = Vec::new(alloc);
+    assert_eq!(rt; run(alloc, selection, trace, &mut written)?, Ok(()));
+    let mut expected = String::from_str(alloc, "l1-dsize\t")?;
+    expected.push_str(HEADS)?;
+    expected.push_str(small)?;
+    expected.push_str(REFUSED)?;
+    expected.push_str(large)?;
+    assert!(rt; written.as_slice() == expected.as_bytes());
+    Ok(())
+}
+
+/// Two blocks of one set of the small data cache, the first of them twice. The large one has a set
+/// for each.
+pub(super) static CONFLICT: &[u8] = b"0 0\n0 8\n0 0\n2 0\n";
+
+static CONFLICT_SMALL: &str = concat!(
+    "8\t1\t1\t1.000000\t1\t0\t0\t1\t1\t0\t0\t0\t",
+    "3\t3\t1.000000\t2\t0\t1\t2\t3\t0\t0\t0\t",
+    "4\t2\t0.500000\t2\t0\t0\t2\t2\t0\t0\t0\t-\n",
+);
+
+static CONFLICT_LARGE: &str = concat!(
+    "16\t1\t1\t1.000000\t1\t0\t0\t1\t1\t0\t0\t0\t",
+    "3\t2\t0.666666\t2\t0\t0\t2\t2\t0\t0\t0\t",
+    "3\t2\t0.666666\t2\t0\t0\t2\t2\t0\t0\t0\t-\n",
+);
+
+#[test]
+fn each_row_has_its_own_counts(rt: HostRuntime) -> Result<(), Fail> {
+    writes(
+        &rt,
+        rt.alloc(),
+        &EVERYTHING,
+        CONFLICT,
+        CONFLICT_SMALL,
+        CONFLICT_LARGE,
+    )
+}
+
+#[test]
+fn a_dirty_block_is_written_back(rt: HostRuntime) -> Result<(), Fail> {
+    let small = concat!(
+        "8\t0\t0\t0.000000\t0\t0\t0\t0\t0\t0\t0\t1\t",
+        "2\t2\t1.000000\t2\t0\t0\t2\t2\t1\t0\t1\t",
+        "3\t2\t0.666666\t2\t0\t0\t2\t2\t1\t0\t1\t-\n",
+    );
+    let large = concat!(
+        "16\t0\t0\t0.000000\t0\t0\t0\t0\t0\t0\t0\t1\t",
+        "2\t2\t1.000000\t2\t0\t0\t2\t2\t1\t0\t1\t",
+        "3\t2\t0.666666\t2\t0\t0\t2\t2\t1\t0\t1\t-\n",
+    );
+    writes(
+        &rt,
+        rt.alloc(),
+        &EVERYTHING,
+        b"1 0\n0 8\n4 0\n",
+        small,
+        large,
+    )
+}
+
+#[test]
+fn the_selection_is_obeyed(rt: HostRuntime) -> Result<(), Fail> {
+    let last = Selection {
+        skip: 1,
+        max: 2,
+        every: 0,
+    };
+    let small = concat!(
+        "8\t0\t0\t0.000000\t0\t0\t0\t0\t0\t0\t0\t0\t",
+        "2\t2\t1.000000\t2\t0\t0\t2\t2\t0\t0\t0\t",
+        "2\t2\t1.000000\t2\t0\t0\t2\t2\t0\t0\t0\t-\n",
+    );
+    let large = concat!(
+        "16\t0\t0\t0.000000\t0\t0\t0\t0\t0\t0\t0\t0\t",
+        "2\t2\t1.000000\t2\t0\t0\t2\t2\t0\t0\t0\t",
+        "2\t2\t1.000000\t2\t0\t0\t2\t2\t0\t0\t0\t-\n",
+    );
+    writes(&rt, rt.alloc(), &last, CONFLICT, small, large)
+}
+
+#[test]
+fn a_flush_is_inserted(rt: HostRuntime) -> Result<(), Fail> {
+    let each = Selection {
+        skip: 0,
+        max: 1,
+        every: 1,
+    };
+    let line = concat!(
+        "\t0\t0\t0.000000\t0\t0\t0\t0\t0\t0\t0\t1\t",
+        "1\t1\t1.000000\t1\t0\t0\t1\t1\t0\t0\t1\t",
+        "1\t1\t1.000000\t1\t0\t0\t1\t1\t0\t0\t1\t-\n",
+    );
+    let mut small = String::from_str(rt.alloc(), "8")?;
+    small.push_str(line)?;
+    let mut large = String::from_str(rt.alloc(), "16")?;
+    large.push_str(line)?;
+    writes(&rt, rt.alloc(), &each, CONFLICT, &small, &large)
+}
+
+#[test]
+fn nothing_is_written_for_a_faulty_trace(rt: HostRuntime) -> Result<(), Fail> {
+    for (trace, line, why) in [
+        (b"0 0\n0 8\n0 1g\n", 3, Why::Tail),
+        (b"x 0\n0 8\n0 10\n", 1, Why::Label),
+    ] {
+        let mut written = Vec::new(rt.alloc());
+        let ended = run(rt.alloc(), &EVERYTHING, trace.as_slice(), &mut written)?;
+        let fault = TraceFault::Bad { line, why };
+        assert_eq!(rt; ended, Err(GridFault::Trace(fault)));
+        assert!(rt; written.is_empty());
+    }
+    Ok(())
+}
+
+/// How many bytes the table over the trace of a conflict has.
+pub(super) fn table_len() -> usize {
+    let lines = CONFLICT_SMALL
+        .len()
+        .saturating_add(CONFLICT_LARGE.len())
+        .saturating_add(REFUSED.len());
+    lines.saturating_add(HEADS.len()).saturating_add(9)
+}
+
+/// The grid has to fail with `Write` over the trace of a conflict, at a writer with this room.
+fn fails(rt: &impl Abort, alloc: Global, room: usize, can_flush: bool) -> Result<Narrow, Fail> {
+    let mut writer = with_room(room, can_flush);
+    let ended = run(alloc, &EVERYTHING, CONFLICT, &mut writer)?;
+    assert_eq!(rt; ended, Err(GridFault::Write));
+    Ok(writer)
+}
+
+#[test]
+fn a_writer_may_fail_behind_each_byte(rt: HostRuntime) -> Result<(), Fail> {
+    for room in 0..table_len() {
+        let writer = fails(&rt, rt.alloc(), room, true)?;
+        assert_eq!(rt; (writer.taken, writer.flushes), (room, 0));
+    }
+    Ok(())
+}
+
+#[test]
+fn a_writer_may_fail_at_its_flush(rt: HostRuntime) -> Result<(), Fail> {
+    let writer = fails(&rt, rt.alloc(), table_len(), false)?;
+    assert_eq!(rt; (writer.taken, writer.flushes), (table_len(), 1));
+    Ok(())
+}
+
+#[test]
+fn a_table_is_flushed_once(rt: HostRuntime) -> Result<(), Fail> {
+    let mut writer = with_room(10_000, true);
+    let ended = run(rt.alloc(), &EVERYTHING, CONFLICT, &mut writer)?;
+    assert_eq!(rt; ended, Ok(()));
+    assert_eq!(rt; (writer.taken, writer.flushes), (table_len(), 1));
+    Ok(())
+}
