@@ -4,27 +4,19 @@
 //! The library dinero_options reads the words. `fault` has the line and the exit status of each
 //! fault.
 //!
-//! Proved: the line and the status of a fault are those of `specs/FaultText`. A run writes the
-//! report of its configuration and its selection, of a trace of at most 2^40 bytes. Only tested:
-//! that `main` passes the right streams, and what was parsed.
+//! Proved: the line and the status of a fault are those of `specs/FaultText`. Only tested: that
+//! `main` passes the right streams.
 #![tactic(auto)]
 
 mod fault;
 #[cfg(test)]
 mod tests;
 
-ghost use Rattle.std.specs.Prelude.{◌≡◌, ◌≢◌, ◌^◌, ℕ, List, Some, None, Err};
-ghost use Rattle.std.specs.Prelude.{OnOk, IfOk, IfErr};
-ghost use Rattle.std.specs.Io.KnownBytes.{Appends};
-ghost use Rattle.din_trace.specs.Device.{once_more};
-ghost use Rattle.din_trace.specs.Faults.{IsFaultOf};
-ghost use Rattle.din_trace.specs.Line.{ADDRESS_MAX};
-ghost use Rattle.din_trace.specs.Text.{fault};
+ghost use Rattle.std.specs.Prelude.{IfOk};
 ghost use Rattle.stage_core.specs.Events.{IsBounded};
-ghost use Rattle.sim_run.specs.Runs.{report_of};
 
 use crate::fault::{Fault, fault_text, status};
-use din_trace::{ByteReader, ByteWriter, FromRead, FromWrite, MAX_LIMIT, TraceFault};
+use din_trace::{FromRead, FromWrite, MAX_LIMIT};
 use dinero_options::{WordsFault, help_text, parse_words};
 use sim_run::{OpenGate, RunFault, simulate};
 use stage_core::{Config, Selection};
@@ -35,46 +27,9 @@ use std::process::ExitCode;
 use std::sync::Wait;
 use std::thread::Threads;
 
-/// Reads a trace of at most 2^40 bytes, simulates its selected records in threads, and writes the
-/// report.
-fn report<H: Threads + Wait + Sync, R: ByteReader + Drop, W: ByteWriter>(
-    rt: &H,
-    alloc: Global,
-    config: &Config,
-    selection: &Selection,
-    reader: R,
-    writer: &mut W,
-) -> Result<(), RunFault>
-    requires { IsBounded selection.now }
-    // If the bytes of the reader are known, `Ok` means that the text has no fault, and that its
-    // report was written.
-    ensures report { (text : List ℕ) → R.remaining reader ≡ Some text → OnOk result
-        ((fault ADDRESS_MAX text (2 ^ 40) ≡ None)
-        × Appends (W.contents writer.old) (W.contents writer.new)
-        (report_of config.now selection.now text)) }
-    // For any reader, this holds for some text.
-    ensures whole { OnOk result ((text : List ℕ)
-        × (fault ADDRESS_MAX text (2 ^ 40) ≡ None)
-        × Appends (W.contents writer.old) (W.contents writer.new)
-        (report_of config.now selection.now text)) }
-    ensures trace { (text : List ℕ) → R.remaining reader ≡ Some text
-        → (why : TraceFault) → result ≡ Err (RunFault.Trace why)
-        → IsFaultOf R.remaining R.failures reader text (2 ^ 40) why }
-    ensures memory { result ≢ Err (RunFault.Trace TraceFault.Memory) }
-    ensures sound { OnOk result (W.failures writer.new ≡ W.failures writer.old) }
-    ensures write { result ≡ Err RunFault.Write
-        → W.failures writer.new ≡ once_more (W.failures writer.old) }
-    ensures unwritten { IfErr result (λ why. why ≢ RunFault.Write → writer.new ≡ writer.old) }
-{
-    let _settled = simulate(
-        rt, alloc, config, selection, reader, MAX_LIMIT, &OpenGate, writer,
-    )?;
-    Ok(())
-}
-
-/// Does the same from a reader of std to a writer of std, and writes the report in one write,
-/// through a buffer.
-fn report_through_buffer<H: Threads + Wait + Sync, R: Read + Drop, W: Write + Drop>(
+/// Simulates the trace that `input` gives, and writes its report to `output` in one write, through
+/// a buffer.
+fn report<H: Threads + Wait + Sync, R: Read + Drop, W: Write + Drop>(
     rt: &H,
     alloc: Global,
     config: &Config,
@@ -89,7 +44,19 @@ fn report_through_buffer<H: Threads + Wait + Sync, R: Read + Drop, W: Write + Dr
     };
     let mut writer = FromWrite::new(output);
     let reader = FromRead::new(input);
-    report(rt, alloc, config, selection, reader, &mut writer).map_err(Fault::Run)
+    match simulate(
+        rt,
+        alloc,
+        config,
+        selection,
+        reader,
+        MAX_LIMIT,
+        &OpenGate,
+        &mut writer,
+    ) {
+        Ok(_settled) => Ok(()),
+        Err(fault) => Err(Fault::Run(fault)),
+    }
 }
 
 fn write_help(rt: &HostRuntime) -> Result<(), Fault> {
@@ -139,7 +106,7 @@ fn refuse(rt: &HostRuntime, fault: Fault) -> ExitCode {
 
 fn main(rt: HostRuntime) -> ExitCode {
     let ended = match parse_args(&rt) {
-        Ok((config, selection)) => report_through_buffer(
+        Ok((config, selection)) => report(
             &rt,
             rt.alloc(),
             &config,
