@@ -16,8 +16,8 @@ set -euo pipefail
 references=${1:-1000000}
 rounds=${2:-5}
 top=$(cd "$(dirname "$0")/.." && pwd)
-plain=$top/crates/plain_bench/out/plain_bench
-grid=$top/crates/grid_bench/out/grid_bench
+plain=$(printf '%q' "$top/crates/plain_bench/out/plain_bench")
+grid=$(printf '%q' "$top/crates/grid_bench/out/grid_bench")
 folder=$(mktemp -d)
 trap 'rm -rf "$folder"' EXIT
 
@@ -77,8 +77,9 @@ measure() {
     command -v valgrind > /dev/null || return 0
     head -n 100000 "$2" > "$folder/short"
     for index in "${!names[@]}"; do
-        read -ra words <<< "${commands[index]}"
-        all=$(instructions "$folder/short" "${words[@]}")
+        local -a command=()
+        eval "command=(${commands[index]})"
+        all=$(instructions "$folder/short" "${command[@]}")
         echo "${names[index]}: $((all / $(wc -l < "$folder/short"))) instructions a reference"
     done
 }

@@ -44,8 +44,8 @@ pub struct FromRead<R> {
 impl<R: Read> FromRead<R> {
     /// Wraps this reader, with no failure counted yet.
     pub fn new(inner: R) -> FromRead<R>
-        ensures remaining { unread_bytes R.remaining result ≡ R.remaining inner }
-        ensures failures { read_failures result ≡ 0 }
+        ensures remaining { ⟦<FromRead<R> as ByteReader>⟧.remaining result ≡ R.remaining inner }
+        ensures failures { ⟦<FromRead<R> as ByteReader>⟧.failures result ≡ 0 }
     {
         FromRead { inner, failures: 0 }
     }
@@ -93,8 +93,8 @@ pub struct FromWrite<W> {
 impl<W: Write> FromWrite<W> {
     /// Wraps this writer, with no failure counted yet.
     pub fn new(inner: W) -> FromWrite<W>
-        ensures contents { held_bytes W.contents result ≡ W.contents inner }
-        ensures failures { write_failures result ≡ 0 }
+        ensures contents { ⟦<FromWrite<W> as ByteWriter>⟧.contents result ≡ W.contents inner }
+        ensures failures { ⟦<FromWrite<W> as ByteWriter>⟧.failures result ≡ 0 }
     {
         FromWrite { inner, failures: 0 }
     }
