@@ -1,8 +1,8 @@
 -- The answer to the words of the command line.
 use Rattle.std.specs.Prelude.{◌≡◌, ◌⊎◌, ℕ, Bool, true, false, not, List, [], find, Option, Some}
-use Rattle.std.specs.Prelude.{None, is_some, option_map, unwrap_or, Result, Ok, Err}
+use Rattle.std.specs.Prelude.{None, is_some, option_map, unwrap_or, Result, Ok, Err, slice_index_or}
 use Rattle.std.specs.Option.{option_map_or}
-use Rattle.clap.specs.Words.{IsAmong, Row, Text, fault_of, first_of, matches_of, takes}
+use Rattle.clap.specs.Words.{App, IsAmong, Row, Text, fault_of, first_of, matches_of, takes}
 use Rattle.clap.specs.declared.error.kind.ErrorKind.{ErrorKind}
 use Rattle.clap.specs.declared.error.kind.ErrorKind.TheVariants as kind
 use Rattle.cache_core.specs.declared.policy.Repl.{Repl}
@@ -14,7 +14,7 @@ use Rattle.stage_core.specs.declared.config.CacheSpec.{CacheSpec}
 use Rattle.stage_core.specs.declared.config.Config.{Config}
 use Rattle.stage_core.specs.declared.selection.Selection.{Selection}
 use Rattle.dinero_options.specs.Options.{command_app, data_options, id_of}
-use Rattle.dinero_options.specs.Options.{instruction_options, kind_of_option, options}
+use Rattle.dinero_options.specs.Options.{instruction_options, kind_of_option, options, place_of}
 use Rattle.dinero_options.specs.Options.{second_level_options}
 use Rattle.dinero_options.specs.Values.{bounded_value, choice_value, count_value, replacement_value}
 use Rattle.dinero_options.specs.Values.{size_value}
@@ -31,6 +31,10 @@ use Rattle.dinero_options.specs.declared.words.WordsFault.TheVariants as fault
 -- the text of an option in clap's matches: the one that was given, or its default
 abbrev pub text_of : List Row → Opt → Text
 text_of rows x = unwrap_or (first_of (id_of x) rows) []
+
+-- the text of an option in a list of texts, one for each option in their order; empty past its end
+abbrev pub text_at : List Text → Opt → Text
+text_at texts x = slice_index_or texts (place_of x) []
 
 -- can a text be read as a value of this kind?
 abbrev pub reads_as : Kind → Text → Bool
@@ -53,72 +57,72 @@ abbrev pub refusal_by_option : Opt → WordsFault
 refusal_by_option x = refusal_by (kind_of_option x) x
 
 -- can the text of an option be read?
-unfoldable pub is_readable : List Row → Opt → Bool
-is_readable rows x = reads_as (kind_of_option x) (text_of rows x)
+unfoldable pub is_readable : (Opt → Text) → Opt → Bool
+is_readable texts x = reads_as (kind_of_option x) (texts x)
 
 -- the first of these options whose text cannot be read, if any
-abbrev pub first_unreadable : List Row → List Opt → Option Opt
-first_unreadable rows xs = find (λ x. not (is_readable rows x)) xs
+abbrev pub first_unreadable : (Opt → Text) → List Opt → Option Opt
+first_unreadable texts xs = find (λ x. not (is_readable texts x)) xs
 
 -- the value, or the fault of the first of these options that cannot be read
-unfoldable pub if_readable : {A : Type 0} → List Row → List Opt → A → Result A WordsFault
-if_readable rows xs a = option_map_or
-    (λ x. Err (refusal_by_option x)) (first_unreadable rows xs) (Ok a)
+unfoldable pub if_readable : {A : Type 0} → (Opt → Text) → List Opt → A → Result A WordsFault
+if_readable texts xs a = option_map_or
+    (λ x. Err (refusal_by_option x)) (first_unreadable texts xs) (Ok a)
 
 -- the size that an option sets, in bytes; 0 if its text cannot be read
-abbrev pub size_at : List Row → Opt → ℕ
-size_at rows x = unwrap_or (size_value (text_of rows x)) 0
+abbrev pub size_at : (Opt → Text) → Opt → ℕ
+size_at texts x = unwrap_or (size_value (texts x)) 0
 
 -- the count that an option sets; 0 if its text cannot be read
-abbrev pub count_at : List Row → Opt → ℕ
-count_at rows x = unwrap_or (count_value (text_of rows x)) 0
+abbrev pub count_at : (Opt → Text) → Opt → ℕ
+count_at texts x = unwrap_or (count_value (texts x)) 0
 
 -- the count of at most 2 ^ 40 that an option sets; 0 if its text cannot be read
-abbrev pub bounded_at : List Row → Opt → ℕ
-bounded_at rows x = unwrap_or (bounded_value (text_of rows x)) 0
+abbrev pub bounded_at : (Opt → Text) → Opt → ℕ
+bounded_at texts x = unwrap_or (bounded_value (texts x)) 0
 
 -- the replacement that an option sets; LRU if its text cannot be read
-abbrev pub replacement_at : List Row → Opt → Repl
-replacement_at rows x = unwrap_or (replacement_value (text_of rows x)) Lru
+abbrev pub replacement_at : (Opt → Text) → Opt → Repl
+replacement_at texts x = unwrap_or (replacement_value (texts x)) Lru
 
 -- the choice that an option sets: always is true, never is false; false if its text cannot be read
-abbrev pub choice_at : List Row → Opt → Bool
-choice_at rows x = unwrap_or (choice_value (text_of rows x)) false
+abbrev pub choice_at : (Opt → Text) → Opt → Bool
+choice_at texts x = unwrap_or (choice_value (texts x)) false
 
 -- write back and write allocation; both are true if a cache has no options for them
-abbrev pub write_choices : List Row → Option (Opt × Opt) → Bool × Bool
-write_choices rows None = (true, true)
-write_choices rows (Some pair) = (choice_at rows pair.0, choice_at rows pair.1)
+abbrev pub write_choices : (Opt → Text) → Option (Opt × Opt) → Bool × Bool
+write_choices texts None = (true, true)
+write_choices texts (Some pair) = (choice_at texts pair.0, choice_at texts pair.1)
 
 -- the cache that these options ask for
-abbrev pub cache_at : List Row → CacheOptions → CacheSpec
-cache_at rows c = record {
-  size = size_at rows c.size;
-  bsize = size_at rows c.bsize;
-  assoc = count_at rows c.assoc;
+abbrev pub cache_at : (Opt → Text) → CacheOptions → CacheSpec
+cache_at texts c = record {
+  size = size_at texts c.size;
+  bsize = size_at texts c.bsize;
+  assoc = count_at texts c.assoc;
   policy = record {
-    repl = replacement_at rows c.repl;
-    wback = (write_choices rows c.write).0;
-    walloc = (write_choices rows c.write).1;
+    repl = replacement_at texts c.repl;
+    wback = (write_choices texts c.write).0;
+    walloc = (write_choices texts c.write).1;
   };
 }
 
 -- which references are simulated, and where flushes are inserted
-abbrev pub selection_at : List Row → Selection
-selection_at rows = record {
-  skip = bounded_at rows o.Skipcount;
-  max = bounded_at rows o.Maxcount;
-  every = bounded_at rows o.Flushcount;
+abbrev pub selection_at : (Opt → Text) → Selection
+selection_at texts = record {
+  skip = bounded_at texts o.Skipcount;
+  max = bounded_at texts o.Maxcount;
+  every = bounded_at texts o.Flushcount;
 }
 
 -- all settings that the words ask for
-abbrev pub settings_at : List Row → Settings
-settings_at rows = record {
-  i = cache_at rows instruction_options;
-  d = cache_at rows data_options;
-  u = cache_at rows second_level_options;
-  ring = count_at rows o.Ring;
-  selection = selection_at rows;
+abbrev pub settings_at : (Opt → Text) → Settings
+settings_at texts = record {
+  i = cache_at texts instruction_options;
+  d = cache_at texts data_options;
+  u = cache_at texts second_level_options;
+  ring = count_at texts o.Ring;
+  selection = selection_at texts;
 }
 
 -- the configuration has these settings
@@ -142,13 +146,24 @@ Follows (Ok w) r = Configures w r
 -- the answer to clap's matches: the fault of the first option that cannot be read, or else the
 -- answer to the settings
 abbrev pub AnswersRows : List Row → Result (Config × Selection) WordsFault → Type 0
-AnswersRows rows r = Follows (if_readable rows options (settings_at rows)) r
+AnswersRows rows r = let texts = text_of rows in
+    Follows (if_readable texts options (settings_at texts)) r
 
 -- the fault if clap refuses the words for this reason
 abbrev pub refusal_by_kind : ErrorKind → WordsFault
 refusal_by_kind kind.DisplayHelp = fault.Help
 refusal_by_kind kind.OutOfMemory = fault.Memory
 refusal_by_kind _ = fault.Words
+
+-- clap accepts the words for this command, and these are its matches
+abbrev pub AcceptsWords : App → List Text → List Row → Type 0
+AcceptsWords app words rows = (fault_of app words ≡ []) × (rows ≡ matches_of app words)
+
+-- why words are refused for a command: `Memory`, or one of the reasons for which clap refuses them
+abbrev pub RefusesWords : App → List Text → WordsFault → Type 0
+RefusesWords app words f = (f ≡ fault.Memory)
+    ⊎ ((k : ErrorKind) × (takes app words ≡ false) × IsAmong k (fault_of app words)
+    × (f ≡ refusal_by_kind k))
 
 -- the answer to the words: `Memory`; or the answer to clap's matches, if clap accepts the words; or
 -- else the fault for one of the reasons for which clap refuses them

@@ -1,5 +1,5 @@
 -- The options of the command line, and the command that clap parses them with.
-use Rattle.std.specs.Prelude.{◌≡◌, ⊤, List, [], ◌∷◌, ◌++◌, fold, codes, true, Option, Some, None}
+use Rattle.std.specs.Prelude.{ℕ, List, [], ◌∷◌, ◌++◌, fold, codes, true, Option, Some, None}
 use Rattle.std.specs.Prelude.{is_none}
 use Rattle.std.specs.Option.{option_map_or}
 use Rattle.clap.specs.Words.{App, Rule, Text, new_app, new_rule, with_rule}
@@ -64,6 +64,29 @@ abbrev pub options : List Opt
 options = cache_options instruction_options ++ (cache_options data_options ++
     (cache_options second_level_options ++ Ring ∷ selection_options))
 
+-- the place of an option among all options
+abbrev pub place_of : Opt → ℕ
+place_of L1Isize = 0
+place_of L1Ibsize = 1
+place_of L1Iassoc = 2
+place_of L1Irepl = 3
+place_of L1Dsize = 4
+place_of L1Dbsize = 5
+place_of L1Dassoc = 6
+place_of L1Drepl = 7
+place_of L1Dwback = 8
+place_of L1Dwalloc = 9
+place_of L2Usize = 10
+place_of L2Ubsize = 11
+place_of L2Uassoc = 12
+place_of L2Urepl = 13
+place_of L2Uwback = 14
+place_of L2Uwalloc = 15
+place_of Ring = 16
+place_of Skipcount = 17
+place_of Maxcount = 18
+place_of Flushcount = 19
+
 -- an option without its hyphens
 abbrev pub id_of : Opt → Text
 id_of L1Isize = codes "l1-isize"
@@ -114,19 +137,6 @@ kind_of_option Skipcount = Bounded
 kind_of_option Maxcount = Bounded
 kind_of_option Flushcount = Bounded
 
--- the options for writes, if there are any, have the kind `Choice`
-abbrev pub HaveChoices : Option (Opt × Opt) → Type 0
-HaveChoices None = ⊤
-HaveChoices (Some pair) = (kind_of_option pair.0 ≡ Choice) × (kind_of_option pair.1 ≡ Choice)
-
--- each option of a cache has the kind that its place needs
-pub record HasTheirKinds (c : CacheOptions) : Type 0 where
-  pub size : kind_of_option c.size ≡ Size
-  pub bsize : kind_of_option c.bsize ≡ Size
-  pub assoc : kind_of_option c.assoc ≡ Count
-  pub repl : kind_of_option c.repl ≡ Replacement
-  pub write : HaveChoices c.write
-
 -- the default of an option of this kind; an option without a default is required
 abbrev pub default_by : Kind → Option Text
 default_by Size = None
@@ -149,14 +159,18 @@ rule_of_option option = record (new_rule (id_of option)) {
   required = is_none (default_of option);
 }
 
--- a command without options; its words do not include the program's name
-abbrev pub bare_app : App
-bare_app = let app = new_app (codes "dinero_pipe") in record app {
+-- the command of a program without options; its words do not include the program's name
+abbrev pub bare_app : Text → App
+bare_app name = let app = new_app name in record app {
   top = record app.top {
     no_binary_name = true;
   };
 }
 
+-- a command, and these options added to it in turn
+abbrev pub with_options : App → List Opt → App
+with_options app xs = fold (λ a x. with_rule a (rule_of_option x)) app xs
+
 -- the command with all options
 abbrev pub command_app : App
-command_app = fold (λ app option. with_rule app (rule_of_option option)) bare_app options
+command_app = with_options (bare_app (codes "dinero_pipe")) options

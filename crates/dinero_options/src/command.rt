@@ -2,7 +2,7 @@
 
 ghost use Rattle.std.specs.Prelude.{◌≡◌, IfOk, false};
 ghost use Rattle.clap.specs.Words.{app_of, rule_of};
-ghost use Rattle.dinero_options.specs.Options.{command_app, rule_of_option};
+ghost use Rattle.dinero_options.specs.Options.{command_app, rule_of_option, with_options};
 
 use crate::help::{about, heading, help, more, usage, value_name};
 use crate::opt::Opt;
@@ -29,19 +29,30 @@ fn argument<'a>(alloc: Global, option: Opt) -> Arg<'a>
     }
 }
 
+/// The command, and these options added to it in turn, with their help.
+pub fn add_options<'a>(
+    alloc: Global,
+    mut command: Command<'a>,
+    options: &[Opt],
+) -> Result<Command<'a>, AllocError>
+    ensures { IfOk result (λ c. app_of c ≡ with_options (app_of command.entry) options.now) }
+{
+    for option in options {
+        command = command.arg(argument(alloc, *option))?;
+    }
+    Ok(command)
+}
+
 /// The command with all options.
 pub(crate) fn command<'a>(alloc: Global) -> Result<Command<'a>, AllocError>
     ensures { IfOk result (λ c. app_of c ≡ command_app) }
 {
-    let mut command = Command::new(alloc, "dinero_pipe")
+    let command = Command::new(alloc, "dinero_pipe")
         .about(about())
         .override_usage(usage())
         .after_help(more())
         .no_binary_name(true);
-    for option in Opt::ALL {
-        command = command.arg(argument(alloc, option))?;
-    }
-    Ok(command)
+    add_options(alloc, command, &Opt::ALL)
 }
 
 /// The text of the help, laid out by clap. The contract says nothing about the text.

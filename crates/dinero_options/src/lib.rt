@@ -5,9 +5,14 @@
 //! writes what is wrong with refused words.
 //!
 //! The modules: `opt` has the names of the options, and `help` says what each one sets. `command`
-//! gives them to clap. `values` reads a size, a count or a letter. `settings` reads the options in
-//! their order, and `words` turns the words into a valid configuration and a selection. `refusal`
-//! has the text of each refusal.
+//! gives them to clap. `values` reads a size, a count or a letter. `texts` takes the text of each
+//! option from clap's matches, and tells which can be read. `settings` reads a text for each
+//! option, and `words` turns the words into a valid configuration and a selection. `refusal` has
+//! the text of each refusal.
+//!
+//! A program whose options are some of these, or that reads many texts for an option, builds on the
+//! same steps: [`add_options`], [`take_words`], [`matched_text`], [`can_read`], [`unread_fault`],
+//! [`settings_in`].
 //!
 //! Proved: the answer to the words is the one that `specs/Answer` defines, with clap's contracts
 //! for the matches. If the words are refused, the fault is the first one by those definitions, or
@@ -20,11 +25,14 @@ mod help;
 mod opt;
 mod refusal;
 mod settings;
+mod texts;
 mod values;
 mod words;
 
-pub use command::{NoMemory, help_text};
+pub use command::{NoMemory, add_options, help_text};
 pub use opt::Opt;
 pub use refusal::put_words;
+pub use settings::{Settings, settings_in};
+pub use texts::{can_read, listed_text, matched_text, unread_fault};
 pub use values::{read_count, read_size};
-pub use words::{WordsFault, parse_words};
+pub use words::{WordsFault, parse_words, take_words};

@@ -2,6 +2,7 @@
 
 ghost use Rattle.std.specs.Prelude.{◌≡◌, option_map};
 ghost use Rattle.dinero_options.specs.Options.{default_of, id_of, kind_of_option, name_of};
+ghost use Rattle.dinero_options.specs.Options.{place_of};
 
 /// An option. The variants are in the order in which the options are read: those of the instruction
 /// cache, of the data cache and of the second level, the capacity of the rings, and the selection.
@@ -89,8 +90,15 @@ impl Opt {
         }
     }
 
+    /// The place of the option among all options.
+    pub fn place(self) -> usize
+        ensures { result ≡ place_of self }
+    {
+        self as usize
+    }
+
     /// The option without its hyphens.
-    pub(crate) fn id<'a>(self) -> &'a str
+    pub fn id<'a>(self) -> &'a str
         ensures { result.now ≡ id_of self }
     {
         self.long().strip_prefix("--").unwrap_or("")
@@ -115,7 +123,7 @@ impl Opt {
     }
 
     /// The default of the option. An option without a default is required.
-    pub(crate) fn default<'a>(self) -> Option<&'a str>
+    pub fn default<'a>(self) -> Option<&'a str>
         ensures { option_map (λ s. s.now) result ≡ default_of self }
     {
         match (self, self.kind()) {

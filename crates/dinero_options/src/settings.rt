@@ -1,20 +1,15 @@
-//! The settings that the words ask for, read from clap's matches option by option.
+//! The settings that texts ask for, one text for each option.
 
-ghost use Rattle.std.specs.Prelude.{◌≡◌, IfErr, IfOk, None, Some};
-ghost use Rattle.std.specs.Fn.{FnOnceReturnsAt};
-ghost use Rattle.clap.specs.Words.{found_of, rows_of};
+ghost use Rattle.std.specs.Prelude.{◌≡◌, ◌≤◌, ◌^◌, map};
 ghost use Rattle.stage_core.specs.Events.{IsBounded};
-ghost use Rattle.dinero_options.specs.Answer.{cache_at, if_readable, refusal_by_option};
-ghost use Rattle.dinero_options.specs.Answer.{selection_at};
-ghost use Rattle.dinero_options.specs.Answer.{settings_at, text_of, write_choices};
-ghost use Rattle.dinero_options.specs.Options.{HasTheirKinds, HaveChoices, cache_options, options};
-ghost use Rattle.dinero_options.specs.Options.{selection_options, write_options};
+ghost use Rattle.dinero_options.specs.Answer.{bounded_at, cache_at, choice_at, count_at};
+ghost use Rattle.dinero_options.specs.Answer.{replacement_at, selection_at, settings_at, size_at};
+ghost use Rattle.dinero_options.specs.Answer.{text_at, write_choices};
 
-use crate::opt::{CacheOptions, Kind, Opt};
+use crate::opt::{CacheOptions, Opt};
+use crate::texts::listed_text;
 use crate::values::{read_bounded, read_choice, read_count, read_replacement, read_size};
-use crate::words::WordsFault;
-use cache_core::Policy;
-use clap::ArgMatches;
+use cache_core::{Policy, Repl};
 use stage_core::{CacheSpec, Selection};
 
 /// All settings that the words ask for. The caches and the rings may still break a rule.
@@ -27,115 +22,95 @@ pub struct Settings {
     pub selection: Selection,
 }
 
-/// The fault of an option whose text cannot be read.
-fn refusal(option: Opt) -> WordsFault
-    ensures { result ≡ refusal_by_option option }
+/// The size that an option sets, in bytes; 0 if its text cannot be read.
+fn size_in(texts: &[&str], option: Opt) -> u64
+    ensures { result ≡ size_at (text_at (map (λ t. t.now) texts.now)) option }
 {
-    match option.kind() {
-        Kind::Size | Kind::Count | Kind::Bounded => WordsFault::Number(option),
-        Kind::Replacement | Kind::Choice => WordsFault::Choice(option),
+    read_size(listed_text(texts, option)).unwrap_or(0)
+}
+
+/// The count that an option sets; 0 if its text cannot be read.
+fn count_in(texts: &[&str], option: Opt) -> u64
+    ensures { result ≡ count_at (text_at (map (λ t. t.now) texts.now)) option }
+{
+    read_count(listed_text(texts, option)).unwrap_or(0)
+}
+
+/// The count of at most 2^40 that an option sets; 0 if its text cannot be read.
+fn bounded_in(texts: &[&str], option: Opt) -> u64
+    ensures value { result ≡ bounded_at (text_at (map (λ t. t.now) texts.now)) option }
+    ensures bound { result ≤ 2 ^ 40 }
+{
+    match read_bounded(listed_text(texts, option)) {
+        Some(count) => count,
+        None => 0,
     }
 }
 
-/// The text of an option: the one that was given, or its default.
-fn text_in<'a>(matches: &ArgMatches<'a>, option: Opt) -> &'a str
-    ensures { result.now ≡ text_of (rows_of (found_of matches.now)) option }
+/// The replacement that an option sets; LRU if its text cannot be read.
+fn replacement_in(texts: &[&str], option: Opt) -> Repl
+    ensures { result ≡ replacement_at (text_at (map (λ t. t.now) texts.now)) option }
 {
-    match matches.get_str(option.id()) {
-        Some(text) => text,
-        None => "",
-    }
+    read_replacement(listed_text(texts, option)).unwrap_or(Repl::Lru)
 }
 
-/// The value that `read` gives for the text of an option, or the fault of that option.
-fn value_in<T, F: FnOnce(&str) -> Option<T>>(
-    matches: &ArgMatches,
-    option: Opt,
-    read: F,
-) -> Result<T, WordsFault>
-    requires { F.IsAlwaysCallable read }
-    ensures ok { let text = text_of (rows_of (found_of matches.now)) option in
-        IfOk result (λ v. FnOnceReturnsAt F.FnOnce read text (Some v)) }
-    ensures err { let text = text_of (rows_of (found_of matches.now)) option in
-        IfErr result (λ e. FnOnceReturnsAt F.FnOnce read text None
-        × (e ≡ refusal_by_option option)) }
+/// The choice that an option sets; false if its text cannot be read.
+fn choice_in(texts: &[&str], option: Opt) -> bool
+    ensures { result ≡ choice_at (text_at (map (λ t. t.now) texts.now)) option }
 {
-    match read(text_in(matches, option)) {
-        Some(value) => Ok(value),
-        None => Err(refusal(option)),
-    }
+    read_choice(listed_text(texts, option)).unwrap_or(false)
 }
 
 /// Write back and write allocation. Both are true for a cache without options for them, which gets
 /// no write.
-fn read_write_choices(
-    matches: &ArgMatches,
-    write: Option<(Opt, Opt)>,
-) -> Result<(bool, bool), WordsFault>
-    requires { HaveChoices write }
-    ensures { let rows = rows_of (found_of matches.now) in
-        result ≡ if_readable rows (write_options write) (write_choices rows write) }
+fn write_choices_in(texts: &[&str], write: Option<(Opt, Opt)>) -> (bool, bool)
+    ensures { result ≡ write_choices (text_at (map (λ t. t.now) texts.now)) write }
 {
     match write {
-        None => Ok((true, true)),
-        Some(pair) => {
-            let wback = value_in(matches, pair.0, read_choice)?;
-            let walloc = value_in(matches, pair.1, read_choice)?;
-            Ok((wback, walloc))
-        }
+        None => (true, true),
+        Some(pair) => (choice_in(texts, pair.0), choice_in(texts, pair.1)),
     }
 }
 
-fn read_cache(matches: &ArgMatches, options: CacheOptions) -> Result<CacheSpec, WordsFault>
-    requires { HasTheirKinds options }
-    ensures { let rows = rows_of (found_of matches.now) in
-        result ≡ if_readable rows (cache_options options) (cache_at rows options) }
+fn cache_in(texts: &[&str], options: CacheOptions) -> CacheSpec
+    ensures { result ≡ cache_at (text_at (map (λ t. t.now) texts.now)) options }
 {
-    let size = value_in(matches, options.size, read_size)?;
-    let bsize = value_in(matches, options.bsize, read_size)?;
-    let assoc = value_in(matches, options.assoc, read_count)?;
-    let repl = value_in(matches, options.repl, read_replacement)?;
-    let write = read_write_choices(matches, options.write)?;
-    let policy = Policy {
-        repl,
-        wback: write.0,
-        walloc: write.1,
-    };
-    Ok(CacheSpec {
-        size,
-        bsize,
-        assoc,
-        policy,
-    })
+    let write = write_choices_in(texts, options.write);
+    CacheSpec {
+        size: size_in(texts, options.size),
+        bsize: size_in(texts, options.bsize),
+        assoc: count_in(texts, options.assoc),
+        policy: Policy {
+            repl: replacement_in(texts, options.repl),
+            wback: write.0,
+            walloc: write.1,
+        },
+    }
 }
 
-fn read_selection(matches: &ArgMatches) -> Result<Selection, WordsFault>
-    ensures value { let rows = rows_of (found_of matches.now) in
-        result ≡ if_readable rows selection_options (selection_at rows) }
-    ensures bound { IfOk result IsBounded }
+fn selection_in(texts: &[&str]) -> Selection
+    ensures value { result ≡ selection_at (text_at (map (λ t. t.now) texts.now)) }
+    ensures bound { IsBounded result }
 {
-    let skip = value_in(matches, Opt::Skipcount, read_bounded)?;
-    let max = value_in(matches, Opt::Maxcount, read_bounded)?;
-    let every = value_in(matches, Opt::Flushcount, read_bounded)?;
-    Ok(Selection { skip, max, every })
+    Selection {
+        skip: bounded_in(texts, Opt::Skipcount),
+        max: bounded_in(texts, Opt::Maxcount),
+        every: bounded_in(texts, Opt::Flushcount),
+    }
 }
 
-/// Reads the options in their order, up to the first that cannot be read.
-pub(crate) fn read_settings(matches: &ArgMatches) -> Result<Settings, WordsFault>
-    ensures value { let rows = rows_of (found_of matches.now) in
-        result ≡ if_readable rows options (settings_at rows) }
-    ensures bound { IfOk result (λ s. IsBounded s.selection) }
+/// The settings that a list of texts asks for, which has a text for each option in their order. A
+/// text that cannot be read sets what the definitions name; [`can_read`](crate::can_read) tells
+/// whether there is one.
+pub fn settings_in(texts: &[&str]) -> Settings
+    ensures value { result ≡ settings_at (text_at (map (λ t. t.now) texts.now)) }
+    ensures bound { IsBounded result.selection }
 {
-    let i = read_cache(matches, CacheOptions::INSTRUCTION)?;
-    let d = read_cache(matches, CacheOptions::DATA)?;
-    let u = read_cache(matches, CacheOptions::SECOND_LEVEL)?;
-    let ring = value_in(matches, Opt::Ring, read_count)?;
-    let selection = read_selection(matches)?;
-    Ok(Settings {
-        i,
-        d,
-        u,
-        ring,
-        selection,
-    })
+    Settings {
+        i: cache_in(texts, CacheOptions::INSTRUCTION),
+        d: cache_in(texts, CacheOptions::DATA),
+        u: cache_in(texts, CacheOptions::SECOND_LEVEL),
+        ring: count_in(texts, Opt::Ring),
+        selection: selection_in(texts),
+    }
 }

@@ -1,15 +1,18 @@
 //! From the words after the program's name to a configuration and a selection.
 
-ghost use Rattle.std.specs.Prelude.{◌≡◌, IfOk, map, string_bytes};
-ghost use Rattle.clap.specs.Words.{found_of, rows_of};
+ghost use Rattle.std.specs.Prelude.{◌≡◌, IfErr, IfOk, map, string_bytes, true};
+ghost use Rattle.clap.specs.Words.{app_of, found_of, is_simple, is_simple_and_free, rows_of};
 ghost use Rattle.stage_core.specs.Events.{IsBounded};
-ghost use Rattle.dinero_options.specs.Answer.{AnswersRows, AnswersWords, refusal_by_kind};
+ghost use Rattle.dinero_options.specs.Answer.{AcceptsWords, AnswersWords, Follows, RefusesWords};
+ghost use Rattle.dinero_options.specs.Answer.{if_readable, refusal_by_kind, settings_at, text_at};
+ghost use Rattle.dinero_options.specs.Options.{options};
 
 use crate::command::command;
 use crate::opt::Opt;
-use crate::settings::read_settings;
-use clap::ArgMatches;
+use crate::settings::{Settings, settings_in};
+use crate::texts::{first_unread, matched_texts, unread_fault};
 use clap::error::ErrorKind;
+use clap::{ArgMatches, Command};
 use stage_core::{Config, ConfigFault, Selection};
 use std::alloc::Global;
 
@@ -33,18 +36,6 @@ pub enum WordsFault {
     Memory,
 }
 
-/// The configuration and the selection that clap's matches ask for.
-fn answer(matches: &ArgMatches) -> Result<(Config, Selection), WordsFault>
-    ensures value { AnswersRows (rows_of (found_of matches.now)) result }
-    ensures bound { IfOk result (λ p. IsBounded p.1) }
-{
-    let settings = read_settings(matches)?;
-    match Config::new(settings.i, settings.d, settings.u, settings.ring) {
-        Ok(config) => Ok((config, settings.selection)),
-        Err(fault) => Err(WordsFault::Config(fault)),
-    }
-}
-
 /// The fault if clap refuses the words for this reason.
 fn refusal(kind: ErrorKind) -> WordsFault
     ensures { result ≡ refusal_by_kind kind }
@@ -53,6 +44,50 @@ fn refusal(kind: ErrorKind) -> WordsFault
         ErrorKind::DisplayHelp => WordsFault::Help,
         ErrorKind::OutOfMemory => WordsFault::Memory,
         _ => WordsFault::Words,
+    }
+}
+
+/// What clap finds in the words, or why they are refused.
+pub fn take_words<'a>(
+    command: Command<'a>,
+    words: &'a [String],
+) -> Result<ArgMatches<'a>, WordsFault>
+    requires simple { is_simple (app_of command) ≡ true }
+    requires free { is_simple_and_free (app_of command) ≡ true }
+    ensures ok { IfOk result (λ m.
+        AcceptsWords (app_of command.entry) (map string_bytes words.now) (rows_of (found_of m))) }
+    ensures err { IfErr result (λ f.
+        RefusesWords (app_of command.entry) (map string_bytes words.now) f) }
+{
+    match command.try_get_matches_from(words) {
+        Ok(matches) => Ok(matches),
+        Err(error) => Err(refusal(error.kind())),
+    }
+}
+
+/// The settings that texts ask for, one text for each option in their order, up to the first that
+/// cannot be read.
+fn read_settings(texts: &[&str]) -> Result<Settings, WordsFault>
+    ensures value { let by = text_at (map (λ t. t.now) texts.now) in
+        result ≡ if_readable by options (settings_at by) }
+    ensures bound { IfOk result (λ s. IsBounded s.selection) }
+{
+    match first_unread(texts) {
+        Some(option) => Err(unread_fault(option)),
+        None => Ok(settings_in(texts)),
+    }
+}
+
+/// The configuration and the selection that texts ask for.
+fn answer(texts: &[&str]) -> Result<(Config, Selection), WordsFault>
+    ensures value { let by = text_at (map (λ t. t.now) texts.now) in
+        Follows (if_readable by options (settings_at by)) result }
+    ensures bound { IfOk result (λ p. IsBounded p.1) }
+{
+    let settings = read_settings(texts)?;
+    match Config::new(settings.i, settings.d, settings.u, settings.ring) {
+        Ok(config) => Ok((config, settings.selection)),
+        Err(fault) => Err(WordsFault::Config(fault)),
     }
 }
 
@@ -65,8 +100,13 @@ pub fn parse_words(alloc: Global, words: &[String]) -> Result<(Config, Selection
     let Ok(command) = command(alloc) else {
         return Err(WordsFault::Memory);
     };
-    match command.try_get_matches_from(words) {
-        Ok(matches) => answer(&matches),
-        Err(error) => Err(refusal(error.kind())),
+    match take_words(command, words) {
+        Ok(matches) => {
+            let Ok(texts) = matched_texts(alloc, &matches) else {
+                return Err(WordsFault::Memory);
+            };
+            answer(texts.as_slice())
+        }
+        Err(fault) => Err(fault),
     }
 }

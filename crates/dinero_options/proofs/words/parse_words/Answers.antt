@@ -1,8 +1,8 @@
-use Rattle.std.proofs.Common.{◌≡◌, ◌∙◌, ap, refl, true}
-use Rattle.clap.specs.Words.{is_simple, is_simple_and_free}
-use Rattle.dinero_options.specs.Answer.{refusal_by_kind}
+use Rattle.std.proofs.Common.{◌≡◌, ◌∙◌, ap, refl, subst, map, string_bytes, true}
+use Rattle.clap.specs.Words.{found_of, is_simple, is_simple_and_free, rows_of}
+use Rattle.dinero_options.specs.Answer.{AcceptsWords, RefusesWords}
 use Rattle.dinero_options.specs.Options.{command_app}
-use Rattle.dinero_options.proofs.AnswerLemmas.{answers_refusal, answers_matches}
+use Rattle.dinero_options.proofs.AnswerLemmas.{answers_refusal, answers_texts}
 use Rattle.dinero_options.proofs.words.parse_words.Goals as goal
 
 -- the command is simple, so the contracts of clap say what its matches and faults are
@@ -12,14 +12,23 @@ plain = refl
 free : is_simple_and_free command_app ≡ true
 free = refl
 
-pub returns-in-Ok-try_get_matches_from-clause-answer :
-    goal.returns-in-Ok-try_get_matches_from-clause-answer
-returns-in-Ok-try_get_matches_from-clause-answer c =
-    let m = c.in-Ok-try_get_matches_from in
-    answers_matches _ _ m.matches c.answer.result c.in-Ok.ensures plain free m.ensures.matches
-    m.ensures.kinds c.answer.ensures.value
+pub take_words-requires-clause-simple : goal.take_words-requires-clause-simple
+take_words-requires-clause-simple c = ap is_simple c.in-Ok.ensures ∙ plain
+
+pub take_words-requires-clause-free : goal.take_words-requires-clause-free
+take_words-requires-clause-free c = ap is_simple_and_free c.in-Ok.ensures ∙ free
 
 pub returns-in-Err-clause-answer : goal.returns-in-Err-clause-answer
 returns-in-Err-clause-answer c =
-    answers_refusal _ _ c.in-Err.error c.refusal.result c.in-Ok.ensures free c.in-Err.ensures.passes
-    c.in-Err.ensures.kinds (c.refusal.ensures ∙ ap refusal_by_kind c.kind.ensures)
+    let words = map string_bytes c.args.words.now in
+    answers_refusal words c.in-Err.fault
+    (subst (λ a. RefusesWords a words c.in-Err.fault) c.in-Ok.ensures c.in-Err.ensures.err)
+
+pub returns-in-Ok-matched_texts-clause-answer : goal.returns-in-Ok-matched_texts-clause-answer
+returns-in-Ok-matched_texts-clause-answer c =
+    let words = map string_bytes c.args.words.now in
+    let rows = rows_of (found_of c.in-Ok-take_words.matches) in
+    answers_texts words rows (map (λ t. t.now) c.as_slice.result.now) c.answer.result
+    (subst (λ a. AcceptsWords a words rows) c.in-Ok.ensures c.in-Ok-take_words.ensures.ok)
+    (ap (map (λ t. t.now)) c.as_slice.ensures.value ∙ c.in-Ok-matched_texts.ensures)
+    c.answer.ensures.value
