@@ -1,0 +1,2 @@
+pub mod Grid
+pub mod Refusals

@@ -1,0 +1,29 @@
+//! The words of a command line that ask for a grid: many configurations, from lists of values.
+//!
+//! [`parse_grid_words`] reads the words after a program's name, and answers the grid that they ask
+//! for, or why they give none. [`grid_help_text`] is the help, and [`put_grid_words`] writes what
+//! is wrong with refused words. The options, their values and most refusals are those of the
+//! library dinero_options.
+//!
+//! The modules: `options` says which options there are and which may have a list. `command` gives
+//! them to clap, and `help` has the texts around them. `values` cuts a text into its values,
+//! `product` makes the points of the grid, and `grid` reads each. `words` turns the words into the
+//! grid, and `refusal` has the text of each refusal.
+//!
+//! Proved: the answer to the words is the one that `specs/Grid` defines, with clap's contracts for
+//! the matches. Only tested: the text of the help.
+#![tactic(auto)]
+
+mod command;
+mod grid;
+mod help;
+mod options;
+mod product;
+mod refusal;
+mod values;
+mod words;
+
+pub use command::grid_help_text;
+pub use grid::{GridPoint, ParsedGrid};
+pub use refusal::put_grid_words;
+pub use words::{GridWordsFault, parse_grid_words};

@@ -1,0 +1,98 @@
+//! The points of a grid: every choice of one value for each option.
+
+ghost use Rattle.std.specs.Prelude.{◌≡◌, ◌⊎◌, ◌<◌, ◌≤◌, ◌∷◌, ◌++◌, [], IfErr, IfOk, OnOk};
+ghost use Rattle.std.specs.Prelude.{length, map};
+ghost use Rattle.clap.specs.Words.{found_of, rows_of};
+ghost use Rattle.grid_options.specs.Grid.{extended, memory, points_of};
+ghost use Rattle.grid_options.specs.declared.words.GridWordsFault.TheVariants.{TooMany};
+
+use crate::values::values_in;
+use crate::words::{GridWordsFault, MEMORY};
+use clap::ArgMatches;
+use dinero_options::Opt;
+use std::alloc::{AllocError, Global};
+
+/// The most configurations that a grid may have.
+const MOST: usize = 4096;
+
+/// The point, and this value behind it.
+fn longer<'a>(alloc: Global, point: &[&'a str], value: &'a str) -> Result<Vec<&'a str>, AllocError>
+    ensures { IfOk result (λ v. map (λ t. t.now) v.items
+        ≡ map (λ t. t.now) point.now ++ value.now ∷ []) }
+{
+    let mut texts = Vec::new(alloc);
+    texts.extend_from_slice(point)?;
+    texts.push(value)?;
+    Ok(texts)
+}
+
+/// Adds the point with each of these values behind it.
+fn add_points<'a>(
+    alloc: Global,
+    points: &mut Vec<Vec<&'a str>>,
+    point: &[&'a str],
+    values: &[&'a str],
+) -> Result<(), AllocError>
+    ensures { OnOk result (map (λ p. map (λ t. t.now) p.items) points.new.items
+        ≡ map (λ p. map (λ t. t.now) p.items) points.old.items
+        ++ map (λ v. map (λ t. t.now) point.now ++ v ∷ []) (map (λ t. t.now) values.now)) }
+{
+    for value in values {
+        points.push(longer(alloc, point, *value)?)?;
+    }
+    Ok(())
+}
+
+/// Every point with each of these values behind it, in order.
+fn extend<'a>(
+    alloc: Global,
+    points: &[Vec<&'a str>],
+    values: &[&'a str],
+) -> Result<Vec<Vec<&'a str>>, AllocError>
+    ensures { IfOk result (λ v. map (λ p. map (λ t. t.now) p.items) v.items
+        ≡ extended (map (λ p. map (λ t. t.now) p.items) points.now) (map (λ t. t.now) values.now)) }
+{
+    let mut made = Vec::new(alloc);
+    for point in points {
+        add_points(alloc, &mut made, point.as_slice(), values)?;
+    }
+    Ok(made)
+}
+
+/// The one point that has no value yet.
+fn origin<'a>(alloc: Global) -> Result<Vec<Vec<&'a str>>, AllocError>
+    ensures { IfOk result (λ v. map (λ p. map (λ t. t.now) p.items) v.items ≡ [] ∷ []) }
+{
+    let mut points = Vec::new(alloc);
+    points.push(Vec::new(alloc))?;
+    Ok(points)
+}
+
+/// All points of the grid that clap's matches ask for, each with a text for each option.
+pub(crate) fn points_in<'a>(
+    alloc: Global,
+    matches: &ArgMatches<'a>,
+) -> Result<Vec<Vec<&'a str>>, GridWordsFault>
+    ensures points { IfOk result (λ v. map (λ p. map (λ t. t.now) p.items) v.items
+        ≡ points_of (rows_of (found_of matches.now))) }
+    ensures few { OnOk result (length (points_of (rows_of (found_of matches.now))) ≤ 4096) }
+    ensures fault { IfErr result (λ f. (f ≡ memory)
+        ⊎ ((f ≡ TooMany) × (4096 < length (points_of (rows_of (found_of matches.now)))))) }
+{
+    let Ok(mut points) = origin(alloc) else {
+        return Err(MEMORY);
+    };
+    for option in Opt::ALL {
+        let Ok(values) = values_in(alloc, matches, option) else {
+            return Err(MEMORY);
+        };
+        if values.len() > MOST || points.len() * values.len() > MOST {
+            return Err(GridWordsFault::TooMany);
+        }
+        let Ok(made) = extend(alloc, points.as_slice(), values.as_slice()) else {
+            return Err(MEMORY);
+        };
+        points = made;
+    }
+    Ok(points)
+}

@@ -1,0 +1,94 @@
+//! The values of each option.
+
+ghost use Rattle.std.specs.Prelude.{◌≡◌, ◌∷◌, [], IfOk, map};
+ghost use Rattle.std.specs.List.{list_all};
+ghost use Rattle.clap.specs.Words.{found_of, rows_of};
+ghost use Rattle.dinero_options.specs.Answer.{reads_as};
+ghost use Rattle.dinero_options.specs.Options.{kind_of_option, options};
+ghost use Rattle.grid_options.specs.Grid.{first_unreadable, grid_text, pieces, values_of, varied};
+
+use crate::options::{is_ring, takes_list};
+use clap::ArgMatches;
+use dinero_options::{Opt, can_read, matched_text};
+use std::alloc::{AllocError, Global};
+
+/// The text of an option in clap's matches; of the rings, their default.
+fn grid_text<'a>(matches: &ArgMatches<'a>, option: Opt) -> &'a str
+    ensures { result.now ≡ grid_text (rows_of (found_of matches.now)) option }
+{
+    if is_ring(option) {
+        option.default().unwrap_or("")
+    } else {
+        matched_text(matches, option)
+    }
+}
+
+/// The pieces of a text between its commas.
+fn pieces<'a>(alloc: Global, text: &'a str) -> Result<Vec<&'a str>, AllocError>
+    ensures { IfOk result (λ v. map (λ t. t.now) v.items ≡ pieces text.now) }
+{
+    text.split(',').collect(alloc)
+}
+
+fn alone<'a>(alloc: Global, text: &'a str) -> Result<Vec<&'a str>, AllocError>
+    ensures { IfOk result (λ v. map (λ t. t.now) v.items ≡ text.now ∷ []) }
+{
+    let mut values = Vec::new(alloc);
+    values.push(text)?;
+    Ok(values)
+}
+
+/// The values of an option: one for each piece of its text, if it may be a list.
+pub(crate) fn values_in<'a>(
+    alloc: Global,
+    matches: &ArgMatches<'a>,
+    option: Opt,
+) -> Result<Vec<&'a str>, AllocError>
+    ensures { IfOk result (λ v. map (λ t. t.now) v.items
+        ≡ values_of (rows_of (found_of matches.now)) option) }
+{
+    let text = grid_text(matches, option);
+    if takes_list(option) {
+        pieces(alloc, text)
+    } else {
+        alone(alloc, text)
+    }
+}
+
+fn can_read_all(option: Opt, values: &[&str]) -> bool
+    ensures { result ≡ list_all (reads_as (kind_of_option option)) (map (λ t. t.now) values.now) }
+{
+    for value in values {
+        if !can_read(option, *value) {
+            return false;
+        }
+    }
+    true
+}
+
+/// The first option one of whose values cannot be read.
+pub(crate) fn first_unread(alloc: Global, matches: &ArgMatches) -> Result<Option<Opt>, AllocError>
+    ensures { IfOk result (λ first. first ≡ first_unreadable (rows_of (found_of matches.now))) }
+{
+    for option in Opt::ALL {
+        let values = values_in(alloc, matches, option)?;
+        if !can_read_all(option, values.as_slice()) {
+            return Ok(Some(option));
+        }
+    }
+    Ok(None)
+}
+
+/// The options with two or more values, in their order.
+pub(crate) fn varied(alloc: Global, matches: &ArgMatches) -> Result<Vec<Opt>, AllocError>
+    ensures { IfOk result (λ v. v.items ≡ varied (rows_of (found_of matches.now))) }
+{
+    let mut varied = Vec::new(alloc);
+    for option in Opt::ALL {
+        let values = values_in(alloc, matches, option)?;
+        if values.len() > 1 {
+            varied.push(option)?;
+        }
+    }
+    Ok(varied)
+}

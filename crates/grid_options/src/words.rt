@@ -1,0 +1,76 @@
+//! From the words after the program's name to a grid.
+
+ghost use Rattle.std.specs.Prelude.{◌≡◌, ◌⊎◌, Err, IfOk, map, string_bytes};
+ghost use Rattle.clap.specs.Words.{found_of, rows_of};
+ghost use Rattle.grid_options.specs.Grid.{AnswersGrid, AnswersGridWords, IsGridOf, memory};
+ghost use Rattle.grid_options.specs.Grid.{points_of};
+
+use crate::command::grid_command;
+use crate::grid::{ParsedGrid, names_of, read_points};
+use crate::product::points_in;
+use crate::values::{first_unread, varied};
+use clap::ArgMatches;
+use dinero_options::{WordsFault, take_words, unread_fault};
+use std::alloc::{AllocError, Global};
+
+/// Why the words give no grid. If several things are wrong, a refusal of clap comes first, then the
+/// first option one of whose values cannot be read, then the number of the configurations.
+#[derive(Clone, Copy, Debug, PartialEq, Eq)]
+pub enum GridWordsFault {
+    /// The words are refused like those of one configuration. Never holds `WordsFault::Config`.
+    Words(WordsFault),
+    /// The grid has more than 4,096 configurations.
+    TooMany,
+}
+
+/// An allocation failed.
+pub(crate) const MEMORY: GridWordsFault = GridWordsFault::Words(WordsFault::Memory);
+
+/// The grid of these points.
+fn grid_of(
+    alloc: Global,
+    matches: &ArgMatches,
+    points: &[Vec<&str>],
+) -> Result<ParsedGrid, AllocError>
+    requires { map (λ p. map (λ t. t.now) p.items) points.now
+        ≡ points_of (rows_of (found_of matches.now)) }
+    ensures { IfOk result (λ grid. IsGridOf (rows_of (found_of matches.now)) grid) }
+{
+    let varied = varied(alloc, matches)?;
+    let names = names_of(alloc, varied.as_slice())?;
+    let points = read_points(alloc, varied.as_slice(), points)?;
+    Ok(ParsedGrid { names, points })
+}
+
+/// The grid that clap's matches ask for.
+fn answer(alloc: Global, matches: &ArgMatches) -> Result<ParsedGrid, GridWordsFault>
+    ensures { (result ≡ Err memory) ⊎ AnswersGrid (rows_of (found_of matches.now)) result }
+{
+    let Ok(first) = first_unread(alloc, matches) else {
+        return Err(MEMORY);
+    };
+    if let Some(option) = first {
+        return Err(GridWordsFault::Words(unread_fault(option)));
+    }
+    match points_in(alloc, matches) {
+        Ok(points) => match grid_of(alloc, matches, points.as_slice()) {
+            Ok(grid) => Ok(grid),
+            Err(_) => Err(MEMORY),
+        },
+        Err(fault) => Err(fault),
+    }
+}
+
+/// Reads the words after the program's name. Each number of a selection is at most 2^40. If an
+/// allocation fails, `Words(Memory)` may be the answer instead of any other.
+pub fn parse_grid_words(alloc: Global, words: &[String]) -> Result<ParsedGrid, GridWordsFault>
+    ensures { AnswersGridWords (map string_bytes words.now) result }
+{
+    let Ok(command) = grid_command(alloc) else {
+        return Err(MEMORY);
+    };
+    match take_words(command, words) {
+        Ok(matches) => answer(alloc, &matches),
+        Err(fault) => Err(GridWordsFault::Words(fault)),
+    }
+}

@@ -1,0 +1,146 @@
+//! Words that give no grid, and what is said of them.
+
+use super::grids::parsed;
+use din_trace::FromWrite;
+use dinero_options::{Opt, WordsFault};
+use grid_options::{GridWordsFault, grid_help_text, put_grid_words};
+use std::alloc::{AllocError, Global};
+use std::test::Fail;
+
+fn refusal(alloc: Global, line: &str) -> Result<Option<GridWordsFault>, AllocError> {
+    match parsed(alloc, line)? {
+        Ok(_) => Ok(None),
+        Err(fault) => Ok(Some(fault)),
+    }
+}
+
+fn of_words(fault: WordsFault) -> Option<GridWordsFault> {
+    Some(GridWordsFault::Words(fault))
+}
+
+/// A list of so many values, each of them 16.
+fn list(alloc: Global, values: u64) -> Result<String, AllocError> {
+    let mut text = String::from_str(alloc, "16")?;
+    for _ in 1..values {
+        text.push_str(",16")?;
+    }
+    Ok(text)
+}
+
+/// How many points a grid of two lists with so many values has, or why it is refused.
+fn points(
+    alloc: Global,
+    sizes: u64,
+    flushes: u64,
+) -> Result<Result<usize, GridWordsFault>, AllocError> {
+    let mut line = String::from_str(alloc, "--l1-dsize ")?;
+    line.push_str(list(alloc, sizes)?.as_str())?;
+    line.push_str(" --flushcount ")?;
+    line.push_str(list(alloc, flushes)?.as_str())?;
+    match parsed(alloc, line.as_str())? {
+        Ok(grid) => Ok(Ok(grid.points.len())),
+        Err(fault) => Ok(Err(fault)),
+    }
+}
+
+#[test]
+fn refuses_more_than_4096_configurations(rt: HostRuntime) -> Result<(), Fail> {
+    let alloc = rt.alloc();
+    assert_eq!(rt; points(alloc, 16, 256)?, Ok(4096));
+    assert_eq!(rt; points(alloc, 1, 4096)?, Ok(4096));
+    assert_eq!(rt; points(alloc, 17, 241)?, Err(GridWordsFault::TooMany));
+    assert_eq!(rt; points(alloc, 4097, 1)?, Err(GridWordsFault::TooMany));
+    assert_eq!(rt; points(alloc, 1, 4097)?, Err(GridWordsFault::TooMany));
+    Ok(())
+}
+
+#[test]
+fn refuses_an_empty_value(rt: HostRuntime) -> Result<(), Fail> {
+    let alloc = rt.alloc();
+    let refused = of_words(WordsFault::Number(Opt::L1Dsize));
+    assert_eq!(rt; refusal(alloc, "--l1-dsize 16,,32")?, refused);
+    assert_eq!(rt; refusal(alloc, "--l1-dsize 16,")?, refused);
+    assert_eq!(rt; refusal(alloc, "--l1-dsize ,16")?, refused);
+    assert_eq!(rt; refusal(alloc, "--l1-dsize ,")?, refused);
+    assert_eq!(rt; refusal(alloc, "--l1-dsize=")?, refused);
+    assert_eq!(rt; refusal(alloc, "--l1-dsize 16,32")?, None);
+    Ok(())
+}
+
+#[test]
+fn names_the_first_option_with_a_bad_value(rt: HostRuntime) -> Result<(), Fail> {
+    let alloc = rt.alloc();
+    let number = of_words(WordsFault::Number(Opt::L1Dsize));
+    let letter = of_words(WordsFault::Choice(Opt::L1Irepl));
+    assert_eq!(rt; refusal(alloc, "--l1-dsize 16,x")?, number);
+    assert_eq!(rt; refusal(alloc, "--l1-dsize 16 --l1-irepl l,r,f")?, letter);
+    assert_eq!(rt; refusal(alloc, "--l1-dsize 16,x --l1-irepl l,r,f")?, letter);
+    Ok(())
+}
+
+#[test]
+fn takes_one_value_for_skipcount_and_maxcount(rt: HostRuntime) -> Result<(), Fail> {
+    let alloc = rt.alloc();
+    let skip = of_words(WordsFault::Number(Opt::Skipcount));
+    let max = of_words(WordsFault::Number(Opt::Maxcount));
+    assert_eq!(rt; refusal(alloc, "--l1-dsize 16 --skipcount 1,2")?, skip);
+    assert_eq!(rt; refusal(alloc, "--l1-dsize 16 --maxcount 1,2")?, max);
+    Ok(())
+}
+
+#[test]
+fn leaves_rings_and_unknown_options_to_clap(rt: HostRuntime) -> Result<(), Fail> {
+    let alloc = rt.alloc();
+    let refused = of_words(WordsFault::Words);
+    assert_eq!(rt; refusal(alloc, "--l1-dsize 16 --ring 2")?, refused);
+    assert_eq!(rt; refusal(alloc, "--l1-dsize x --l3-usize 16")?, refused);
+    assert_eq!(rt; refusal(alloc, "--l1-dassoc 1")?, refused);
+    assert_eq!(rt; refusal(alloc, "--help")?, of_words(WordsFault::Help));
+    Ok(())
+}
+
+/// Is this what is said of the fault?
+fn is_told(rt: &HostRuntime, fault: GridWordsFault, text: &str) -> bool {
+    let mut written = Vec::new(rt.alloc());
+    let mut writer = FromWrite::new(&mut written);
+    let told = put_grid_words(fault, &mut writer).is_ok();
+    told && written.as_slice() == text.as_bytes()
+}
+
+#[test]
+fn tells_what_is_wrong_with_the_words(rt: HostRuntime) -> Result<(), Fail> {
+    let rows = [
+        (GridWordsFault::TooMany, "grid has more than 4096 configurations"),
+        (
+            GridWordsFault::Words(WordsFault::Words),
+            "command line refused, try --help",
+        ),
+        (
+            GridWordsFault::Words(WordsFault::Number(Opt::L1Dsize)),
+            "--l1-dsize: not a number",
+        ),
+        (
+            GridWordsFault::Words(WordsFault::Choice(Opt::L2Urepl)),
+            "--l2-urepl: not a lawful letter",
+        ),
+        (GridWordsFault::Words(WordsFault::Memory), "out of memory"),
+        (GridWordsFault::Words(WordsFault::Help), ""),
+    ];
+    for (fault, text) in rows {
+        assert!(rt; is_told(&rt, fault, text), "at {text}");
+    }
+    Ok(())
+}
+
+#[test]
+fn helps_with_each_option_but_the_rings(rt: HostRuntime) -> Result<(), Fail> {
+    let text = grid_help_text(rt.alloc());
+    assert!(rt; text.is_ok());
+    if let Ok(text) = text {
+        for option in Opt::ALL {
+            let named = text.as_str().contains(option.name());
+            assert_eq!(rt; named, option != Opt::Ring);
+        }
+    }
+    Ok(())
+}
