@@ -1,3 +1,4 @@
 pub mod ListLemmas
 pub mod ProductLemmas
+pub mod ValuesLemmas
 pub mod WordsLemmas

@@ -1,7 +1,7 @@
 //! The points of a grid: every choice of one value for each option.
 
-ghost use Rattle.std.specs.Prelude.{◌≡◌, ◌⊎◌, ◌<◌, ◌≤◌, ◌∷◌, ◌++◌, [], IfErr, IfOk, OnOk};
-ghost use Rattle.std.specs.Prelude.{length, map};
+ghost use Rattle.std.specs.Prelude.{◌≡◌, ◌⊎◌, ◌*◌, ◌<◌, ◌≤◌, ◌∷◌, ◌++◌, [], IfErr, IfOk, OnOk};
+ghost use Rattle.std.specs.Prelude.{length, map, nat_lt};
 ghost use Rattle.clap.specs.Words.{found_of, rows_of};
 ghost use Rattle.grid_options.specs.Grid.{extended, memory, points_of};
 ghost use Rattle.grid_options.specs.declared.words.GridWordsFault.TheVariants.{TooMany};
@@ -68,6 +68,18 @@ fn origin<'a>(alloc: Global) -> Result<Vec<Vec<&'a str>>, AllocError>
     Ok(points)
 }
 
+/// Whether the points with each of these values behind them are more than a grid may have.
+fn are_too_many(points: &[Vec<&str>], values: &[&str]) -> bool
+    requires some { 1 ≤ length points.now }
+    requires few { length points.now ≤ 4096 }
+    ensures { result ≡ nat_lt 4096 (length points.now * length values.now) }
+{
+    if values.len() > MOST {
+        return true;
+    }
+    points.len() * values.len() > MOST
+}
+
 /// All points of the grid that clap's matches ask for, each with a text for each option.
 pub(crate) fn points_in<'a>(
     alloc: Global,
@@ -86,10 +98,12 @@ pub(crate) fn points_in<'a>(
         let Ok(values) = values_in(alloc, matches, option) else {
             return Err(MEMORY);
         };
-        if values.len() > MOST || points.len() * values.len() > MOST {
+        let before = points.as_slice();
+        let next = values.as_slice();
+        if are_too_many(before, next) {
             return Err(GridWordsFault::TooMany);
         }
-        let Ok(made) = extend(alloc, points.as_slice(), values.as_slice()) else {
+        let Ok(made) = extend(alloc, before, next) else {
             return Err(MEMORY);
         };
         points = made;

@@ -1,6 +1,7 @@
 //! The values of each option.
 
-ghost use Rattle.std.specs.Prelude.{◌≡◌, ◌∷◌, [], IfOk, map};
+ghost use Rattle.std.specs.Prelude.{◌≡◌, ◌∷◌, ◌++◌, [], IfOk, OnOk, if◌then◌else◌, length, map};
+ghost use Rattle.std.specs.Prelude.{nat_lt};
 ghost use Rattle.std.specs.List.{list_all};
 ghost use Rattle.clap.specs.Words.{found_of, rows_of};
 ghost use Rattle.dinero_options.specs.Answer.{reads_as};
@@ -79,6 +80,17 @@ pub(crate) fn first_unread(alloc: Global, matches: &ArgMatches) -> Result<Option
     Ok(None)
 }
 
+/// Adds the option if it has two or more values.
+fn add_varied(varied: &mut Vec<Opt>, option: Opt, values: &[&str]) -> Result<(), AllocError>
+    ensures { OnOk result (varied.new.items ≡ varied.old.items
+        ++ (if nat_lt 1 (length values.now) then option ∷ [] else [])) }
+{
+    if values.len() > 1 {
+        varied.push(option)?;
+    }
+    Ok(())
+}
+
 /// The options with two or more values, in their order.
 pub(crate) fn varied(alloc: Global, matches: &ArgMatches) -> Result<Vec<Opt>, AllocError>
     ensures { IfOk result (λ v. v.items ≡ varied (rows_of (found_of matches.now))) }
@@ -86,9 +98,7 @@ pub(crate) fn varied(alloc: Global, matches: &ArgMatches) -> Result<Vec<Opt>, Al
     let mut varied = Vec::new(alloc);
     for option in Opt::ALL {
         let values = values_in(alloc, matches, option)?;
-        if values.len() > 1 {
-            varied.push(option)?;
-        }
+        add_varied(&mut varied, option, values.as_slice())?;
     }
     Ok(varied)
 }
