@@ -30,7 +30,7 @@ shadows_of c es = record {
 abbrev pub figures_of : Hierarchy → List DinRecord → Figures
 figures_of c es = record { totals = totals c es; shadows = shadows_of c es }
 
--- the line of a row with these words, over the records of a trace: its own selection makes the events
+-- the line of a row with these words, over the records of a trace, of which it has a selection
 abbrev pub setup_line : List DinRecord → List (List ℕ) → Setup → List ℕ
 setup_line rs words (Simulated c s) =
     counted_line words (figures_of (hierarchy_of c) (events s rs))

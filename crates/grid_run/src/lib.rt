@@ -11,9 +11,9 @@
 //!
 //! Proved for every reader whose bytes are known: if a run succeeds, the text has no fault, and the
 //! bytes written are exactly the table whose every line is what the definitions give for its
-//! configuration and its selection over the whole trace (`specs/Grids`, `specs/Table`). If a run fails because of the
-//! trace, the fault is that of the text or of its reader. If a run fails, nothing was written,
-//! unless the writer failed.
+//! configuration and its selection over the whole trace (`specs/Grids`, `specs/Table`). If a run
+//! fails because of the trace, the fault is that of the text or of its reader. If a run fails,
+//! nothing was written, unless the writer failed.
 //!
 //! Only tested: that the writer is flushed after the table.
 #![tactic(auto)]

@@ -68,7 +68,8 @@ returns-clause-served c =
     ∙ one-flush c.offer-picked.result.flush inserted_flush in
     on_ok_weaker c.take_some-2.result (λ second past taken.
     let es : List DinRecord = events sel past in
-    let picks : c.offer-picked.result ≡ picked sel (count_by is_reference (past ++ next ∷ [])) next =
+    let picks : c.offer-picked.result
+    ≡ picked sel (count_by is_reference (past ++ next ∷ [])) next =
     c.offer-picked.ensures.picked past taken.offered in
     let longer : (es ++ event) ++ last ≡ events sel (past ++ next ∷ []) =
     append_assoc es event last
