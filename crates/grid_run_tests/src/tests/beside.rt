@@ -163,13 +163,7 @@ fn agrees(
     };
     let mut written = Vec::new(alloc);
     let mut writer = FromWrite::new(&mut written);
-    simulate_grid(
-        alloc,
-        &grid,
-        FromRead::new(trace),
-        MAX_LIMIT,
-        &mut writer,
-    )?;
+    simulate_grid(alloc, &grid, FromRead::new(trace), MAX_LIMIT, &mut writer)?;
     assert!(rt; written.as_slice() == expected.as_slice());
     Ok(())
 }

@@ -52,9 +52,19 @@ pub(super) fn grid(alloc: Global, small: &Selection, large: &Selection) -> Resul
 {
     let refusal = String::from_str(alloc, "l1-dsize is not a power of two")?;
     let mut rows = Vec::new(alloc);
-    add_row(alloc, &mut rows, &["8"], Setup::Simulated(config(8)?, *small))?;
+    add_row(
+        alloc,
+        &mut rows,
+        &["8"],
+        Setup::Simulated(config(8)?, *small),
+    )?;
     add_row(alloc, &mut rows, &["3"], Setup::Refused(refusal))?;
-    add_row(alloc, &mut rows, &["16"], Setup::Simulated(config(16)?, *large))?;
+    add_row(
+        alloc,
+        &mut rows,
+        &["16"],
+        Setup::Simulated(config(16)?, *large),
+    )?;
     let names = words_of(alloc, &["l1-dsize"])?;
     Ok(Grid { names, rows })
 }
@@ -184,7 +194,14 @@ fn the_selection_is_obeyed(rt: HostRuntime) -> Result<(), Fail> {
 #[test]
 fn each_row_has_its_own_selection(rt: HostRuntime) -> Result<(), Fail> {
     let grid = grid(rt.alloc(), &EVERYTHING, &SECOND_AND_THIRD)?;
-    writes(&rt, rt.alloc(), &grid, CONFLICT, CONFLICT_SMALL, LARGE_IN_PART)
+    writes(
+        &rt,
+        rt.alloc(),
+        &grid,
+        CONFLICT,
+        CONFLICT_SMALL,
+        LARGE_IN_PART,
+    )
 }
 
 #[test]

@@ -1,10 +1,10 @@
-use Rattle.std.proofs.Common.{rules, ◌≡◌, Err, List, ap, refl, subst}
+use Rattle.std.proofs.Common.{rules, ◌≡◌, Err, List, refl, subst}
 use Rattle.std.proofs.lemmas.Result.{on_ok_weaker}
 use Rattle.std.specs.Io.KnownBytes.{Appends}
 use Rattle.din_trace.specs.Source.{reader_of}
 use Rattle.din_trace.specs.declared.record.DinRecord.{DinRecord}
 use Rattle.din_trace.proofs.Told.{script_of_told}
-use Rattle.grid_run.specs.Grids.{IsBoundedRow, table, table_of}
+use Rattle.grid_run.specs.Grids.{table, table_of}
 use Rattle.grid_run.specs.declared.fault.GridFault.TheVariants.{Trace}
 use Rattle.grid_run.proofs.simulation.simulate_grid.Goals as goal
 

@@ -1,4 +1,4 @@
-use Rattle.std.proofs.Common.{◌≡◌, ◌++◌, ◌∷◌, [], Bool, true, false, List, count_by, length}
+use Rattle.std.proofs.Common.{◌≡◌, ◌++◌, ◌∷◌, [], Bool, true, false, List, count_by}
 use Rattle.std.proofs.Common.{option_to_list, refl, ap, sym, subst, ◌∙◌, append_assoc, arith}
 use Rattle.std.proofs.Common.{length-append}
 use Rattle.std.specs.Bool.{then_some}
@@ -19,8 +19,8 @@ one-flush : (b : Bool) (x : DinRecord) → option_to_list (then_some b x) ≡ li
 one-flush true x = refl
 one-flush false x = refl
 
-pub offer-requires : goal.offer-requires
-offer-requires c =
+pub offer-picked-requires : goal.offer-picked-requires
+offer-picked-requires c =
     let room = c.requires.room in
     let count = room.1.offered.count in
     omega (arith, count, room.2)

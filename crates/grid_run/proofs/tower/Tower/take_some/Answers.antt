@@ -1,4 +1,4 @@
-use Rattle.std.proofs.Common.{◌++◌, List, Option, option_to_list, sym, subst}
+use Rattle.std.proofs.Common.{◌++◌, Option, option_to_list, sym, subst}
 use Rattle.std.proofs.lemmas.Result.{on_ok_weaker}
 use Rattle.din_trace.specs.declared.record.DinRecord.{DinRecord}
 use Rattle.grid_run.specs.Towers.{HasServed}
