@@ -8,9 +8,9 @@ ghost use Rattle.grid_run.specs.Cells.{CellStandsFor, rules_in};
 ghost use Rattle.grid_run.specs.Towers.{CanSend, HasRoom, SecondServed, after_request};
 ghost use Rattle.grid_run.specs.Towers.{sent_for};
 
+use crate::cell::Cell;
 use crate::figures::{Figures, ShadowMisses};
 use crate::requests::{Request, asked_of, back_part, fetch_part, flush_part, through_part};
-use crate::cell::Cell;
 use cache_core::{Access, NoMemory};
 use din_trace::{DinRecord, MAX_LIMIT};
 use stage_core::{Config, Side, Totals, What, second_level_sees_at_most_two};
@@ -69,12 +69,7 @@ fn serve_backs(u: &mut Cell, addrs: &[u64], flush: Option<What>) -> Result<(), N
 }
 
 /// Serves an access at the first level, and what it sends at the second.
-fn serve_access(
-    first: &mut Cell,
-    side: Side,
-    access: Access,
-    u: &mut Cell,
-) -> Result<(), NoMemory>
+fn serve_access(first: &mut Cell, side: Side, access: Access, u: &mut Cell) -> Result<(), NoMemory>
     requires { CanSend first.old u.old
         (λ h. parts_of (rules_in first.old) side h (accessed access)) }
     ensures stands { OnOk result ((h : History) → CellStandsFor first.old h →
