@@ -48,11 +48,11 @@ loop-index-preserved g c =
     record {
       grown = λ past all.
           let longer =
-          ap (λ (x : List ℕ). flat_map (row_line past) (take i rs) ++ x) (sym (append-nil
-          (row_line past r)))
-          ∙ sym (flat_map-append (row_line past) (take i rs) (r ∷ []))
-          ∙ ap (λ x. flat_map (row_line past) (take i rs ++ x ∷ [])) c.index-rows-index.is
-          ∙ ap (flat_map (row_line past)) (sym (take_more rs i r c.loop-index-test.true)) in
+          ap (λ (x : List ℕ). flat_map (row_line c.args.columns past) (take i rs) ++ x) (sym (append-nil
+          (row_line c.args.columns past r)))
+          ∙ sym (flat_map-append (row_line c.args.columns past) (take i rs) (r ∷ []))
+          ∙ ap (λ x. flat_map (row_line c.args.columns past) (take i rs ++ x ∷ [])) c.index-rows-index.is
+          ∙ ap (flat_map (row_line c.args.columns past)) (sym (take_more rs i r c.loop-index-test.true)) in
           subst (Appends (g.W.ByteWriter.contents c.args.writer.now)
           (g.W.ByteWriter.contents c.write_row.new.writer)) longer
           (appends_twice _ _ _ _ _ (c.loop-index.invariant.grown past all)
