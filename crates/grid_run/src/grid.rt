@@ -1,13 +1,13 @@
 //! The grid that is asked for.
 
-use stage_core::Config;
+use stage_core::{Config, Selection};
 
-/// What stands behind a row: a configuration to simulate, or the text of the fault for which it was
-/// refused.
+/// What stands behind a row: a configuration to simulate over a part of the trace, or the text of
+/// the fault for which it was refused.
 #[derive(Debug, Drop)]
 pub enum Setup {
-    /// A configuration to simulate.
-    Simulated(Config),
+    /// A configuration to simulate, and which part of the trace.
+    Simulated(Config, Selection),
     /// The text of the fault. It has no tab and no end of a line, or else the table has them too.
     Refused(String),
 }
@@ -21,11 +21,22 @@ pub struct Row {
     pub setup: Setup,
 }
 
+/// Which columns a table has.
+#[derive(Clone, Copy, Debug, PartialEq, Eq)]
+pub enum Columns {
+    /// Each count over all classes.
+    Plain,
+    /// The same, and after each count of accesses or misses those of the four classes.
+    Full,
+}
+
 /// A grid: the names of the options that vary, and its rows in their order.
 #[derive(Debug, Drop)]
 pub struct Grid {
     /// The names of the options that vary, without hyphens.
     pub names: Vec<String>,
+    /// The columns of its table.
+    pub columns: Columns,
     /// The rows.
     pub rows: Vec<Row>,
 }
