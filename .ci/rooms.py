@@ -22,6 +22,14 @@ class Unsure(Exception):
     """A check came to no end that says anything of the code."""
 
 
+class NotProved(Unsure):
+    """A crate is not proved before anything wrong is planted in it."""
+
+    def __init__(self, crate, said):
+        super().__init__(f"{crate} without wrong bodies is not proved:\n{said}")
+        self.crate = crate
+
+
 def lines_of(top):
     """The lines of crates.txt, by crate."""
     lines = (top / "crates.txt").read_text(encoding="utf-8").splitlines()
@@ -86,8 +94,8 @@ def link(source, target):
 
 
 class Rooms:
-    """`shop` is a copy of the crates as they stood at the start. There each is proved once. Every
-    check with something planted begins with that work, in a room of its own."""
+    """`shop` is a copy of the crates as they stood at the start, with their controls. There each is
+    proved once. Every check with something planted begins with that work, in a room of its own."""
 
     def __init__(self, top, work, jobs):
         self.work, self.shop = work, work / "shop"
@@ -141,8 +149,14 @@ class Rooms:
         for check in list(self.running):
             check.terminate()
 
+    def keep_planted(self, body):
+        """Plants a body in the shop, and so in all rooms, before anything is proved there."""
+        folder = self.shop / "crates" / body.crate
+        for path, text in planted([body], folder).items():
+            (folder / path).write_text(text, encoding="utf-8")
+
     def seed(self, crate):
-        """Proves the crate as it stands, and makes the library that those above it use."""
+        """Proves the crate in the shop, and makes the library that those above it use."""
         for name in all_below(self.crates, crate):
             self.seed(name)
         with self.begun[crate]:
@@ -154,7 +168,7 @@ class Rooms:
                 status, said = self.rt([verb, "--jobs", "1"], self.shop, crate, rank)
                 self.seeded[crate] = None if status == 0 else "\n".join(said[-20:])
         if self.seeded[crate]:
-            raise Unsure(f"{crate} as it stands is not proved:\n{self.seeded[crate]}")
+            raise NotProved(crate, self.seeded[crate])
 
     def check(self, crate, bodies):
         """Checks the crate with these bodies planted: the status, and the lines that were said."""

@@ -4,7 +4,8 @@
 //! The library dinero_options reads the words. `fault` has the line and the exit status of each
 //! fault.
 //!
-//! Proved: the line and the status of a fault are those of `specs/FaultText`. Only tested: that
+//! Proved: `report` writes the report that the definitions give for the text of its reader, or says
+//! why not; the line and the status of a fault are those of `specs/FaultText`. Only tested: that
 //! `main` passes the right streams.
 #![tactic(auto)]
 
@@ -12,11 +13,17 @@ mod fault;
 #[cfg(test)]
 mod tests;
 
-ghost use Rattle.std.specs.Prelude.{IfOk};
+ghost use Rattle.std.specs.Prelude.{◌≡◌, ◌≢◌, ℕ, List, Some, None, OnOk, IfOk, IfErr};
+ghost use Rattle.std.specs.Io.KnownBytes.{Appends};
+ghost use Rattle.din_trace.specs.Device.{once_more};
+ghost use Rattle.din_trace.specs.Line.{ADDRESS_MAX};
+ghost use Rattle.din_trace.specs.Text.{fault};
+ghost use Rattle.din_trace.specs.Faults.{IsFaultOf};
 ghost use Rattle.stage_core.specs.Events.{IsBounded};
+ghost use Rattle.sim_run.specs.Runs.{report_of};
 
 use crate::fault::{Fault, fault_text, status};
-use din_trace::{FromRead, FromWrite, MAX_LIMIT};
+use din_trace::{ByteReader, ByteWriter, FromRead, FromWrite, MAX_LIMIT, TraceFault};
 use dinero_options::{WordsFault, help_text, parse_words};
 use sim_run::{OpenGate, RunFault, simulate};
 use stage_core::{Config, Selection};
@@ -27,9 +34,37 @@ use std::process::ExitCode;
 use std::sync::Wait;
 use std::thread::Threads;
 
-/// Simulates the trace that `input` gives, and writes its report to `output` in one write, through
-/// a buffer.
-fn report<H: Threads + Wait + Sync, R: Read + Drop, W: Write + Drop>(
+/// Simulates the trace that the reader gives, of at most 2^40 bytes, and writes its report.
+fn report<H: Threads + Wait + Sync, R: ByteReader + Drop, W: ByteWriter>(
+    rt: &H,
+    alloc: Global,
+    config: &Config,
+    selection: &Selection,
+    reader: R,
+    writer: &mut W,
+) -> Result<(), RunFault>
+    requires { IsBounded selection.now }
+    ensures report { (text : List ℕ) → R.remaining reader ≡ Some text → OnOk result
+        ((fault ADDRESS_MAX text MAX_LIMIT ≡ None)
+        × Appends (W.contents writer.old) (W.contents writer.new)
+        (report_of config.now selection.now text)) }
+    ensures trace { (text : List ℕ) → R.remaining reader ≡ Some text
+        → (why : TraceFault) → result ≡ Err (RunFault.Trace why)
+        → IsFaultOf R.remaining R.failures reader text MAX_LIMIT why }
+    ensures memory { result ≢ Err (RunFault.Trace TraceFault.Memory) }
+    ensures sound { OnOk result (W.failures writer.new ≡ W.failures writer.old) }
+    ensures write { result ≡ Err RunFault.Write
+        → W.failures writer.new ≡ once_more (W.failures writer.old) }
+    ensures unwritten { IfErr result (λ why. why ≢ RunFault.Write → writer.new ≡ writer.old) }
+{
+    let _settled = simulate(
+        rt, alloc, config, selection, reader, MAX_LIMIT, &OpenGate, writer,
+    )?;
+    Ok(())
+}
+
+/// As `report`, from any reader to any writer, in one write through a buffer.
+fn report_through_buffer<H: Threads + Wait + Sync, R: Read + Drop, W: Write + Drop>(
     rt: &H,
     alloc: Global,
     config: &Config,
@@ -44,17 +79,8 @@ fn report<H: Threads + Wait + Sync, R: Read + Drop, W: Write + Drop>(
     };
     let mut writer = FromWrite::new(output);
     let reader = FromRead::new(input);
-    match simulate(
-        rt,
-        alloc,
-        config,
-        selection,
-        reader,
-        MAX_LIMIT,
-        &OpenGate,
-        &mut writer,
-    ) {
-        Ok(_settled) => Ok(()),
+    match report(rt, alloc, config, selection, reader, &mut writer) {
+        Ok(()) => Ok(()),
         Err(fault) => Err(Fault::Run(fault)),
     }
 }
@@ -106,7 +132,7 @@ fn refuse(rt: &HostRuntime, fault: Fault) -> ExitCode {
 
 fn main(rt: HostRuntime) -> ExitCode {
     let ended = match parse_args(&rt) {
-        Ok((config, selection)) => report(
+        Ok((config, selection)) => report_through_buffer(
             &rt,
             rt.alloc(),
             &config,

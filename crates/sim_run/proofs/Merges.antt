@@ -13,11 +13,11 @@ use Rattle.stage_core.specs.declared.message.FromStage.{FromStage}
 use Rattle.stage_core.specs.declared.l2_stage.L2Stage.{L2Stage}
 use Rattle.sim_run.specs.declared.ends.MergeEnds.{MergeEnds}
 use Rattle.sim_run.specs.Ends.{UnusedMerge}
-use Rattle.sim_run.specs.Threads.{HasMerged}
+use Rattle.sim_run.specs.Threads.{MergeServed}
 use Rattle.sim_run.proofs.Merging.{turn-more, i-more, d-more}
 
 pub merges-nothing : (u : L2Stage) (ends : MergeEnds) (at : MergeState) → at ≡ AtOrder
-    → L2StandsFor u [] → UnusedMerge ends → HasMerged at u ends u ends
+    → L2StandsFor u [] → UnusedMerge ends → MergeServed at u ends u ends
 merges-nothing u ends at begins stands unused = record {
   rings = record {
     order = ((refl, refl, refl, refl), refl);
@@ -35,10 +35,10 @@ merges-nothing u ends at begins stands unused = record {
 module _ (began : L2Stage) (start : MergeEnds) (at : MergeState) (u : L2Stage)
     (was : MergeEnds) where
   pub merges-turn : (t : Turn) (now : MergeEnds) (next : MergeState)
-      → HasMerged at began start u was
+      → MergeServed at began start u was
       → wanted at ≡ want.Order → next ≡ after_turn t → SameRx was.order now.order
       → received now.order ≡ received was.order ++ t ∷ []
-      → now.from_i ≡ was.from_i → now.from_d ≡ was.from_d → HasMerged next began start u now
+      → now.from_i ≡ was.from_i → now.from_d ≡ was.from_d → MergeServed next began start u now
   merges-turn t now next going wants to ring got same_i same_d = record {
     rings = record {
       order = rx_stays start.order was.order now.order going.rings.order ring;
@@ -60,12 +60,12 @@ module _ (began : L2Stage) (start : MergeEnds) (at : MergeState) (u : L2Stage)
   }
 
   module _ (m : FromStage) (next : MergeState) (to : next ≡ after_message at m) (v : L2Stage) (now
-      : MergeEnds) (going : HasMerged at began start u was) (serves : (before : List What)
+      : MergeEnds) (going : MergeServed at began start u was) (serves : (before : List What)
       → L2StandsFor u before → L2StandsFor v (before ++ what_in m)) (same_rules : rules_of
       (l2_cache v) ≡ rules_of (l2_cache u)) where
     pub merges-i : wanted at ≡ want.I → SameRx was.from_i now.from_i
         → received now.from_i ≡ received was.from_i ++ m ∷ []
-        → now.order ≡ was.order → now.from_d ≡ was.from_d → HasMerged next began start v now
+        → now.order ≡ was.order → now.from_d ≡ was.from_d → MergeServed next began start v now
     merges-i wants ring got same_order same_d = record {
       rings = record {
         order = subst (SameRx start.order) (sym same_order) going.rings.order;
@@ -87,7 +87,7 @@ module _ (began : L2Stage) (start : MergeEnds) (at : MergeState) (u : L2Stage)
 
     pub merges-d : wanted at ≡ want.D → SameRx was.from_d now.from_d
         → received now.from_d ≡ received was.from_d ++ m ∷ []
-        → now.order ≡ was.order → now.from_i ≡ was.from_i → HasMerged next began start v now
+        → now.order ≡ was.order → now.from_i ≡ was.from_i → MergeServed next began start v now
     merges-d wants ring got same_order same_i = record {
       rings = record {
         order = subst (SameRx start.order) (sym same_order) going.rings.order;
@@ -118,7 +118,7 @@ is-end AtEnd e = refl
 
 -- a merge that wants no message is at its end
 pub merges-end : (began : L2Stage) (start : MergeEnds) (at : MergeState) (u : L2Stage)
-    (now : MergeEnds)
-    → HasMerged at began start u now → want.Nothing ≡ wanted at → HasMerged AtEnd began start u now
+    (now : MergeEnds) → MergeServed at began start u now → want.Nothing ≡ wanted at
+    → MergeServed AtEnd began start u now
 merges-end began start at u now going wants =
-    subst (λ a. HasMerged a began start u now) (is-end at wants) going
+    subst (λ a. MergeServed a began start u now) (is-end at wants) going

@@ -18,7 +18,7 @@ use Rattle.stage_core.specs.declared.l1_stage.L1Stage.{L1Stage}
 use Rattle.stage_core.proofs.Place.{flat_map_with_past-more}
 use Rattle.sim_run.specs.declared.ends.SplitterEnds.{SplitterEnds}
 use Rattle.sim_run.specs.declared.ends.StageEnds.{StageEnds}
-use Rattle.sim_run.specs.Threads.{HasSent, HasServed}
+use Rattle.sim_run.specs.Threads.{HasSent, StageServed}
 use Rattle.sim_run.specs.Ends.{UnusedStage}
 use Rattle.sim_run.specs.Waits.{AnswersPublished, PostedWhole, OfStage, sender_to}
 
@@ -53,7 +53,7 @@ unused-published ends new = record {
 -- a stage has answered a message that it received, if its outbox is counted too
 pub taken-answers : (began : L1Stage) (start : StageEnds) (stage : L1Stage) (was : StageEnds)
     (m : ToStage) (next : L1Stage) (now : StageEnds)
-    → HasServed began start stage was
+    → StageServed began start stage was
     → received now.from_splitter ≡ received was.from_splitter ++ m ∷ []
     → sent now.to_merge ≡ sent was.to_merge
     → side_of next ≡ side_of stage → rules_of (cache_of next) ≡ rules_of (cache_of stage)
@@ -79,7 +79,7 @@ taken-answers began start stage was m next now going got same same_side same_rul
 -- a stage that has sent the answers to all that it received, and has nothing left to send, has
 -- answered
 pub served-answers : (began : L1Stage) (start : StageEnds) (stage : L1Stage) (now : StageEnds)
-    → HasServed began start stage now → outbox_of stage ≡ [] → OfStage HasAnswered stage now
+    → StageServed began start stage now → outbox_of stage ≡ [] → OfStage HasAnswered stage now
 served-answers began start stage now going empty =
     ap (λ l. sent now.to_merge ++ l) empty ∙ append-nil (sent now.to_merge) ∙ going.answered
     ∙ sym (ap (λ (r : Rules). replies (parts_of r) (side_of stage) (received now.from_splitter))

@@ -35,7 +35,7 @@ use Rattle.sim_run.specs.declared.pipeline.Machines.{Machines}
 use Rattle.sim_run.specs.Ends.{Carried, whole, ArePaired, SameRings, AllReceived, SameSplitterEnds}
 use Rattle.sim_run.specs.Ends.{SameStageEnds, SameMergeEnds, on_order, on_to_i, on_to_d, on_from_i}
 use Rattle.sim_run.specs.Ends.{on_from_d, HaveCapacity}
-use Rattle.sim_run.specs.Threads.{HasSentAll, HasServed, HasMerged}
+use Rattle.sim_run.specs.Threads.{HasSentAll, StageServed, MergeServed}
 use Rattle.sim_run.specs.Machines.{AreNew, IsNew, rules_in}
 use Rattle.sim_run.specs.Runs.{HasRun}
 
@@ -107,7 +107,7 @@ own-parts c s before (e ∷ es) =
 module _ (law : StagesAnswerTheirStreams) (c : Hierarchy) (s : Side) (es : List DinRecord)
     (began : L1Stage) (start : StageEnds) (stage : L1Stage) (now : StageEnds)
     (new : IsNew s began) (own : rules_of (cache_of began) ≡ rules_at c s)
-    (served : HasServed began start stage now)
+    (served : StageServed began start stage now)
     (got : received now.from_splitter ≡ to_side s es) where
   pub stage-sent : sent now.to_merge ≡ from_side (parts_in c) s es
   stage-sent =
@@ -130,8 +130,9 @@ module _ (law : StagesAnswerTheirStreams) (c : Hierarchy) (s : Side) (es : List 
 module _ (stages : StagesAnswerTheirStreams) (merges : MergeTakesTheRequests) (es : List DinRecord)
     (machines : Machines) (new : AreNew machines) (start : Rings) (was now : Rings)
     (i d : L1Stage) (u : L2Stage) (fed : HasSentAll es was.splitter)
-    (ran_i : HasServed machines.i start.i i was.i) (ran_d : HasServed machines.d start.d d was.d)
-    (ran_u : HasMerged AtEnd machines.u start.merge u was.merge) (same : SameRings was now)
+    (ran_i : StageServed machines.i start.i i was.i)
+    (ran_d : StageServed machines.d start.d d was.d)
+    (ran_u : MergeServed AtEnd machines.u start.merge u was.merge) (same : SameRings was now)
     (all : AllReceived now) (ring : ℕ) (room : HaveCapacity ring start)
     (feeder : was.splitter ≡ start.splitter) where
   abbrev c : Hierarchy

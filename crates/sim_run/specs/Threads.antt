@@ -1,7 +1,6 @@
 -- What each of the four threads has sent and received.
-use Rattle.std.specs.Prelude.{◌≡◌, ℕ, false, List, [], ◌∷◌, ◌++◌, map, length, option_to_list}
+use Rattle.std.specs.Prelude.{◌≡◌, ℕ, List, [], ◌∷◌, ◌++◌, map, length, option_to_list}
 use Rattle.std.specs.Prelude.{Some, None, Result, Ok, Err}
-use Rattle.std.specs.List.{list_any}
 use Rattle.pipe_rings.specs.Rings.{sent, received}
 use Rattle.din_trace.specs.declared.record.DinRecord.{DinRecord}
 use Rattle.din_trace.specs.Text.{Remaining}
@@ -9,6 +8,7 @@ use Rattle.cache_core.specs.Counts.{counts_of}
 use Rattle.cache_core.specs.Standing.{rules_of}
 use Rattle.cache_core.specs.declared.counts.Counts.{Counts}
 use Rattle.stage_core.specs.Events.{events}
+use Rattle.stage_core.specs.Finishes.{EndOnce}
 use Rattle.stage_core.specs.Places.{flat_map_with_past}
 use Rattle.stage_core.specs.SecondLevel.{parts_of, second_history}
 use Rattle.stage_core.specs.Streams as streams
@@ -77,14 +77,8 @@ SplitUp selection l HasLeft ends (Ok done) =
     (l.fault ≡ None) × HasSentAll (events selection l.records) ends × HasLeft at_end
 SplitUp selection l HasLeft ends (Err why) = MayAnswer l.fault why × LeavesRest l HasLeft
 
--- these messages have exactly one `Finish`, which is the last
-pub record EndInFinish (messages : List ToStage) : Type 0 where
-  pub before : List ToStage
-  pub last : messages ≡ before ++ to_stage.Finish ∷ []
-  pub only : list_any is_finish before ≡ false
-
 -- a stage, compared with its start: it has sent the answers to what it has received
-pub record HasServed (began : L1Stage) (was : StageEnds) (stage : L1Stage) (now : StageEnds)
+pub record StageServed (began : L1Stage) (was : StageEnds) (stage : L1Stage) (now : StageEnds)
     : Type 0 where
   pub rings : SameStageEnds was now
   pub side : side_of stage ≡ side_of began
@@ -96,12 +90,12 @@ pub record HasServed (began : L1Stage) (was : StageEnds) (stage : L1Stage) (now 
 -- a stage has served its whole stream, up to `Finish`
 pub record StageEnded (began : L1Stage) (was : StageEnds) (stage : L1Stage) (now : StageEnds)
     : Type 0 where
-  pub served : HasServed began was stage now
-  pub finish : EndInFinish (received now.from_splitter)
+  pub served : StageServed began was stage now
+  pub finish : EndOnce is_finish to_stage.Finish (received now.from_splitter)
 
 -- the rule of the merge has used all messages that were received and is now in state `at`, and the
 -- second level has served all requests that the rule took
-pub record HasMerged (at : MergeState) (began : L2Stage) (was : MergeEnds) (u : L2Stage)
+pub record MergeServed (at : MergeState) (began : L2Stage) (was : MergeEnds) (u : L2Stage)
     (now : MergeEnds) : Type 0 where
   pub rings : SameMergeEnds was now
   pub rules : rules_of (l2_cache u) ≡ rules_of (l2_cache began)
@@ -122,6 +116,6 @@ pub record StageCounted (began : L1Stage) (was : StageEnds) (counts : Counts) (n
 pub record MergeCounted (began : L2Stage) (was : MergeEnds) (counts : Counts) (now : MergeEnds)
     : Type 0 where
   pub u : L2Stage
-  pub merged : HasMerged AtEnd began was u now
+  pub merged : MergeServed AtEnd began was u now
   pub counted : (requests : List What) → L2StandsFor u requests
       → counts ≡ counts_of (rules_of (l2_cache u)) (second_history requests)

@@ -10,7 +10,7 @@ ghost use Rattle.stage_core.specs.declared.message.What.{What};
 ghost use Rattle.stage_core.specs.declared.message.FromStage.{FromStage};
 ghost use Rattle.sim_run.specs.declared.fault.Stop.{Stop};
 ghost use Rattle.sim_run.specs.Ends.{UnusedMerge};
-ghost use Rattle.sim_run.specs.Threads.{HasMerged};
+ghost use Rattle.sim_run.specs.Threads.{MergeServed};
 ghost use Rattle.sim_run.specs.Waits.{MergeUsed};
 
 use crate::ends::MergeEnds;
@@ -34,7 +34,7 @@ pub struct MergePromise {
 }
 
 impl Promise<MergeEnd> for MergePromise {
-    ghost kept_by = { λ p r. IfOk r (λ t. HasMerged AtEnd p.machine.value p.ends.value t.0 t.1) };
+    ghost kept_by = { λ p r. IfOk r (λ t. MergeServed AtEnd p.machine.value p.ends.value t.0 t.1) };
 }
 
 /// The merge's thread, which is still to be joined.
@@ -153,7 +153,7 @@ fn merge_all<H: Wait, G: Gate>(
 ) -> Result<(), Stop>
     requires new { L2StandsFor u.old [] }
     requires unused { UnusedMerge ends.old }
-    ensures { OnOk result (HasMerged AtEnd u.old ends.old u.new ends.new) }
+    ensures { OnOk result (MergeServed AtEnd u.old ends.old u.new ends.new) }
 {
     let mut merge = Merge::new();
     let mut received = 0;
@@ -193,7 +193,7 @@ pub fn run_merge<H: Wait, G: Gate>(
 ) -> MergeEnd
     requires new { L2StandsFor machine [] }
     requires unused { UnusedMerge unused }
-    ensures { IfOk result (λ r. HasMerged AtEnd machine unused r.0 r.1) }
+    ensures { IfOk result (λ r. MergeServed AtEnd machine unused r.0 r.1) }
 {
     let mut u = machine;
     let mut ends = unused;
@@ -222,7 +222,7 @@ pub fn start_merge<'s, E, H: Wait + Sync, G: Gate>(
     let run = move || -> MergeEnd
         requires new { L2StandsFor machine [] }
         requires unused { UnusedMerge ends }
-        ensures { IfOk result (λ r. HasMerged AtEnd machine ends r.0 r.1) }
+        ensures { IfOk result (λ r. MergeServed AtEnd machine ends r.0 r.1) }
     { run_merge(rt, gate, machine, ends) };
     scope.spawn_with(promise, run).or(Err(NoThread))
 }

@@ -9,7 +9,7 @@ ghost use Rattle.din_trace.specs.Faults.{IsFaultOf};
 ghost use Rattle.stage_core.specs.Config.{hierarchy_of, ring_of};
 ghost use Rattle.stage_core.specs.Events.{IsBounded, events};
 ghost use Rattle.cache_report.specs.Report.{report};
-ghost use Rattle.sim_run.specs.Runs.{HasRun};
+ghost use Rattle.sim_run.specs.Runs.{HasRun, report_of};
 
 use crate::fault::RunFault;
 use crate::gate::Gate;
@@ -39,13 +39,19 @@ pub fn simulate<H: Threads + Wait + Sync, R: ByteReader + Drop, G: Gate, W: Byte
 ) -> Result<Settled, RunFault>
     requires limit { limit ≤ MAX_LIMIT }
     requires bounded { IsBounded selection.now }
-    // If the bytes of the reader are known, `Ok` means that the text has no fault, and that exactly
-    // its selected events were simulated, with the counts that the definitions give for them.
+    // If the bytes of the reader are known, `Ok` means that the text has no fault, and that its
+    // report was written.
+    ensures headline { (text : List ℕ) → R.remaining reader ≡ Some text → OnOk result
+        ((fault ADDRESS_MAX text limit ≡ None)
+        × Appends (W.contents writer.old) (W.contents writer.new)
+        (report_of config.now selection.now text)) }
+    // What the threads did for it: exactly the selected events of the text were simulated, with the
+    // counts that the definitions give for them.
     ensures run { (text : List ℕ) → R.remaining reader ≡ Some text → IfOk result (λ settled.
         (fault ADDRESS_MAX text limit ≡ None)
         × HasRun (ring_of config.now) (hierarchy_of config.now)
         (events selection.now (records ADDRESS_MAX text)) settled) }
-    // For any reader, this holds for some text.
+    // For any reader, the same holds for some text.
     ensures whole { IfOk result (λ settled. (text : List ℕ)
         × (fault ADDRESS_MAX text limit ≡ None)
         × HasRun (ring_of config.now) (hierarchy_of config.now)

@@ -5,7 +5,7 @@ use Rattle.din_trace.proofs.Told.{script_of_told}
 use Rattle.stage_core.specs.Config.{hierarchy_of, ring_of}
 use Rattle.stage_core.specs.Events.{events}
 use Rattle.sim_run.specs.declared.fault.RunFault.TheVariants.{Trace}
-use Rattle.sim_run.specs.Runs.{HasRun}
+use Rattle.sim_run.specs.Runs.{HasRun, report_of}
 use Rattle.sim_run.proofs.Endings.{of-some-text}
 use Rattle.sim_run.proofs.simulation.simulate.Goals as goal
 
@@ -45,3 +45,9 @@ returns-clause-whole g c =
     c.in_ok-settled.settled) reads.1 reads.0
     (λ before later is. let ended = rw c.in_ok-settled.was at reads.3 before later _ is
     (c.new-source.ensures.left before) in (ended.0, ended.1))
+
+pub returns-clause-headline : goal.returns-clause-headline
+unfolding report_of
+returns-clause-headline g c text known =
+    let run = returns-clause-run g c text known in
+    (run.0, rw run.1.counted at c.in_ok-write_report.ensures.written.ok)

@@ -1,0 +1,8 @@
+use Rattle.std.proofs.Common.{rules, ◌≡◌, Err}
+use Rattle.sim_run.specs.declared.fault.RunFault.TheVariants.{Trace}
+use Rattle.dinero_pipe.proofs.report.Goals as goal
+
+pub returns-in_err-_settled-clause-trace : goal.returns-in_err-_settled-clause-trace
+returns-in_err-_settled-clause-trace g c text known why is =
+    let met : c.simulate.result ≡ Err (Trace why) = search rules in
+    c.simulate.ensures.trace text known why met
