@@ -2,3 +2,4 @@ pub mod Options
 pub mod Values
 pub mod Answer
 pub mod Refusals
+pub mod TraceRefusals

@@ -40,3 +40,9 @@ words_fault_text (words.Choice option) = name_of option ++ codes ": not a lawful
 words_fault_text (words.Config fault) = config_fault_text fault
 words_fault_text words.Help = []
 words_fault_text words.Memory = codes "out of memory"
+
+-- the exit status for a refused command line; 0 for help
+abbrev pub words_status : WordsFault → ℕ
+words_status words.Help = 0
+words_status words.Memory = 3
+words_status _ = 2

@@ -1,14 +1,16 @@
 //! What is said of words that are refused.
 
-ghost use Rattle.std.specs.Prelude.{◌≡◌};
+ghost use Rattle.std.specs.Prelude.{◌≡◌, ◌++◌, IfOk, string_bytes};
 ghost use Rattle.din_trace.specs.Device.{Writes};
 ghost use Rattle.dinero_options.specs.Refusals.{cache_name_text, config_fault_text};
 ghost use Rattle.dinero_options.specs.Refusals.{geometry_fault_text, words_fault_text};
+ghost use Rattle.dinero_options.specs.Refusals.{words_status};
 
 use crate::words::WordsFault;
 use cache_core::GeometryFault;
 use din_trace::{ByteWriter, DeviceFailed};
 use stage_core::{CacheName, ConfigFault};
+use std::alloc::{AllocError, Global};
 
 fn cache_text(name: CacheName) -> &'static str
     ensures { result.now ≡ cache_name_text name }
@@ -33,17 +35,46 @@ fn geometry_text(fault: GeometryFault) -> &'static str
     }
 }
 
+/// The text of a refused configuration: what it begins with, and the rest.
+fn config_parts(fault: ConfigFault) -> (&'static str, &'static str, &'static str)
+    ensures { result.0.now ++ (result.1.now ++ result.2.now) ≡ config_fault_text fault }
+{
+    match fault {
+        ConfigFault::Geometry(which, fault) => (cache_text(which), ": ", geometry_text(fault)),
+        ConfigFault::BlockOrder => ("l2 block is shorter than an l1 block", "", ""),
+        ConfigFault::Ring => ("ring is not from 1 to 65536", "", ""),
+    }
+}
+
 fn put_config<W: ByteWriter>(fault: ConfigFault, writer: &mut W) -> Result<(), DeviceFailed>
     ensures { Writes W.contents W.failures writer.old writer.new result (config_fault_text fault) }
 {
+    let (first, then, last) = config_parts(fault);
+    writer.put(first.as_bytes())?;
+    writer.put(then.as_bytes())?;
+    writer.put(last.as_bytes())
+}
+
+/// The text of a refused configuration, as `put_words` writes it.
+pub fn config_text(alloc: Global, fault: ConfigFault) -> Result<String, AllocError>
+    ensures { IfOk result (λ text. string_bytes text ≡ config_fault_text fault) }
+{
+    let (first, then, last) = config_parts(fault);
+    let mut text = String::from_str(alloc, first)?;
+    text.push_str(then)?;
+    text.push_str(last)?;
+    Ok(text)
+}
+
+/// The exit status for a refused command line: 0 if help was asked for, 3 if an allocation failed,
+/// 2 for any other refusal.
+pub fn words_status(fault: WordsFault) -> u8
+    ensures { result ≡ words_status fault }
+{
     match fault {
-        ConfigFault::Geometry(which, fault) => {
-            writer.put(cache_text(which).as_bytes())?;
-            writer.put(b": ")?;
-            writer.put(geometry_text(fault).as_bytes())
-        }
-        ConfigFault::BlockOrder => writer.put(b"l2 block is shorter than an l1 block"),
-        ConfigFault::Ring => writer.put(b"ring is not from 1 to 65536"),
+        WordsFault::Help => 0,
+        WordsFault::Memory => 3,
+        _ => 2,
     }
 }
 

@@ -1,33 +1,14 @@
 -- The line and the exit status of each fault.
-use Rattle.std.specs.Prelude.{ℕ, List, [], ◌∷◌, ◌++◌, codes, decimal, Bool, true, false}
+use Rattle.std.specs.Prelude.{ℕ, List, [], ◌∷◌, ◌++◌, codes, Bool, true, false}
 use Rattle.std.specs.Prelude.{if◌then◌else◌}
-use Rattle.din_trace.specs.declared.fault.Why.{Why}
-use Rattle.din_trace.specs.declared.fault.Why.TheVariants as why
-use Rattle.din_trace.specs.declared.fault.TraceFault.{TraceFault}
-use Rattle.din_trace.specs.declared.fault.TraceFault.TheVariants as trace
 use Rattle.sim_run.specs.declared.fault.RunFault.{RunFault}
 use Rattle.sim_run.specs.declared.fault.RunFault.TheVariants as run
-use Rattle.dinero_options.specs.Refusals.{words_fault_text}
+use Rattle.dinero_options.specs.Refusals.{words_fault_text, words_status}
+use Rattle.dinero_options.specs.TraceRefusals.{trace_fault_text, trace_status}
 use Rattle.dinero_options.specs.declared.words.WordsFault.{WordsFault}
 use Rattle.dinero_options.specs.declared.words.WordsFault.TheVariants as words
 use Rattle.dinero_pipe.specs.declared.fault.Fault.{Fault}
 use Rattle.dinero_pipe.specs.declared.fault.Fault.TheVariants.{Run, Words}
-
--- the word that says what is wrong with a faulty line
-abbrev pub why_word : Why → List ℕ
-why_word why.Label = codes "label"
-why_word why.Gap = codes "gap"
-why_word why.Address = codes "address"
-why_word why.Range = codes "range"
-why_word why.Tail = codes "tail"
-
--- the message for a fault of the trace
-abbrev pub trace_fault_text : TraceFault → List ℕ
-trace_fault_text (trace.Bad line why) = codes "line " ++
-    (decimal line ++ (codes ": " ++ why_word why))
-trace_fault_text trace.TooLong = codes "trace too long"
-trace_fault_text trace.Read = codes "trace read failed"
-trace_fault_text trace.Memory = codes "out of memory"
 
 -- the message for a failed run
 abbrev pub run_fault_text : RunFault → List ℕ
@@ -53,13 +34,6 @@ fault_line fault =
     if asks_for_help fault then []
     else codes "dinero_pipe: " ++ (message_of fault ++ 10 ∷ [])
 
--- the exit status for a fault of the trace
-abbrev pub trace_status : TraceFault → ℕ
-trace_status (trace.Bad line why) = 1
-trace_status trace.TooLong = 1
-trace_status trace.Read = 4
-trace_status trace.Memory = 3
-
 -- the exit status for a failed run
 abbrev pub run_status : RunFault → ℕ
 run_status (run.Trace fault) = trace_status fault
@@ -67,12 +41,6 @@ run_status run.Memory = 3
 run_status run.Threads = 3
 run_status run.Cut = 3
 run_status run.Write = 4
-
--- the exit status for a refused command line; 0 for help
-abbrev pub words_status : WordsFault → ℕ
-words_status words.Help = 0
-words_status words.Memory = 3
-words_status _ = 2
 
 -- the exit status for a fault
 abbrev pub status_of : Fault → ℕ

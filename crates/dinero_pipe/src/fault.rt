@@ -3,12 +3,10 @@
 ghost use Rattle.std.specs.Prelude.{◌≡◌};
 ghost use Rattle.din_trace.specs.Device.{Writes};
 ghost use Rattle.dinero_pipe.specs.FaultText.{asks_for_help, fault_line, message_of};
-ghost use Rattle.dinero_pipe.specs.FaultText.{run_fault_text, status_of, trace_fault_text};
-ghost use Rattle.dinero_pipe.specs.FaultText.{why_word};
+ghost use Rattle.dinero_pipe.specs.FaultText.{run_fault_text, status_of};
 
-use din_trace::{ByteWriter, DeviceFailed, TraceFault, Why};
-use dinero_options::{WordsFault, put_words};
-use itoa::Buffer;
+use din_trace::{ByteWriter, DeviceFailed};
+use dinero_options::{WordsFault, put_trace, put_words, trace_status, words_status};
 use sim_run::RunFault;
 use thiserror::Error;
 
@@ -28,41 +26,10 @@ pub fn status(fault: &Fault) -> u8
     ensures { result ≡ status_of fault.now }
 {
     match fault {
-        Fault::Run(RunFault::Trace(TraceFault::Bad { .. } | TraceFault::TooLong)) => 1,
-        Fault::Run(RunFault::Trace(TraceFault::Read) | RunFault::Write) => 4,
-        Fault::Run(_) => 3,
-        Fault::Words(WordsFault::Help) => 0,
-        Fault::Words(WordsFault::Memory) => 3,
-        Fault::Words(_) => 2,
-    }
-}
-
-fn why_text(why: Why) -> &'static str
-    ensures { result.now ≡ why_word why }
-{
-    match why {
-        Why::Label => "label",
-        Why::Gap => "gap",
-        Why::Address => "address",
-        Why::Range => "range",
-        Why::Tail => "tail",
-    }
-}
-
-fn put_trace<W: ByteWriter>(fault: TraceFault, writer: &mut W) -> Result<(), DeviceFailed>
-    ensures { Writes W.contents W.failures writer.old writer.new result (trace_fault_text fault) }
-{
-    match fault {
-        TraceFault::Bad { line, why } => {
-            let mut digits = Buffer::new();
-            writer.put(b"line ")?;
-            writer.put(digits.format(line).as_bytes())?;
-            writer.put(b": ")?;
-            writer.put(why_text(why).as_bytes())
-        }
-        TraceFault::TooLong => writer.put(b"trace too long"),
-        TraceFault::Read => writer.put(b"trace read failed"),
-        TraceFault::Memory => writer.put(b"out of memory"),
+        Fault::Run(RunFault::Trace(fault)) => trace_status(*fault),
+        Fault::Run(RunFault::Memory | RunFault::Threads | RunFault::Cut) => 3,
+        Fault::Run(RunFault::Write) => 4,
+        Fault::Words(fault) => words_status(*fault),
     }
 }
 

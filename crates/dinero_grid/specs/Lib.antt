@@ -1,0 +1,2 @@
+pub mod AskedRows
+pub mod GridFaultText

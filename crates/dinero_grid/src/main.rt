@@ -1,0 +1,148 @@
+//! The command line of a simulator of many configurations at once: reads a din trace from standard
+//! input once, and writes a table with a line for each configuration to standard output.
+//!
+//! The library grid_options reads the words, and grid_run reads the trace and writes the table.
+//! `asked` makes the rows of the table from the points that the words ask for. `fault` has the line
+//! and the exit status of each fault.
+//!
+//! Proved: `table` writes the table that the definitions give for the text of its reader and the
+//! points that are asked for, or says why not; the line and the status of a fault are those of
+//! `specs/GridFaultText`. Only tested: that `main` passes the right streams.
+#![tactic(auto)]
+
+mod asked;
+mod fault;
+
+ghost use Rattle.std.specs.Prelude.{◌≡◌, ◌≢◌, ℕ, List, Some, None, OnOk, IfOk, IfErr};
+ghost use Rattle.std.specs.List.{All};
+ghost use Rattle.std.specs.Io.KnownBytes.{Appends};
+ghost use Rattle.din_trace.specs.Device.{once_more};
+ghost use Rattle.din_trace.specs.Line.{ADDRESS_MAX};
+ghost use Rattle.din_trace.specs.Text.{fault};
+ghost use Rattle.din_trace.specs.Faults.{IsFaultOf};
+ghost use Rattle.grid_run.specs.Grids.{table_of};
+ghost use Rattle.grid_run.specs.declared.grid.Grid.{Grid};
+ghost use Rattle.dinero_grid.specs.AskedRows.{IsBoundedPoint, IsGridFor, has_refused};
+
+use crate::asked::{grid_for, has_refused};
+use crate::fault::{Fault, fault_text, status};
+use din_trace::{ByteReader, ByteWriter, FromRead, FromWrite, MAX_LIMIT, TraceFault};
+use dinero_options::WordsFault;
+use grid_options::{GridWordsFault, ParsedGrid, grid_help_text, parse_grid_words};
+use grid_run::{GridFault, simulate_grid};
+use std::alloc::Global;
+use std::env;
+use std::io::{BufWriter, ErrorKind, Read, Write};
+use std::process::ExitCode;
+
+/// Reads a trace of at most 2^40 bytes once, and writes the table of the grid that is asked for.
+/// Answers whether some configuration was refused.
+fn table<R: ByteReader + Drop, W: ByteWriter>(
+    alloc: Global,
+    asked: ParsedGrid,
+    reader: R,
+    writer: &mut W,
+) -> Result<bool, GridFault>
+    requires { All IsBoundedPoint asked.points.items }
+    ensures table { (text : List ℕ) → R.remaining reader ≡ Some text → OnOk result
+        ((fault ADDRESS_MAX text MAX_LIMIT ≡ None)
+        × ((grid : Grid) × IsGridFor asked grid
+        × Appends (W.contents writer.old) (W.contents writer.new) (table_of grid text))) }
+    ensures refused { IfOk result (λ some. some ≡ has_refused asked.points.items) }
+    ensures trace { (text : List ℕ) → R.remaining reader ≡ Some text
+        → (why : TraceFault) → result ≡ Err (GridFault.Trace why)
+        → IsFaultOf R.remaining R.failures reader text MAX_LIMIT why }
+    ensures memory { result ≢ Err (GridFault.Trace TraceFault.Memory) }
+    ensures sound { OnOk result (W.failures writer.new ≡ W.failures writer.old) }
+    ensures write { result ≡ Err GridFault.Write
+        → W.failures writer.new ≡ once_more (W.failures writer.old) }
+    ensures unwritten { IfErr result (λ why. why ≢ GridFault.Write → writer.new ≡ writer.old) }
+{
+    let is_short = has_refused(&asked.points);
+    let Ok(grid) = grid_for(alloc, asked) else {
+        return Err(GridFault::Memory);
+    };
+    simulate_grid(alloc, &grid, reader, MAX_LIMIT, writer)?;
+    Ok(is_short)
+}
+
+/// As `table`, from any reader to any writer, through a buffer.
+fn table_through_buffer<R: Read + Drop, W: Write + Drop>(
+    alloc: Global,
+    asked: ParsedGrid,
+    input: R,
+    output: W,
+) -> Result<bool, Fault>
+    requires { All IsBoundedPoint asked.points.items }
+{
+    let Ok(output) = BufWriter::new(alloc, output) else {
+        return Err(Fault::Run(GridFault::Memory));
+    };
+    let mut writer = FromWrite::new(output);
+    let reader = FromRead::new(input);
+    match table(alloc, asked, reader, &mut writer) {
+        Ok(is_short) => Ok(is_short),
+        Err(fault) => Err(Fault::Run(fault)),
+    }
+}
+
+fn write_help(rt: &HostRuntime) -> Result<bool, Fault> {
+    let Ok(text) = grid_help_text(rt.alloc()) else {
+        return Err(Fault::Run(GridFault::Memory));
+    };
+    match rt.stdout().write_all(text.as_bytes()) {
+        Ok(()) => Ok(false),
+        Err(_) => Err(Fault::Run(GridFault::Write)),
+    }
+}
+
+/// The fault if the arguments cannot be read: an allocation failed, or one is not UTF-8.
+fn words_fault_of(kind: ErrorKind) -> Fault {
+    match kind {
+        ErrorKind::OutOfMemory => Fault::Words(GridWordsFault::Words(WordsFault::Memory)),
+        _ => Fault::Words(GridWordsFault::Words(WordsFault::Words)),
+    }
+}
+
+/// The grid that the program's arguments ask for.
+fn parse_args(rt: &HostRuntime) -> Result<ParsedGrid, Fault>
+    ensures { IfOk result (λ asked. All IsBoundedPoint asked.points.items) }
+{
+    let alloc = rt.alloc();
+    let mut arguments = match env::args(rt) {
+        Ok(arguments) => arguments,
+        Err(error) => return Err(words_fault_of(error.kind())),
+    };
+    let _program = arguments.next();
+    let Ok(words) = arguments.collect::<Vec<String>>(alloc) else {
+        return Err(Fault::Words(GridWordsFault::Words(WordsFault::Memory)));
+    };
+    match parse_grid_words(alloc, words.as_slice()) {
+        Ok(asked) => Ok(asked),
+        Err(fault) => Err(Fault::Words(fault)),
+    }
+}
+
+/// Prints the line of a fault to standard error, and returns its exit status. If the line cannot be
+/// printed, the status is the same.
+fn refuse(rt: &HostRuntime, fault: Fault) -> ExitCode {
+    let mut errors = FromWrite::new(rt.stderr());
+    let _ = fault_text(&fault, &mut errors);
+    ExitCode::from(status(&fault))
+}
+
+/// The exit status of a run that has written its table, in which some configuration was refused.
+const SOME_REFUSED: u8 = 5;
+
+fn main(rt: HostRuntime) -> ExitCode {
+    let ended = match parse_args(&rt) {
+        Ok(asked) => table_through_buffer(rt.alloc(), asked, rt.stdin(), rt.stdout()),
+        Err(Fault::Words(GridWordsFault::Words(WordsFault::Help))) => write_help(&rt),
+        Err(fault) => Err(fault),
+    };
+    match ended {
+        Ok(true) => ExitCode::from(SOME_REFUSED),
+        Ok(false) => ExitCode::SUCCESS,
+        Err(fault) => refuse(&rt, fault),
+    }
+}
