@@ -1,5 +1,5 @@
 -- The answer to the words, from what clap says and what the grid comes to.
-use Rattle.std.proofs.Common.{◌≡◌, ◌⊎◌, List, Result, Ok, Err, inl, inr, refl}
+use Rattle.std.proofs.Common.{◌≡◌, ◌⊎◌, List, Result, Err, inl, inr, refl}
 use Rattle.clap.specs.Words.{Row, Text}
 use Rattle.dinero_options.specs.Answer.{AcceptsWords, RefusesWords}
 use Rattle.dinero_options.specs.declared.words.WordsFault.{WordsFault}
