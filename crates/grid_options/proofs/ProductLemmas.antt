@@ -1,9 +1,10 @@
 -- How many points a product has, option by option.
 use Rattle.std.proofs.Common.{◌≡◌, ◌∙◌, ℕ, ◌+◌, ◌*◌, ◌<◌, ◌≤◌, Bool, true, false, List, [], ◌∷◌}
-use Rattle.std.proofs.Common.{◌++◌, length, take, drop, get_or, map, ap, ap₂, refl, sym, arith, subst, nat_eq, ltb, cond}
+use Rattle.std.proofs.Common.{◌++◌, length, take, drop, get_or, map, ap, ap₂, sym, arith, subst}
+use Rattle.std.proofs.Common.{nat_eq, ltb, cond}
 use Rattle.std.proofs.Math.Nat.{mul-le-mul, mul-le-mul_left}
 use borrow.Author.Tests.{ltb-false, ltb-true}
-use Rattle.std.specs.List.{flat_map, fold, slice_split}
+use Rattle.std.specs.List.{fold, slice_split}
 use Rattle.std.proofs.lemmas.List.{append-nil, length-append, length-map, take-append-drop}
 use Rattle.std.proofs.lemmas.List.Concat.{flat_map-append}
 use Rattle.std.proofs.lemmas.List.Splits.{length-slice_split}
@@ -36,6 +37,7 @@ some_value rows x = go (takes_list x)
   where
     cut : (text : Text) → 1 ≤ length (slice_split (λ byte. nat_eq byte 44) text)
     cut text = omega (arith, length-slice_split (λ byte. nat_eq byte 44) text)
+
     go : (b : Bool) → 1 ≤ length (cond b (slice_split (λ byte. nat_eq byte 44) (grid_text rows x))
         (grid_text rows x ∷ []))
     go true = cut (grid_text rows x)

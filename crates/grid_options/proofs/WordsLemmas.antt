@@ -1,9 +1,15 @@
 -- The answer to the words, from what clap says and what the grid comes to.
-use Rattle.std.proofs.Common.{◌≡◌, ◌⊎◌, List, Result, Ok, Err, inl, inr, refl}
+use Rattle.std.proofs.Common.{◌≡◌, ◌⊎◌, List, [], ◌∷◌, Result, Ok, Err, IfOk, inl, inr, refl}
+use Rattle.std.proofs.lemmas.List.Elements.{All-cons, All-nil}
+use Rattle.std.specs.List.{All, AllZip}
 use Rattle.clap.specs.Words.{Row, Text}
 use Rattle.dinero_options.specs.Answer.{AcceptsWords, RefusesWords}
+use Rattle.stage_core.specs.Events.{IsBounded}
+use Rattle.dinero_options.specs.declared.opt.Opt.{Opt}
 use Rattle.dinero_options.specs.declared.words.WordsFault.{WordsFault}
-use Rattle.grid_options.specs.Grid.{AnswersGrid, AnswersGridWords, grid_app, memory}
+use Rattle.grid_options.specs.Grid.{AnswersGrid, AnswersGridWords, IsPoint, grid_app, memory}
+use Rattle.grid_options.specs.Grid.{points_of, varied}
+use Rattle.grid_options.specs.declared.grid.GridPoint.{GridPoint}
 use Rattle.grid_options.specs.declared.grid.ParsedGrid.{ParsedGrid}
 use Rattle.grid_options.specs.declared.words.GridWordsFault.{GridWordsFault}
 use Rattle.grid_options.specs.declared.words.GridWordsFault.TheVariants.{Words}
@@ -17,3 +23,20 @@ answers_matches words rows r takes (inr answers) = inr (inl (rows, takes, answer
 pub answers_refusal : (words : List Text) (f : WordsFault) → RefusesWords grid_app words f
     → AnswersGridWords words (Err (Words f))
 answers_refusal words f refused = inr (inr (f, refused, refl))
+
+-- the selection of each point is within its bounds
+points_bounded : (xs : List Opt) (ts : List (List Text)) (ps : List GridPoint)
+    → AllZip (IsPoint xs) ts ps → All (λ p. IsBounded p.selection) ps
+points_bounded xs [] [] h = All-nil (λ p. IsBounded p.selection)
+points_bounded xs [] (p ∷ ps) h = absurd h
+points_bounded xs (t ∷ ts) [] h = absurd h
+points_bounded xs (t ∷ ts) (p ∷ ps) h =
+    All-cons (λ q. IsBounded q.selection) p ps h.0.bound (points_bounded xs ts ps h.1)
+
+pub grid_bounded : (rows : List Row) (r : Result ParsedGrid GridWordsFault)
+    → (r ≡ Err memory) ⊎ AnswersGrid rows r
+    → IfOk r (λ g. All (λ p. IsBounded p.selection) g.points.items)
+grid_bounded rows (Ok g) (inl none) = cc
+grid_bounded rows (Ok g) (inr is) =
+    points_bounded (varied rows) (points_of rows) g.points.items is.1.points
+grid_bounded rows (Err f) h = tt

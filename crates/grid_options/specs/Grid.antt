@@ -4,7 +4,7 @@ use Rattle.std.specs.Prelude.{filter, find, flat_map, fold, length, map, nat_lt,
 use Rattle.std.specs.Prelude.{if◌then◌else◌, Option, Some, None, unwrap_or, Result, Ok, Err}
 use Rattle.std.specs.List.{AllZip, list_all, slice_split}
 use Rattle.std.specs.Option.{option_map_or}
-use Rattle.clap.specs.Words.{App, Row, Text, matches_of}
+use Rattle.clap.specs.Words.{App, Row, Text}
 use Rattle.stage_core.specs.Events.{IsBounded}
 use Rattle.stage_core.specs.Lawful.{refusal_of}
 use Rattle.stage_core.specs.declared.config.Config.{Config}
@@ -69,11 +69,11 @@ first_unreadable rows = find (λ x. not (has_readable rows x)) options
 abbrev pub varied : List Row → List Opt
 varied rows = filter (λ x. nat_lt 1 (length (values_of rows x))) options
 
--- each point with each of these values behind it; the next value stands before the next point
+-- each point with each of these values behind it, point by point
 unfoldable pub extended : List (List Text) → List Text → List (List Text)
 extended points values = flat_map (λ p. map (λ v. p ++ v ∷ []) values) points
 
--- every choice of one value for each of these options; the value of the last option changes first
+-- every choice of one value for each of these options; the value of the last option varies fastest
 abbrev pub product : (Opt → List Text) → List Opt → List (List Text)
 product values xs = fold (λ points x. extended points (values x)) ([] ∷ []) xs
 

@@ -1,7 +1,8 @@
 //! From the words after the program's name to a grid.
 
-ghost use Rattle.std.specs.Prelude.{◌≡◌, ◌⊎◌, Err, IfOk, map, string_bytes};
+ghost use Rattle.std.specs.Prelude.{◌≡◌, ◌⊎◌, All, Err, IfOk, map, string_bytes};
 ghost use Rattle.clap.specs.Words.{found_of, rows_of};
+ghost use Rattle.stage_core.specs.Events.{IsBounded};
 ghost use Rattle.grid_options.specs.Grid.{AnswersGrid, AnswersGridWords, IsGridOf, memory};
 ghost use Rattle.grid_options.specs.Grid.{points_of};
 
@@ -64,7 +65,8 @@ fn answer(alloc: Global, matches: &ArgMatches) -> Result<ParsedGrid, GridWordsFa
 /// Reads the words after the program's name. Each number of a selection is at most 2^40. If an
 /// allocation fails, `Words(Memory)` may be the answer instead of any other.
 pub fn parse_grid_words(alloc: Global, words: &[String]) -> Result<ParsedGrid, GridWordsFault>
-    ensures { AnswersGridWords (map string_bytes words.now) result }
+    ensures answer { AnswersGridWords (map string_bytes words.now) result }
+    ensures bound { IfOk result (λ g. All (λ p. IsBounded p.selection) g.points.items) }
 {
     let Ok(command) = grid_command(alloc) else {
         return Err(MEMORY);

@@ -11,10 +11,7 @@ use std::test::Fail;
 pub static OTHERS: &str = "--l1-isize 16 --l1-ibsize 4 --l1-dbsize 4 --l2-usize 64 --l2-ubsize 8";
 
 /// The answer to the words of `OTHERS`, and then of this line.
-pub fn parsed(
-    alloc: Global,
-    line: &str,
-) -> Result<Result<ParsedGrid, GridWordsFault>, AllocError> {
+pub fn parsed(alloc: Global, line: &str) -> Result<Result<ParsedGrid, GridWordsFault>, AllocError> {
     let mut words = Vec::new(alloc);
     for word in OTHERS.split_whitespace() {
         words.push(String::from_str(alloc, word)?)?;

@@ -7,44 +7,57 @@ use grid_options::{GridWordsFault, ParsedGrid, grid_help_text};
 use std::process::Abort;
 use std::test::Fail;
 
+/// What the tests answer if an allocation fails. No other fault may be passed on like this.
+fn wants_memory(rt: &impl Abort, fault: GridWordsFault) -> Result<(), WordsFault> {
+    assert!(rt; fault == GridWordsFault::Words(WordsFault::Memory));
+    Err(WordsFault::Memory)
+}
+
 /// The words have to be refused for this reason, unless an allocation fails.
 fn is_refused(
     rt: &impl Abort,
     answer: Result<ParsedGrid, GridWordsFault>,
-    want: GridWordsFault,
-) -> Result<(), GridWordsFault> {
-    let memory = GridWordsFault::Words(WordsFault::Memory);
-    let fault = answer.err();
-    assert!(rt; fault == Some(want) || fault == Some(memory));
-    if fault == Some(memory) {
-        return Err(memory);
+    want: WordsFault,
+) -> Result<(), WordsFault> {
+    assert!(rt; answer.is_err());
+    match answer {
+        Ok(_) => Ok(()),
+        Err(fault) => {
+            if fault == GridWordsFault::Words(want) {
+                return Ok(());
+            }
+            wants_memory(rt, fault)
+        }
     }
-    Ok(())
 }
 
 #[test]
 fn a_grid_is_read_or_memory_is_wanted(rt: HostRuntime) -> Result<(), Fail> {
-    let grid = parsed(rt.alloc(), "--l1-dsize 16,32 --l1-dassoc 1,2")??;
-    assert_eq!(rt; grid.names.len(), 2);
-    assert_eq!(rt; grid.points.len(), 4);
-    for (point, (blocks, sets)) in grid.points.iter().zip([(4, 4), (4, 2), (8, 8), (8, 4)]) {
-        assert_eq!(rt; point.words.len(), 2);
-        assert!(rt; has_data_cache(&point.config, blocks, sets));
+    match parsed(rt.alloc(), "--l1-dsize 16,32 --l1-dassoc 1,2")? {
+        Ok(grid) => {
+            assert_eq!(rt; grid.names.len(), 2);
+            assert_eq!(rt; grid.points.len(), 4);
+            let caches = [(4, 4), (4, 2), (8, 8), (8, 4)];
+            for (point, (blocks, sets)) in grid.points.iter().zip(caches) {
+                assert_eq!(rt; point.words.len(), 2);
+                assert!(rt; has_data_cache(&point.config, blocks, sets));
+            }
+            Ok(())
+        }
+        Err(fault) => Ok(wants_memory(&rt, fault)?),
     }
-    Ok(())
 }
 
 #[test]
 fn a_bad_value_is_named_or_memory_is_wanted(rt: HostRuntime) -> Result<(), Fail> {
     let answer = parsed(rt.alloc(), "--l1-dsize 16,x")?;
-    let want = GridWordsFault::Words(WordsFault::Number(Opt::L1Dsize));
-    Ok(is_refused(&rt, answer, want)?)
+    Ok(is_refused(&rt, answer, WordsFault::Number(Opt::L1Dsize))?)
 }
 
 #[test]
 fn an_unknown_option_is_refused_or_memory_is_wanted(rt: HostRuntime) -> Result<(), Fail> {
     let answer = parsed(rt.alloc(), "--l1-dsize 16 --ring 2")?;
-    Ok(is_refused(&rt, answer, GridWordsFault::Words(WordsFault::Words))?)
+    Ok(is_refused(&rt, answer, WordsFault::Words)?)
 }
 
 #[test]

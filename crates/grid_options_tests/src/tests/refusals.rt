@@ -110,7 +110,10 @@ fn is_told(rt: &HostRuntime, fault: GridWordsFault, text: &str) -> bool {
 #[test]
 fn tells_what_is_wrong_with_the_words(rt: HostRuntime) -> Result<(), Fail> {
     let rows = [
-        (GridWordsFault::TooMany, "grid has more than 4096 configurations"),
+        (
+            GridWordsFault::TooMany,
+            "grid has more than 4096 configurations",
+        ),
         (
             GridWordsFault::Words(WordsFault::Words),
             "command line refused, try --help",

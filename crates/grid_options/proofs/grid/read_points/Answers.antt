@@ -1,4 +1,4 @@
-use Rattle.std.proofs.Common.{◌≡◌, ◌+◌, ◌∷◌, ◌++◌, [], map, subst, sym, take}
+use Rattle.std.proofs.Common.{◌+◌, ◌∷◌, ◌++◌, [], map, subst, sym, take}
 use Rattle.std.specs.List.{AllZip}
 use Rattle.grid_options.specs.Grid.{IsPoint}
 use Rattle.grid_options.proofs.ListLemmas.{seen_more, texts_of, zip_push}

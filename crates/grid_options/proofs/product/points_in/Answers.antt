@@ -1,4 +1,4 @@
-use Rattle.std.proofs.Common.{◌≡◌, ◌∙◌, ◌*◌, ◌<◌, ◌≤◌, ◌∷◌, [], ap, ap₂, arith, get_or, inr}
+use Rattle.std.proofs.Common.{◌∙◌, ◌*◌, ◌≤◌, ◌∷◌, [], ap, ap₂, get_or, inr}
 use Rattle.std.proofs.Common.{length, map, refl, subst, sym}
 use Rattle.std.proofs.lemmas.List.{get_or_default, length-map}
 use Rattle.clap.specs.Words.{found_of, rows_of}
@@ -21,10 +21,13 @@ returns-then-are_too_many-clause-fault c =
     ∙ ap length (ap (map texts_of) c.as_slice-before.ensures.value ∙ c.loop-option.invariant.0) in
     let values = sym (length-map next (λ t. t.now))
     ∙ ap length (ap (map (λ t. t.now)) c.as_slice-next.ensures.value ∙ c.in-Ok-values_in.ensures) in
-    inr (refl, stays_above (values_of rows) (some_value rows) options i x ([] ∷ []) 4096
-    c.loop-option-test.true (get_or_default options i L1Isize x c.loop-option-test.true)
-    (above_test 4096 (length before) (length next) _ _
-    (sym c.are_too_many.ensures ∙ c.if-are_too_many.true) many values))
+    inr (
+      refl,
+      stays_above (values_of rows) (some_value rows) options i x ([] ∷ []) 4096
+          c.loop-option-test.true (get_or_default options i L1Isize x c.loop-option-test.true)
+          (above_test 4096 (length before) (length next) _ _
+          (sym c.are_too_many.ensures ∙ c.if-are_too_many.true) many values),
+    )
 
 pub loop-option-preserved : goal.loop-option-preserved
 loop-option-preserved c =
@@ -37,7 +40,8 @@ loop-option-preserved c =
     let values = ap (map (λ t. t.now)) c.as_slice-next.ensures.value ∙ c.in-Ok-values_in.ensures in
     let all = points_more (values_of rows) (some_value rows) options i x ([] ∷ [])
     c.loop-option-test.true (get_or_default options i L1Isize x c.loop-option-test.true) in
-    let size = sym (length-map c.in-Ok-extend.made.items texts_of) ∙ ap length c.in-Ok-extend.ensures
+    let size = sym (length-map c.in-Ok-extend.made.items texts_of)
+    ∙ ap length c.in-Ok-extend.ensures
     ∙ length-extended (map texts_of before) (map (λ t. t.now) next)
     ∙ ap₂ (λ a b. a * b) (length-map before texts_of) (length-map next (λ t. t.now)) in
     let some = subst (λ n. 1 ≤ n) (sym (ap length c.as_slice-before.ensures.value))

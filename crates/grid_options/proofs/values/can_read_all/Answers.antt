@@ -1,4 +1,4 @@
-use Rattle.std.proofs.Common.{◌≡◌, ◌∙◌, Bor, sym}
+use Rattle.std.proofs.Common.{◌∙◌, Bor, sym}
 use Rattle.std.proofs.lemmas.List.Folds.{list_all-map, list_all_at}
 use Rattle.clap.specs.Words.{Text}
 use Rattle.dinero_options.specs.Answer.{reads_as}
