@@ -27,24 +27,22 @@ line words last = tabbed_words words ++ (last ++ 10 ∷ [])
 abbrev pub class_names : List (List ℕ)
 class_names = codes "-instr" ∷ codes "-read" ∷ codes "-write" ∷ codes "-misc" ∷ []
 
--- the name of a count, and in a full table those of its classes
-abbrev pub counted_names : Columns → List ℕ → List (List ℕ)
-counted_names Plain name = name ∷ []
-counted_names Full name = name ∷ map (λ class. name ++ class) class_names
-
--- the heads of a cache's columns, after its name
-abbrev pub column_names : Columns → List (List ℕ)
-column_names columns =
-    counted_names columns (codes "-fetches") ++ (counted_names columns (codes "-misses")
-    ++ (codes "-miss-rate" ∷ (counted_names columns (codes "-compulsory")
-    ++ (counted_names columns (codes "-capacity") ++ (counted_names columns (codes "-conflict")
-    ++ (counted_names columns (codes "-fully-associative-misses")
-    ++ (codes "-blocks-fetched" ∷ codes "-written-back" ∷ codes "-writes-sent-on"
-    ∷ codes "-flushes" ∷ [])))))))
+-- the head of a count, and in a full table those of its classes
+abbrev pub counted_heads : Columns → List ℕ → List (List ℕ)
+counted_heads Plain head = head ∷ []
+counted_heads Full head = head ∷ map (λ class. head ++ class) class_names
 
 -- the heads of the columns of one cache
-abbrev pub heads_of : Columns → List ℕ → List (List ℕ)
-heads_of columns cache = map (λ name. cache ++ name) (column_names columns)
+unfoldable pub heads_of : Columns → List ℕ → List (List ℕ)
+heads_of columns cache =
+    counted_heads columns (cache ++ codes "-fetches")
+    ++ (counted_heads columns (cache ++ codes "-misses")
+    ++ ((cache ++ codes "-miss-rate") ∷ (counted_heads columns (cache ++ codes "-compulsory")
+    ++ (counted_heads columns (cache ++ codes "-capacity")
+    ++ (counted_heads columns (cache ++ codes "-conflict")
+    ++ (counted_heads columns (cache ++ codes "-fully-associative-misses")
+    ++ ((cache ++ codes "-blocks-fetched") ∷ (cache ++ codes "-written-back")
+    ∷ (cache ++ codes "-writes-sent-on") ∷ (cache ++ codes "-flushes") ∷ [])))))))
 
 -- the heads of the columns of all three caches
 abbrev pub cache_heads : Columns → List (List ℕ)
@@ -98,8 +96,8 @@ unfoldable pub counted_line : Columns → List (List ℕ) → Figures → List �
 counted_line columns words figures = line (words ++ figure_columns columns figures) (codes "-")
 
 -- a hyphen for each column of a cache
-abbrev pub no_columns : Columns → List (List ℕ)
-no_columns columns = map (λ name. codes "-") (column_names columns)
+unfoldable pub no_columns : Columns → List (List ℕ)
+no_columns columns = map (λ head. codes "-") (heads_of columns [])
 
 -- a hyphen for each column of all three caches
 abbrev pub no_figures : Columns → List (List ℕ)

@@ -2,9 +2,10 @@
 
 ghost use Rattle.std.specs.Prelude.{◌++◌, codes, map, string_bytes};
 ghost use Rattle.din_trace.specs.Device.{Writes};
-ghost use Rattle.grid_run.specs.Table.{cache_heads, columns_of, counted_line, counted_names};
+ghost use Rattle.grid_run.specs.Table.{cache_heads, columns_of, counted_line, counted_heads};
 ghost use Rattle.grid_run.specs.Table.{figure_columns, head_line, heads_of, no_columns, no_figures};
 ghost use Rattle.grid_run.specs.Table.{refused_line, tabbed, tabbed_words};
+ghost use Rattle.grid_run.specs.declared.grid.Columns.TheVariants.{Full};
 
 use crate::figures::Figures;
 use crate::grid::Columns;
@@ -41,10 +42,26 @@ fn put_class_head<W: ByteWriter>(
     class: &str,
 ) -> Result<(), DeviceFailed>
     ensures { Writes W.contents W.failures writer.old writer.new result
-        (tabbed (cache.now ++ (name.now ++ class.now))) }
+        (tabbed ((cache.now ++ name.now) ++ class.now)) }
 {
     writer.put(cache.as_bytes())?;
     put_head(writer, name, class)
+}
+
+/// Writes the head of a count, and those of its classes.
+fn put_class_heads<W: ByteWriter>(
+    writer: &mut W,
+    cache: &str,
+    name: &str,
+) -> Result<(), DeviceFailed>
+    ensures { Writes W.contents W.failures writer.old writer.new result
+        (tabbed_words (counted_heads Full (cache.now ++ name.now))) }
+{
+    put_head(writer, cache, name)?;
+    put_class_head(writer, cache, name, "-instr")?;
+    put_class_head(writer, cache, name, "-read")?;
+    put_class_head(writer, cache, name, "-write")?;
+    put_class_head(writer, cache, name, "-misc")
 }
 
 /// Writes the head of a count, and in a full table those of its classes.
@@ -55,17 +72,11 @@ fn put_counted_heads<W: ByteWriter>(
     name: &str,
 ) -> Result<(), DeviceFailed>
     ensures { Writes W.contents W.failures writer.old writer.new result
-        (tabbed_words (map (λ n. cache.now ++ n) (counted_names columns name.now))) }
+        (tabbed_words (counted_heads columns (cache.now ++ name.now))) }
 {
     match columns {
         Columns::Plain => put_head(writer, cache, name),
-        Columns::Full => {
-            put_head(writer, cache, name)?;
-            put_class_head(writer, cache, name, "-instr")?;
-            put_class_head(writer, cache, name, "-read")?;
-            put_class_head(writer, cache, name, "-write")?;
-            put_class_head(writer, cache, name, "-misc")
-        }
+        Columns::Full => put_class_heads(writer, cache, name),
     }
 }
 
@@ -138,6 +149,15 @@ fn put_figures<W: ByteWriter>(
     put_columns(writer, columns, &figures.totals.u, &figures.shadows.u)
 }
 
+/// Writes hyphens in place of the columns of one cache in a full table.
+fn put_no_classes<W: ByteWriter>(writer: &mut W) -> Result<(), DeviceFailed>
+    ensures { Writes W.contents W.failures writer.old writer.new result
+        (tabbed_words (no_columns Full)) }
+{
+    writer.put(b"-\t-\t-\t-\t-\t-\t-\t-\t-\t-\t-\t-\t-\t-\t-\t-\t-\t-\t-\t-\t")?;
+    writer.put(b"-\t-\t-\t-\t-\t-\t-\t-\t-\t-\t-\t-\t-\t-\t-\t")
+}
+
 /// Writes hyphens in place of the columns of one cache.
 fn put_no_columns<W: ByteWriter>(writer: &mut W, columns: Columns) -> Result<(), DeviceFailed>
     ensures { Writes W.contents W.failures writer.old writer.new result
@@ -145,10 +165,7 @@ fn put_no_columns<W: ByteWriter>(writer: &mut W, columns: Columns) -> Result<(),
 {
     match columns {
         Columns::Plain => writer.put(b"-\t-\t-\t-\t-\t-\t-\t-\t-\t-\t-\t"),
-        Columns::Full => {
-            writer.put(b"-\t-\t-\t-\t-\t-\t-\t-\t-\t-\t-\t-\t-\t-\t-\t-\t-\t-\t-\t-\t")?;
-            writer.put(b"-\t-\t-\t-\t-\t-\t-\t-\t-\t-\t-\t-\t-\t-\t-\t")
-        }
+        Columns::Full => put_no_classes(writer),
     }
 }
 

@@ -1,13 +1,14 @@
-use Rattle.std.proofs.Common.{append-nil}
-use Rattle.std.proofs.lemmas.Grind.{flat_map-append}
-use Rattle.grid_run.specs.Table.{columns_of, tabbed_words}
+use Rattle.grid_run.specs.Table.{columns_of}
 use Rattle.din_trace.proofs.WritesLemmas.{writes_then, writes_as}
+use Rattle.grid_run.proofs.TableLemmas.{word-last, word-then, words-then}
 use Rattle.grid_run.proofs.table.put_columns.Goals as goal
 
 pub returns : goal.returns
-unfolding columns_of tabbed_words
+unfolding columns_of
 returns g c =
-    writes_as _ _ _ (simp (append-nil, flat_map-append))
+    writes_as _ _ _ (words-then _ _ _ (words-then _ _ _ (word-then _ _ _ (words-then _ _ _
+    (words-then _ _ _ (words-then _ _ _ (words-then _ _ _ (word-then _ _ _ (word-then _ _ _
+    (word-then _ _ _ (word-last _)))))))))))
     (writes_then _ _ _ c.in_ok-put_counted.ensures
     (writes_then _ _ _ c.in_ok-put_counted-2.ensures
     (writes_then _ _ _ c.in_ok-put_miss_rate.ensures
