@@ -31,7 +31,7 @@ choose_size() {
         [ "$kind" = rates ] || [ "$1" -le 24 ] || width=$((200 + 22 * $1))
         [ "$kind" = kinds ] || [ ${#labels[@]} -le 20 ] || height=$((120 + 17 * ${#labels[@]}))
         : "${font_size:=9}"
-        [ "$width" -le 10000 ] && [ "$height" -le 10000 ] || no_room_in_picture
+        [ $((width > height ? width : height)) -le 10000 ] || no_room_in_picture
         return
     fi
     width=${size%x*} height=${size#*x}
@@ -47,6 +47,7 @@ lay_out() {
     bars=$(wc -l < "$work/points")
     choose_size "$bars"
     em=$(((font_size * 4 + 2) / 3))
+    [ "$width" -ge $((20 * em)) ] && [ "$height" -ge $((12 * em)) ] || no_room_in_picture
     in_columns $((width - 2 * em))
     title_lines=()
     [ -z "$title" ] || wrap "$title" "$columns" 3
@@ -62,7 +63,7 @@ lay_out() {
     [ "$kind" = rates ] || place_groups "$bars"
     bottom=$(((26 + (${#axis_lines[@]} + group_rows) * 14) * em / 10))
     plot_height=$((height - top - bottom))
-    [ "$plot_height" -ge $((9 * em)) ] || no_room_in_picture
+    [ "$plot_height" -ge $((7 * em)) ] || no_room_in_picture
 }
 
 # place_key: to the right of the plot where there is room, else above it.

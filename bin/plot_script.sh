@@ -91,6 +91,7 @@ print_axes() {
     [ "$columns" -ge 23 ] || gap='\n'
     echo "set ylabel \"$what$gap(% of accesses)\""
     [[ $picture != *.svg ]] || echo 'set xtics offset 0,0.4'
+    print_height_tics
     for i in "${!axis_lines[@]}"; do
         put_text "${axis_lines[i]}" 'graph 0.5' $((bottom - (30 + (group_rows + i) * 14) * em / 10))
     done
@@ -106,7 +107,6 @@ print_rates() {
         lines+=("'lines' index $i using 2:3 with linespoints lw 2*$em/12. ps $dot \
 lc rgb '${colours[i % 6]}' dt ${dashes[i % 6]} pt ${shapes[i % 7]} title $said")
     done
-    echo 'set yrange [0:*]'
     if is_logarithmic; then print_log_tics; else print_linear_tics; fi
     join_lines "${lines[@]}"
 }
@@ -124,7 +124,6 @@ set style fill solid 1 border lc rgb 'black'
 set xzeroaxis lt -1
 set xtics scale 0
 END
-    grep -q -e - "$work/points" || echo 'set yrange [0:*]'
     join_lines "$box:(0):4 $style lc rgb '#08306b' title 'compulsory'" \
         "$box:4:(\$4+\$5) $style lc rgb '#4292c6' title 'capacity'" \
         "$box:(\$6<0?0:\$4+\$5):(\$6<0?\$6:\$4+\$5+\$6) $style lc rgb '#deebf7' title 'conflict'"
@@ -132,12 +131,13 @@ END
 
 print_group_labels() {
     local group middle line i
+    [ "$group_rows" -gt 0 ] || return 0
     while read -r group middle; do
         i=0
         while IFS= read -r line; do
             put_text "$line" "first $middle" $((bottom - (26 + i * 14) * em / 10))
             i=$((i + 1))
-        done <<<"${group_lines[group - 1]-}"
+        done <<<"${group_lines[group - 1]}"
     done < <(awk '
         { if (!($2 in least)) least[$2] = $1; most[$2] = $1 }
         END { for (group in least) print group, (least[group] + most[group]) / 2 }' "$work/bars" |

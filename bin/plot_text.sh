@@ -35,7 +35,7 @@ begin() {
     local LC_ALL=C.UTF-8
     piece=${1::$2}
     measure "$piece"
-    while [ "$columns" -gt "$2" ]; do
+    while [ -n "$piece" ] && [ "$columns" -gt "$2" ]; do
         piece=${piece%?}
         measure "$piece"
     done
@@ -46,7 +46,7 @@ end() {
     local LC_ALL=C.UTF-8
     piece=$1
     measure "$piece"
-    while [ "$columns" -gt "$2" ]; do
+    while [ -n "$piece" ] && [ "$columns" -gt "$2" ]; do
         piece=${piece#?}
         measure "$piece"
     done

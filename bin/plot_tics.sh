@@ -1,4 +1,4 @@
-# The marks of the axis. Read by plot.
+# The marks of both axes. Read by plot.
 # shellcheck shell=bash disable=SC2154,SC2034  # names that plot and its other files set, or use
 
 # name_place BYTES: sets `name` to what stands at that place of the axis, in its unit.
@@ -49,7 +49,7 @@ next_step() {
     if [ "$class" != other ]; then
         step=$((step * 2))
     elif [[ $step == 2* ]]; then
-        step=$((step / 2 * 5))
+        step=$((step * 5 / 2))
     else
         step=$((step * 2))
     fi
@@ -63,7 +63,7 @@ print_linear_tics() {
     span=$((most - least))
     widest_name "$least" "$most"
     in_columns "$plot_width"
-    while [ $((span / step * (widest + 2))) -gt "$columns" ]; do next_step; done
+    while [ $((span / step)) -gt $((columns / (widest + 2))) ]; do next_step; done
     for ((place = (least + step - 1) / step * step; place <= most; place += step)); do
         name_place "$place"
         marks+=("'$name' $place")
@@ -103,6 +103,27 @@ print_bar_tics() {
     done < "$work/points"
     echo "set xrange [-1:$at]"
     print_marks "${marks[@]}"
+}
+
+# print_height_tics: marks at a distance of 1, 2 or 5 times a power of ten, so many as have room. The
+# height of a point is its first share, and that of a bar all of them.
+print_height_tics() {
+    awk -v rows=$((plot_height / (2 * em))) '
+        {
+            height = $3
+            for (i = 4; i <= NF; i++) if ($i > 0) height += $i; else if ($i < lowest) lowest = $i
+            if (height > highest) highest = height
+        }
+        END {
+            if (rows > 10) rows = 10
+            if (highest <= 0) highest = 1
+            for (step = 1e-6; (highest - lowest) / step > rows; step *= 10) {
+                if ((highest - lowest) / step <= rows * 2) { step *= 2; break }
+                if ((highest - lowest) / step <= rows * 5) { step *= 5; break }
+            }
+            printf "set ytics %.10g\n", step
+            printf "set yrange [%s:%s]\n", lowest < 0 ? "*" : "0", highest == 1 ? "1" : "*"
+        }' "$work/points"
 }
 
 # print_marks MARK..
