@@ -47,7 +47,7 @@ lay_out() {
     bars=$(wc -l < "$work/points")
     choose_size "$bars"
     em=$(((font_size * 4 + 2) / 3))
-    [ "$width" -ge $((20 * em)) ] && [ "$height" -ge $((12 * em)) ] || no_room_in_picture
+    [ "$width" -ge $((20 * em)) ] || no_room_in_picture
     in_columns $((width - 2 * em))
     title_lines=()
     [ -z "$title" ] || wrap "$title" "$columns" 3

@@ -58,12 +58,13 @@ next_step() {
 # print_linear_tics: named marks at equal distances, so many as have room. The axis begins at 0 if
 # that leaves the points at least half of it.
 print_linear_tics() {
-    local least=$least span step=$unit place marks=()
+    local least=$least span step=$unit place steps marks=()
     [ $((least * 2)) -gt "$most" ] || least=0
     span=$((most - least))
     widest_name "$least" "$most"
     in_columns "$plot_width"
-    while [ $((span / step)) -gt $((columns / (widest + 2))) ]; do next_step; done
+    steps=$((columns / (widest + 2)))
+    while [ $((span / step)) -gt $((steps < 10 ? steps : 10)) ]; do next_step; done
     for ((place = (least + step - 1) / step * step; place <= most; place += step)); do
         name_place "$place"
         marks+=("'$name' $place")
@@ -105,8 +106,8 @@ print_bar_tics() {
     print_marks "${marks[@]}"
 }
 
-# print_height_tics: marks at a distance of 1, 2 or 5 times a power of ten, so many as have room. The
-# height of a point is its first share, and that of a bar all of them.
+# print_height_tics: marks at a distance of 1, 2 or 5 times a power of ten, so many as have room.
+# The height of a point is its first share, and that of a bar all of them.
 print_height_tics() {
     awk -v rows=$((plot_height / (2 * em))) '
         {

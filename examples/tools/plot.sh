@@ -64,8 +64,9 @@ test_streams() {
 test_plot() {
     run "$plot" kinds kinds.tsv kinds.svg
     [ "$status" -eq 0 ] && [ ! -s "$out$err" ] &&
-        shows kinds.svg 'kinds.din, l1-dcache' 'size of l1-dcache (bytes)' 'misses (% of accesses)' \
-            'each miss' 'by its own kind' compulsory capacity conflict '1 way' '2 ways' 8 16
+        shows kinds.svg 'kinds.din, l1-dcache' 'size of l1-dcache (bytes)' \
+            'misses (% of accesses)' 'each miss' 'by its own kind' \
+            compulsory capacity conflict '1 way' '2 ways' 8 16
     verdict 'a picture of the kinds of miss' $?
     # Four configurations have compulsory misses, so four bars are begun, and one stands in the key.
     [ "$(bars kinds.svg ' *8, *48, *107')" -eq 5 ]

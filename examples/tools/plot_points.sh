@@ -40,13 +40,15 @@ tells() {
 }
 
 # Two ways and two sizes, with a fault. The columns are in no order of bin/sweep's.
-tr ' ' '\t' >points.tsv <<'END'
-fault l1-dcache-misses l1-dassoc trace l1-dcache-fully-associative-misses l1-dsize l1-dcache-fetches l1-dcache-compulsory l1-dcache-capacity l1-dcache-conflict l1-dbsize l1-drepl
-- 50 2 a/x.din 60 8k 200 20 20 10 32 l
-- 40 1 a/x.din 30 16k 200 20 10 10 32 l
-- 100 1 a/x.din 60 8k 200 20 30 50 32 l
-no - 2 a/x.din - 16k - - - - 32 l
-END
+{
+    echo fault l1-dcache-misses l1-dassoc trace l1-dcache-fully-associative-misses l1-dsize \
+        l1-dcache-fetches l1-dcache-compulsory l1-dcache-capacity l1-dcache-conflict l1-dbsize \
+        l1-drepl
+    echo - 50 2 a/x.din 60 8k 200 20 20 10 32 l
+    echo - 40 1 a/x.din 30 16k 200 20 10 10 32 l
+    echo - 100 1 a/x.din 60 8k 200 20 30 50 32 l
+    echo no - 2 a/x.din - 16k - - - - 32 l
+} | tr ' ' '\t' >points.tsv
 
 # In percent of 200 accesses: by their own kinds, with whole counts, and all together. With two ways
 # 50 misses less 60 fully associative ones are -10, a twentieth of the accesses below zero.
@@ -70,7 +72,8 @@ test_points() {
     keeps rates points.tsv points.svg --over l1-dassoc
     gives 'points over the ways' points $'1\t1\t50.000000\n1\t2\t25.000000\n2\t1\t20.000000'
     gives 'and its words' words ' x.din, l1-dcache, 32-byte blocks, LRUways of l1-dcache8 KiB16 KiB'
-    keeps rates points.tsv points.svg --by trace --only l1-dassoc 1 --only l1-dsize=8k --only l1-dsize 16k
+    keeps rates points.tsv points.svg --by trace --only l1-dassoc 1 --only l1-dsize=8k \
+        --only l1-dsize 16k
     gives 'points of a choice of values' points $'1\t8192\t50.000000\n1\t16384\t20.000000'
     gives 'and its words' words \
         ' l1-dcache, 1 way, 32-byte blocks, LRUsize of l1-dcache (KiB)x.din'
