@@ -1,22 +1,26 @@
 # Chooses the points of a picture from a table of bin/sweep on standard input. The words behind the
-# program are those of --only, each COLUMN=VALUE; `cache` is the word of --cache, or empty.
+# program are KIND CACHE OVER BY and then those of --only, each COLUMN=VALUE. KIND is `rates`,
+# `kinds`, or `whole` for kinds by whole counts; CACHE, OVER and BY are empty where none was given.
 #
-# Prints the trace without its folder, the cache and the unit of the sizes, a line each, and then a
-# line for each point: ways, bytes, and as percentages of the fetches the misses and their three
-# kinds. All of these are numbers. If it fails, it prints why and nothing else.
+# Prints the title, and the label of the axis; on a line what is on the axis, `size`, `ways` or
+# `other`, the bytes of its unit, the least and the most place on it, and the number of groups; the
+# name of each group on a line of its own; and then a line for each point: its group, its place on
+# the axis, and as percentages of the accesses its misses or their three kinds. If it fails, it
+# prints why and nothing else. plot_names.awk is read before it.
 
 BEGIN {
     FS = "\t"
-    for (i = 1; i < ARGC; i++) {
+    kind = ARGV[1]
+    cache = ARGV[2]
+    over = ARGV[3]
+    by = ARGV[4]
+    for (i = 5; i < ARGC; i++) {
         split_at = index(ARGV[i], "=")
         column = substr(ARGV[i], 1, split_at - 1)
         is_chosen[column]
         wanted[column, substr(ARGV[i], split_at + 1)] = ARGV[i]
-        delete ARGV[i]
     }
-    owner["l1-isize"] = "l1-icache"
-    owner["l1-dsize"] = "l1-dcache"
-    owner["l2-usize"] = "l2-ucache"
+    ARGC = 1
 }
 
 function fail(text) {
@@ -25,46 +29,27 @@ function fail(text) {
     exit 1
 }
 
-# place_of(NAME): of the column with that name.
-function place_of(name) {
+# need_column(NAME): the table has it.
+function need_column(name) {
     if (!(name in at)) fail("the table has no column " name)
-    return at[name]
 }
 
-# number(COLUMN): what stands there in this line, which has to be digits.
-function number(column) {
-    if ($column !~ /^[0-9]+$/) fail("line " NR ": no number: " $column)
-    return $column
+# need_option(NAME): the table has a column of this option.
+function need_option(name) {
+    need_column(name)
+    if (is_count(name)) fail("the column " name " is no option")
 }
 
-# bytes(SIZE): of digits, and k or m behind them.
-function bytes(size) {
-    if (size !~ /^[0-9]+[kKmM]?$/) fail("line " NR ": no size: " size)
-    return size * (size ~ /[kK]$/ ? 1024 : size ~ /[mM]$/ ? 1048576 : 1)
-}
-
-# varied_cache(): the name of the cache whose size is varied.
-function varied_cache(   i, caches, several) {
-    for (i = 1; i <= columns; i++)
-        if (name[i] in owner) { caches = caches " " owner[name[i]]; several++ }
-    if (!several) fail("the table has no size varied")
-    if (several > 1) fail("the table varies several sizes: choose by --cache one of" caches)
-    return substr(caches, 2)
-}
-
-function read_names(   i, prefix) {
+function read_names(   i, counts) {
     columns = NF
-    for (i = 1; i <= NF; i++) { name[i] = $i; at[$i] = i }
-    if ($1 != "trace" || $NF != "fault") fail("no table of bin/sweep")
-    if (cache == "") cache = varied_cache()
-    prefix = substr(cache, 1, 4)
-    size = place_of(prefix "size")
-    ways = (prefix "assoc") in at ? at[prefix "assoc"] : 0
-    for (i in is_chosen) place_of(i)
-    fetches = place_of(cache "-fetches")
-    kind[1] = place_of(cache "-compulsory")
-    kind[2] = place_of(cache "-capacity")
-    kind[3] = place_of(cache "-conflict")
+    for (i = 1; i <= NF; i++) {
+        if ($i in at) fail("the table has two columns " $i)
+        name[i] = $i
+        at[$i] = i
+        if (is_count($i) && $i != "fault") counts++
+    }
+    if (!counts) fail("no table of bin/sweep")
+    for (i in is_chosen) need_column(i)
 }
 
 # is_wanted(): each column of --only has one of the values that were given for it.
@@ -77,29 +62,163 @@ function is_wanted(   column, all) {
     return all
 }
 
-function keep_point(   place, i, share) {
-    place = (ways ? number(ways) : 0) "\t" bytes($size)
-    if (place in taken) fail("several lines have one size and one number of ways: choose by --only")
-    taken[place]
-    if (!points) trace = $1
-    for (i = 1; i <= 3; i++)
-        share[i] = number(fetches) > 0 ? 100 * number(kind[i]) / number(fetches) : 0
-    point[++points] = sprintf("%s\t%.6f\t%.6f\t%.6f\t%.6f", place, share[1] + share[2] + share[3],
-        share[1], share[2], share[3])
-    if (least == "" || bytes($size) < least) least = bytes($size)
-}
-
 NR == 1 { read_names(); next }
 NF != columns { fail("line " NR ": " NF " fields, where the names are " columns) }
-$NF == "-" && is_wanted() { keep_point() }
+(!("fault" in at) || $at["fault"] == "-") && is_wanted() {
+    line[++lines] = $0
+    number_of[lines] = NR
+}
+
+# read_line(I): the fields are those of the I-th line that was chosen.
+function read_line(i) {
+    $0 = line[i]
+    here = "line " number_of[i] ": "
+}
+
+# number(COLUMN): what stands there in this line, which has to be digits.
+function number(column,   text) {
+    text = $at[column]
+    if (text !~ /^[0-9]+$/ || length(text) > 15) fail(here column " is no number: " text)
+    return text + 0
+}
+
+# amount(COLUMN): what stands there in this line: digits, and k or m behind them.
+function amount(column,   text) {
+    text = $at[column]
+    if (text !~ /^[0-9]+[kKmM]?$/ || length(text) > 13)
+        fail(here column " is no " (is_size(column) ? "size" : "number") ": " text)
+    return text * (text ~ /[kK]$/ ? 1024 : text ~ /[mM]$/ ? 1048576 : 1)
+}
+
+# varies(COLUMN): it has several values in the lines that were chosen.
+function varies(column,   i, first) {
+    for (i = 1; i <= lines; i++) {
+        read_line(i)
+        if (i == 1) first = $at[column] ""
+        else if ($at[column] "" != first) return 1
+    }
+    return 0
+}
+
+# varied_cache(): the cache whose size is varied. With one size in the table, it is that one's.
+function varied_cache(   i, sizes, some, several, one, caches) {
+    for (i = 1; i <= columns; i++)
+        if (name[i] ~ /^l[12]-[idu]size$/) { sizes++; one = cache_of(name[i]) }
+    if (!sizes) fail("the table has no size varied: choose by --cache")
+    if (sizes == 1) return one
+    for (i = 1; i <= columns; i++)
+        if (name[i] ~ /^l[12]-[idu]size$/ && varies(name[i])) {
+            several++
+            caches = caches " " cache_of(name[i])
+        }
+    if (!several) fail("the lines vary no size: choose by --cache")
+    if (several > 1) fail("the table varies several sizes: choose by --cache one of" caches)
+    return substr(caches, 2)
+}
+
+# choose_columns(): the cache, the options of the axis and of the groups, and the counts.
+function choose_columns(   prefix) {
+    if (over != "") need_option(over)
+    if (by != "") need_option(by)
+    if (cache == "" && over != "") cache = cache_of(over)
+    if (cache == "") cache = varied_cache()
+    prefix = substr(cache, 1, 4)
+    if (over == "") { over = prefix "size"; need_column(over) }
+    if (by == "" && over != prefix "assoc" && (prefix "assoc") in at) by = prefix "assoc"
+    if (by == "" && over != prefix "size" && (prefix "size") in at) by = prefix "size"
+    if (by == over) fail(over " can't be both the axis and the groups")
+    need_column(cache "-fetches")
+    if (kind != "kinds") need_column(cache "-misses")
+    if (kind != "rates") need_column(cache "-compulsory")
+    if (kind == "kinds") { need_column(cache "-capacity"); need_column(cache "-conflict") }
+    if (kind == "whole") need_column(cache "-fully-associative-misses")
+}
+
+# share(COUNT): of the accesses, as a percentage.
+function share(count,   accesses) {
+    accesses = number(cache "-fetches")
+    if (accesses < count) fail(here "more misses than accesses of " cache)
+    return sprintf("%.6f", accesses > 0 ? 100 * count / accesses : 0)
+}
+
+# shares(): of the line that was read.
+function shares(   compulsory, capacity, conflict, all) {
+    if (kind == "rates") return share(number(cache "-misses"))
+    compulsory = number(cache "-compulsory")
+    if (kind == "kinds") {
+        capacity = number(cache "-capacity")
+        conflict = number(cache "-conflict")
+    } else {
+        all = number(cache "-fully-associative-misses")
+        if (all < compulsory)
+            fail(here "fewer fully associative misses than compulsory ones of " cache)
+        capacity = all - compulsory
+        conflict = number(cache "-misses") - all
+    }
+    share(compulsory + capacity + conflict)
+    return share(compulsory) "\t" share(capacity) "\t" share(conflict)
+}
+
+# group_of_line(): the group of the line that was read, by the order in which they came.
+function group_of_line(   value) {
+    value = by == "" ? "" : is_amount(by) ? sprintf("%.0f", amount(by)) : $at[by]
+    if (!(value in group)) {
+        group[value] = ++groups
+        value_of[groups] = value
+        if (value !~ /^[0-9]+$/) has_words = 1
+    }
+    return group[value]
+}
+
+# tell_apart(I, J): two lines have one place in the picture; says why.
+function tell_apart(i, j,   k, first, several, which) {
+    split(line[i], first, FS)
+    read_line(j)
+    for (k = 1; k <= columns; k++)
+        if (!is_count(name[k]) && name[k] != over && name[k] != by && first[k] != $k) {
+            which = which (several++ ? " and " : "") name[k]
+        }
+    if (!several) fail("lines " number_of[i] " and " number_of[j] " are of one configuration")
+    fail("lines " number_of[i] " and " number_of[j] " differ in " which ": choose by --only" \
+        (several == 1 ? ", or take --by " which : ""))
+}
+
+function keep_points(   i, place, x) {
+    for (i = 1; i <= lines; i++) {
+        read_line(i)
+        x = amount(over)
+        group_at[i] = group_of_line()
+        place = group_at[i] SUBSEP sprintf("%.0f", x)
+        if (place in taken) tell_apart(taken[place], i)
+        taken[place] = i
+        point[i] = sprintf("%.0f\t%s", x, shares())
+        note_place(x)
+    }
+}
+
+# rank_groups(): finds the place of each group in the picture. Numbers are in their order.
+function rank_groups(   i, j) {
+    for (i = 1; i <= groups; i++) {
+        rank[i] = 1
+        for (j = 1; j <= groups; j++)
+            if (has_words ? j < i : value_of[j] + 0 < value_of[i] + 0) rank[i]++
+        ranked[rank[i]] = i
+    }
+}
 
 END {
     if (failed) exit 1
     if (!NR) fail("no table of bin/sweep")
     for (i in wanted)
         if (!(i in found)) fail("no line without a fault has " wanted[i])
-    if (!points) fail("no line of the table is left")
-    sub(/.*\//, "", trace)
-    print substr(trace, 1, 1000) "\n" cache "\n" (least < 1024 ? 1 : 1024)
-    for (i = 1; i <= points; i++) print point[i]
+    if (!lines) fail("no line of the table is left")
+    choose_columns()
+    keep_points()
+    rank_groups()
+    print title()
+    print axis()
+    class = is_size(over) ? "size" : is_ways(over) ? "ways" : "other"
+    printf "%s %d %.0f %.0f %d\n", class, unit, least, most, groups
+    for (i = 1; i <= groups; i++) print by == "" ? "" : label(by, value_of[ranked[i]])
+    for (i = 1; i <= lines; i++) print rank[group_at[i]] "\t" point[i]
 }

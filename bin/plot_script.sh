@@ -1,110 +1,147 @@
 # What gnuplot is told. Read by plot.
-# shellcheck shell=bash disable=SC2154  # names that plot sets
+# shellcheck shell=bash disable=SC2154,SC2034  # names that plot and its other files set, or use
 #
 # gnuplot runs in the folder of its script, where each file has a name of ours, and the points are
-# numbers. Text from outside is no part of the script: it is handed over as an argument.
+# numbers. Text from outside is no part of the script (plot_text.sh).
 
-# shown TEXT: on one line, with a question mark for each character that can't be shown.
-shown() {
-    local LC_ALL=C.UTF-8 text=$1
-    [ ${#text} -le 200 ] || text=${text::199}…
-    printf '%s' "${text//[![:print:]]/?}"
-}
-
-# run_gnuplot: the blank before the title keeps it from being taken for an option.
 run_gnuplot() (
-    cd -- "$work" && gnuplot -d -c script " $(shown "$trace"), $drawn" 2> complaint
+    cd -- "$work" && gnuplot -d -c script "$text" 2> complaint
 )
 
 # print_script: of the file `points`. The looks differ in lightness, so that they are told apart in
 # grey.
 print_script() {
-    local bars width=720
-    bars=$(wc -l < "$work/points")
-    [ "$bars" -le 24 ] || width=$((200 + 22 * bars))
     echo 'set encoding utf8'
-    echo "set terminal $(terminal) noenhanced size $width,460 background 'white' font 'sans,12'"
+    echo "set terminal $(terminal)"
     echo "set output 'picture'"
-    echo "set xlabel 'size of $drawn ($([ "$unit" = 1 ] && echo bytes || echo KiB))'"
     cat <<'END'
-set title ARG1[2:*]
 set datafile separator tab
-set yrange [0:*]
 set grid ytics lc rgb '#dddddd' dt 1
 set border 3
 set tics nomirror out
 END
+    echo "set tmargin at screen $((height - top))./$height"
+    echo "set bmargin at screen $bottom./$height"
+    print_title
+    print_key
+    print_axes
     "print_$kind"
 }
 
+# terminal: a picture has 96 pixels to the inch, and a font's size is in points, 72 to the inch.
 terminal() {
+    local look="noenhanced background 'white'" points=$font_size
     case $picture in
-    *.svg) echo svg ;;
-    *.png) echo pngcairo ;;
+    *.svg)
+        points=$(hundredths $((font_size * 400 / 3)))
+        echo "svg size $width,$height $look font '$font_name,$points'"
+        ;;
+    *.png) echo "pngcairo size $width,$height $look font '$font_name,$points'" ;;
+    *.pdf)
+        echo "pdfcairo size $(hundredths $((width * 100 / 96)))in,$(hundredths $((height * 100 / 96)))in \
+$look fontscale 0.75 font '$font_name,$points'"
+        ;;
     esac
 }
 
-name_of_ways() {
-    case $1 in
-    0) ;;
-    1) echo '1 way' ;;
-    *) echo "$1 ways" ;;
-    esac
+# hundredths NUMBER: as a decimal fraction.
+hundredths() {
+    printf '%d.%02d' $(($1 / 100)) $(($1 % 100))
 }
 
-# split_by_ways: each number of ways, once its points are in a file of their own.
-split_by_ways() {
-    local ways
-    for ways in $(cut -f 1 "$work/points" | uniq); do
-        awk -v ways="$ways" '$1 == ways' "$work/points" > "$work/ways.$ways"
-        echo "$ways"
+# put_text TEXT X Y: in the middle of X, a place of gnuplot's, and so many pixels from the bottom of
+# the picture.
+put_text() {
+    say "$1"
+    echo "set label $said at $2, screen $3./$height center"
+}
+
+# print_title: its lines, from the top of the picture.
+print_title() {
+    local i
+    for i in "${!title_lines[@]}"; do
+        put_text "${title_lines[i]}" 'screen 0.5' $((height - (12 + i * 14) * em / 10))
+    done
+}
+
+# print_key: the letters of SVG are higher for gnuplot than those of the other formats.
+print_key() {
+    local y=$((height - (6 + ${#title_lines[@]} * 14) * em / 10)) spacing=1.1 heading
+    [[ $picture != *.svg ]] || spacing=0.9
+    case $key_place in
+    none) echo 'set key off' && return ;;
+    right) echo 'set key outside right top' ;;
+    top) echo "set key at screen 0.5, screen $y./$height center top horizontal maxcols $key_columns" ;;
+    esac
+    echo "set key reverse Left samplen 2 spacing $spacing"
+    [ "$kind" = kinds ] || return 0
+    echo 'set key samplen 1'
+    heading='each miss\nby its own kind'
+    [ -z "$whole" ] || heading='by subtraction\nof whole counts'
+    [ "$key_place" = right ] || heading=${heading/'\n'/ }
+    [ "$key_place" = top ] || echo 'set key invert'
+    echo "set key title \"$heading\""
+}
+
+# print_axes: their labels. A plot that is not high has the label of its height in two lines.
+print_axes() {
+    local i what='miss rate' gap=' '
+    [ "$kind" = rates ] || what=misses
+    in_columns "$plot_height"
+    [ "$columns" -ge 23 ] || gap='\n'
+    echo "set ylabel \"$what$gap(% of accesses)\""
+    [[ $picture != *.svg ]] || echo 'set xtics offset 0,0.4'
+    print_height_tics
+    for i in "${!axis_lines[@]}"; do
+        put_text "${axis_lines[i]}" 'graph 0.5' $((bottom - (30 + (group_rows + i) * 14) * em / 10))
     done
 }
 
 print_rates() {
-    local lines=() ways looks=(
-        "lc rgb '#08306b' dt 1 pt 7" "lc rgb '#2171b5' dt 2 pt 5" "lc rgb '#6baed6' dt 1 pt 9"
-        "lc rgb '#00441b' dt 4 pt 13" "lc rgb '#41ab5d' dt 1 pt 11" "lc rgb '#969696' dt 3 pt 4")
-    for ways in $(split_by_ways); do
-        lines+=("'ways.$ways' using (\$2/$unit):3 with linespoints lw 2 ${looks[${#lines[@]} % 6]}")
-        lines[-1]+=" title '$(name_of_ways "$ways")'"
+    local lines=() i colours=('#08306b' '#2171b5' '#6baed6' '#00441b' '#41ab5d' '#969696')
+    local dashes=(1 2 1 4 1 3) shapes=(7 5 9 13 11 4 6) dot=$em/12.
+    [[ $picture == *.png ]] || dot=$em/16.
+    awk '$1 != group && NR > 1 { print "\n" } { group = $1; print }' "$work/points" > "$work/lines"
+    for i in "${!labels[@]}"; do
+        say "${labels[i]}"
+        lines+=("'lines' index $i using 2:3 with linespoints lw 2*$em/12. ps $dot \
+lc rgb '${colours[i % 6]}' dt ${dashes[i % 6]} pt ${shapes[i % 7]} title $said")
     done
-    cut -f 2 "$work/points" | sort -nu | awk -v unit="$unit" '
-        { tics = tics (NR > 1 ? ", " : "") $1 / unit; last = $1 / unit }
-        NR == 1 { first = last }
-        END { print "set xtics (" tics ")\nset xrange [" first / 1.15 ":" last * 1.15 "]" }'
-    cat <<'END'
-set logscale x 2
-set ylabel 'miss rate (% of fetches)'
-set key outside right top
-END
+    if is_logarithmic; then print_log_tics; else print_linear_tics; fi
     join_lines "${lines[@]}"
 }
 
+# print_kinds: the bars of a group stand side by side, and a gap is between two groups. What is
+# below zero hangs from there.
 print_kinds() {
-    local lines=() ways i title picks
-    local names=(compulsory capacity conflict) fills=('#08306b' '#4292c6' '#deebf7')
-    for ways in $(split_by_ways); do
-        lines+=("newhistogram '$(name_of_ways "$ways")' lt 1")
-        for i in 0 1 2; do
-            # Each kind has its name in the key once.
-            [ ${#lines[@]} -le 3 ] && title="title '${names[i]}'" || title=notitle
-            picks="using $((i + 4)):xtic(sprintf('%g', \$2/$unit))"
-            lines+=("'ways.$ways' $picks lc rgb '${fills[i]}' $title")
-        done
-    done
+    local box="'bars' using 1:(0):(\$1-0.4):(\$1+0.4)" style='with boxxyerror lw 1'
+    [ "$slot" -ge 12 ] || style='with boxxyerror lw 0.4'
+    awk '{ print NR + $1 - 2 "\t" $0 }' "$work/points" > "$work/bars"
+    print_group_labels
+    print_bar_tics
     cat <<'END'
-set ylabel 'misses (% of fetches)'
-set style data histograms
-set style histogram rowstacked gap 1 title offset 0,0.2
 set style fill solid 1 border lc rgb 'black'
-set boxwidth 0.8
-set xtics scale 0 font ',10'
-set xlabel offset 0,-1.2
-set bmargin 5.5
-set key outside right top reverse Left invert
+set xzeroaxis lt -1
+set xtics scale 0
 END
-    join_lines "${lines[@]}"
+    join_lines "$box:(0):4 $style lc rgb '#08306b' title 'compulsory'" \
+        "$box:4:(\$4+\$5) $style lc rgb '#4292c6' title 'capacity'" \
+        "$box:(\$6<0?0:\$4+\$5):(\$6<0?\$6:\$4+\$5+\$6) $style lc rgb '#deebf7' title 'conflict'"
+}
+
+print_group_labels() {
+    local group middle line i
+    [ "$group_rows" -gt 0 ] || return 0
+    while read -r group middle; do
+        i=0
+        while IFS= read -r line; do
+            put_text "$line" "first $middle" $((bottom - (26 + i * 14) * em / 10))
+            i=$((i + 1))
+        done <<<"${group_lines[group - 1]}"
+    done < <(awk '
+        { if (!($2 in least)) least[$2] = $1; most[$2] = $1 }
+        END { for (group in least) print group, (least[group] + most[group]) / 2 }' "$work/bars" |
+        sort -n)
 }
 
 join_lines() {

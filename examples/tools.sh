@@ -25,7 +25,7 @@ bin=$top/bin out=$work/out err=$work/err
 
 # In this order: a later file uses the tables and traces of those before it.
 for subject in checks names help building record sweep sweep_names sweep_resume slurm plot \
-    plot_names install hostile formats; do
+    plot_points plot_words plot_names install hostile formats; do
     # shellcheck source=/dev/null
     . "$top/examples/tools/$subject.sh"
 done

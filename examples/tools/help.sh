@@ -13,8 +13,8 @@ done
 helps_with_options() {
     local option
     "$bin/$1" --help >"$out"
-    grep -oE '^ +(-[a-z-]+ \| )*--[a-z]+( \| --[a-z]+)*\)' "$bin/$1" | grep -oE -e '--[a-z]+' |
-        grep -vx -e --help | sort -u >"$work/options"
+    grep -hoE '^ +(-[a-z-]+ \| )*--[a-z-]+( \| --[a-z-]+)*\)' "$bin/$1" "$bin/$1"_*.sh |
+        grep -oE -e '--[a-z-]+' | grep -vx -e --help | sort -u >"$work/options"
     [ -s "$work/options" ] || return
     while read -r option; do
         grep -q -e "$option" "$out" || return

@@ -7,25 +7,15 @@ plot=$bin/plot
 
 ends 'plot without words' 2 'plot: a kind, a table and a picture are needed; try --help' "$plot"
 ends 'plot of an unknown kind' 2 'plot: unknown kind: pie; try --help' "$plot" pie kinds.tsv pie.svg
-ends 'plot to an unknown format' 2 'plot: neither .svg nor .png: kinds.pdf; try --help' \
-    "$plot" kinds kinds.tsv kinds.pdf
+ends 'plot to an unknown format' 2 'plot: none of .svg, .png and .pdf: kinds.gif; try --help' \
+    "$plot" kinds kinds.tsv kinds.gif
 ends 'plot of a table that is not there' 4 'plot: no table to read: nowhere.tsv' \
     "$plot" kinds nowhere.tsv kinds.svg
-
-# svg_texts FILE: the words in a picture, once it is seen to be well-formed.
-svg_texts() {
-    python3 -c '
-import sys, xml.etree.ElementTree as tree
-root = tree.parse(sys.argv[1]).getroot()
-assert root.tag == "{http://www.w3.org/2000/svg}svg"
-for text in root.iter("{http://www.w3.org/2000/svg}text"):
-    print("".join(text.itertext()).strip())' "$1"
-}
 
 # shows FILE WORDS..: each of them is a text of the picture.
 shows() {
     local word
-    svg_texts "$1" >"$work/texts" 2>"$err" || return
+    python3 "$top/examples/tools/svg_texts.py" "$1" >"$work/texts" 2>"$err" || return
     for word in "${@:2}"; do
         grep -qxF -- "$word" "$work/texts" || { echo "no text: $word" >"$err" && return 1; }
     done
@@ -38,15 +28,15 @@ bars() {
 
 # Several values of one option, and of one that the picture does not tell apart.
 test_choice() {
-    run "$plot" rates kinds.tsv two.svg --only l1-dassoc=1 --only l1-dassoc=2
-    run "$plot" rates kinds.tsv one.svg --only l1-dassoc=2
+    run "$plot" rates kinds.tsv two.svg --only l1-dassoc=1 --only l1-dassoc 2
+    run "$plot" rates kinds.tsv one.svg --only l1-dassoc 2
     shows two.svg '1 way' '2 ways' && shows one.svg '2 ways' && ! shows one.svg '1 way'
     verdict 'a picture of two values of an option, and of one' $?
     ends 'plot of two values, one of which no line has' 1 \
         'plot: kinds.tsv: no line without a fault has l1-dassoc=8' \
         "$plot" rates kinds.tsv none.svg --only l1-dassoc=1 --only l1-dassoc=8
     ends 'plot of two traces at once' 1 \
-        'plot: both.tsv: several lines have one size and one number of ways: choose by --only' \
+        'plot: both.tsv: lines 2 and 6 differ in trace: choose by --only, or take --by trace' \
         "$plot" rates both.tsv none.svg --only trace=kinds.din --only trace=fifo.din
     ends 'plot of two caches' 2 'plot: --cache is given twice; try --help' \
         "$plot" rates kinds.tsv none.svg --cache l1-dcache --cache l1-dcache
@@ -74,7 +64,8 @@ test_streams() {
 test_plot() {
     run "$plot" kinds kinds.tsv kinds.svg
     [ "$status" -eq 0 ] && [ ! -s "$out$err" ] &&
-        shows kinds.svg 'kinds.din, l1-dcache' 'size of l1-dcache (bytes)' 'misses (% of fetches)' \
+        shows kinds.svg 'kinds.din, l1-dcache' 'size of l1-dcache (bytes)' \
+            'misses (% of accesses)' 'each miss' 'by its own kind' \
             compulsory capacity conflict '1 way' '2 ways' 8 16
     verdict 'a picture of the kinds of miss' $?
     # Four configurations have compulsory misses, so four bars are begun, and one stands in the key.
@@ -83,7 +74,7 @@ test_plot() {
     run "$plot" rates kinds.tsv rates.svg
     [ "$status" -eq 0 ] && [ ! -s "$out$err" ] &&
         shows rates.svg 'kinds.din, l1-dcache' 'size of l1-dcache (bytes)' \
-            'miss rate (% of fetches)' \
+            'miss rate (% of accesses)' \
             '1 way' '2 ways' 8 16
     verdict 'a picture of the miss rates' $?
     for kind in kinds rates; do
@@ -91,6 +82,10 @@ test_plot() {
         [ "$status" -eq 0 ] && [ "$(head -c 8 $kind.png | od -An -tx1 | tr -d ' ')" = 89504e470d0a1a0a ] &&
             [ "$(tail -c 8 $kind.png | head -c 4)" = IEND ]
         verdict "a picture of the $kind as PNG" $?
+        run "$plot" $kind kinds.tsv $kind.pdf
+        [ "$status" -eq 0 ] && [ ! -s "$out$err" ] && [ "$(head -c 5 $kind.pdf)" = %PDF- ] &&
+            [ "$(tail -n 1 $kind.pdf)" = %%EOF ]
+        verdict "a picture of the $kind as PDF" $?
     done
     test_lacking_tables
     test_choice
@@ -102,7 +97,7 @@ test_lacking_tables() {
     [ "$status" -eq 0 ] && shows only.svg 'fifo.din, l1-dcache'
     verdict 'a picture of one trace of several' $?
     ends 'plot of several traces' 1 \
-        'plot: both.tsv: several lines have one size and one number of ways: choose by --only' \
+        'plot: both.tsv: lines 2 and 6 differ in trace: choose by --only, or take --by trace' \
         "$plot" kinds both.tsv none.svg
     ends 'plot of another file' 1 'plot: kinds.din: no table of bin/sweep' \
         "$plot" rates kinds.din none.svg
@@ -110,6 +105,9 @@ test_lacking_tables() {
         "$plot" rates kinds.tsv none.svg --cache l2-ucache
     ends 'plot of a value that no line has' 1 'plot: kinds.tsv: no line without a fault has trace=none' \
         "$plot" rates kinds.tsv none.svg --only trace=none
+    ends 'plot of whole counts that are not there' 1 \
+        'plot: kinds.tsv: the table has no column l1-dcache-fully-associative-misses' \
+        "$plot" kinds kinds.tsv none.svg --whole-counts
     head -n 1 kinds.tsv >empty.tsv
     ends 'plot of no line' 1 'plot: empty.tsv: no line of the table is left' \
         "$plot" rates empty.tsv none.svg
@@ -121,7 +119,12 @@ test_lacking_tables() {
         'plot: short.tsv: line 2: 3 fields, where the names are 28' "$plot" rates short.tsv none.svg
     ends 'plot into no folder' 4 'plot: nowhere/none.svg could not be written' \
         "$plot" kinds kinds.tsv nowhere/none.svg
-    ends 'plot where there is no room' 4 "plot: no room for temporary files in $TMPDIR" no_room 4 "$plot" kinds kinds.tsv none.svg
+    ends 'plot where there is no room' 4 "plot: no room for temporary files in $TMPDIR" \
+        no_room 4 "$plot" kinds kinds.tsv none.svg
+    echo before >before.svg
+    run "$plot" kinds short.tsv before.svg
+    [ "$status" -eq 1 ] && [ "$(<before.svg)" = before ]
+    verdict 'plot of a faulty table leaves the picture of before' $?
     [ -z "$(ls -d none.* nowhere 2>/dev/null)" ]
     verdict 'and no part of a picture is left' $?
 }

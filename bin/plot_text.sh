@@ -1,0 +1,86 @@
+# Text in a picture. Read by plot.
+# shellcheck shell=bash disable=SC2034  # names that other files of plot use
+#
+# Text from outside is no part of gnuplot's script: all of it is handed over as one argument, and
+# the script names its characters, as ARG1[5:9]. The blank before it keeps it from being taken for
+# an option.
+text=' '
+
+# say TEXT: adds it to the argument; `said` is how the script names it.
+say() {
+    local LC_ALL=C.UTF-8 first
+    first=$((${#text} + 1))
+    text+=$1
+    said="ARG1[$first:${#text}]"
+}
+
+# show TEXT: sets `shown` to it, on one line, with a question mark for each character that can't be
+# shown, and without what is longer than a picture could hold.
+show() {
+    local LC_ALL=C.UTF-8
+    shown=$1
+    [ ${#shown} -le 200 ] || shown=${shown::199}…
+    shown=${shown//[![:print:]]/?}
+}
+
+# measure TEXT: sets `columns` to what it takes in width. Letters of East Asia take two.
+measure() {
+    local LC_ALL=C.UTF-8 wide
+    wide=${1//[!$'\u1100'-$'\u115f\u2e80'-$'\uffdc\U1f300'-$'\U3fffd']/}
+    columns=$((${#1} + ${#wide}))
+}
+
+# begin TEXT COLUMNS: sets `piece` to as much of its beginning as takes so many columns.
+begin() {
+    local LC_ALL=C.UTF-8
+    piece=${1::$2}
+    measure "$piece"
+    while [ -n "$piece" ] && [ "$columns" -gt "$2" ]; do
+        piece=${piece%?}
+        measure "$piece"
+    done
+}
+
+# end TEXT COLUMNS: sets `piece` to as much of its end as takes so many columns.
+end() {
+    local LC_ALL=C.UTF-8
+    piece=$1
+    measure "$piece"
+    while [ -n "$piece" ] && [ "$columns" -gt "$2" ]; do
+        piece=${piece#?}
+        measure "$piece"
+    done
+}
+
+# shorten TEXT COLUMNS: sets `piece` to all of it, or to its beginning and its end. Names often
+# differ at their ends.
+shorten() {
+    local front
+    measure "$1"
+    if [ "$columns" -le "$2" ]; then
+        piece=$1
+    else
+        begin "$1" $((($2 - 1) / 2))
+        front=$piece
+        end "$1" $(($2 / 2))
+        piece=$front…$piece
+    fi
+}
+
+# wrap TEXT COLUMNS LINES: sets `wrapped` to at most so many lines, each of at most so many columns.
+# They are broken at blanks where there are some.
+wrap() {
+    local LC_ALL=C.UTF-8 rest=$1
+    wrapped=()
+    measure "$rest"
+    while [ "$columns" -gt "$2" ] && [ ${#wrapped[@]} -lt $(($3 - 1)) ]; do
+        begin "$rest" "$2"
+        [[ ${rest:${#piece}:1} == ' ' || $piece != *' '* ]] || piece=${piece% *}
+        wrapped+=("$piece")
+        rest=${rest:${#piece}}
+        rest=${rest# }
+        measure "$rest"
+    done
+    shorten "$rest" "$2"
+    wrapped+=("$piece")
+}

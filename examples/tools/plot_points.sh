@@ -1,0 +1,148 @@
+# Tests what bin/plot gives to gnuplot: the points, the script and the words. Read by tools.sh. A
+# gnuplot of ours keeps it, so these need none.
+# shellcheck shell=bash disable=SC2154  # names that tools.sh and its other files set
+
+mkdir "$work/kept" "$work/keeping"
+cat >"$work/keeping/gnuplot" <<'END'
+#!/usr/bin/env bash
+rm -f "$KEPT"/*
+cp -- * "$KEPT"
+printf '%s\n' "${@: -1}" >"$KEPT/words"
+case $(<script) in
+*pdfcairo*) echo %%EOF ;;
+*pngcairo*) printf 'IEND1234' ;;
+*) echo '</svg>' ;;
+esac >picture
+END
+chmod +x "$work/keeping/gnuplot"
+
+# keeps WORD..: plot draws with these words, and what it gives to gnuplot is kept.
+keeps() {
+    rm -f "$work/kept"/*
+    run env KEPT="$work/kept" PATH="$work/keeping:$PATH" "$plot" "$@"
+    [ "$status" -eq 0 ] && [ ! -s "$err" ]
+}
+
+# gives NAME FILE TEXT: the file that was kept has this text.
+gives() {
+    [ "$(<"$work/kept/$2")" = "$3" ]
+    verdict "$1" $?
+}
+
+# tells NAME LINE..: each is a line of the script.
+tells() {
+    local line lacking=
+    for line in "${@:2}"; do
+        grep -qxF -e "$line" "$work/kept/script" || lacking=$line
+    done
+    [ -z "$lacking" ]
+    verdict "$1${lacking:+, without $lacking}" $?
+}
+
+# Two ways and two sizes, with a fault. The columns are in no order of bin/sweep's.
+{
+    echo fault l1-dcache-misses l1-dassoc trace l1-dcache-fully-associative-misses l1-dsize \
+        l1-dcache-fetches l1-dcache-compulsory l1-dcache-capacity l1-dcache-conflict l1-dbsize \
+        l1-drepl
+    echo - 50 2 a/x.din 60 8k 200 20 20 10 32 l
+    echo - 40 1 a/x.din 30 16k 200 20 10 10 32 l
+    echo - 100 1 a/x.din 60 8k 200 20 30 50 32 l
+    echo no - 2 a/x.din - 16k - - - - 32 l
+} | tr ' ' '\t' >points.tsv
+
+# In percent of 200 accesses: by their own kinds, with whole counts, and all together. With two ways
+# 50 misses less 60 fully associative ones are -10, a twentieth of the accesses below zero.
+test_points() {
+    keeps kinds points.tsv points.svg
+    gives 'points of the kinds' points $'1\t8192\t10.000000\t15.000000\t25.000000
+1\t16384\t10.000000\t5.000000\t5.000000
+2\t8192\t10.000000\t10.000000\t5.000000'
+    tells 'the key of the kinds' 'set key title "each miss\nby its own kind"' \
+        "set xtics scale 1,0.6 ('8' 0,'16' 1,'8' 3)"
+    keeps kinds points.tsv points.svg --whole-counts
+    gives 'points of whole counts' points $'1\t8192\t10.000000\t20.000000\t20.000000
+1\t16384\t10.000000\t5.000000\t5.000000
+2\t8192\t10.000000\t20.000000\t-5.000000'
+    tells 'the key of whole counts' 'set key title "by subtraction\nof whole counts"' \
+        'set yrange [*:*]'
+    keeps rates points.tsv points.svg
+    gives 'points of the rates' points $'1\t8192\t50.000000\n1\t16384\t20.000000\n2\t8192\t25.000000'
+    tells 'a logarithmic axis' 'set logscale x 2' 'set xrange [8192/1.15:16384*1.15]' \
+        "set xtics scale 1,0.6 ('8' 8192,'16' 16384)" 'set ylabel "miss rate (% of accesses)"'
+    keeps rates points.tsv points.svg --over l1-dassoc
+    gives 'points over the ways' points $'1\t1\t50.000000\n1\t2\t25.000000\n2\t1\t20.000000'
+    gives 'and its words' words ' x.din, l1-dcache, 32-byte blocks, LRUways of l1-dcache8 KiB16 KiB'
+    keeps rates points.tsv points.svg --by trace --only l1-dassoc 1 --only l1-dsize=8k \
+        --only l1-dsize 16k
+    gives 'points of a choice of values' points $'1\t8192\t50.000000\n1\t16384\t20.000000'
+    gives 'and its words' words \
+        ' l1-dcache, 1 way, 32-byte blocks, LRUsize of l1-dcache (KiB)x.din'
+}
+
+# In 336 pixels an axis has room for 34 letters, so for five names of four letters and two blanks.
+# 19 powers of two then have a name each fourth time.
+test_axes() {
+    awk -v OFS='\t' 'BEGIN {
+        print "trace", "l1-dsize", "l1-dcache-fetches", "l1-dcache-misses", "fault"
+        for (size = 64; size <= 16777216; size *= 2) print "x.din", size, 100, 10, "-"
+    }' >sizes.tsv
+    keeps rates sizes.tsv sizes.svg --size 336x250
+    [ "$(grep '^set xtics.*(' "$work/kept/script" | grep -o "'[0-9kM]\+' [0-9]*" | tr '\n' ,)" = \
+        "'64' 64,'1k' 1024,'16k' 16384,'256k' 262144,'4M' 4194304," ]
+    verdict 'names of every fourth power of two' $?
+    [ "$(grep '^set xtics.*(' "$work/kept/script" | grep -o "'' [0-9]* 1" | wc -l)" -eq 14 ]
+    verdict 'and a mark at each of the others' $?
+    keeps rates points.tsv points.svg --size 336x250 --linear
+    tells 'a linear axis' 'set xrange [0-0.03*16384:16384+0.03*16384]' "set xtics scale 1,0.6 \
+('0' 0,'2' 2048,'4' 4096,'6' 6144,'8' 8192,'10' 10240,'12' 12288,'14' 14336,'16' 16384)"
+    ! grep -q logscale "$work/kept/script"
+    verdict 'and it is not logarithmic' $?
+    sed 's/\t32\tl$/\t0\tl/' points.tsv >zero.tsv
+    ends 'plot of nothing on a logarithmic axis' 1 \
+        'plot: zero.tsv: 0 has no place on a logarithmic axis: take --linear' \
+        "$plot" rates zero.tsv none.svg --over l1-dbsize --only l1-dassoc 2
+    keeps rates zero.tsv points.svg --over l1-dbsize --only l1-dassoc 2 --linear
+    verdict 'but on a linear one' $?
+}
+
+test_looks() {
+    local words=(rates points.tsv --size 336x250 --font 'DejaVu Serif,8')
+    keeps "${words[@]}" points.svg
+    tells 'the looks of SVG' "set terminal svg size 336,250 noenhanced background 'white' \
+font 'DejaVu Serif,10.66'"
+    keeps "${words[@]}" points.png
+    tells 'the looks of PNG' "set terminal pngcairo size 336,250 noenhanced background 'white' \
+font 'DejaVu Serif,8'"
+    keeps "${words[@]}" points.pdf
+    tells 'the looks of PDF' "set terminal pdfcairo size 3.50in,2.60in noenhanced \
+background 'white' fontscale 0.75 font 'DejaVu Serif,8'"
+    keeps rates points.tsv points.svg --title 'A title of ours'
+    gives 'a title' words ' A title of ourssize of l1-dcache (KiB)1 way2 ways'
+    keeps rates points.tsv points.svg --title ''
+    gives 'no title' words ' size of l1-dcache (KiB)1 way2 ways'
+}
+
+# Two builds in one picture, each a trace of the same name in a folder of its own.
+test_builds() {
+    { cat points.tsv && tail -n +2 points.tsv | sed 's,a/x,b/x,'; } >builds.tsv
+    keeps rates builds.tsv builds.svg --by trace --only l1-dassoc 1
+    gives 'points of two builds' points $'1\t8192\t50.000000\n1\t16384\t20.000000
+2\t8192\t50.000000\n2\t16384\t20.000000'
+    gives 'and their names' words \
+        ' l1-dcache, 1 way, 32-byte blocks, LRUsize of l1-dcache (KiB)a/x.dinb/x.din'
+    ends 'plot of two builds without a choice' 1 \
+        'plot: builds.tsv: lines 2 and 6 differ in trace: choose by --only, or take --by trace' \
+        "$plot" rates builds.tsv none.svg
+    sed '4,$s/\tl$/\tf/' builds.tsv >policies.tsv
+    ends 'plot of two builds with two policies' 1 \
+        'plot: policies.tsv: lines 2 and 6 differ in trace and l1-drepl: choose by --only' \
+        "$plot" rates policies.tsv none.svg
+    { cat points.tsv && sed -n 3p points.tsv; } >twice.tsv
+    ends 'plot of one configuration twice' 1 \
+        'plot: twice.tsv: lines 3 and 6 are of one configuration' "$plot" rates twice.tsv none.svg
+}
+
+test_points
+test_axes
+test_looks
+test_builds

@@ -1,0 +1,90 @@
+# Tests the words and tables that bin/plot refuses. Read by tools.sh.
+# shellcheck shell=bash disable=SC2154  # names that tools.sh and its other files set
+
+# refuses LINE WORD..: after a kind, a table and a picture, plot refuses these words.
+refuses() {
+    ends "plot ${*:2}" 2 "plot: $1; try --help" "$plot" rates points.tsv none.svg "${@:2}"
+}
+
+# lacks LINE SCRIPT WORD..: plot refuses the table that sed makes.
+lacks() {
+    sed -e "$2" points.tsv >edited.tsv
+    ends "plot of a table: $1" 1 "plot: edited.tsv: $1" "$plot" "${@:3}" edited.tsv none.svg
+}
+
+for option in over by cache title size font only; do
+    refuses "--$option has no value" "--$option"
+done
+for option in over by cache title size font; do
+    refuses "--$option is given twice" "--$option" a "--$option=b"
+done
+refuses '--only trace has no value' --only trace
+refuses '--linear is given twice' --linear --linear
+refuses '--linear takes no value' --linear=2
+refuses '--whole-counts is of kinds' --whole-counts
+refuses '--over has no value' --over=
+refuses 'unknown cache: l3-cache' --cache l3-cache
+refuses 'unknown cache: ' --cache=
+refuses "--size: not WxH: '336'" --size 336
+refuses "--size: not from 200x150 to 10000x10000: '199x150'" --size 199x150
+refuses "--size: not from 200x150 to 10000x10000: '200x10001'" --size 200x10001
+refuses "--font: a size is from 4 to 200: 'sans,3'" --font sans,3
+refuses "--font: not NAME or NAME,SIZE: 'sans,8.5'" --font sans,8.5
+ends 'plot --linear of kinds' 2 'plot: --linear is of rates; try --help' \
+    "$plot" kinds points.tsv none.svg --linear
+
+lacks 'the column l1-dcache-misses is no option' '' rates --over l1-dcache-misses
+lacks 'the table has no column l1-isize' '' rates --over l1-isize
+lacks "l1-dsize can't be both the axis and the groups" '' rates --by l1-dsize
+lacks 'line 2: trace is no number: a/x.din' '' rates --over trace
+lacks 'the table has two columns trace' '1s/l1-drepl/trace/' rates
+lacks 'the table has no size varied: choose by --cache' '1s/l1-dsize/ring/' rates
+lacks 'the table varies several sizes: choose by --cache one of l1-dcache l2-ucache' \
+    '1s/l1-drepl/l2-usize/; 2s/l$/8k/; 4s/l$/16k/' kinds
+lacks 'line 3: l1-dcache-fetches is no number: 2e2' '3s/200/2e2/' rates
+lacks 'line 4: l1-dcache-compulsory is no number: -1' '4s/\t20\t30/\t-1\t30/' kinds
+lacks 'line 4: more misses than accesses of l1-dcache' '4s/\t100\t/\t201\t/' rates
+lacks 'line 3: fewer fully associative misses than compulsory ones of l1-dcache' \
+    '3s/\t30\t/\t19\t/' kinds --whole-counts
+lacks 'the table has no column l1-dcache-misses' '1s/l1-dcache-misses/misses/' rates
+
+# The letters are larger than the picture can hold, and there are more lines than it can name.
+ends 'plot with large letters' 2 "plot: no room for the text in 336x250, with letters of 60: \
+take a larger --size, a smaller --font, or fewer lines by --only" \
+    "$plot" rates points.tsv none.svg --size 336x250 --font sans,60
+sed 's/l1-dsize/l1-dbsize/; s/\tfault/\tl1-dsize\tfault/; s/\t-$/\t8k\t-/' sizes.tsv |
+    awk -F '\t' -v OFS='\t' 'NR > 1 { $5 = $2; $2 = 32 } { print }' >many.tsv
+ends 'plot of many lines' 2 "plot: no room for the text in 240x180, with letters of 8: \
+take a larger --size, a smaller --font, or fewer lines by --only" \
+    "$plot" rates many.tsv none.svg --over l1-dbsize --size 240x180
+
+# apart NAME WORD..: in the picture, no two texts meet, and none is cut off.
+apart() {
+    run "$plot" "${@:2}"
+    [ "$status" -eq 0 ] && python3 "$top/examples/tools/svg_texts.py" --apart apart.svg 2>"$err"
+    verdict "labels apart: $1" $?
+}
+
+test_apart() {
+    local size name=a_program_with_a_long_name
+    { sed "s/a\/x.din/a\/$name.din/" points.tsv && tail -n +2 points.tsv |
+        sed "s/a\/x.din/b\/another_$name.din/"; } >long.tsv
+    for size in 336x250 720x460 1024x768; do
+        apart "rates, $size" rates sizes.tsv apart.svg --size $size
+        apart "a linear axis, $size" rates sizes.tsv apart.svg --size $size --linear
+        apart "kinds, $size" kinds points.tsv apart.svg --size $size --whole-counts
+        apart "kinds of long names, $size" kinds long.tsv apart.svg --size $size \
+            --by trace --only l1-dassoc 1
+        apart "rates of long names, $size" rates long.tsv apart.svg --size $size \
+            --by trace --only l1-dassoc 1
+        apart "a long title, $size" rates points.tsv apart.svg --size $size \
+            --title 'A title that has a few more words than most, and then a few that nobody needs'
+    done
+    apart 'many lines' rates many.tsv apart.svg --over l1-dbsize
+}
+
+if has gnuplot && has python3; then
+    test_apart
+else
+    skip 'labels apart' 'gnuplot and python3 (gnuplot-nox, python3)'
+fi
