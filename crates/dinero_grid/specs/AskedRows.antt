@@ -1,6 +1,7 @@
 -- The rows of the table that a command line asks for.
-use Rattle.std.specs.Prelude.{◌≡◌, Bool, true, false, ⊥, List, Result, Ok, Err, string_bytes}
-use Rattle.std.specs.List.{All, AllZip, list_any}
+use Rattle.std.specs.Prelude.{◌≡◌, Bool, List, Result, Ok, Err, string_bytes}
+use Rattle.std.specs.List.{AllZip, list_any}
+use Rattle.std.specs.Result.{is_err}
 use Rattle.stage_core.specs.Events.{IsBounded}
 use Rattle.stage_core.specs.declared.config.Config.{Config}
 use Rattle.stage_core.specs.declared.config.ConfigFault.{ConfigFault}
@@ -36,11 +37,6 @@ pub record IsGridFor (asked : ParsedGrid) (grid : Grid) : Type 0 where
 abbrev pub IsBoundedPoint : GridPoint → Type 0
 IsBoundedPoint p = IsBounded p.selection
 
--- was the configuration of a point refused?
-abbrev pub is_refused : Result Config ConfigFault → Bool
-is_refused (Ok c) = false
-is_refused (Err f) = true
-
 -- was the configuration of some point refused?
 abbrev pub has_refused : List GridPoint → Bool
-has_refused points = list_any (λ p. is_refused p.config) points
+has_refused points = list_any (λ p. is_err p.config) points
