@@ -1,8 +1,7 @@
 -- What the caches of one configuration are asked for, and what they have served.
-use Rattle.std.specs.Prelude.{◌+◌, ◌<◌, ◌≤◌, ◌^◌, ⊤, List, [], ◌∷◌, length, Option, Some, None}
+use Rattle.std.specs.Prelude.{◌+◌, ◌<◌, ◌≤◌, ◌^◌, List, [], ◌∷◌, length, Option, Some, None}
 use Rattle.cache_core.specs.History.{Event, History, access, flush}
 use Rattle.din_trace.specs.declared.record.DinRecord.{DinRecord}
-use Rattle.stage_core.specs.Config.{hierarchy_of}
 use Rattle.stage_core.specs.Events.{history}
 use Rattle.stage_core.specs.SecondLevel.{Hierarchy, parts_in, parts_of, second_level_requests}
 use Rattle.stage_core.specs.SecondLevel.{second_history}
@@ -10,8 +9,6 @@ use Rattle.stage_core.specs.declared.message.Side.{Side}
 use Rattle.stage_core.specs.declared.message.Side.TheVariants as side
 use Rattle.stage_core.specs.declared.message.What.{What}
 use Rattle.grid_run.specs.Shadows.{BothStand, rules_in}
-use Rattle.grid_run.specs.declared.grid.Setup.{Setup}
-use Rattle.grid_run.specs.declared.grid.Setup.TheVariants.{Simulated, Refused}
 use Rattle.grid_run.specs.declared.shadowed.Shadowed.{Shadowed}
 use Rattle.grid_run.specs.declared.requests.Request.{Request}
 use Rattle.grid_run.specs.declared.requests.Request.TheVariants as request
@@ -58,18 +55,3 @@ pub record HasServed (t : Tower) (es : List DinRecord) : Type 0 where
   pub i : BothStand t.i (history side.I es)
   pub d : BothStand t.d (history side.D es)
   pub u : SecondServed t.u (second_level_requests (parts_in (hierarchy_in t)) es)
-
--- the caches that a row asks for, if it was not refused
-abbrev pub rules_asked : Setup → Option Hierarchy
-rules_asked (Simulated c) = Some (hierarchy_of c)
-rules_asked (Refused fault) = None
-
--- the caches that a row has
-abbrev pub rules_had : Option Tower → Option Hierarchy
-rules_had None = None
-rules_had (Some t) = Some (hierarchy_in t)
-
--- the tower of a row, if it has one, has served these events
-abbrev pub RowServed : List DinRecord → Option Tower → Type 0
-RowServed es None = ⊤
-RowServed es (Some t) = HasServed t es

@@ -1,13 +1,13 @@
 //! The grid that is asked for.
 
-use stage_core::Config;
+use stage_core::{Config, Selection};
 
-/// What stands behind a row: a configuration to simulate, or the text of the fault for which it was
-/// refused.
+/// What stands behind a row: a configuration to simulate over a part of the trace, or the text of
+/// the fault for which it was refused.
 #[derive(Debug, Drop)]
 pub enum Setup {
-    /// A configuration to simulate.
-    Simulated(Config),
+    /// A configuration to simulate, and which part of the trace.
+    Simulated(Config, Selection),
     /// The text of the fault. It has no tab and no end of a line, or else the table has them too.
     Refused(String),
 }

@@ -1,19 +1,19 @@
 //! Many configurations over one reading of a trace, and the table of what they count.
 //!
-//! [`simulate_grid`] reads a trace record by record, and serves the selected events in the caches
-//! of each row of a [`Grid`]. Then it writes a line for each row. [`write_heads`],
+//! [`simulate_grid`] reads a trace record by record, and serves what each row of a [`Grid`] selects
+//! in the caches of that row. Then it writes a line for each row. [`write_heads`],
 //! [`write_counted`] and [`write_refused`] write the lines of a table from given figures.
 //!
 //! A row's caches are a tower (`tower`), each cache with its shadow as a cache beside it
 //! (`shadowed`). `requests` has what an event asks of each cache, and what the first level asks of
-//! the second. `towers` has the caches of all rows, `run` reads the trace, and `simulation` is the
-//! whole run. `numbers` and `table` write.
+//! the second. A tower behind its row's selector is a lane (`lane`). `lanes` has those of all rows,
+//! `run` reads the trace, and `simulation` is the whole run. `numbers` and `table` write.
 //!
 //! Proved for every reader whose bytes are known: if a run succeeds, the text has no fault, and the
 //! bytes written are exactly the table whose every line is what the definitions give for its
-//! configuration over the whole trace (`specs/Grids`, `specs/Table`). If a run fails because of the
-//! trace, the fault is that of the text or of its reader. If a run fails, nothing was written,
-//! unless the writer failed.
+//! configuration and its selection over the whole trace (`specs/Grids`, `specs/Table`). If a run
+//! fails because of the trace, the fault is that of the text or of its reader. If a run fails,
+//! nothing was written, unless the writer failed.
 //!
 //! Only tested: that the writer is flushed after the table.
 #![tactic(auto)]
@@ -21,6 +21,8 @@
 mod fault;
 mod figures;
 mod grid;
+mod lane;
+mod lanes;
 mod numbers;
 mod requests;
 mod run;
@@ -28,7 +30,6 @@ mod shadowed;
 mod simulation;
 mod table;
 mod tower;
-mod towers;
 
 pub use fault::GridFault;
 pub use figures::{Figures, ShadowMisses};

@@ -5,42 +5,34 @@ ghost use Rattle.std.specs.List.{All};
 ghost use Rattle.din_trace.specs.Text.{Remaining};
 ghost use Rattle.din_trace.specs.Remaining.{Script, Fate, Follows};
 ghost use Rattle.din_trace.specs.Source.{HasLeft, Takes};
-ghost use Rattle.stage_core.specs.Events.{IsBounded};
-ghost use Rattle.grid_run.specs.Rows.{ServedAll};
-ghost use Rattle.grid_run.specs.Towers.{RowServed, rules_had};
+ghost use Rattle.grid_run.specs.Rows.{RowServed, ServedAll, task_had};
 
 use crate::fault::{GridFault, fault_of_source};
-use crate::tower::Tower;
-use crate::towers::take_picked;
+use crate::lane::Lane;
+use crate::lanes::take_record;
 use din_trace::{ByteReader, Source, TraceFault};
-use stage_core::{Selection, Selector, selections_make_at_most_two};
 
-/// Reads the records one by one, and serves the selected events in the caches of all rows. Stops at
-/// a fault of the trace; the rest is then not read.
+/// Reads the records one by one, and serves what each row selects of them in its caches. Stops at a
+/// fault of the trace; the rest is then not read.
 pub(crate) fn serve_trace<R: ByteReader>(
-    selection: Selection,
     source: &mut Source<R>,
-    towers: &mut Vec<Option<Tower>>,
+    lanes: &mut Vec<Option<Lane>>,
 ) -> Result<(), GridFault>
-    requires bounded { IsBounded selection }
-    requires fresh { All (RowServed []) towers.old.items }
-    ensures rules { map rules_had towers.new.items ≡ map rules_had towers.old.items }
+    requires fresh { All (RowServed []) lanes.old.items }
+    ensures tasks { map task_had lanes.new.items ≡ map task_had lanes.old.items }
     ensures unwritten { IfErr result (λ why. why ≢ GridFault.Write) }
     ensures memory { result ≢ Err (GridFault.Trace TraceFault.Memory) }
-    // Whatever the reader did, all selected events were served, or the run stopped with a fault.
+    // Whatever the reader did, all rows took all records, or the run stopped with a fault.
     ensures reads { (given : List ℕ) × (fate : Fate)
         × Takes R.remaining R.failures source.old source.new given fate
         × ((before later : Script) (l : Remaining)
         → Follows fate given before later → HasLeft source.old before l
-        → ServedAll selection l towers.new.items result) }
+        → ServedAll l lanes.new.items result) }
 {
-    selections_make_at_most_two();
-    let mut selector = Selector::new(selection);
     'records: loop {
         match source.next() {
             Ok(Some(next)) => {
-                let picked = selector.offer(next);
-                if take_picked(towers, picked).is_err() {
+                if take_record(lanes, next).is_err() {
                     return Err(GridFault::Memory);
                 }
             }

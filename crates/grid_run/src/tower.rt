@@ -133,6 +133,7 @@ fn serve_side(
 #[tactic(auto, unfolding(crate::specs::Towers::hierarchy_in))]
 impl Tower {
     ghost use Rattle.std.specs.Prelude.{◌≡◌, ◌<◌, ◌*◌, ◌++◌, ◌∷◌, [], List, IfOk, OnOk, length};
+    ghost use Rattle.std.specs.Prelude.{option_to_list};
     ghost use Rattle.din_trace.specs.declared.record.DinRecord.{DinRecord};
     ghost use Rattle.stage_core.specs.Config.{hierarchy_of};
     ghost use Rattle.grid_run.specs.Grids.{figures_of};
@@ -154,7 +155,7 @@ impl Tower {
     }
 
     /// Serves an event in all caches.
-    pub fn take(&mut self, event: DinRecord) -> Result<(), NoMemory>
+    fn take(&mut self, event: DinRecord) -> Result<(), NoMemory>
         requires room { (es : List DinRecord) × HasServed self.old es
             × (length es < 2 * MAX_LIMIT) }
         ensures served { OnOk result ((es : List DinRecord) → HasServed self.old es
@@ -165,6 +166,20 @@ impl Tower {
         serve_side(&mut self.i, Side::I, asked_of(Side::I, event), &mut self.u)?;
         serve_side(&mut self.d, Side::D, asked_of(Side::D, event), &mut self.u)?;
         Ok(())
+    }
+
+    /// Serves an event in all caches, if there is one.
+    pub fn take_some(&mut self, event: Option<DinRecord>) -> Result<(), NoMemory>
+        requires room { (es : List DinRecord) × HasServed self.old es
+            × (length es < 2 * MAX_LIMIT) }
+        ensures served { OnOk result ((es : List DinRecord) → HasServed self.old es
+            → HasServed self.new (es ++ option_to_list event)) }
+        ensures rules { hierarchy_in self.new ≡ hierarchy_in self.old }
+    {
+        match event {
+            Some(event) => self.take(event),
+            None => Ok(()),
+        }
     }
 
     /// What the caches have counted.

@@ -6,6 +6,11 @@ mod lines;
 mod memory;
 mod narrow;
 
+ghost use Rattle.std.specs.Prelude.{OnOk};
+ghost use Rattle.std.specs.List.{All};
+ghost use Rattle.grid_run.specs.Grids.{IsBoundedRow, IsBoundedSetup};
+
+use grid_run::{Row, Setup};
 use std::alloc::Global;
 use std::test::Fail;
 
@@ -32,4 +37,15 @@ fn words_of(alloc: Global, words: &[&str]) -> Result<Vec<String>, Fail> {
         made.push(String::from_str(alloc, word)?)?;
     }
     Ok(made)
+}
+
+/// Adds a row with these words.
+fn add_row(alloc: Global, rows: &mut Vec<Row>, words: &[&str], setup: Setup) -> Result<(), Fail>
+    requires rows { All IsBoundedRow rows.old.items }
+    requires setup { IsBoundedSetup setup }
+    ensures { OnOk result (All IsBoundedRow rows.new.items) }
+{
+    let words = words_of(alloc, words)?;
+    rows.push(Row { words, setup })?;
+    Ok(())
 }

@@ -2,12 +2,10 @@
 
 ghost use Rattle.stage_core.specs.Events.{IsBounded};
 
-use super::words_of;
+use super::{add_row, words_of};
 use cache_core::{Policy, Repl};
 use din_trace::{FromRead, FromWrite, MAX_LIMIT, read_all};
-use grid_run::{
-    Figures, Grid, Row, Setup, ShadowMisses, simulate_grid, write_counted, write_heads,
-};
+use grid_run::{Figures, Grid, Setup, ShadowMisses, simulate_grid, write_counted, write_heads};
 use stage_core::{CacheSpec, Config, Selection, run_plain};
 use std::alloc::Global;
 use std::process::Abort;
@@ -135,22 +133,29 @@ fn figures_alone(
     Ok(Figures { totals, shadows })
 }
 
-/// A grid of all configurations has to write what they count alone.
-fn agrees(rt: &impl Abort, alloc: Global, selection: &Selection, trace: &[u8]) -> Result<(), Fail>
-    requires { IsBounded selection.now }
+/// A grid of all configurations, each with both selections, has to write what they count alone.
+fn agrees(
+    rt: &impl Abort,
+    alloc: Global,
+    first: &Selection,
+    second: &Selection,
+    trace: &[u8],
+) -> Result<(), Fail>
+    requires first { IsBounded first.now }
+    requires second { IsBounded second.now }
 {
     let mut rows = Vec::new(alloc);
     let mut expected = Vec::new(alloc);
     let mut lines = FromWrite::new(&mut expected);
     write_heads(&[], &mut lines)?;
     for specs in all_specs() {
-        let setup = Setup::Simulated(Config::new(specs.i, specs.d, specs.u, 1)?);
-        rows.push(Row {
-            words: words_of(alloc, &[])?,
-            setup,
-        })?;
-        let figures = figures_alone(rt, alloc, specs, selection, trace)?;
+        let config = Config::new(specs.i, specs.d, specs.u, 1)?;
+        add_row(alloc, &mut rows, &[], Setup::Simulated(config, *first))?;
+        let figures = figures_alone(rt, alloc, specs, first, trace)?;
         write_counted(&[], &figures, &mut lines)?;
+        add_row(alloc, &mut rows, &[], Setup::Simulated(config, *second))?;
+        let figures_in_part = figures_alone(rt, alloc, specs, second, trace)?;
+        write_counted(&[], &figures_in_part, &mut lines)?;
     }
     let grid = Grid {
         names: words_of(alloc, &[])?,
@@ -158,14 +163,7 @@ fn agrees(rt: &impl Abort, alloc: Global, selection: &Selection, trace: &[u8]) -
     };
     let mut written = Vec::new(alloc);
     let mut writer = FromWrite::new(&mut written);
-    simulate_grid(
-        alloc,
-        &grid,
-        selection,
-        FromRead::new(trace),
-        MAX_LIMIT,
-        &mut writer,
-    )?;
+    simulate_grid(alloc, &grid, FromRead::new(trace), MAX_LIMIT, &mut writer)?;
     assert!(rt; written.as_slice() == expected.as_slice());
     Ok(())
 }
@@ -184,8 +182,7 @@ fn rows_are_as_runs_alone(rt: HostRuntime) -> Result<(), Fail> {
     };
     for seed in 0..4 {
         let trace = trace_of(rt.alloc(), seed, 600)?;
-        agrees(&rt, rt.alloc(), &everything, &trace)?;
-        agrees(&rt, rt.alloc(), &part, &trace)?;
+        agrees(&rt, rt.alloc(), &everything, &part, &trace)?;
     }
     Ok(())
 }

@@ -1,12 +1,14 @@
 //! Whole grids, with their tables as literal bytes.
 
+ghost use Rattle.std.specs.Prelude.{IfOk};
 ghost use Rattle.stage_core.specs.Events.{IsBounded};
+ghost use Rattle.grid_run.specs.Grids.{HasBoundedRows};
 
 use super::narrow::{Narrow, with_room};
-use super::{HEADS, words_of};
+use super::{HEADS, add_row, words_of};
 use cache_core::{Policy, Repl};
 use din_trace::{FromRead, FromWrite, MAX_LIMIT, TraceFault, Why};
-use grid_run::{Grid, GridFault, Row, Setup, simulate_grid};
+use grid_run::{Grid, GridFault, Setup, simulate_grid};
 use stage_core::{CacheSpec, Config, Selection};
 use std::alloc::Global;
 use std::io::{Read, Write};
@@ -41,18 +43,28 @@ fn config(data: u64) -> Result<Config, Fail> {
     Ok(Config::new(spec(16, 4, 1), spec(data, 4, 1), spec(32, 8, 2), 1)?)
 }
 
-fn row(alloc: Global, word: &str, setup: Setup) -> Result<Row, Fail> {
-    let words = words_of(alloc, &[word])?;
-    Ok(Row { words, setup })
-}
-
-/// Data caches of 8 and of 16 bytes, and one of 3 bytes, which is refused, between them.
-fn grid(alloc: Global) -> Result<Grid, Fail> {
+/// Data caches of 8 and of 16 bytes with these selections, and one of 3 bytes, which is refused,
+/// between them.
+pub(super) fn grid(alloc: Global, small: &Selection, large: &Selection) -> Result<Grid, Fail>
+    requires small { IsBounded small.now }
+    requires large { IsBounded large.now }
+    ensures { IfOk result HasBoundedRows }
+{
     let refusal = String::from_str(alloc, "l1-dsize is not a power of two")?;
     let mut rows = Vec::new(alloc);
-    rows.push(row(alloc, "8", Setup::Simulated(config(8)?))?)?;
-    rows.push(row(alloc, "3", Setup::Refused(refusal))?)?;
-    rows.push(row(alloc, "16", Setup::Simulated(config(16)?))?)?;
+    add_row(
+        alloc,
+        &mut rows,
+        &["8"],
+        Setup::Simulated(config(8)?, *small),
+    )?;
+    add_row(alloc, &mut rows, &["3"], Setup::Refused(refusal))?;
+    add_row(
+        alloc,
+        &mut rows,
+        &["16"],
+        Setup::Simulated(config(16)?, *large),
+    )?;
     let names = words_of(alloc, &["l1-dsize"])?;
     Ok(Grid { names, rows })
 }
@@ -65,38 +77,37 @@ static REFUSED: &str = concat!(
     "\tl1-dsize is not a power of two\n",
 );
 
-/// The result of the grid over a trace, read from any reader and written to any writer.
+/// The result of a grid over a trace, read from any reader and written to any writer.
 pub(super) fn run<R: Read + Drop, W: Write + Drop>(
     alloc: Global,
-    selection: &Selection,
+    grid: &Grid,
     reader: R,
     writer: W,
-) -> Result<Result<(), GridFault>, Fail>
-    requires { IsBounded selection.now }
+) -> Result<(), GridFault>
+    requires { HasBoundedRows grid.now }
 {
-    Ok(simulate_grid(
+    simulate_grid(
         alloc,
-        &grid(alloc)?,
-        selection,
+        grid,
         FromRead::new(reader),
         MAX_LIMIT,
         &mut FromWrite::new(writer),
-    ))
+    )
 }
 
-/// The table of the grid over a trace has to have these lines of its first and last rows.
+/// The table of a grid over a trace has to have these lines of its first and last rows.
 fn writes(
     rt: &impl Abort,
     alloc: Global,
-    selection: &Selection,
+    grid: &Grid,
     trace: &[u8],
     small: &str,
     large: &str,
 ) -> Result<(), Fail>
-    requires { IsBounded selection.now }
+    requires { HasBoundedRows grid.now }
 {
     let mut written = Vec::new(alloc);
-    assert_eq!(rt; run(alloc, selection, trace, &mut written)?, Ok(()));
+    assert_eq!(rt; run(alloc, grid, trace, &mut written), Ok(()));
     let mut expected = String::from_str(alloc, "l1-dsize\t")?;
     expected.push_str(HEADS)?;
     expected.push_str(small)?;
@@ -122,12 +133,25 @@ static CONFLICT_LARGE: &str = concat!(
     "3\t2\t0.666666\t2\t0\t0\t2\t2\t0\t0\t0\t-\n",
 );
 
+static SECOND_AND_THIRD: Selection = Selection {
+    skip: 1,
+    max: 2,
+    every: 0,
+};
+
+/// The large cache over the second and third reference of the trace of a conflict.
+static LARGE_IN_PART: &str = concat!(
+    "16\t0\t0\t0.000000\t0\t0\t0\t0\t0\t0\t0\t0\t",
+    "2\t2\t1.000000\t2\t0\t0\t2\t2\t0\t0\t0\t",
+    "2\t2\t1.000000\t2\t0\t0\t2\t2\t0\t0\t0\t-\n",
+);
+
 #[test]
 fn each_row_has_its_own_counts(rt: HostRuntime) -> Result<(), Fail> {
     writes(
         &rt,
         rt.alloc(),
-        &EVERYTHING,
+        &grid(rt.alloc(), &EVERYTHING, &EVERYTHING)?,
         CONFLICT,
         CONFLICT_SMALL,
         CONFLICT_LARGE,
@@ -149,7 +173,7 @@ fn a_dirty_block_is_written_back(rt: HostRuntime) -> Result<(), Fail> {
     writes(
         &rt,
         rt.alloc(),
-        &EVERYTHING,
+        &grid(rt.alloc(), &EVERYTHING, &EVERYTHING)?,
         b"1 0\n0 8\n4 0\n",
         small,
         large,
@@ -158,22 +182,26 @@ fn a_dirty_block_is_written_back(rt: HostRuntime) -> Result<(), Fail> {
 
 #[test]
 fn the_selection_is_obeyed(rt: HostRuntime) -> Result<(), Fail> {
-    let last = Selection {
-        skip: 1,
-        max: 2,
-        every: 0,
-    };
     let small = concat!(
         "8\t0\t0\t0.000000\t0\t0\t0\t0\t0\t0\t0\t0\t",
         "2\t2\t1.000000\t2\t0\t0\t2\t2\t0\t0\t0\t",
         "2\t2\t1.000000\t2\t0\t0\t2\t2\t0\t0\t0\t-\n",
     );
-    let large = concat!(
-        "16\t0\t0\t0.000000\t0\t0\t0\t0\t0\t0\t0\t0\t",
-        "2\t2\t1.000000\t2\t0\t0\t2\t2\t0\t0\t0\t",
-        "2\t2\t1.000000\t2\t0\t0\t2\t2\t0\t0\t0\t-\n",
-    );
-    writes(&rt, rt.alloc(), &last, CONFLICT, small, large)
+    let grid = grid(rt.alloc(), &SECOND_AND_THIRD, &SECOND_AND_THIRD)?;
+    writes(&rt, rt.alloc(), &grid, CONFLICT, small, LARGE_IN_PART)
+}
+
+#[test]
+fn each_row_has_its_own_selection(rt: HostRuntime) -> Result<(), Fail> {
+    let grid = grid(rt.alloc(), &EVERYTHING, &SECOND_AND_THIRD)?;
+    writes(
+        &rt,
+        rt.alloc(),
+        &grid,
+        CONFLICT,
+        CONFLICT_SMALL,
+        LARGE_IN_PART,
+    )
 }
 
 #[test]
@@ -192,17 +220,19 @@ fn a_flush_is_inserted(rt: HostRuntime) -> Result<(), Fail> {
     small.push_str(line)?;
     let mut large = String::from_str(rt.alloc(), "16")?;
     large.push_str(line)?;
-    writes(&rt, rt.alloc(), &each, CONFLICT, &small, &large)
+    let grid = grid(rt.alloc(), &each, &each)?;
+    writes(&rt, rt.alloc(), &grid, CONFLICT, &small, &large)
 }
 
 #[test]
 fn nothing_is_written_for_a_faulty_trace(rt: HostRuntime) -> Result<(), Fail> {
+    let grid = grid(rt.alloc(), &EVERYTHING, &EVERYTHING)?;
     for (trace, line, why) in [
         (b"0 0\n0 8\n0 1g\n", 3, Why::Tail),
         (b"x 0\n0 8\n0 10\n", 1, Why::Label),
     ] {
         let mut written = Vec::new(rt.alloc());
-        let ended = run(rt.alloc(), &EVERYTHING, trace.as_slice(), &mut written)?;
+        let ended = run(rt.alloc(), &grid, trace.as_slice(), &mut written);
         let fault = TraceFault::Bad { line, why };
         assert_eq!(rt; ended, Err(GridFault::Trace(fault)));
         assert!(rt; written.is_empty());
@@ -222,7 +252,8 @@ pub(super) fn table_len() -> usize {
 /// The grid has to fail with `Write` over the trace of a conflict, at a writer with this room.
 fn fails(rt: &impl Abort, alloc: Global, room: usize, can_flush: bool) -> Result<Narrow, Fail> {
     let mut writer = with_room(room, can_flush);
-    let ended = run(alloc, &EVERYTHING, CONFLICT, &mut writer)?;
+    let grid = grid(alloc, &EVERYTHING, &EVERYTHING)?;
+    let ended = run(alloc, &grid, CONFLICT, &mut writer);
     assert_eq!(rt; ended, Err(GridFault::Write));
     Ok(writer)
 }
@@ -246,7 +277,8 @@ fn a_writer_may_fail_at_its_flush(rt: HostRuntime) -> Result<(), Fail> {
 #[test]
 fn a_table_is_flushed_once(rt: HostRuntime) -> Result<(), Fail> {
     let mut writer = with_room(10_000, true);
-    let ended = run(rt.alloc(), &EVERYTHING, CONFLICT, &mut writer)?;
+    let grid = grid(rt.alloc(), &EVERYTHING, &EVERYTHING)?;
+    let ended = run(rt.alloc(), &grid, CONFLICT, &mut writer);
     assert_eq!(rt; ended, Ok(()));
     assert_eq!(rt; (writer.taken, writer.flushes), (table_len(), 1));
     Ok(())

@@ -1,14 +1,11 @@
-use Rattle.std.proofs.Common.{◌≡◌, ◌<◌, ◌≤◌, ◌*◌, ◌++◌, ◌∷◌, [], List, length, Option}
-use Rattle.std.proofs.Common.{Some, None, Ok, count_by, ap, sym, subst, refl, ◌∙◌, arith, inl, inr}
+use Rattle.std.proofs.Common.{◌≡◌, ◌<◌, ◌++◌, ◌∷◌, [], List, Option, Some, None, Ok}
+use Rattle.std.proofs.Common.{ap, sym, subst, refl, ◌∙◌, arith, inl, inr, length-append}
 use Rattle.std.specs.List.{All}
 use Rattle.din_trace.specs.Source.{room_of}
 use Rattle.din_trace.specs.declared.record.DinRecord.{DinRecord}
 use Rattle.din_trace.proofs.Calls.{Calls, calls}
-use Rattle.stage_core.specs.Events.{events, events_at, picked, picked_events, is_reference}
-use Rattle.stage_core.specs.declared.selection.Selection.{Selection}
-use Rattle.stage_core.proofs.Place.{flat_map_with_past-more}
 use Rattle.grid_run.specs.Faults.{MayAnswer}
-use Rattle.grid_run.specs.Towers.{RowServed}
+use Rattle.grid_run.specs.Rows.{RowServed}
 use Rattle.grid_run.proofs.Readings.{answers-fault, read-end, read-fault, read-more, read-nothing}
 use Rattle.grid_run.proofs.Readings.{when-ok}
 use Rattle.grid_run.proofs.run.serve_trace.Goals as goal
@@ -30,11 +27,9 @@ pub records-init : goal.records-init
 records-init g c = record {
   past = [];
   read = read-nothing g.R.ByteReader.remaining g.R.ByteReader.failures c.args.source.now;
-  chosen = c.new-selector.ensures.selection;
-  offered = c.new-selector.ensures.none;
-  room = inl c.new-selector.ensures.none.count;
+  room = inl refl;
   served = c.requires.fresh;
-  rules = refl;
+  tasks = refl;
 }
 
 pub records-preserved : goal.records-preserved
@@ -43,56 +38,42 @@ records-preserved g c =
     let all = composed g c₁ in
     let now = c.records.invariant in
     let next = c.in-Ok-Some.next in
-    let offers = c.offer-picked.ensures in
-    let sel = c.args.selection in
-    let picks = offers.picked now.past now.offered
-    ∙ ap (λ (s : Selection). picked s (count_by is_reference (now.past ++ next ∷ [])) next)
-    now.chosen in
-    let es : List DinRecord = events sel now.past in
-    let longer = ap (λ p. es ++ picked_events p) picks
-    ∙ sym (flat_map_with_past-more (events_at sel) now.past next) in
     let answered : c.next.result ≡ Ok (Some next) =
     c.in-Ok-Some.is ∙ ap (λ (found : Option DinRecord). Ok found)
     c.in-Ok-Some.field-0-is in
-    let served = when-ok c.take_picked.result c.if-is_err.ensures.negation
-    c.take_picked.ensures.served in
+    let served = when-ok c.take_record.result c.if-is_err.ensures.negation
+    c.take_record.ensures.served in
     let less : room_of c.next.new.self < room_of c.records.source =
     (rw answered at c.next.ensures.records) refl in
+    let longer = length-append now.past (next ∷ []) in
     record {
       past = now.past ++ next ∷ [];
       read = read-more g.R.ByteReader.remaining g.R.ByteReader.failures c.args.source.now
           c.records.source c.next.new.self now.past now.read c.next.result _ _ all
           c.next.ensures.reads.3 next answered;
-      chosen = offers.selection ∙ now.chosen;
-      offered = offers.stands now.past now.offered;
       room = inr (elim now.room [
-        | inl e ↦ omega (arith, offers.offered, c.next.ensures.room)
-        | inr h ↦ omega (arith, offers.offered)
+        | inl e ↦ omega (arith, longer, c.next.ensures.room)
+        | inr h ↦ omega (arith, longer, less)
       ]);
-      served = subst (λ (l : List DinRecord). All (RowServed l) c.take_picked.new.towers.items)
-          longer (served es now.served);
-      rules = c.take_picked.ensures.rules ∙ now.rules;
+      served = served now.past now.served;
+      tasks = c.take_record.ensures.tasks ∙ now.tasks;
     }
 
-pub take_picked-requires : goal.take_picked-requires
-take_picked-requires g c =
+pub take_record-requires : goal.take_record-requires
+take_record-requires g c =
     let now = c.records.invariant in
-    let es : List DinRecord = events c.args.selection now.past in
     let answered : c.next.result ≡ Ok (Some c.in-Ok-Some.next) =
     c.in-Ok-Some.is ∙ ap (λ (found : Option DinRecord). Ok found)
     c.in-Ok-Some.field-0-is in
     let less : room_of c.next.new.self < room_of c.records.source =
     (rw answered at c.next.ensures.records) refl in
-    let few : length es ≤ 2 * length now.past =
-    c.selections_make_at_most_two.ensures c.args.selection now.past in
-    let count = now.offered.count in
     record {
       room = (
-        es,
+        now.past,
         now.served,
         elim now.room [
-          | inl e ↦ omega (arith, few, count)
-          | inr h ↦ omega (arith, few, count, less)
+          | inl e ↦ omega arith
+          | inr h ↦ omega (arith, less)
         ],
       );
     }
@@ -117,8 +98,7 @@ returns-in-Ok-None-clause-reads g c =
           c.records.source c.next.new.self now.past now.read c.next.result _ _ all
           c.next.ensures.reads.3 answered first last l is left in (
             end.0,
-            subst (λ (rs : List DinRecord).
-                All (RowServed (events c.args.selection rs)) c.records.towers.items)
+            subst (λ (rs : List DinRecord). All (RowServed rs) c.records.lanes.items)
                 (sym end.1) now.served,
           ),
     )

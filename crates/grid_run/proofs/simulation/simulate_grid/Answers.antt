@@ -1,10 +1,9 @@
-use Rattle.std.proofs.Common.{rules, ◌≡◌, Err, List, ap, refl, subst}
+use Rattle.std.proofs.Common.{rules, ◌≡◌, Err, List, refl, subst}
 use Rattle.std.proofs.lemmas.Result.{on_ok_weaker}
 use Rattle.std.specs.Io.KnownBytes.{Appends}
 use Rattle.din_trace.specs.Source.{reader_of}
 use Rattle.din_trace.specs.declared.record.DinRecord.{DinRecord}
 use Rattle.din_trace.proofs.Told.{script_of_told}
-use Rattle.stage_core.specs.Events.{events}
 use Rattle.grid_run.specs.Grids.{table, table_of}
 use Rattle.grid_run.specs.declared.fault.GridFault.TheVariants.{Trace}
 use Rattle.grid_run.proofs.simulation.simulate_grid.Goals as goal
@@ -32,12 +31,12 @@ returns-clause-table g c text known =
     let ended = rw c.in_ok-serve_trace.was at reads.3 script.0 script.1 _ script.2
     (c.new-source.ensures.left script.0) in
     let good = script.3.no_fault ended.0 in
-    let over = ap (events c.args.selection.now) good.1 in
     on_ok_weaker c.write_table.result
     (λ wrote. (
       good.0,
-      subst (λ (es : List DinRecord).
+      subst (λ (rs : List DinRecord).
           Appends (g.W.ByteWriter.contents c.args.writer.now)
-          (g.W.ByteWriter.contents c.write_table.new.writer) (table c.args.grid.now es)) over wrote,
+          (g.W.ByteWriter.contents c.write_table.new.writer) (table c.args.grid.now rs)) good.1
+          wrote,
     ))
     (c.write_table.ensures.table _ ended.1)

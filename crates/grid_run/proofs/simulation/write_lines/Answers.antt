@@ -6,23 +6,23 @@ use Rattle.std.proofs.lemmas.Result.{on_ok_weaker}
 use Rattle.din_trace.proofs.WritesLemmas.{appends_twice}
 use Rattle.grid_run.specs.Grids.{row_line, table}
 use Rattle.grid_run.specs.Table.{head_line}
-use Rattle.grid_run.specs.Towers.{RowServed}
-use Rattle.grid_run.specs.declared.tower.Tower.{Tower}
+use Rattle.grid_run.specs.Rows.{RowServed}
+use Rattle.grid_run.specs.declared.lane.Lane.{Lane}
 use Rattle.grid_run.proofs.simulation.write_lines.Goals as goal
 
 pub returns-clause-table : goal.returns-clause-table
 unfolding table
-returns-clause-table g c = λ es all.
+returns-clause-table g c = λ past all.
     let names = c.args.grid.now.names.items in
     let rows = c.deref-2.result.now in
     let heads = head_line (map string_bytes c.deref.result.now) in
-    let lines = flat_map (row_line es) rows in
+    let lines = flat_map (row_line past) rows in
     let whole = ap (λ l. heads ++ l) (append-nil lines)
     ∙ ap (λ ns. head_line (map string_bytes ns) ++ lines) c.deref.ensures.value
-    ∙ ap (λ rs. head_line (map string_bytes names) ++ flat_map (row_line es) rs)
+    ∙ ap (λ rs. head_line (map string_bytes names) ++ flat_map (row_line past) rs)
     c.deref-2.ensures.value in
-    let written = c.in_ok-write_rows.ensures.lines es
-    (subst (λ (ts : List (Option Tower)). All (RowServed es) ts) (sym c.deref-3.ensures.value)
+    let written = c.in_ok-write_rows.ensures.lines past
+    (subst (λ (ts : List (Option Lane)). All (RowServed past) ts) (sym c.deref-3.ensures.value)
     all) in
     on_ok_weaker c.flush.result (λ nothing.
     subst (Appends (g.W.ByteWriter.contents c.args.writer.now)

@@ -1,0 +1,86 @@
+use Rattle.std.proofs.Common.{◌≡◌, ◌++◌, ◌∷◌, [], Bool, true, false, List, count_by}
+use Rattle.std.proofs.Common.{option_to_list, refl, ap, sym, subst, ◌∙◌, append_assoc, arith}
+use Rattle.std.proofs.Common.{length-append}
+use Rattle.std.specs.Bool.{then_some}
+use Rattle.std.proofs.lemmas.Result.{on_ok_weaker}
+use Rattle.din_trace.specs.declared.record.DinRecord.{DinRecord}
+use Rattle.stage_core.specs.Events.{events, events_at, inserted_flush, is_reference, picked}
+use Rattle.stage_core.specs.Events.{picked_events}
+use Rattle.stage_core.specs.Places.{list_if}
+use Rattle.stage_core.specs.declared.selection.Picked.{Picked}
+use Rattle.stage_core.specs.declared.selection.Selection.{Selection}
+use Rattle.stage_core.proofs.Place.{flat_map_with_past-more}
+use Rattle.grid_run.specs.Towers.{HasServed}
+use Rattle.grid_run.proofs.Events.{few-option}
+use Rattle.grid_run.proofs.lane.Lane.take.Goals as goal
+
+-- the flush that a selection inserts, if it does
+one-flush : (b : Bool) (x : DinRecord) → option_to_list (then_some b x) ≡ list_if b x
+one-flush true x = refl
+one-flush false x = refl
+
+pub offer-picked-requires : goal.offer-picked-requires
+offer-picked-requires c =
+    let room = c.requires.room in
+    let count = room.1.offered.count in
+    omega (arith, count, room.2)
+
+pub take_some-requires : goal.take_some-requires
+take_some-requires c =
+    let room = c.requires.room in
+    let few = c.selections_make_at_most_two.ensures c.args.self.now.selector.selection room.0 in
+    record {
+      room = (
+        events c.args.self.now.selector.selection room.0,
+        room.1.served,
+        omega (arith, few, room.2),
+      );
+    }
+
+pub take_some-requires-2 : goal.take_some-requires-2
+take_some-requires-2 c =
+    let room = c.requires.room in
+    let sel = c.args.self.now.selector.selection in
+    let es : List DinRecord = events sel room.0 in
+    let event = option_to_list c.offer-picked.result.event in
+    let few = c.selections_make_at_most_two.ensures sel room.0 in
+    record {
+      room = (
+        es ++ event,
+        c.in_ok-take_some.ensures.served es room.1.served,
+        omega (
+          arith,
+          few,
+          room.2,
+          length-append es event,
+          few-option c.offer-picked.result.event,
+        ),
+      );
+    }
+
+pub returns-clause-served : goal.returns-clause-served
+returns-clause-served c =
+    let sel = c.args.self.now.selector.selection in
+    let next = c.args.next in
+    let event = option_to_list c.offer-picked.result.event in
+    let last = option_to_list c.then_some.result in
+    let flushes = ap option_to_list c.then_some.ensures
+    ∙ one-flush c.offer-picked.result.flush inserted_flush in
+    on_ok_weaker c.take_some-2.result (λ second past taken.
+    let es : List DinRecord = events sel past in
+    let picks : c.offer-picked.result
+    ≡ picked sel (count_by is_reference (past ++ next ∷ [])) next =
+    c.offer-picked.ensures.picked past taken.offered in
+    let longer : (es ++ event) ++ last ≡ events sel (past ++ next ∷ []) =
+    append_assoc es event last
+    ∙ ap (λ l. es ++ (event ++ l)) flushes
+    ∙ ap (λ (p : Picked). es ++ picked_events p) picks
+    ∙ sym (flat_map_with_past-more (events_at sel) past next) in
+    record {
+      offered = c.offer-picked.ensures.stands past taken.offered;
+      served = subst (λ (s : Selection). HasServed c.take_some-2.new.self
+          (events s (past ++ next ∷ []))) (sym c.offer-picked.ensures.selection)
+          (subst (λ (l : List DinRecord). HasServed c.take_some-2.new.self l) longer
+          (second (es ++ event) (c.in_ok-take_some.ensures.served es taken.served)));
+    })
+    c.take_some-2.ensures.served
