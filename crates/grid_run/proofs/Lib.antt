@@ -1,5 +1,5 @@
 pub mod TableLemmas
-pub mod Whole
+pub mod Cells
 pub mod Rooms
 pub mod Events
 pub mod Readings

@@ -1,7 +1,6 @@
 pub mod Table
 pub mod Grids
-pub mod Lru
-pub mod Shadows
+pub mod Cells
 pub mod Towers
 pub mod Lanes
 pub mod Rows

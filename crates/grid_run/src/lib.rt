@@ -4,10 +4,10 @@
 //! in the caches of that row. Then it writes a line for each row. [`write_heads`],
 //! [`write_counted`] and [`write_refused`] write the lines of a table from given figures.
 //!
-//! A row's caches are a tower (`tower`), each cache with its shadow as a cache beside it
-//! (`shadowed`). `requests` has what an event asks of each cache, and what the first level asks of
-//! the second. A tower behind its row's selector is a lane (`lane`). `lanes` has those of all rows,
-//! `run` reads the trace, and `simulation` is the whole run. `numbers` and `table` write.
+//! A row's caches are a tower (`tower`), each cache an engine of grid_core (`cell`). `requests` has
+//! what an event asks of each cache, and what the first level asks of the second. A tower behind
+//! its row's selector is a lane (`lane`). `lanes` has those of all rows, `run` reads the trace, and
+//! `simulation` is the whole run. `numbers` and `table` write.
 //!
 //! Proved for every reader whose bytes are known: if a run succeeds, the text has no fault, and the
 //! bytes written are exactly the table whose every line is what the definitions give for its
@@ -18,6 +18,7 @@
 //! Only tested: that the writer is flushed after the table.
 #![tactic(auto)]
 
+mod cell;
 mod fault;
 mod figures;
 mod grid;
@@ -26,7 +27,6 @@ mod lanes;
 mod numbers;
 mod requests;
 mod run;
-mod shadowed;
 mod simulation;
 mod table;
 mod tower;

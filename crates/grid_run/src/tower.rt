@@ -4,28 +4,28 @@ ghost use Rattle.std.specs.Prelude.{◌≡◌, ◌++◌, ◌∷◌, [], List, On
 ghost use Rattle.cache_core.specs.History.{History, access as accessed, flush as flushed};
 ghost use Rattle.stage_core.specs.SecondLevel.{back, parts_of};
 ghost use Rattle.stage_core.specs.declared.message.What.{What as Sent};
-ghost use Rattle.grid_run.specs.Shadows.{BothStand, rules_in};
+ghost use Rattle.grid_run.specs.Cells.{CellStandsFor, rules_in};
 ghost use Rattle.grid_run.specs.Towers.{CanSend, HasRoom, SecondServed, after_request};
 ghost use Rattle.grid_run.specs.Towers.{sent_for};
 
+use crate::cell::Cell;
 use crate::figures::{Figures, ShadowMisses};
 use crate::requests::{Request, asked_of, back_part, fetch_part, flush_part, through_part};
-use crate::shadowed::Shadowed;
 use cache_core::{Access, NoMemory};
 use din_trace::{DinRecord, MAX_LIMIT};
 use stage_core::{Config, Side, Totals, What, second_level_sees_at_most_two};
 use std::alloc::Global;
 
-/// The caches of one configuration, each with its shadow.
+/// The caches of one configuration.
 #[derive(Drop)]
 pub(crate) struct Tower {
-    i: Shadowed,
-    d: Shadowed,
-    u: Shadowed,
+    i: Cell,
+    d: Cell,
+    u: Cell,
 }
 
 /// Serves a request at the second level, if there is one.
-fn serve_part(u: &mut Shadowed, part: Option<What>) -> Result<(), NoMemory>
+fn serve_part(u: &mut Cell, part: Option<What>) -> Result<(), NoMemory>
     requires room { HasRoom u.old (option_to_list part) }
     ensures stands { OnOk result ((ws : List Sent) → SecondServed u.old ws →
         SecondServed u.new (ws ++ option_to_list part)) }
@@ -39,7 +39,7 @@ fn serve_part(u: &mut Shadowed, part: Option<What>) -> Result<(), NoMemory>
 
 /// Serves the requests of an access at the second level, in this order.
 fn serve_parts(
-    u: &mut Shadowed,
+    u: &mut Cell,
     back: Option<What>,
     fetch: Option<What>,
     through: Option<What>,
@@ -56,7 +56,7 @@ fn serve_parts(
 }
 
 /// Serves write-backs at the second level, and then a flush, if there is one.
-fn serve_backs(u: &mut Shadowed, addrs: &[u64], flush: Option<What>) -> Result<(), NoMemory>
+fn serve_backs(u: &mut Cell, addrs: &[u64], flush: Option<What>) -> Result<(), NoMemory>
     requires room { HasRoom u.old (map back addrs.now ++ option_to_list flush) }
     ensures stands { OnOk result ((ws : List Sent) → SecondServed u.old ws →
         SecondServed u.new (ws ++ (map back addrs.now ++ option_to_list flush))) }
@@ -69,17 +69,12 @@ fn serve_backs(u: &mut Shadowed, addrs: &[u64], flush: Option<What>) -> Result<(
 }
 
 /// Serves an access at the first level, and what it sends at the second.
-fn serve_access(
-    first: &mut Shadowed,
-    side: Side,
-    access: Access,
-    u: &mut Shadowed,
-) -> Result<(), NoMemory>
+fn serve_access(first: &mut Cell, side: Side, access: Access, u: &mut Cell) -> Result<(), NoMemory>
     requires { CanSend first.old u.old
         (λ h. parts_of (rules_in first.old) side h (accessed access)) }
-    ensures stands { OnOk result ((h : History) → BothStand first.old h →
-        BothStand first.new (accessed access ∷ h)) }
-    ensures sends { OnOk result ((h : History) (ws : List Sent) → BothStand first.old h →
+    ensures stands { OnOk result ((h : History) → CellStandsFor first.old h →
+        CellStandsFor first.new (accessed access ∷ h)) }
+    ensures sends { OnOk result ((h : History) (ws : List Sent) → CellStandsFor first.old h →
         SecondServed u.old ws → SecondServed u.new
         (ws ++ parts_of (rules_in first.old) side h (accessed access))) }
     ensures rules { rules_in first.new ≡ rules_in first.old }
@@ -93,31 +88,31 @@ fn serve_access(
 }
 
 /// Serves a flush at the first level, and what it sends at the second.
-fn serve_flush(first: &mut Shadowed, side: Side, u: &mut Shadowed) -> Result<(), NoMemory>
+fn serve_flush(first: &mut Cell, side: Side, u: &mut Cell) -> Result<(), NoMemory>
     requires { CanSend first.old u.old (λ h. parts_of (rules_in first.old) side h flushed) }
-    ensures stands { OnOk result ((h : History) → BothStand first.old h →
-        BothStand first.new (flushed ∷ h)) }
-    ensures sends { OnOk result ((h : History) (ws : List Sent) → BothStand first.old h →
+    ensures stands { OnOk result ((h : History) → CellStandsFor first.old h →
+        CellStandsFor first.new (flushed ∷ h)) }
+    ensures sends { OnOk result ((h : History) (ws : List Sent) → CellStandsFor first.old h →
         SecondServed u.old ws → SecondServed u.new
         (ws ++ parts_of (rules_in first.old) side h flushed)) }
     ensures rules { rules_in first.new ≡ rules_in first.old }
     ensures rules_above { rules_in u.new ≡ rules_in u.old }
 {
-    let backs = first.flush()?;
-    serve_backs(u, &backs, flush_part(side))
+    let lists = first.flush()?;
+    serve_backs(u, &lists[0], flush_part(side))
 }
 
 /// Serves a request at the first level, if there is one, and what it sends at the second.
 fn serve_side(
-    first: &mut Shadowed,
+    first: &mut Cell,
     side: Side,
     request: Option<Request>,
-    u: &mut Shadowed,
+    u: &mut Cell,
 ) -> Result<(), NoMemory>
     requires { CanSend first.old u.old (λ h. sent_for first.old side h request) }
-    ensures stands { OnOk result ((h : History) → BothStand first.old h →
-        BothStand first.new (after_request request h)) }
-    ensures sends { OnOk result ((h : History) (ws : List Sent) → BothStand first.old h →
+    ensures stands { OnOk result ((h : History) → CellStandsFor first.old h →
+        CellStandsFor first.new (after_request request h)) }
+    ensures sends { OnOk result ((h : History) (ws : List Sent) → CellStandsFor first.old h →
         SecondServed u.old ws →
         SecondServed u.new (ws ++ sent_for first.old side h request)) }
     ensures rules { rules_in first.new ≡ rules_in first.old }
@@ -148,9 +143,9 @@ impl Tower {
         let (d_geometry, d_policy) = config.d();
         let (u_geometry, u_policy) = config.u();
         Ok(Tower {
-            i: Shadowed::new(alloc, i_geometry, i_policy)?,
-            d: Shadowed::new(alloc, d_geometry, d_policy)?,
-            u: Shadowed::new(alloc, u_geometry, u_policy)?,
+            i: Cell::new(alloc, i_geometry, i_policy)?,
+            d: Cell::new(alloc, d_geometry, d_policy)?,
+            u: Cell::new(alloc, u_geometry, u_policy)?,
         })
     }
 

@@ -2,7 +2,7 @@ use Rattle.std.proofs.Common.{◌*◌, ◌/◌, ◌++◌, List, ap, subst, sym, 
 use Rattle.cache_core.specs.History.{Rules}
 use Rattle.std.proofs.lemmas.Result.{on_ok_weaker}
 use Rattle.stage_core.specs.declared.message.What.{What}
-use Rattle.grid_run.specs.Shadows.{rules_in}
+use Rattle.grid_run.specs.Cells.{rules_in}
 use Rattle.grid_run.specs.Towers.{HasRoom, SecondServed}
 use Rattle.grid_run.proofs.Events.{access-parts}
 use Rattle.grid_run.proofs.tower.serve_access.Goals as goal

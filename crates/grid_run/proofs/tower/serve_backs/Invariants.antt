@@ -1,7 +1,7 @@
 use Rattle.std.proofs.Common.{◌≡◌, ◌++◌, List, drop, map, option_to_list, take}
 use Rattle.stage_core.specs.SecondLevel.{back}
 use Rattle.stage_core.specs.declared.message.What.{What}
-use Rattle.grid_run.specs.Shadows.{rules_in}
+use Rattle.grid_run.specs.Cells.{rules_in}
 use Rattle.grid_run.specs.Towers.{HasRoom, SecondServed}
 use Rattle.grid_run.proofs.tower.serve_backs.Given as goal
 

@@ -6,7 +6,7 @@ use Rattle.stage_core.specs.SecondLevel.{Hierarchy, parts_in, sent_up, second_le
 use Rattle.stage_core.specs.declared.message.Side.TheVariants as side
 use Rattle.stage_core.specs.declared.message.What.{What}
 use Rattle.stage_core.proofs.Worked.{room-above, same-rules, second_level_requests-more}
-use Rattle.grid_run.specs.Shadows.{BothStand}
+use Rattle.grid_run.specs.Cells.{CellStandsFor}
 use Rattle.grid_run.specs.Towers.{SecondServed, hierarchy_in, sent_for}
 use Rattle.grid_run.proofs.Events.{after-event, few-served, sent-event}
 use Rattle.grid_run.proofs.tower.Tower.take.Goals as goal
@@ -75,10 +75,10 @@ returns-clause-served c = λ es ran.
     ∙ sym (second_level_requests-more (parts_in (hierarchy_in old)) es event)
     ∙ ap (λ (h : Hierarchy). second_level_requests (parts_in h) (es ++ event ∷ [])) (sym rules) in
     record {
-      i = subst (λ (h : History). BothStand c.serve_side.new.first h)
+      i = subst (λ (h : History). CellStandsFor c.serve_side.new.first h)
           (after-event side.I es event c.asked_of.result c.asked_of.ensures)
           (first.stands (history side.I es) ran.i);
-      d = subst (λ (h : History). BothStand c.serve_side-2.new.first h)
+      d = subst (λ (h : History). CellStandsFor c.serve_side-2.new.first h)
           (after-event side.D es event c.asked_of-2.result c.asked_of-2.ensures)
           (second.stands (history side.D es) ran.d);
       u = subst (λ (ws : List What). SecondServed c.serve_side-2.new.u ws) requests
