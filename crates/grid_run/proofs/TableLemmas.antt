@@ -35,6 +35,22 @@ tabbed_words-more text words word =
     ∙ sym (tabbed_words-append (map text words) (text word ∷ []))
     ∙ ap tabbed_words (sym (map-append text words (word ∷ [])))
 
+-- one word alone
+pub word-last : (w : List ℕ) → tabbed w ≡ tabbed_words (w ∷ [])
+unfolding tabbed_words
+word-last w = sym (append-nil (tabbed w))
+
+-- one word before others
+pub word-then : (w : List ℕ) (b : List (List ℕ)) (y : List ℕ) → y ≡ tabbed_words b
+    → tabbed w ++ y ≡ tabbed_words (w ∷ b)
+unfolding tabbed_words
+word-then w b y e = ap (λ l. tabbed w ++ l) e
+
+-- some words before others
+pub words-then : (a b : List (List ℕ)) (y : List ℕ) → y ≡ tabbed_words b
+    → tabbed_words a ++ y ≡ tabbed_words (a ++ b)
+words-then a b y e = ap (λ l. tabbed_words a ++ l) e ∙ sym (tabbed_words-append a b)
+
 -- a line in three parts: words, other words, and the last word with the end of the line
 pub line-parts : (a b : List (List ℕ)) (last : List ℕ)
     → tabbed_words a ++ (tabbed_words b ++ (last ++ 10 ∷ [])) ≡ line (a ++ b) last

@@ -13,6 +13,7 @@ use Rattle.stage_core.specs.declared.message.Side.TheVariants as side
 use Rattle.grid_run.specs.Table.{counted_line, head_line, refused_line}
 use Rattle.grid_run.specs.declared.figures.Figures.{Figures}
 use Rattle.grid_run.specs.declared.figures.ShadowMisses.{ShadowMisses}
+use Rattle.grid_run.specs.declared.grid.Columns.{Columns}
 use Rattle.grid_run.specs.declared.grid.Grid.{Grid}
 use Rattle.grid_run.specs.declared.grid.Row.{Row}
 use Rattle.grid_run.specs.declared.grid.Setup.{Setup}
@@ -31,19 +32,20 @@ abbrev pub figures_of : Hierarchy → List DinRecord → Figures
 figures_of c es = record { totals = totals c es; shadows = shadows_of c es }
 
 -- the line of a row with these words, over the records of a trace, of which it has a selection
-abbrev pub setup_line : List DinRecord → List (List ℕ) → Setup → List ℕ
-setup_line rs words (Simulated c s) =
-    counted_line words (figures_of (hierarchy_of c) (events s rs))
-setup_line rs words (Refused fault) = refused_line words (string_bytes fault)
+abbrev pub setup_line : Columns → List DinRecord → List (List ℕ) → Setup → List ℕ
+setup_line columns rs words (Simulated c s) =
+    counted_line columns words (figures_of (hierarchy_of c) (events s rs))
+setup_line columns rs words (Refused fault) = refused_line columns words (string_bytes fault)
 
 -- the line of a row
-abbrev pub row_line : List DinRecord → Row → List ℕ
-row_line rs row = setup_line rs (map string_bytes row.words.items) row.setup
+abbrev pub row_line : Columns → List DinRecord → Row → List ℕ
+row_line columns rs row = setup_line columns rs (map string_bytes row.words.items) row.setup
 
 -- the table of a grid over the records of a trace
 unfoldable pub table : Grid → List DinRecord → List ℕ
 table grid rs =
-    head_line (map string_bytes grid.names.items) ++ flat_map (row_line rs) grid.rows.items
+    head_line grid.columns (map string_bytes grid.names.items)
+    ++ flat_map (row_line grid.columns rs) grid.rows.items
 
 -- the table of a grid over a trace
 unfoldable pub table_of : Grid → List ℕ → List ℕ

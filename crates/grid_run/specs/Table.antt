@@ -6,6 +6,8 @@ use Rattle.cache_core.specs.declared.counts.PerClass.{PerClass}
 use Rattle.cache_core.specs.declared.counts.Counts.{Counts}
 use Rattle.cache_core.specs.Counts.{total_of}
 use Rattle.grid_run.specs.declared.figures.Figures.{Figures}
+use Rattle.grid_run.specs.declared.grid.Columns.{Columns}
+use Rattle.grid_run.specs.declared.grid.Columns.TheVariants.{Plain, Full}
 
 -- Codes: 9 is a tab, 10 the end of a line, 46 a point and 48 the digit 0.
 
@@ -21,26 +23,36 @@ tabbed_words words = flat_map tabbed words
 abbrev pub line : List (List ℕ) → List ℕ → List ℕ
 line words last = tabbed_words words ++ (last ++ 10 ∷ [])
 
--- the heads of a cache's eleven columns, after its name
-abbrev pub column_names : List (List ℕ)
-column_names =
-    codes "-fetches" ∷ codes "-misses" ∷ codes "-miss-rate" ∷ codes "-compulsory"
-    ∷ codes "-capacity" ∷ codes "-conflict" ∷ codes "-fully-associative-misses"
-    ∷ codes "-blocks-fetched" ∷ codes "-written-back" ∷ codes "-writes-sent-on"
-    ∷ codes "-flushes" ∷ []
+-- the classes of accesses, as the head of a column has them
+abbrev pub class_names : List (List ℕ)
+class_names = codes "-instr" ∷ codes "-read" ∷ codes "-write" ∷ codes "-misc" ∷ []
+
+-- the head of a count, and in a full table those of its classes
+abbrev pub counted_heads : Columns → List ℕ → List (List ℕ)
+counted_heads Plain head = head ∷ []
+counted_heads Full head = head ∷ map (λ class. head ++ class) class_names
 
 -- the heads of the columns of one cache
-abbrev pub heads_of : List ℕ → List (List ℕ)
-heads_of cache = map (λ name. cache ++ name) column_names
+unfoldable pub heads_of : Columns → List ℕ → List (List ℕ)
+heads_of columns cache =
+    counted_heads columns (cache ++ codes "-fetches")
+    ++ (counted_heads columns (cache ++ codes "-misses")
+    ++ ((cache ++ codes "-miss-rate") ∷ (counted_heads columns (cache ++ codes "-compulsory")
+    ++ (counted_heads columns (cache ++ codes "-capacity")
+    ++ (counted_heads columns (cache ++ codes "-conflict")
+    ++ (counted_heads columns (cache ++ codes "-fully-associative-misses")
+    ++ ((cache ++ codes "-blocks-fetched") ∷ (cache ++ codes "-written-back")
+    ∷ (cache ++ codes "-writes-sent-on") ∷ (cache ++ codes "-flushes") ∷ [])))))))
 
 -- the heads of the columns of all three caches
-abbrev pub cache_heads : List (List ℕ)
-cache_heads =
-    heads_of (codes "l1-icache") ++ (heads_of (codes "l1-dcache") ++ heads_of (codes "l2-ucache"))
+abbrev pub cache_heads : Columns → List (List ℕ)
+cache_heads columns =
+    heads_of columns (codes "l1-icache")
+    ++ (heads_of columns (codes "l1-dcache") ++ heads_of columns (codes "l2-ucache"))
 
 -- the first line: the names of the options that vary, the columns of the three caches, the fault
-unfoldable pub head_line : List (List ℕ) → List ℕ
-head_line names = line (names ++ cache_heads) (codes "fault")
+unfoldable pub head_line : Columns → List (List ℕ) → List ℕ
+head_line columns names = line (names ++ cache_heads columns) (codes "fault")
 
 -- the miss rate in millionths, rounded down; 0 if there were no fetches
 abbrev pub millionths : ℕ → ℕ → ℕ
@@ -58,24 +70,39 @@ rate_text q = decimal (q / 1000000) ++ 46 ∷ six_digits (q % 1000000)
 abbrev pub rate : ℕ → ℕ → List ℕ
 rate misses fetches = rate_text (millionths misses fetches)
 
--- the eleven columns of a cache, from its counts and its fully associative misses
-unfoldable pub columns_of : Counts → PerClass → List (List ℕ)
-columns_of c shadow =
-    decimal (total_of c.fetches) ∷ decimal (total_of c.misses)
-    ∷ rate (total_of c.misses) (total_of c.fetches) ∷ decimal (total_of c.compulsory)
-    ∷ decimal (total_of c.capacity) ∷ decimal (total_of c.conflict) ∷ decimal (total_of shadow)
-    ∷ decimal c.loaded ∷ decimal c.written_back ∷ decimal c.sent_on ∷ decimal c.flushes ∷ []
+-- a count over all classes, and in a full table that of each class
+abbrev pub counted : Columns → PerClass → List (List ℕ)
+counted Plain n = decimal (total_of n) ∷ []
+counted Full n =
+    decimal (total_of n) ∷ decimal n.instr ∷ decimal n.read ∷ decimal n.write ∷ decimal n.misc ∷ []
+
+-- the columns of a cache, from its counts and its fully associative misses
+unfoldable pub columns_of : Columns → Counts → PerClass → List (List ℕ)
+columns_of columns c shadow =
+    counted columns c.fetches ++ (counted columns c.misses
+    ++ (rate (total_of c.misses) (total_of c.fetches) ∷ (counted columns c.compulsory
+    ++ (counted columns c.capacity ++ (counted columns c.conflict ++ (counted columns shadow
+    ++ (decimal c.loaded ∷ decimal c.written_back ∷ decimal c.sent_on ∷ decimal c.flushes
+    ∷ [])))))))
 
 -- the columns of all three caches
-abbrev pub figure_columns : Figures → List (List ℕ)
-figure_columns f =
-    columns_of f.totals.i f.shadows.i
-    ++ (columns_of f.totals.d f.shadows.d ++ columns_of f.totals.u f.shadows.u)
+abbrev pub figure_columns : Columns → Figures → List (List ℕ)
+figure_columns columns f =
+    columns_of columns f.totals.i f.shadows.i
+    ++ (columns_of columns f.totals.d f.shadows.d ++ columns_of columns f.totals.u f.shadows.u)
 
 -- the line of a configuration that was simulated: its words, its figures, and no fault
-unfoldable pub counted_line : List (List ℕ) → Figures → List ℕ
-counted_line words figures = line (words ++ figure_columns figures) (codes "-")
+unfoldable pub counted_line : Columns → List (List ℕ) → Figures → List ℕ
+counted_line columns words figures = line (words ++ figure_columns columns figures) (codes "-")
+
+-- a hyphen for each column of a cache
+unfoldable pub no_columns : Columns → List (List ℕ)
+no_columns columns = map (λ head. codes "-") (heads_of columns [])
+
+-- a hyphen for each column of all three caches
+abbrev pub no_figures : Columns → List (List ℕ)
+no_figures columns = no_columns columns ++ (no_columns columns ++ no_columns columns)
 
 -- the line of a configuration that was refused: its words, no figures, and its fault
-unfoldable pub refused_line : List (List ℕ) → List ℕ → List ℕ
-refused_line words fault = line (words ++ replicate 33 (codes "-")) fault
+unfoldable pub refused_line : Columns → List (List ℕ) → List ℕ → List ℕ
+refused_line columns words fault = line (words ++ no_figures columns) fault

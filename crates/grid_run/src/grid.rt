@@ -21,11 +21,22 @@ pub struct Row {
     pub setup: Setup,
 }
 
+/// Which columns a table has.
+#[derive(Clone, Copy, Debug, PartialEq, Eq)]
+pub enum Columns {
+    /// Each count over all classes.
+    Plain,
+    /// The same, and after each count of accesses or misses those of the four classes.
+    Full,
+}
+
 /// A grid: the names of the options that vary, and its rows in their order.
 #[derive(Debug, Drop)]
 pub struct Grid {
     /// The names of the options that vary, without hyphens.
     pub names: Vec<String>,
+    /// The columns of its table.
+    pub columns: Columns,
     /// The rows.
     pub rows: Vec<Row>,
 }

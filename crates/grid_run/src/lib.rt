@@ -33,6 +33,6 @@ mod tower;
 
 pub use fault::GridFault;
 pub use figures::{Figures, ShadowMisses};
-pub use grid::{Grid, Row, Setup};
+pub use grid::{Columns, Grid, Row, Setup};
 pub use simulation::simulate_grid;
 pub use table::{write_counted, write_heads, write_refused};

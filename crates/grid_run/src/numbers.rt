@@ -3,8 +3,10 @@
 ghost use Rattle.std.specs.Prelude.{◌<◌, ◌^◌, decimal};
 ghost use Rattle.din_trace.specs.Device.{Writes};
 ghost use Rattle.cache_core.specs.Counts.{total_of};
-ghost use Rattle.grid_run.specs.Table.{rate, rate_text, six_digits, tabbed};
+ghost use Rattle.grid_run.specs.declared.grid.Columns.TheVariants.{Full};
+ghost use Rattle.grid_run.specs.Table.{counted, rate, rate_text, six_digits, tabbed, tabbed_words};
 
+use crate::grid::Columns;
 use cache_core::PerClass;
 use din_trace::{ByteWriter, DeviceFailed};
 use itoa::{Buffer, Integer};
@@ -36,14 +38,38 @@ pub(crate) fn put_count<W: ByteWriter>(writer: &mut W, count: u64) -> Result<(),
 }
 
 /// Writes a count over all classes.
-pub(crate) fn put_total<W: ByteWriter>(
-    writer: &mut W,
-    counts: &PerClass,
-) -> Result<(), DeviceFailed>
+fn put_total<W: ByteWriter>(writer: &mut W, counts: &PerClass) -> Result<(), DeviceFailed>
     ensures { Writes W.contents W.failures writer.old writer.new result
         (tabbed (decimal (total_of counts.now))) }
 {
     put_number(writer, counts.total())
+}
+
+/// Writes a count over all classes, and that of each class.
+fn put_classes<W: ByteWriter>(writer: &mut W, counts: &PerClass) -> Result<(), DeviceFailed>
+    ensures { Writes W.contents W.failures writer.old writer.new result
+        (tabbed_words (counted Full counts.now)) }
+{
+    put_total(writer, counts)?;
+    put_count(writer, counts.instr)?;
+    put_count(writer, counts.read)?;
+    put_count(writer, counts.write)?;
+    put_count(writer, counts.misc)
+}
+
+/// Writes a count over all classes, and in a full table that of each class.
+pub(crate) fn put_counted<W: ByteWriter>(
+    writer: &mut W,
+    columns: Columns,
+    counts: &PerClass,
+) -> Result<(), DeviceFailed>
+    ensures { Writes W.contents W.failures writer.old writer.new result
+        (tabbed_words (counted columns counts.now)) }
+{
+    match columns {
+        Columns::Plain => put_total(writer, counts),
+        Columns::Full => put_classes(writer, counts),
+    }
 }
 
 /// Writes a number below 1000000 with six digits.

@@ -13,7 +13,7 @@ ghost use Rattle.grid_run.specs.Grids.{HasBoundedRows, row_line, table, table_of
 ghost use Rattle.grid_run.specs.Rows.{RowServed, task_had, task_of_row};
 
 use crate::fault::GridFault;
-use crate::grid::{Grid, Row, Setup};
+use crate::grid::{Columns, Grid, Row, Setup};
 use crate::lane::Lane;
 use crate::lanes::lanes_for;
 use crate::run::serve_trace;
@@ -23,20 +23,21 @@ use std::alloc::Global;
 
 /// Writes the line of a row, which has these caches if it was not refused.
 fn write_row<W: ByteWriter>(
+    columns: Columns,
     row: &Row,
     lane: &Option<Lane>,
     writer: &mut W,
 ) -> Result<(), DeviceFailed>
     requires { task_had lane.now ≡ task_of_row row.now }
     ensures line { (rs : List DinRecord) → RowServed rs lane.now → OnOk result
-        (Appends (W.contents writer.old) (W.contents writer.new) (row_line rs row.now)) }
+        (Appends (W.contents writer.old) (W.contents writer.new) (row_line columns rs row.now)) }
     ensures sound { OnOk result (W.failures writer.new ≡ W.failures writer.old) }
     ensures failed { OnErr result (W.failures writer.new ≡ once_more (W.failures writer.old)) }
 {
     match &row.setup {
-        Setup::Refused(fault) => write_refused(&row.words, fault.as_str(), writer),
+        Setup::Refused(fault) => write_refused(columns, &row.words, fault.as_str(), writer),
         Setup::Simulated(_, _) => match lane {
-            Some(lane) => write_counted(&row.words, &lane.figures(), writer),
+            Some(lane) => write_counted(columns, &row.words, &lane.figures(), writer),
             None => unreachable!(),
         },
     }
@@ -44,6 +45,7 @@ fn write_row<W: ByteWriter>(
 
 /// Writes the lines of all rows.
 fn write_rows<W: ByteWriter>(
+    columns: Columns,
     rows: &[Row],
     lanes: &[Option<Lane>],
     writer: &mut W,
@@ -51,12 +53,12 @@ fn write_rows<W: ByteWriter>(
     requires { map task_had lanes.now ≡ map task_of_row rows.now }
     ensures lines { (rs : List DinRecord) → All (RowServed rs) lanes.now → OnOk result
         (Appends (W.contents writer.old) (W.contents writer.new)
-        (flat_map (row_line rs) rows.now)) }
+        (flat_map (row_line columns rs) rows.now)) }
     ensures sound { OnOk result (W.failures writer.new ≡ W.failures writer.old) }
     ensures failed { OnErr result (W.failures writer.new ≡ once_more (W.failures writer.old)) }
 {
     for (index, row) in rows.iter().enumerate() {
-        write_row(row, &lanes[index], writer)?;
+        write_row(columns, row, &lanes[index], writer)?;
     }
     Ok(())
 }
@@ -73,8 +75,8 @@ fn write_lines<W: ByteWriter>(
     ensures sound { OnOk result (W.failures writer.new ≡ W.failures writer.old) }
     ensures failed { OnErr result (W.failures writer.new ≡ once_more (W.failures writer.old)) }
 {
-    write_heads(&grid.names, writer)?;
-    write_rows(&grid.rows, lanes, writer)?;
+    write_heads(grid.columns, &grid.names, writer)?;
+    write_rows(grid.columns, &grid.rows, lanes, writer)?;
     writer.flush()
 }
 

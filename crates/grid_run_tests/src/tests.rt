@@ -1,6 +1,7 @@
 //! Tables, and grids over traces in memory. The expected texts were worked out by hand.
 
 mod beside;
+mod full;
 mod grids;
 mod lines;
 mod memory;

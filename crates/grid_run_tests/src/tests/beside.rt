@@ -5,7 +5,9 @@ ghost use Rattle.stage_core.specs.Events.{IsBounded};
 use super::{add_row, words_of};
 use cache_core::{Policy, Repl};
 use din_trace::{FromRead, FromWrite, MAX_LIMIT, read_all};
-use grid_run::{Figures, Grid, Setup, ShadowMisses, simulate_grid, write_counted, write_heads};
+use grid_run::{
+    Columns, Figures, Grid, Setup, ShadowMisses, simulate_grid, write_counted, write_heads,
+};
 use stage_core::{CacheSpec, Config, Selection, run_plain};
 use std::alloc::Global;
 use std::process::Abort;
@@ -147,18 +149,19 @@ fn agrees(
     let mut rows = Vec::new(alloc);
     let mut expected = Vec::new(alloc);
     let mut lines = FromWrite::new(&mut expected);
-    write_heads(&[], &mut lines)?;
+    write_heads(Columns::Full, &[], &mut lines)?;
     for specs in all_specs() {
         let config = Config::new(specs.i, specs.d, specs.u, 1)?;
         add_row(alloc, &mut rows, &[], Setup::Simulated(config, *first))?;
         let figures = figures_alone(rt, alloc, specs, first, trace)?;
-        write_counted(&[], &figures, &mut lines)?;
+        write_counted(Columns::Full, &[], &figures, &mut lines)?;
         add_row(alloc, &mut rows, &[], Setup::Simulated(config, *second))?;
         let figures_in_part = figures_alone(rt, alloc, specs, second, trace)?;
-        write_counted(&[], &figures_in_part, &mut lines)?;
+        write_counted(Columns::Full, &[], &figures_in_part, &mut lines)?;
     }
     let grid = Grid {
         names: words_of(alloc, &[])?,
+        columns: Columns::Full,
         rows,
     };
     let mut written = Vec::new(alloc);

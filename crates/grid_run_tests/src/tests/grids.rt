@@ -8,7 +8,7 @@ use super::narrow::{Narrow, with_room};
 use super::{HEADS, add_row, words_of};
 use cache_core::{Policy, Repl};
 use din_trace::{FromRead, FromWrite, MAX_LIMIT, TraceFault, Why};
-use grid_run::{Grid, GridFault, Setup, simulate_grid};
+use grid_run::{Columns, Grid, GridFault, Setup, simulate_grid};
 use stage_core::{CacheSpec, Config, Selection};
 use std::alloc::Global;
 use std::io::{Read, Write};
@@ -66,7 +66,11 @@ pub(super) fn grid(alloc: Global, small: &Selection, large: &Selection) -> Resul
         Setup::Simulated(config(16)?, *large),
     )?;
     let names = words_of(alloc, &["l1-dsize"])?;
-    Ok(Grid { names, rows })
+    Ok(Grid {
+        names,
+        columns: Columns::Plain,
+        rows,
+    })
 }
 
 /// The line of the refused row.

@@ -3,7 +3,7 @@
 use super::{HEADS, words_of};
 use cache_core::{Counts, PerClass};
 use din_trace::FromWrite;
-use grid_run::{Figures, ShadowMisses, write_counted, write_heads, write_refused};
+use grid_run::{Columns, Figures, ShadowMisses, write_counted, write_heads, write_refused};
 use stage_core::Totals;
 use std::process::Abort;
 use std::test::Fail;
@@ -63,7 +63,7 @@ fn figures() -> Figures {
 #[test]
 fn heads_come_first(rt: HostRuntime) -> Result<(), Fail> {
     let mut written = Vec::new(rt.alloc());
-    write_heads(&[], &mut FromWrite::new(&mut written))?;
+    write_heads(Columns::Plain, &[], &mut FromWrite::new(&mut written))?;
     assert!(rt; written.as_slice() == HEADS.as_bytes());
     Ok(())
 }
@@ -72,7 +72,7 @@ fn heads_come_first(rt: HostRuntime) -> Result<(), Fail> {
 fn names_come_before_the_heads(rt: HostRuntime) -> Result<(), Fail> {
     let names = words_of(rt.alloc(), &["l1-dsize", "l1-dassoc"])?;
     let mut written = Vec::new(rt.alloc());
-    write_heads(&names, &mut FromWrite::new(&mut written))?;
+    write_heads(Columns::Plain, &names, &mut FromWrite::new(&mut written))?;
     assert!(rt;
         written
             .as_slice()
@@ -85,7 +85,12 @@ fn names_come_before_the_heads(rt: HostRuntime) -> Result<(), Fail> {
 fn figures_are_in_their_columns(rt: HostRuntime) -> Result<(), Fail> {
     let words = words_of(rt.alloc(), &["1k", "2"])?;
     let mut written = Vec::new(rt.alloc());
-    write_counted(&words, &figures(), &mut FromWrite::new(&mut written))?;
+    write_counted(
+        Columns::Plain,
+        &words,
+        &figures(),
+        &mut FromWrite::new(&mut written),
+    )?;
     let expected = concat!(
         "1k\t2\t3\t1\t0.333333\t4\t5\t6\t7\t8\t9\t10\t11\t",
         "43210\t43210\t1.000000\t0\t0\t0\t12\t18446744073709551615\t0\t0\t0\t",
@@ -108,7 +113,12 @@ fn rates_are_rounded_down(rt: HostRuntime) -> Result<(), Fail> {
         wanted.totals.i.misses = instrs(misses);
         wanted.totals.i.fetches = instrs(fetches);
         let mut written = Vec::new(rt.alloc());
-        write_counted(&[], &wanted, &mut FromWrite::new(&mut written))?;
+        write_counted(
+            Columns::Plain,
+            &[],
+            &wanted,
+            &mut FromWrite::new(&mut written),
+        )?;
         let text = str::from_utf8(&written)?;
         assert_eq!(rt; text.split('\t').nth(2), Some(rate));
     }
@@ -120,6 +130,7 @@ fn hyphens_stand_for_the_figures_of_a_refused_row(rt: HostRuntime) -> Result<(),
     let words = words_of(rt.alloc(), &["3"])?;
     let mut written = Vec::new(rt.alloc());
     write_refused(
+        Columns::Plain,
         &words,
         "l1-dsize: not a power of two",
         &mut FromWrite::new(&mut written),

@@ -13,13 +13,14 @@ use Rattle.grid_run.proofs.simulation.write_lines.Goals as goal
 pub returns-clause-table : goal.returns-clause-table
 unfolding table
 returns-clause-table g c = λ past all.
+    let columns = c.args.grid.now.columns in
     let names = c.args.grid.now.names.items in
     let rows = c.deref-2.result.now in
-    let heads = head_line (map string_bytes c.deref.result.now) in
-    let lines = flat_map (row_line past) rows in
+    let heads = head_line columns (map string_bytes c.deref.result.now) in
+    let lines = flat_map (row_line columns past) rows in
     let whole = ap (λ l. heads ++ l) (append-nil lines)
-    ∙ ap (λ ns. head_line (map string_bytes ns) ++ lines) c.deref.ensures.value
-    ∙ ap (λ rs. head_line (map string_bytes names) ++ flat_map (row_line past) rs)
+    ∙ ap (λ ns. head_line columns (map string_bytes ns) ++ lines) c.deref.ensures.value
+    ∙ ap (λ rs. head_line columns (map string_bytes names) ++ flat_map (row_line columns past) rs)
     c.deref-2.ensures.value in
     let written = c.in_ok-write_rows.ensures.lines past
     (subst (λ (ts : List (Option Lane)). All (RowServed past) ts) (sym c.deref-3.ensures.value)

@@ -23,10 +23,10 @@ returns-in-Some-clause-line g c = λ past served.
     ap (λ (o : Option Task). unwrap_or o task) known in
     let counted = c.figures.ensures past (subst (RowServed past) c.in-Some.is served)
     ∙ ap (λ (t : Task). figures_of t.rules (events t.selection past)) same in
-    let line = ap (λ ws. counted_line (map string_bytes ws) c.figures.result)
+    let line = ap (λ ws. counted_line c.args.columns (map string_bytes ws) c.figures.result)
     c.deref-in-Some.ensures.value
-    ∙ ap (counted_line words) counted
-    ∙ ap (setup_line past words) (sym c.in-Simulated.is) in
+    ∙ ap (counted_line c.args.columns words) counted
+    ∙ ap (setup_line c.args.columns past words) (sym c.in-Simulated.is) in
     on_ok_weaker c.write_counted.result
     (subst (Appends (g.W.ByteWriter.contents c.args.writer.now)
     (g.W.ByteWriter.contents c.write_counted.new.writer)) line)

@@ -5,8 +5,10 @@ use Rattle.std.specs.Io.KnownBytes.{Appends}
 use Rattle.std.proofs.lemmas.Grind.{flat_map-append}
 use Rattle.std.proofs.lemmas.List.{get_or-map, length-map, take_more}
 use Rattle.din_trace.proofs.WritesLemmas.{appends_twice}
+use Rattle.din_trace.specs.declared.record.DinRecord.{DinRecord}
 use Rattle.grid_run.specs.Grids.{row_line}
 use Rattle.grid_run.specs.Rows.{RowServed, task_had, task_of_row}
+use Rattle.grid_run.specs.declared.grid.Row.{Row}
 use Rattle.grid_run.proofs.simulation.write_rows.Goals as goal
 
 pub write_row-requires : goal.write_row-requires
@@ -32,6 +34,7 @@ write_row-requires g c =
 
 pub loop-index-preserved : goal.loop-index-preserved
 loop-index-preserved g c =
+    let lines : List DinRecord → Row → List ℕ = row_line c.args.columns in
     let i = c.loop-index.index in
     let ts = c.args.lanes.now in
     let rs = c.args.rows.now in
@@ -48,11 +51,11 @@ loop-index-preserved g c =
     record {
       grown = λ past all.
           let longer =
-          ap (λ (x : List ℕ). flat_map (row_line past) (take i rs) ++ x) (sym (append-nil
-          (row_line past r)))
-          ∙ sym (flat_map-append (row_line past) (take i rs) (r ∷ []))
-          ∙ ap (λ x. flat_map (row_line past) (take i rs ++ x ∷ [])) c.index-rows-index.is
-          ∙ ap (flat_map (row_line past)) (sym (take_more rs i r c.loop-index-test.true)) in
+          ap (λ (x : List ℕ). flat_map (lines past) (take i rs) ++ x) (sym (append-nil
+          (lines past r)))
+          ∙ sym (flat_map-append (lines past) (take i rs) (r ∷ []))
+          ∙ ap (λ x. flat_map (lines past) (take i rs ++ x ∷ [])) c.index-rows-index.is
+          ∙ ap (flat_map (lines past)) (sym (take_more rs i r c.loop-index-test.true)) in
           subst (Appends (g.W.ByteWriter.contents c.args.writer.now)
           (g.W.ByteWriter.contents c.write_row.new.writer)) longer
           (appends_twice _ _ _ _ _ (c.loop-index.invariant.grown past all)

@@ -11,6 +11,6 @@ abbrev pub invariant-loop-index : goal.invariant-loop-index
 invariant-loop-index g l = record {
   grown : (rs : List DinRecord) → All (RowServed rs) l.lanes →
       Appends (g.W.ByteWriter.contents l.initial.writer) (g.W.ByteWriter.contents l.writer)
-      (flat_map (row_line rs) (take l.index l.rows));
+      (flat_map (row_line l.columns rs) (take l.index l.rows));
   sound : g.W.ByteWriter.failures l.writer ≡ g.W.ByteWriter.failures l.initial.writer;
 }

@@ -8,6 +8,7 @@ pub returns : goal.returns
 unfolding counted_line
 returns g c =
     let words = map string_bytes c.args.words.now in
-    writes_as _ _ _ (line-parts words (figure_columns c.args.figures.now) (codes "-"))
+    writes_as _ _ _ (line-parts words (figure_columns c.args.columns c.args.figures.now)
+    (codes "-"))
     (writes_then _ _ _ c.in_ok-put_words.ensures
     (writes_then _ _ _ c.in_ok-put_figures.ensures c.put_last.ensures))

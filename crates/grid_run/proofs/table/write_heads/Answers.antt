@@ -7,6 +7,7 @@ use Rattle.grid_run.proofs.table.write_heads.Goals as goal
 pub returns : goal.returns
 unfolding head_line
 returns g c =
-    writes_as _ _ _ (line-parts (map string_bytes c.args.names.now) cache_heads (codes "fault"))
+    writes_as _ _ _ (line-parts (map string_bytes c.args.names.now)
+    (cache_heads c.args.columns) (codes "fault"))
     (writes_then _ _ _ c.in_ok-put_words.ensures
     (writes_then _ _ _ c.in_ok-put_all_heads.ensures c.put_last.ensures))
