@@ -1,6 +1,8 @@
 //! A grid over pseudo-random traces, beside a run of each configuration alone.
 
+ghost use Rattle.std.specs.Prelude.{IfOk};
 ghost use Rattle.stage_core.specs.Events.{IsBounded};
+ghost use Rattle.grid_run.specs.Grids.{HasBoundedRows};
 
 use super::{add_row, words_of};
 use cache_core::{Policy, Repl};
@@ -135,7 +137,27 @@ fn figures_alone(
     Ok(Figures { totals, shadows })
 }
 
-/// A grid of all configurations, each with both selections, has to write what they count alone.
+/// A grid of all configurations, each with both selections.
+fn grid_of(alloc: Global, first: &Selection, second: &Selection) -> Result<Grid, Fail>
+    requires first { IsBounded first.now }
+    requires second { IsBounded second.now }
+    ensures { IfOk result HasBoundedRows }
+{
+    let mut rows = Vec::new(alloc);
+    for specs in all_specs() {
+        let config = Config::new(specs.i, specs.d, specs.u, 1)?;
+        add_row(alloc, &mut rows, &[], Setup::Simulated(config, *first))?;
+        add_row(alloc, &mut rows, &[], Setup::Simulated(config, *second))?;
+    }
+    let names = words_of(alloc, &[])?;
+    Ok(Grid {
+        names,
+        columns: Columns::Full,
+        rows,
+    })
+}
+
+/// The grid has to write what its configurations count alone.
 fn agrees(
     rt: &impl Abort,
     alloc: Global,
@@ -146,24 +168,16 @@ fn agrees(
     requires first { IsBounded first.now }
     requires second { IsBounded second.now }
 {
-    let mut rows = Vec::new(alloc);
     let mut expected = Vec::new(alloc);
     let mut lines = FromWrite::new(&mut expected);
     write_heads(Columns::Full, &[], &mut lines)?;
     for specs in all_specs() {
-        let config = Config::new(specs.i, specs.d, specs.u, 1)?;
-        add_row(alloc, &mut rows, &[], Setup::Simulated(config, *first))?;
         let figures = figures_alone(rt, alloc, specs, first, trace)?;
         write_counted(Columns::Full, &[], &figures, &mut lines)?;
-        add_row(alloc, &mut rows, &[], Setup::Simulated(config, *second))?;
         let figures_in_part = figures_alone(rt, alloc, specs, second, trace)?;
         write_counted(Columns::Full, &[], &figures_in_part, &mut lines)?;
     }
-    let grid = Grid {
-        names: words_of(alloc, &[])?,
-        columns: Columns::Full,
-        rows,
-    };
+    let grid = grid_of(alloc, first, second)?;
     let mut written = Vec::new(alloc);
     let mut writer = FromWrite::new(&mut written);
     simulate_grid(alloc, &grid, FromRead::new(trace), MAX_LIMIT, &mut writer)?;
