@@ -5,8 +5,8 @@ use Rattle.din_trace.specs.declared.fault.Why.{Why}
 use Rattle.din_trace.specs.declared.fault.Why.TheVariants as why
 use Rattle.din_trace.specs.declared.fault.TraceFault.{TraceFault}
 use Rattle.din_trace.specs.declared.fault.TraceFault.TheVariants as trace
-use Rattle.sim_run.specs.declared.fault.RunFault.{RunFault}
-use Rattle.sim_run.specs.declared.fault.RunFault.TheVariants as run
+use Rattle.run_threads.specs.declared.fault.RunFault.{RunFault}
+use Rattle.run_threads.specs.declared.fault.RunFault.TheVariants as run
 use Rattle.dinero_options.specs.Refusals.{words_fault_text}
 use Rattle.dinero_options.specs.declared.words.WordsFault.{WordsFault}
 use Rattle.dinero_options.specs.declared.words.WordsFault.TheVariants as words
