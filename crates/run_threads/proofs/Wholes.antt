@@ -32,8 +32,9 @@ use Rattle.run_threads.specs.declared.ends.SplitterEnds.{SplitterEnds}
 use Rattle.run_threads.specs.declared.ends.StageEnds.{StageEnds}
 use Rattle.run_threads.specs.declared.ends.Rings.{Rings}
 use Rattle.run_threads.specs.declared.pipeline.Machines.{Machines}
-use Rattle.run_threads.specs.Ends.{Carried, whole, ArePaired, SameRings, AllReceived, SameSplitterEnds}
-use Rattle.run_threads.specs.Ends.{SameStageEnds, SameMergeEnds, on_order, on_to_i, on_to_d, on_from_i}
+use Rattle.run_threads.specs.Ends.{Carried, whole, ArePaired, SameRings, AllReceived}
+use Rattle.run_threads.specs.Ends.{SameSplitterEnds, SameStageEnds, SameMergeEnds}
+use Rattle.run_threads.specs.Ends.{on_order, on_to_i, on_to_d, on_from_i}
 use Rattle.run_threads.specs.Ends.{on_from_d, HaveCapacity}
 use Rattle.run_threads.specs.Threads.{HasSentAll, StageServed, MergeServed}
 use Rattle.run_threads.specs.Machines.{AreNew, IsNew, rules_in}

@@ -5,7 +5,8 @@ use Rattle.din_trace.specs.declared.fault.TraceFault.TheVariants as trace
 use Rattle.run_threads.specs.declared.fault.Stop.{Stop}
 use Rattle.run_threads.specs.declared.fault.Stop.TheVariants as stop
 use Rattle.run_threads.specs.declared.fault.RunFault.{RunFault}
-use Rattle.run_threads.specs.declared.fault.RunFault.TheVariants.{Trace, Memory, Threads, Cut, Write}
+use Rattle.run_threads.specs.declared.fault.RunFault.TheVariants.{Trace, Memory, Threads, Cut}
+use Rattle.run_threads.specs.declared.fault.RunFault.TheVariants.{Write}
 
 -- the fault of a run whose source has this fault
 abbrev pub source_fault : TraceFault → RunFault

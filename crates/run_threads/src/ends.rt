@@ -2,7 +2,8 @@
 
 ghost use Rattle.std.specs.Prelude.{◌≡◌, ◌≤◌, ◌<◌, IfOk, IsTrue};
 ghost use Rattle.pipe_rings.specs.Rings.{sent, received, AreEnds, SameTx, SameRx};
-ghost use Rattle.run_threads.specs.Ends.{ArePaired, AreUnused, HaveCapacity, SameRings, AllReceived};
+ghost use Rattle.run_threads.specs.Ends.{AllReceived, ArePaired, AreUnused, HaveCapacity};
+ghost use Rattle.run_threads.specs.Ends.{SameRings};
 
 use pipe_rings::{Bell, NoMemory, Rx, Tx, ring_from, settle};
 use stage_core::{FromStage, Routed, ToStage, Turn};

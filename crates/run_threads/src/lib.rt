@@ -1,4 +1,4 @@
-//! The four threads of a run: they take a trace through the machines of stage_core while it is read.
+//! The four threads of a run, which take a trace through the machines of stage_core.
 //!
 //! [`run_pipeline`] reads a trace record by record and simulates the selected records. The splitter
 //! runs in the caller's thread, each first-level stage in its own, and the merge with the second
@@ -39,7 +39,7 @@ mod stage_thread;
 mod waits;
 
 pub use ends::{MergeEnds, Rings, SplitterEnds, StageEnds, ends_of};
-pub use fault::{RunFault, Stop, fault_of_source};
+pub use fault::{RunFault, Stop, fault_of_source, gravest};
 pub use gate::{Gate, OpenGate, Who};
 pub use joins::{why_stopped, wind_up};
 pub use merge_thread::run_merge;

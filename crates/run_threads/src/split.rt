@@ -14,7 +14,8 @@ ghost use Rattle.run_threads.specs.declared.fault.Stop.{Stop};
 ghost use Rattle.run_threads.specs.declared.fault.RunFault.{RunFault};
 ghost use Rattle.run_threads.specs.Ends.{SameSplitterEnds, SentSame, HaveRoom, UnusedSplitter};
 ghost use Rattle.run_threads.specs.Threads.{HasSent, IsEnd, Sends, SplitUp};
-ghost use Rattle.run_threads.specs.Waits.{AllAnnounced, AllPublished, PostedWhole, SplitterHasEnded};
+ghost use Rattle.run_threads.specs.Waits.{AllAnnounced, AllPublished, PostedWhole};
+ghost use Rattle.run_threads.specs.Waits.{SplitterHasEnded};
 ghost use Rattle.run_threads.specs.declared.waits.Until.TheVariants as Until;
 
 use crate::ends::SplitterEnds;

@@ -2,6 +2,7 @@
 //! whole runs are in sim_run_tests.
 
 mod gone;
+mod gravest;
 mod many;
 mod starved;
 
