@@ -85,7 +85,7 @@ check 'a source that is older by the clock builds the program' is_built
 rm "$work/fake/date"
 new_checkout
 launch
-rm "$fresh/crates/sim_run/specs/Runs.antt"
+rm "$fresh/crates/sim_run/specs/TraceReport.antt"
 launch
 check 'a source that was removed builds the program' is_built
 new_checkout

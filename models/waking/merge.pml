@@ -1,5 +1,5 @@
-/* The merge: `merge_all` of crates/sim_run/src/merge_thread.rt, `await_item` of waits.rt, and the
- * rule of crates/stage_core/src/merge.rt. */
+/* The merge: `merge_all` of crates/run_threads/src/merge_thread.rt, `await_item` of waits.rt, and
+ * the rule of crates/stage_core/src/merge.rt. */
 
 /* `Merge::turn`, `Merge::take` and `Merge::wants`: from which ring the next message has to come.
  * Memory can run out. */

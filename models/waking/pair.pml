@@ -39,7 +39,7 @@ byte received;    /* how many messages were received */
 #include "sender.pml"
 #include "receiver.pml"
 
-/* `publish` and `await_room` of crates/sim_run, until all is published or there is room. */
+/* `publish` and `await_room` of crates/run_threads, until all is published or there is room. */
 inline publish_posted(room_will_do)
 {
     do

@@ -1,4 +1,4 @@
-/* A run: `run_in` of crates/sim_run/src/pipeline.rt, with its four threads. The caller's thread
+/* A run: `run_in` of crates/run_threads/src/pipeline.rt, with its four threads. The caller's thread
  * starts the three others, is the splitter, and joins the others.
  */
 

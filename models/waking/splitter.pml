@@ -1,4 +1,4 @@
-/* The splitter: `split` of crates/sim_run/src/split.rt, `SplitterEnds` of ends.rt, and
+/* The splitter: `split` of crates/run_threads/src/split.rt, `SplitterEnds` of ends.rt, and
  * `await_rooms` of waits.rt. */
 
 /* `SplitterEnds::have_room`. */

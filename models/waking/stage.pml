@@ -1,4 +1,4 @@
-/* The stages: `run_stage` of crates/sim_run/src/stage_thread.rt, and `await_room` and
+/* The stages: `run_stage` of crates/run_threads/src/stage_thread.rt, and `await_room` and
  * `await_message` of waits.rt. */
 
 /* `Tx::is_cut` of the end to the merge. If so, the stage stops. */

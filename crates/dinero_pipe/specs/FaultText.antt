@@ -1,8 +1,8 @@
 -- The line and the exit status of each fault.
 use Rattle.std.specs.Prelude.{ℕ, List, [], ◌∷◌, ◌++◌, codes, Bool, true, false}
 use Rattle.std.specs.Prelude.{if◌then◌else◌}
-use Rattle.sim_run.specs.declared.fault.RunFault.{RunFault}
-use Rattle.sim_run.specs.declared.fault.RunFault.TheVariants as run
+use Rattle.run_threads.specs.declared.fault.RunFault.{RunFault}
+use Rattle.run_threads.specs.declared.fault.RunFault.TheVariants as run
 use Rattle.dinero_options.specs.Refusals.{words_fault_text, words_status}
 use Rattle.dinero_options.specs.TraceRefusals.{trace_fault_text, trace_status}
 use Rattle.dinero_options.specs.declared.words.WordsFault.{WordsFault}

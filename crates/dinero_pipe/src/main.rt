@@ -20,7 +20,7 @@ ghost use Rattle.din_trace.specs.Line.{ADDRESS_MAX};
 ghost use Rattle.din_trace.specs.Text.{fault};
 ghost use Rattle.din_trace.specs.Faults.{IsFaultOf};
 ghost use Rattle.stage_core.specs.Events.{IsBounded};
-ghost use Rattle.sim_run.specs.Runs.{report_of};
+ghost use Rattle.sim_run.specs.TraceReport.{report_of};
 
 use crate::fault::{Fault, fault_text, status};
 use din_trace::{ByteReader, ByteWriter, FromRead, FromWrite, MAX_LIMIT, TraceFault};

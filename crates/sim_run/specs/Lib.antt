@@ -1,6 +1,1 @@
-pub mod Faults
-pub mod Ends
-pub mod Threads
-pub mod Machines
-pub mod Runs
-pub mod Waits
+pub mod TraceReport

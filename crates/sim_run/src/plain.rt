@@ -7,11 +7,11 @@ ghost use Rattle.din_trace.specs.Line.{ADDRESS_MAX};
 ghost use Rattle.din_trace.specs.Text.{fault};
 ghost use Rattle.din_trace.specs.Faults.{IsFaultOf};
 ghost use Rattle.stage_core.specs.Events.{IsBounded};
-ghost use Rattle.sim_run.specs.Runs.{report_of};
+ghost use Rattle.sim_run.specs.TraceReport.{report_of};
 
-use crate::fault::{RunFault, fault_of_source};
 use crate::report::write_report;
 use din_trace::{ByteReader, ByteWriter, MAX_LIMIT, Source, TraceFault};
+use run_threads::{RunFault, fault_of_source};
 use stage_core::{Config, Selection, run_plain};
 use std::alloc::Global;
 

@@ -4,9 +4,9 @@ ghost use Rattle.std.specs.Prelude.{IsOkUnless};
 ghost use Rattle.din_trace.specs.Device.{Writes};
 ghost use Rattle.cache_report.specs.Report.{IsCacheName, block, report};
 
-use crate::fault::RunFault;
 use cache_core::Counts;
 use din_trace::ByteWriter;
+use run_threads::RunFault;
 use stage_core::Totals;
 
 /// Writes the block of one cache, whose name is `l1-icache`, `l1-dcache` or `l2-ucache`. Does not

@@ -9,13 +9,12 @@ ghost use Rattle.din_trace.specs.Faults.{IsFaultOf};
 ghost use Rattle.stage_core.specs.Config.{hierarchy_of, ring_of};
 ghost use Rattle.stage_core.specs.Events.{IsBounded, events};
 ghost use Rattle.cache_report.specs.Report.{report};
-ghost use Rattle.sim_run.specs.Runs.{HasRun, report_of};
+ghost use Rattle.run_threads.specs.Runs.{HasRun};
+ghost use Rattle.sim_run.specs.TraceReport.{report_of};
 
-use crate::fault::RunFault;
-use crate::gate::Gate;
-use crate::pipeline::{Settled, run_pipeline};
 use crate::report::write_report;
 use din_trace::{ByteReader, ByteWriter, MAX_LIMIT, Source, TraceFault};
+use run_threads::{Gate, RunFault, Settled, run_pipeline};
 use stage_core::{Config, Selection};
 use std::alloc::Global;
 use std::sync::Wait;

@@ -1,5 +1,5 @@
 use Rattle.std.proofs.Common.{rules, ◌≡◌, Err}
-use Rattle.sim_run.specs.declared.fault.RunFault.TheVariants.{Trace}
+use Rattle.run_threads.specs.declared.fault.RunFault.TheVariants.{Trace}
 use Rattle.dinero_pipe.proofs.report.Goals as goal
 
 pub returns-in_err-_settled-clause-trace : goal.returns-in_err-_settled-clause-trace

@@ -10,10 +10,10 @@ use Rattle.din_trace.proofs.Told.{script_of_told}
 use Rattle.stage_core.specs.Config.{hierarchy_of}
 use Rattle.stage_core.specs.Events.{events}
 use Rattle.stage_core.specs.SecondLevel.{totals}
-use Rattle.sim_run.specs.declared.fault.RunFault.{RunFault}
-use Rattle.sim_run.specs.declared.fault.RunFault.TheVariants.{Trace}
-use Rattle.sim_run.specs.Faults.{source_fault}
-use Rattle.sim_run.specs.Runs.{report_of}
+use Rattle.run_threads.specs.declared.fault.RunFault.{RunFault}
+use Rattle.run_threads.specs.declared.fault.RunFault.TheVariants.{Trace}
+use Rattle.run_threads.specs.Faults.{source_fault}
+use Rattle.sim_run.specs.TraceReport.{report_of}
 use Rattle.sim_run.proofs.plain.simulate_plain.Goals as goal
 
 -- a fault of the trace is that of the source, and is not `Memory`

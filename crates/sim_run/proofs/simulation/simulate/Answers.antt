@@ -4,9 +4,10 @@ use Rattle.din_trace.specs.Source.{reader_of}
 use Rattle.din_trace.proofs.Told.{script_of_told}
 use Rattle.stage_core.specs.Config.{hierarchy_of, ring_of}
 use Rattle.stage_core.specs.Events.{events}
-use Rattle.sim_run.specs.declared.fault.RunFault.TheVariants.{Trace}
-use Rattle.sim_run.specs.Runs.{HasRun, report_of}
-use Rattle.sim_run.proofs.Endings.{of-some-text}
+use Rattle.run_threads.specs.declared.fault.RunFault.TheVariants.{Trace}
+use Rattle.run_threads.specs.Runs.{HasRun}
+use Rattle.run_threads.proofs.Endings.{of-some-text}
+use Rattle.sim_run.specs.TraceReport.{report_of}
 use Rattle.sim_run.proofs.simulation.simulate.Goals as goal
 
 pub returns-in_err-settled-clause-trace : goal.returns-in_err-settled-clause-trace

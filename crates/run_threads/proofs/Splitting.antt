@@ -1,0 +1,228 @@
+-- The splitter after one more record.
+use Rattle.std.proofs.Common.{◌≡◌, ◌⊎◌, ℕ, ◌+◌, ◌*◌, ◌≤◌, ◌^◌, List, [], ◌∷◌, ◌++◌, map, drop}
+use Rattle.std.proofs.Common.{Option, Some, None, Result, Ok, Err, option_to_list}
+use Rattle.std.proofs.Common.{refl, ap, sym, ◌∙◌, subst, append_assoc, append-nil, arith}
+use Rattle.std.proofs.Common.{length-append}
+use Rattle.std.proofs.lemmas.List.{map-append}
+use Rattle.pipe_rings.proofs.Ends.{tx_stays}
+use Rattle.din_trace.specs.Text.{Remaining}
+use Rattle.din_trace.specs.Remaining.{Script, Fate, Follows, first_answer, after_first}
+use Rattle.din_trace.specs.Source.{HasLeft, Takes, room_of}
+use Rattle.din_trace.specs.declared.record.DinRecord.{DinRecord}
+use Rattle.din_trace.specs.declared.fault.TraceFault.{TraceFault}
+use Rattle.din_trace.specs.declared.source.Source.{Source}
+use Rattle.din_trace.proofs.Calls.{Calls}
+use Rattle.din_trace.proofs.Scripts.{first_record, first_end, first_fault-is}
+use Rattle.stage_core.specs.Places.{flat_map_with_past}
+use Rattle.stage_core.specs.Events.{events, asked}
+use Rattle.stage_core.specs.Streams.{turn_of, message, messages_to}
+use Rattle.stage_core.specs.Standing.{Offers, WasOffered}
+use Rattle.stage_core.specs.declared.message.Side.TheVariants as side
+use Rattle.stage_core.specs.declared.message.Turn.TheVariants as turn
+use Rattle.stage_core.specs.declared.message.ToStage.TheVariants as to_stage
+use Rattle.stage_core.specs.declared.message.Routed.{Routed}
+use Rattle.stage_core.specs.declared.selection.Selection.{Selection}
+use Rattle.stage_core.proofs.Place.{flat_map_with_past-more}
+use Rattle.run_threads.specs.declared.ends.SplitterEnds.{SplitterEnds}
+use Rattle.din_trace.specs.declared.fault.TraceFault.TheVariants.{Bad, TooLong, Read, Memory}
+use Rattle.run_threads.specs.Faults.{MayAnswer, source_fault}
+use Rattle.run_threads.specs.Ends.{SameSplitterEnds, SentSame}
+use Rattle.run_threads.specs.Threads.{Sends, HasSent, HasSentAll, LeavesRest, at_end}
+
+pub same-ends : (ends : SplitterEnds) → SameSplitterEnds ends ends
+same-ends ends = record {
+  order = ((refl, refl, refl, refl), refl);
+  to_i = ((refl, refl, refl, refl), refl);
+  to_d = ((refl, refl, refl, refl), refl);
+}
+
+pub ends-stay : (a b c : SplitterEnds) → SameSplitterEnds a b → SameSplitterEnds b c
+    → SameSplitterEnds a c
+ends-stay a b c s t = record {
+  order = tx_stays a.order b.order c.order s.order t.order;
+  to_i = tx_stays a.to_i b.to_i c.to_i s.to_i t.to_i;
+  to_d = tx_stays a.to_d b.to_d c.to_d s.to_d t.to_d;
+}
+
+-- ends that have sent the same messages have sent those of the same events
+pub sent-same : (es : List DinRecord) (place : ℕ) (was now : SplitterEnds) → SentSame was now
+    → HasSent es place was → HasSent es place now
+sent-same es place was now same going = record {
+  last = going.last;
+  order = same.order ∙ going.order;
+  to_i = same.to_i ∙ going.to_i;
+  to_d = same.to_d ∙ going.to_d;
+}
+
+-- the splitter after the messages of one more event
+pub sends-event : (es : List DinRecord) (e : DinRecord) (place next : ℕ) (routed : Routed)
+    (was now : SplitterEnds) → HasSent es place was → next ≡ place + 1
+    → routed.turn ≡ turn_of e.label
+    → option_to_list routed.i ≡ map (message (place + 1)) (asked side.I e)
+    → option_to_list routed.d ≡ map (message (place + 1)) (asked side.D e)
+    → Sends was routed now → HasSent (es ++ e ∷ []) next now
+sends-event es e place next routed was now going is_next turn i d sends = record {
+  last = omega (arith, length-append es (e ∷ []), going.last);
+  order = sends.order ∙ ap (λ l. l ++ routed.turn ∷ []) going.order
+      ∙ ap (λ t. map (λ (x : DinRecord). turn_of x.label) es ++ t ∷ []) turn
+      ∙ sym (map-append (λ (x : DinRecord). turn_of x.label) es (e ∷ []));
+  to_i = sends.to_i ∙ ap (λ l. l ++ option_to_list routed.i) going.to_i
+      ∙ ap (λ l. flat_map_with_past (messages_to side.I) es ++ l)
+      (i ∙ ap (λ n. map (message (n + 1)) (asked side.I e)) going.last)
+      ∙ sym (flat_map_with_past-more (messages_to side.I) es e);
+  to_d = sends.to_d ∙ ap (λ l. l ++ option_to_list routed.d) going.to_d
+      ∙ ap (λ l. flat_map_with_past (messages_to side.D) es ++ l)
+      (d ∙ ap (λ n. map (message (n + 1)) (asked side.D e)) going.last)
+      ∙ sym (flat_map_with_past-more (messages_to side.D) es e);
+}
+
+-- the splitter after the messages of the end
+pub sends-end : (es : List DinRecord) (place : ℕ) (routed : Routed) (was now : SplitterEnds)
+    → HasSent es place was → routed.turn ≡ turn.Finish → routed.i ≡ Some to_stage.Finish
+    → routed.d ≡ Some to_stage.Finish → Sends was routed now → HasSentAll es now
+sends-end es place routed was now going turn i d sends = record {
+  order = sends.order ∙ ap (λ l. l ++ routed.turn ∷ []) going.order
+      ∙ ap (λ t. map (λ (x : DinRecord). turn_of x.label) es ++ t ∷ []) turn;
+  to_i = sends.to_i ∙ ap (λ l. l ++ option_to_list routed.i) going.to_i
+      ∙ ap (λ o. flat_map_with_past (messages_to side.I) es ++ option_to_list o) i;
+  to_d = sends.to_d ∙ ap (λ l. l ++ option_to_list routed.d) going.to_d
+      ∙ ap (λ o. flat_map_with_past (messages_to side.D) es ++ option_to_list o) d;
+}
+
+-- the splitter has read these records of a source, and sent all messages of the events that are
+-- selected from them
+pub record Splits {R : Type 0} (remaining : R → Option (List ℕ)) (failures : R → ℕ)
+    (selection : Selection) (start : Source R) (began : SplitterEnds) (offers : Offers) (place : ℕ)
+    (now : Source R) (ends : SplitterEnds) : Type 0 where
+  pub past : List DinRecord
+  pub given : List ℕ
+  pub fate : Fate
+  pub went : Takes remaining failures start now given fate
+  pub left : (first last : Script) (l : Remaining) → Follows fate given first last
+      → HasLeft start first l → (rest : Remaining) × (l.records ≡ past ++ rest.records)
+      × (rest.fault ≡ l.fault) × HasLeft now last rest
+  pub chosen : offers.selection ≡ selection
+  pub offered : WasOffered offers past
+  -- the records read and those that the source can still give are at most 2 ^ 40
+  pub room : (offers.records ≡ 0) ⊎ (offers.records + room_of now ≤ 2 ^ 40)
+  pub at_most : place ≤ 2 * offers.records
+  pub rings : SameSplitterEnds began ends
+  pub sends : HasSent (events selection past) place ends
+
+module _ {R : Type 0} (remaining : R → Option (List ℕ)) (failures : R → ℕ) (selection : Selection)
+    (start : Source R) (began : SplitterEnds) (offers : Offers) (place : ℕ) (now : Source R)
+    (ends : SplitterEnds)
+    (going : Splits remaining failures selection start began offers place now ends)
+    (next : Source R) (result : Result (Option DinRecord) TraceFault) (given : List ℕ) (fate : Fate)
+    (all : Calls remaining failures start next going.given given going.fate fate)
+    (reads : (before later : Script) (l : Remaining) → Follows fate given before later
+    → HasLeft now before l → (result ≡ first_answer l) × HasLeft next later (after_first l)) where
+  -- what was left before the last call, and what it answered
+  before-last : (first last : Script) (l : Remaining) → Follows all.fate all.given first last
+      → HasLeft start first l → (rest : Remaining) × (l.records ≡ going.past ++ rest.records)
+      × (rest.fault ≡ l.fault) × (result ≡ first_answer rest)
+      × HasLeft next last (after_first rest)
+  before-last first last l is has =
+      let mid = all.between first last is in
+      let rest = going.left first mid.0 l mid.1 has in
+      let after = reads mid.0 last rest.0 mid.2 rest.3 in
+      (rest.0, rest.1, rest.2, after.0, after.1)
+
+  pub left-record : (r : DinRecord) → result ≡ Ok (Some r) → (first last : Script) (l : Remaining)
+      → Follows all.fate all.given first last → HasLeft start first l → (rest : Remaining)
+      × (l.records ≡ (going.past ++ r ∷ []) ++ rest.records) × (rest.fault ≡ l.fault)
+      × HasLeft next last rest
+  left-record r was first last l is has =
+      let rest = before-last first last l is has in (
+        after_first rest.0,
+        rest.1 ∙ ap (λ rs. going.past ++ rs) (first_record rest.0 r (sym was ∙ rest.3))
+            ∙ sym (append_assoc going.past (r ∷ []) (drop 1 rest.0.records)),
+        rest.2,
+        rest.4,
+      )
+
+  pub left-end : result ≡ Ok None → (first last : Script) (l : Remaining)
+      → Follows all.fate all.given first last → HasLeft start first l
+      → (l.fault ≡ None) × (l.records ≡ going.past) × HasLeft next last at_end
+  left-end was first last l is has =
+      let rest = before-last first last l is has in
+      let none = first_end rest.0 (sym was ∙ rest.3) in (
+        sym rest.2 ∙ none.1,
+        rest.1 ∙ ap (λ rs. going.past ++ rs) none.0 ∙ append-nil going.past,
+        subst (λ (x : Remaining). HasLeft next last x)
+            (ap (λ rs. after_first (record { records = rs; fault = rest.0.fault })) none.0
+            ∙ ap (λ f. record { records = []; fault = f }) none.1) rest.4,
+      )
+
+  pub left-fault : (f : TraceFault) → result ≡ Err f → (first last : Script) (l : Remaining)
+      → Follows all.fate all.given first last → HasLeft start first l
+      → (l.fault ≡ Some f) × LeavesRest l (HasLeft next last)
+  left-fault f was first last l is has =
+      let rest = before-last first last l is has in
+      let none = first_fault-is rest.0 f (sym was ∙ rest.3) in (
+        sym rest.2 ∙ none.1,
+        record {
+          gone = going.past;
+          rest = after_first rest.0;
+          records = rest.1 ∙ ap (λ rs. going.past ++ rs) (none.0 ∙ sym (ap (drop 1) none.0));
+          fault = rest.2;
+          left = rest.4;
+        },
+      )
+
+  pub rest-record : (r : DinRecord) → result ≡ Ok (Some r) → (first last : Script) (l : Remaining)
+      → Follows all.fate all.given first last → HasLeft start first l
+      → LeavesRest l (HasLeft next last)
+  rest-record r was first last l is has =
+      let after = left-record r was first last l is has in
+      record {
+        gone = going.past ++ r ∷ [];
+        rest = after.0;
+        records = after.1;
+        fault = after.2;
+        left = after.3;
+      }
+
+  pub rest-end : result ≡ Ok None → (first last : Script) (l : Remaining)
+      → Follows all.fate all.given first last → HasLeft start first l
+      → LeavesRest l (HasLeft next last)
+  rest-end was first last l is has =
+      let none = left-end was first last l is has in
+      record {
+        gone = l.records;
+        rest = at_end;
+        records = sym (append-nil l.records);
+        fault = sym none.0;
+        left = none.2;
+      }
+
+-- if the last call gave no answer, nothing was removed from what was left
+pub rest-cut : {R : Type 0} (remaining : R → Option (List ℕ)) (failures : R → ℕ)
+    (selection : Selection) (start : Source R) (began : SplitterEnds) (offers : Offers) (place : ℕ)
+    (now : Source R) (ends : SplitterEnds)
+    (going : Splits remaining failures selection start began offers place now ends)
+    (next : Source R) (given : List ℕ) (fate : Fate)
+    (all : Calls remaining failures start next going.given given going.fate fate)
+    → ((before later : Script) (l : Remaining) → Follows fate given before later
+    → HasLeft now before l → HasLeft next later l)
+    → (first last : Script) (l : Remaining) → Follows all.fate all.given first last
+    → HasLeft start first l → LeavesRest l (HasLeft next last)
+rest-cut remaining failures selection start began offers place now ends going next given fate all
+    keeps first last l is has =
+    let mid = all.between first last is in
+    let rest = going.left first mid.0 l mid.1 has in
+    record {
+      gone = going.past;
+      rest = rest.0;
+      records = rest.1;
+      fault = rest.2;
+      left = keeps mid.0 last rest.0 mid.2 rest.3;
+    }
+
+-- a run may answer the fault of its source
+pub answers-fault : (left : Option TraceFault) (f : TraceFault) → left ≡ Some f
+    → MayAnswer left (source_fault f)
+answers-fault left (Bad line why) is = is
+answers-fault left TooLong is = is
+answers-fault left Read is = is
+answers-fault left Memory is = tt

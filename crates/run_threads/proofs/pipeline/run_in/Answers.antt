@@ -1,0 +1,43 @@
+use Rattle.std.proofs.Common.{[], ℕ, subst, sym}
+use Rattle.std.proofs.lemmas.Result.{IfOk-weaker}
+use Rattle.din_trace.specs.Remaining.{Open}
+use Rattle.din_trace.specs.Source.{HasLeft}
+use Rattle.din_trace.proofs.Calls.{no_calls}
+use Rattle.run_threads.specs.declared.pipeline.Machines.{Machines}
+use Rattle.run_threads.specs.declared.pipeline.Settled.{Settled}
+use Rattle.run_threads.specs.Ends.{HaveCapacity}
+use Rattle.run_threads.specs.Machines.{AreNew, rules_in}
+use Rattle.run_threads.specs.Runs.{HasRun}
+use Rattle.run_threads.proofs.Endings.{runs-over, runs-refused}
+use Rattle.run_threads.proofs.Wholes.{capacity-fed}
+use Rattle.run_threads.proofs.pipeline.run_in.Goals as goal
+
+pub returns-in-Err-clause-reads : goal.returns-in-Err-clause-reads
+returns-in-Err-clause-reads g c = (
+  [],
+  Open,
+  no_calls g.R.ByteReader.remaining g.R.ByteReader.failures c.args.source,
+  λ ring first last l room is left. runs-refused ring (rules_in c.args.machines) c.args.selection l
+      (HasLeft c.args.source last) c.in-Err.fault c.in-Err.ensures.refused
+      (subst (λ s. HasLeft c.args.source s l) is left),
+)
+
+pub returns-clause-reads : goal.returns-clause-reads
+returns-clause-reads g c =
+    let reads = c.split-fed.ensures.reads in
+    let same = c.in-Ok.ensures.machines in
+    let fed : (ring : ℕ) → HaveCapacity ring c.args.rings → HaveCapacity ring _ =
+    λ ring room. capacity-fed ring _ c.split-fed.new.ends
+    (subst (HaveCapacity ring) (sym c.in-Ok.ensures.rings) room) c.split-fed.ensures.rings in (
+      reads.0,
+      reads.1,
+      reads.2,
+      λ ring first last l room is left. runs-over ring (rules_in c.args.machines) c.args.selection l
+          (HasLeft c.split-fed.new.source last) c.split-fed.new.ends c.split-fed.result
+          c.finish.result (reads.3 first last l is left) c.finish.ensures.fed
+          (IfOk-weaker c.finish.result _ _ (λ (s : Settled) whole es sent.
+          subst (λ (m : Machines). HasRun ring (rules_in m) es s) same
+          (whole ring (fed ring room) es (subst AreNew (sym same) c.requires.new) sent))
+          c.finish.ensures.whole)
+          c.finish.ensures.answers,
+    )

@@ -1,0 +1,19 @@
+use Rattle.std.proofs.Common.{[], subst}
+use Rattle.din_trace.specs.Remaining.{Open}
+use Rattle.din_trace.specs.Source.{HasLeft}
+use Rattle.din_trace.proofs.Calls.{no_calls, answers-asked}
+use Rattle.run_threads.proofs.split.next_record.Goals as goal
+
+pub returns-then-is_err-clause-reads : goal.returns-then-is_err-clause-reads
+returns-then-is_err-clause-reads g c = (
+  [],
+  Open,
+  no_calls g.R.ByteReader.remaining g.R.ByteReader.failures c.args.source.now,
+  λ before later l is left. subst (λ s. HasLeft c.args.source.now s l) is left,
+)
+
+pub returns-clause-reads : goal.returns-clause-reads
+returns-clause-reads g c =
+    answers-asked g.R.ByteReader.remaining g.R.ByteReader.failures c.args.source.now
+    c.at_hand.new.self c.ask.new.source c.ask.result c.in_default.ensures.reads.0
+    c.in_default.ensures.reads.1 c.ask.ensures.reads c.ask.ensures.settled

@@ -1,0 +1,220 @@
+use Rattle.std.proofs.Common.{rules, ◌≡◌, ◌∙◌, ap, sym, subst, refl, ℕ, List, [], ◌∷◌, ◌++◌, Option}
+use Rattle.std.proofs.Common.{Some, None, Ok, count_by, arith, inl, inr, ◌<◌}
+use Rattle.din_trace.specs.Remaining.{Fate, Open}
+use Rattle.din_trace.specs.Source.{HasLeft, Takes, room_of}
+use Rattle.din_trace.specs.declared.record.DinRecord.{DinRecord}
+use Rattle.din_trace.proofs.Calls.{Calls, calls, no_calls}
+use Rattle.stage_core.specs.Events.{events, events_at, picked, picked_events, is_reference}
+use Rattle.stage_core.specs.declared.selection.Selection.{Selection}
+use Rattle.stage_core.proofs.Place.{flat_map_with_past-more}
+use Rattle.run_threads.specs.Faults.{MayAnswer}
+use Rattle.run_threads.specs.Threads.{HasSent, HasSentAll}
+use Rattle.run_threads.proofs.Splitting.{same-ends, ends-stay, sent-same, sends-end, left-record}
+use Rattle.run_threads.proofs.Splitting.{left-end}
+use Rattle.run_threads.proofs.Splitting.{left-fault, rest-record, rest-end, rest-cut, answers-fault}
+use Rattle.run_threads.proofs.Waiting.{events-whole}
+use Rattle.run_threads.proofs.split.split.Goals as goal
+use Rattle.run_threads.proofs.split.split.Goals.{After-next_record}
+use Rattle.run_threads.proofs.split.split.Given.{Over}
+
+-- the calls of the source so far, and then this one, are calls too
+composed : (g : Over) (c : After-next_record g) (given : List ℕ) (fate : Fate)
+    → Takes g.R.ByteReader.remaining g.R.ByteReader.failures c.loop.source c.next_record.new.source
+    given fate
+    → Calls g.R.ByteReader.remaining g.R.ByteReader.failures c.args.source.now
+    c.next_record.new.source c.loop.invariant.2.given given c.loop.invariant.2.fate fate
+composed g c given fate went =
+    let going = c.loop.invariant.2 in
+    calls g.R.ByteReader.remaining g.R.ByteReader.failures c.args.source.now c.loop.source
+    c.next_record.new.source going.given given going.fate fate going.went went
+    c.next_record.ensures.settled
+
+pub next_record-requires : goal.next_record-requires
+next_record-requires g c = (
+  search rules,
+  events-whole (events c.args.selection c.loop.invariant.2.past) c.loop.splitter c.loop.ends
+      c.loop.invariant.2.sends,
+)
+
+pub loop-init : goal.loop-init
+loop-init g c = (
+  tt,
+  tt,
+  record {
+    past = [];
+    given = [];
+    fate = Open;
+    went = no_calls g.R.ByteReader.remaining g.R.ByteReader.failures c.args.source.now;
+    left = λ first last l is left.
+        (l, refl, refl, subst (λ s. HasLeft c.args.source.now s l) is left);
+    chosen = c.new-selector.ensures.selection;
+    offered = c.new-selector.ensures.none;
+    room = inl c.new-selector.ensures.none.count;
+    at_most = omega (arith, c.new-splitter.ensures);
+    rings = same-ends c.args.ends.now;
+    sends = record {
+      last = c.new-splitter.ensures;
+      order = c.requires.unused.order;
+      to_i = c.requires.unused.to_i;
+      to_d = c.requires.unused.to_d;
+    };
+  },
+)
+
+pub loop-preserved : goal.loop-preserved
+loop-preserved g c =
+    let c₁ = (goal.at.loop-preserved g c).After-next_record in
+    let going = c.loop.invariant.2 in
+    let read = c.in-Ok.ensures.reads in
+    let all = composed g c₁ read.0 read.1 read.2 in
+    let next = c.in-Ok-Some.next in
+    let answered : c.in-Ok.answer ≡ Ok (Some next) =
+    c.in-Ok-Some.is ∙ ap (λ (found : Option DinRecord). Ok found)
+    (rw c.in-Ok-Some.is at c.in-Ok-Some.field-0-is) in
+    let less : room_of c.next_record.new.source < room_of c.loop.source =
+    (rw answered at c.in-Ok.ensures.records) refl in
+    let offers = c.offer-picked.ensures in
+    let picks = offers.picked going.past going.offered
+    ∙ ap (λ (s : Selection). picked s (count_by is_reference (going.past ++ next ∷ [])) next)
+    going.chosen in
+    let es : List DinRecord = events c.args.selection going.past in
+    let longer = ap (λ p. es ++ picked_events p) picks
+    ∙ sym (flat_map_with_past-more (events_at c.args.selection) going.past next) in
+    let sent : (xs : List DinRecord) → HasSent xs c.loop.splitter c.next_record.new.ends
+    → HasSent (xs ++ picked_events c.offer-picked.result) c.send_picked.new.splitter
+    c.send_picked.new.ends = search rules in (
+      tt,
+      tt,
+      record {
+        past = going.past ++ next ∷ [];
+        given = all.given;
+        fate = all.fate;
+        went = all.went;
+        left = left-record g.R.ByteReader.remaining g.R.ByteReader.failures c.args.selection
+            c.args.source.now c.args.ends.now c.loop.selector c.loop.splitter c.loop.source
+            c.loop.ends going c.next_record.new.source c.in-Ok.answer _ _ all
+            c.in-Ok.ensures.reads.3 next answered;
+        chosen = offers.selection ∙ going.chosen;
+        offered = offers.stands going.past going.offered;
+        room = inr (elim going.room [
+          | inl e ↦ omega (arith, offers.offered, c.in-Ok.ensures.room)
+          | inr h ↦ omega (arith, offers.offered)
+        ]);
+        at_most = omega (arith, offers.offered, c.send_picked.ensures.place, going.at_most);
+        rings = ends-stay c.args.ends.now c.next_record.new.ends c.send_picked.new.ends
+            (ends-stay c.args.ends.now c.loop.ends c.next_record.new.ends going.rings
+            c.next_record.ensures.rings) c.send_picked.ensures.rings;
+        sends = subst (λ (l : List DinRecord).
+            HasSent l c.send_picked.new.splitter c.send_picked.new.ends) longer
+            (sent es (sent-same es c.loop.splitter c.loop.ends c.next_record.new.ends
+            c.next_record.ensures.sent going.sends));
+      },
+    )
+
+pub returns-in_default-clause-reads : goal.returns-in_default-clause-reads
+returns-in_default-clause-reads g c =
+    let c₁ = (goal.at.returns-in_default-clause-reads g c).After-next_record in
+    let read = c.in_default.ensures.reads in
+    let all = composed g c₁ read.0 read.1 read.2 in (
+      all.given,
+      all.fate,
+      all.went,
+      λ first last l is left. (
+        tt,
+        rest-cut g.R.ByteReader.remaining g.R.ByteReader.failures c.args.selection
+            c.args.source.now c.args.ends.now c.loop.selector c.loop.splitter c.loop.source
+            c.loop.ends c.loop.invariant.2 c.next_record.new.source _ _ all
+            c.in_default.ensures.reads.3 first last l is left,
+      ),
+    )
+
+pub returns-then-is_err-clause-reads : goal.returns-then-is_err-clause-reads
+returns-then-is_err-clause-reads g c =
+    let c₁ = (goal.at.returns-then-is_err-clause-reads g c).After-next_record in
+    let going = c.loop.invariant.2 in
+    let read = c.in-Ok.ensures.reads in
+    let all = composed g c₁ read.0 read.1 read.2 in
+    let next = c.in-Ok-Some.next in
+    let answered : c.in-Ok.answer ≡ Ok (Some next) =
+    c.in-Ok-Some.is ∙ ap (λ (found : Option DinRecord). Ok found)
+    (rw c.in-Ok-Some.is at c.in-Ok-Some.field-0-is) in (
+      all.given,
+      all.fate,
+      all.went,
+      λ first last l is left. (
+        tt,
+        rest-record g.R.ByteReader.remaining g.R.ByteReader.failures c.args.selection
+            c.args.source.now c.args.ends.now c.loop.selector c.loop.splitter c.loop.source
+            c.loop.ends going c.next_record.new.source c.in-Ok.answer _ _ all
+            c.in-Ok.ensures.reads.3 next answered first last l is left,
+      ),
+    )
+
+pub returns-in-Err-clause-reads : goal.returns-in-Err-clause-reads
+returns-in-Err-clause-reads g c =
+    let c₁ = (goal.at.returns-in-Err-clause-reads g c).After-next_record in
+    let read = c.in-Ok.ensures.reads in
+    let all = composed g c₁ read.0 read.1 read.2 in (
+      all.given,
+      all.fate,
+      all.went,
+      λ first last l is left.
+          let rest = left-fault g.R.ByteReader.remaining g.R.ByteReader.failures c.args.selection
+          c.args.source.now c.args.ends.now c.loop.selector c.loop.splitter c.loop.source
+          c.loop.ends c.loop.invariant.2 c.next_record.new.source c.in-Ok.answer _ _ all
+          c.in-Ok.ensures.reads.3 c.in-Err.fault c.in-Err.is first last l is left in (
+            subst (MayAnswer l.fault) (sym c.fault_of_source.ensures)
+                (answers-fault l.fault c.in-Err.fault rest.0),
+            rest.1,
+          ),
+    )
+
+pub returns-then-is_err-2-clause-reads : goal.returns-then-is_err-2-clause-reads
+returns-then-is_err-2-clause-reads g c =
+    let c₁ = (goal.at.returns-then-is_err-2-clause-reads g c).After-next_record in
+    let read = c.in-Ok.ensures.reads in
+    let all = composed g c₁ read.0 read.1 read.2 in
+    let answered : c.in-Ok.answer ≡ Ok None =
+    c.in-Ok-None.is ∙ ap (λ (found : Option DinRecord). Ok found)
+    (rw c.in-Ok-None.is at c.in-Ok-None.field-0-is) in (
+      all.given,
+      all.fate,
+      all.went,
+      λ first last l is left. (
+        tt,
+        rest-end g.R.ByteReader.remaining g.R.ByteReader.failures c.args.selection
+            c.args.source.now c.args.ends.now c.loop.selector c.loop.splitter c.loop.source
+            c.loop.ends c.loop.invariant.2 c.next_record.new.source c.in-Ok.answer _ _ all
+            c.in-Ok.ensures.reads.3 answered first last l is left,
+      ),
+    )
+
+pub returns-in-Ok-None-clause-reads : goal.returns-in-Ok-None-clause-reads
+returns-in-Ok-None-clause-reads g c =
+    let c₁ = (goal.at.returns-in-Ok-None-clause-reads g c).After-next_record in
+    let going = c.loop.invariant.2 in
+    let read = c.in-Ok.ensures.reads in
+    let all = composed g c₁ read.0 read.1 read.2 in
+    let answered : c.in-Ok.answer ≡ Ok None =
+    c.in-Ok-None.is ∙ ap (λ (found : Option DinRecord). Ok found)
+    (rw c.in-Ok-None.is at c.in-Ok-None.field-0-is) in
+    let end = c.finish.ensures in (
+      all.given,
+      all.fate,
+      all.went,
+      λ first last l is left.
+          let none = left-end g.R.ByteReader.remaining g.R.ByteReader.failures c.args.selection
+          c.args.source.now c.args.ends.now c.loop.selector c.loop.splitter c.loop.source
+          c.loop.ends going c.next_record.new.source c.in-Ok.answer _ _ all
+          c.in-Ok.ensures.reads.3 answered first last l is left in (
+            none.0,
+            subst (λ (rs : List DinRecord).
+                HasSentAll (events c.args.selection rs) c.send_end.new.ends)
+                (sym none.1)
+                (sends-end (events c.args.selection going.past) c.loop.splitter c.finish.result
+                c.next_record.new.ends c.send_end.new.ends (sent-same _ c.loop.splitter c.loop.ends
+                c.next_record.new.ends c.next_record.ensures.sent going.sends) end.turn end.i end.d
+                (search rules)),
+            none.2,
+          ),
+    )

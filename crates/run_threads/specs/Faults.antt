@@ -1,0 +1,47 @@
+-- Which faults a run may answer.
+use Rattle.std.specs.Prelude.{◌≡◌, ◌≢◌, ℕ, ⊤, Option, Some}
+use Rattle.din_trace.specs.declared.fault.TraceFault.{TraceFault}
+use Rattle.din_trace.specs.declared.fault.TraceFault.TheVariants as trace
+use Rattle.run_threads.specs.declared.fault.Stop.{Stop}
+use Rattle.run_threads.specs.declared.fault.Stop.TheVariants as stop
+use Rattle.run_threads.specs.declared.fault.RunFault.{RunFault}
+use Rattle.run_threads.specs.declared.fault.RunFault.TheVariants.{Trace, Memory, Threads, Cut}
+use Rattle.run_threads.specs.declared.fault.RunFault.TheVariants.{Write}
+
+-- the fault of a run whose source has this fault
+abbrev pub source_fault : TraceFault → RunFault
+source_fault (trace.Bad line why) = Trace (trace.Bad line why)
+source_fault trace.TooLong = Trace trace.TooLong
+source_fault trace.Read = Trace trace.Read
+source_fault trace.Memory = Memory
+
+-- the fault of a run if a thread stopped for this reason
+abbrev pub fault_of_stop : Stop → RunFault
+fault_of_stop stop.Memory = Memory
+fault_of_stop stop.Cut = Cut
+
+-- of several faults, the one of lowest rank is answered: a fault of the trace, a failed allocation,
+-- a thread that could not be started, a lost peer, a failed writer
+abbrev pub rank : RunFault → ℕ
+rank (Trace why) = 0
+rank Memory = 1
+rank Threads = 2
+rank Cut = 3
+rank Write = 4
+
+-- if a run answers a fault of the trace, it is the fault that is left of the source
+abbrev pub MayAnswer : Option TraceFault → RunFault → Type 0
+MayAnswer left (Trace why) = left ≡ Some why
+MayAnswer left Memory = ⊤
+MayAnswer left Threads = ⊤
+MayAnswer left Cut = ⊤
+MayAnswer left Write = ⊤
+
+-- the faults that the threads of a run may have: no failed write, and `Memory` for a failed
+-- allocation of the source
+abbrev pub IsMet : RunFault → Type 0
+IsMet (Trace why) = why ≢ trace.Memory
+IsMet Memory = ⊤
+IsMet Threads = ⊤
+IsMet Cut = ⊤
+IsMet Write = ⊥

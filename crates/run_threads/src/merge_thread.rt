@@ -1,0 +1,228 @@
+//! The thread of the merge and the second level.
+
+ghost use Rattle.std.specs.Prelude.{◌≡◌, ◌≤◌, ◌⊎◌, [], ◌∷◌, ◌++◌, List, IfOk, OnOk, IfErr};
+ghost use Rattle.pipe_rings.specs.Rings.{received, SameRx};
+ghost use Rattle.cache_core.specs.Standing.{rules_of, served_of};
+ghost use Rattle.stage_core.specs.Merging.{AtEnd, wanted, after_message, what_in};
+ghost use Rattle.stage_core.specs.Standing.{L2StandsFor, l2_cache};
+ghost use Rattle.stage_core.specs.declared.message.Want.TheVariants as want;
+ghost use Rattle.stage_core.specs.declared.message.What.{What};
+ghost use Rattle.stage_core.specs.declared.message.FromStage.{FromStage};
+ghost use Rattle.run_threads.specs.declared.fault.Stop.{Stop};
+ghost use Rattle.run_threads.specs.Ends.{UnusedMerge};
+ghost use Rattle.run_threads.specs.Threads.{MergeServed};
+ghost use Rattle.run_threads.specs.Waits.{MergeUsed};
+
+use crate::ends::MergeEnds;
+use crate::fault::{NoThread, Stop};
+use crate::gate::{Gate, Who, pass};
+use crate::waits::{BodyRuntime, await_from_d, await_from_i, await_turn};
+use cache_core::MAX_EVENTS;
+use stage_core::{FromStage, L2Stage, Merge, Turn, Want};
+use std::snapshot::Snapshot;
+use std::sync::Wait;
+use std::thread::{Promise, PromisedHandle, Scope};
+
+/// The result of the merge's thread.
+pub type MergeEnd = Result<(L2Stage, MergeEnds), Stop>;
+
+/// What the thread of the merge promises about its result, given the values that it began with.
+#[derive(Drop)]
+pub struct MergePromise {
+    pub machine: Snapshot<L2Stage>,
+    pub ends: Snapshot<MergeEnds>,
+}
+
+impl Promise<MergeEnd> for MergePromise {
+    ghost kept_by = { λ p r. IfOk r (λ t. MergeServed AtEnd p.machine.value p.ends.value t.0 t.1) };
+}
+
+/// The merge's thread, which is still to be joined.
+pub type MergeHandle = PromisedHandle<MergeEnd, MergePromise>;
+
+// The merge takes a message of a side, and the second level serves the request in it, if any.
+#[inline(always)]
+fn take_and_serve(merge: &mut Merge, u: &mut L2Stage, message: FromStage) -> Result<(), Stop>
+    requires { (wanted merge.old ≡ want.I) ⊎ (wanted merge.old ≡ want.D) }
+    ensures merge { merge.new ≡ after_message merge.old message }
+    ensures stands { OnOk result ((before : List What) → L2StandsFor u.old before
+        → L2StandsFor u.new (before ++ what_in message)) }
+    ensures rules { rules_of (l2_cache u.new) ≡ rules_of (l2_cache u.old) }
+    ensures cut { IfErr result (λ why. why ≡ Stop.Cut
+        → MAX_EVENTS ≤ served_of (l2_cache u.old)) }
+{
+    let Some(what) = merge.take(message) else {
+        return Ok(());
+    };
+    if u.served() >= MAX_EVENTS {
+        return Err(Stop::Cut);
+    }
+    u.on(what).or(Err(Stop::Memory))
+}
+
+// The next turn.
+#[inline(always)]
+fn next_turn<H: Wait>(
+    rt: &BodyRuntime<H>,
+    merge: &Merge,
+    ends: &mut MergeEnds,
+) -> Result<Turn, Stop>
+    requires used { MergeUsed merge.now ends.old }
+    requires wants { wanted merge.now ≡ want.Order }
+    ensures order { SameRx ends.old.order ends.new.order }
+    ensures received { IfOk result (λ turn. received ends.new.order
+        ≡ received ends.old.order ++ turn ∷ []) }
+    ensures from_i { ends.new.from_i ≡ ends.old.from_i }
+    ensures from_d { ends.new.from_d ≡ ends.old.from_d }
+{
+    match ends.order.try_recv() {
+        Some(turn) => Ok(turn),
+        None => await_turn(rt, merge, ends),
+    }
+}
+
+// The next message from the I stage.
+#[inline(always)]
+fn next_from_i<H: Wait>(
+    rt: &BodyRuntime<H>,
+    merge: &Merge,
+    ends: &mut MergeEnds,
+) -> Result<FromStage, Stop>
+    requires used { MergeUsed merge.now ends.old }
+    requires wants { wanted merge.now ≡ want.I }
+    ensures order { ends.new.order ≡ ends.old.order }
+    ensures from_i { SameRx ends.old.from_i ends.new.from_i }
+    ensures received { IfOk result (λ message. received ends.new.from_i
+        ≡ received ends.old.from_i ++ message ∷ []) }
+    ensures from_d { ends.new.from_d ≡ ends.old.from_d }
+{
+    match ends.from_i.try_recv() {
+        Some(message) => Ok(message),
+        None => await_from_i(rt, merge, ends),
+    }
+}
+
+// The next message from the D stage.
+#[inline(always)]
+fn next_from_d<H: Wait>(
+    rt: &BodyRuntime<H>,
+    merge: &Merge,
+    ends: &mut MergeEnds,
+) -> Result<FromStage, Stop>
+    requires used { MergeUsed merge.now ends.old }
+    requires wants { wanted merge.now ≡ want.D }
+    ensures order { ends.new.order ≡ ends.old.order }
+    ensures from_i { ends.new.from_i ≡ ends.old.from_i }
+    ensures from_d { SameRx ends.old.from_d ends.new.from_d }
+    ensures received { IfOk result (λ message. received ends.new.from_d
+        ≡ received ends.old.from_d ++ message ∷ []) }
+{
+    match ends.from_d.try_recv() {
+        Some(message) => Ok(message),
+        None => await_from_d(rt, merge, ends),
+    }
+}
+
+// Passes the gate with a message of a side, and then serves it.
+#[inline(always)]
+fn take_in<H: Wait, G: Gate>(
+    rt: &BodyRuntime<H>,
+    gate: &G,
+    merge: &mut Merge,
+    u: &mut L2Stage,
+    message: FromStage,
+    count: u64,
+) -> Result<u64, Stop>
+    requires { (wanted merge.old ≡ want.I) ⊎ (wanted merge.old ≡ want.D) }
+    ensures rules { rules_of (l2_cache u.new) ≡ rules_of (l2_cache u.old) }
+    ensures merge { OnOk result (merge.new ≡ after_message merge.old message) }
+    ensures stands { OnOk result ((before : List What) → L2StandsFor u.old before
+        → L2StandsFor u.new (before ++ what_in message)) }
+{
+    let count = pass(rt, gate, Who::Merge, count)?;
+    take_and_serve(merge, u, message)?;
+    Ok(count)
+}
+
+// Receives messages, each from the ring that the merge wants next, until the merge is at its end.
+fn merge_all<H: Wait, G: Gate>(
+    rt: &BodyRuntime<H>,
+    gate: &G,
+    u: &mut L2Stage,
+    ends: &mut MergeEnds,
+) -> Result<(), Stop>
+    requires new { L2StandsFor u.old [] }
+    requires unused { UnusedMerge ends.old }
+    ensures { OnOk result (MergeServed AtEnd u.old ends.old u.new ends.new) }
+{
+    let mut merge = Merge::new();
+    let mut received = 0;
+    for _ in rt.forever() {
+        match merge.wants() {
+            Want::Order => {
+                let Ok(turn) = next_turn(rt, &merge, ends) else {
+                    return Err(Stop::Cut);
+                };
+                received = pass(rt, gate, Who::Merge, received)?;
+                merge.turn(turn);
+            }
+            Want::I => {
+                let Ok(message) = next_from_i(rt, &merge, ends) else {
+                    return Err(Stop::Cut);
+                };
+                received = take_in(rt, gate, &mut merge, u, message, received)?;
+            }
+            Want::D => {
+                let Ok(message) = next_from_d(rt, &merge, ends) else {
+                    return Err(Stop::Cut);
+                };
+                received = take_in(rt, gate, &mut merge, u, message, received)?;
+            }
+            Want::Nothing => return Ok(()),
+        }
+    }
+    unreachable!()
+}
+
+/// Merges all messages of the rings. If it stops before the end, its ends are dropped.
+pub fn run_merge<H: Wait, G: Gate>(
+    rt: &BodyRuntime<H>,
+    gate: &G,
+    machine: L2Stage,
+    unused: MergeEnds,
+) -> MergeEnd
+    requires new { L2StandsFor machine [] }
+    requires unused { UnusedMerge unused }
+    ensures { IfOk result (λ r. MergeServed AtEnd machine unused r.0 r.1) }
+{
+    let mut u = machine;
+    let mut ends = unused;
+    merge_all(rt, gate, &mut u, &mut ends)?;
+    Ok((u, ends))
+}
+
+/// Starts the thread of the merge. If it cannot be started, the second level and the ends are
+/// dropped.
+pub fn start_merge<'s, E, H: Wait + Sync, G: Gate>(
+    scope: &Scope<'s, E>,
+    rt: &'s BodyRuntime<H>,
+    gate: &'s G,
+    machine: L2Stage,
+    ends: MergeEnds,
+) -> Result<MergeHandle, NoThread>
+    requires new { L2StandsFor machine [] }
+    requires unused { UnusedMerge ends }
+    ensures machine { IfOk result (λ h. h.promise.machine.value ≡ machine) }
+    ensures ends { IfOk result (λ h. h.promise.ends.value ≡ ends) }
+{
+    let promise = MergePromise {
+        machine: Snapshot::of(&machine),
+        ends: Snapshot::of(&ends),
+    };
+    let run = move || -> MergeEnd
+        requires new { L2StandsFor machine [] }
+        requires unused { UnusedMerge ends }
+        ensures { IfOk result (λ r. MergeServed AtEnd machine ends r.0 r.1) }
+    { run_merge(rt, gate, machine, ends) };
+    scope.spawn_with(promise, run).or(Err(NoThread))
+}

@@ -1,0 +1,231 @@
+//! The only functions in which the threads of a run wait for one another. Each of them requires
+//! that its thread may wait there, and that it has looked and found nothing to do.
+//!
+//! The body of a thread has no runtime, only a [`BodyRuntime`], whose runtime no other module can
+//! reach. Without a runtime no end of a ring can be asked to wait.
+
+ghost use Rattle.std.specs.Prelude.{◌≡◌, ◌<◌, [], ◌∷◌, ◌++◌, length, OnOk, IfOk, IfErr};
+ghost use Rattle.pipe_rings.specs.Rings.{sent, posted, received, SameTx, SameRx};
+ghost use Rattle.pipe_rings.specs.Rings.{LookedForRoom, LookedForItem, IsAnnounced};
+ghost use Rattle.stage_core.specs.Merging.{wanted};
+ghost use Rattle.stage_core.specs.Waiting.{MayAwaitRoom, MayAwaitMessage};
+ghost use Rattle.stage_core.specs.declared.message.Want.TheVariants as want;
+ghost use Rattle.run_threads.specs.declared.fault.Stop.{Stop};
+ghost use Rattle.run_threads.specs.Ends.{SameSplitterEnds, SentSame};
+ghost use Rattle.run_threads.specs.Waits.{SplitterMay, LookedEverywhere, OfStage, MergeUsed, held};
+ghost use Rattle.run_threads.specs.Waits.{AllAnnounced, AnswersPublished};
+
+use crate::ends::{MergeEnds, SplitterEnds, StageEnds};
+use crate::fault::Stop;
+use crate::gate::{Gate, Who};
+use pipe_rings::Rx;
+use stage_core::{FromStage, L1Stage, Merge, ToStage, Turn};
+use std::sync::{Forever, Wait};
+
+/// The runtime, as the body of a thread has it: it lets the body wait in the functions of this
+/// module, go round without end and pass its gate, and nothing else.
+#[derive(Drop)]
+pub struct BodyRuntime<H> {
+    rt: H,
+}
+
+impl<H> BodyRuntime<H> {
+    /// This runtime, for the bodies of threads.
+    pub fn new(rt: H) -> BodyRuntime<H> {
+        BodyRuntime { rt }
+    }
+}
+
+impl<H: Wait> BodyRuntime<H> {
+    /// Rounds without end.
+    #[inline(always)]
+    pub fn forever(&self) -> Forever<'_, H> {
+        self.rt.forever()
+    }
+
+    /// Calls the gate, which may hold this thread.
+    #[inline(always)]
+    pub fn arrive<G: Gate>(&self, gate: &G, who: Who, nth: u64) {
+        gate.arrive(&self.rt, who, nth);
+    }
+}
+
+/// How far to publish posted messages.
+#[derive(Clone, Copy, PartialEq, Eq)]
+pub enum Until {
+    /// Until another message can be posted.
+    Room,
+    /// Until all are published.
+    Published,
+}
+
+/// The splitter waits until at least one of its posted messages is published.
+#[cold]
+pub fn await_rooms<H: Wait>(rt: &BodyRuntime<H>, ends: &mut SplitterEnds) -> Result<(), Stop>
+    requires may { SplitterMay ends.old }
+    requires looked { LookedEverywhere ends.old }
+    requires announced { AllAnnounced ends.old }
+    ensures rings { SameSplitterEnds ends.old ends.new }
+    ensures sent { SentSame ends.old ends.new }
+    ensures room { OnOk result (held ends.new < held ends.old) }
+    ensures cut { IfErr result (λ why. why ≡ Stop.Cut) }
+{
+    for _ in rt.forever() {
+        // The three ends share one bell, so it is enough to sleep at one of them.
+        if ends.order.posted() > 0 {
+            ends.order.pause(&rt.rt);
+        } else if ends.to_i.posted() > 0 {
+            ends.to_i.pause(&rt.rt);
+        } else {
+            ends.to_d.pause(&rt.rt);
+        }
+        if ends.are_cut() {
+            return Err(Stop::Cut);
+        }
+        if ends.publish() {
+            return Ok(());
+        }
+    }
+    unreachable!()
+}
+
+/// A stage waits until at least one of its posted messages is published.
+#[cold]
+pub fn await_room<H: Wait>(
+    rt: &BodyRuntime<H>,
+    stage: &L1Stage,
+    ends: &mut StageEnds,
+) -> Result<(), Stop>
+    requires may { OfStage MayAwaitRoom stage.now ends.old }
+    requires looked { LookedForRoom ends.old.to_merge }
+    requires announced { IsAnnounced ends.old.to_merge }
+    ensures from_splitter { ends.new.from_splitter ≡ ends.old.from_splitter }
+    ensures ring { SameTx ends.old.to_merge ends.new.to_merge }
+    ensures sent { sent ends.new.to_merge ≡ sent ends.old.to_merge }
+    ensures room { OnOk result (length (posted ends.new.to_merge)
+        < length (posted ends.old.to_merge)) }
+    ensures cut { IfErr result (λ why. why ≡ Stop.Cut) }
+{
+    for _ in rt.forever() {
+        ends.to_merge.pause(&rt.rt);
+        if ends.to_merge.is_cut() {
+            return Err(Stop::Cut);
+        }
+        if ends.to_merge.publish() > 0 {
+            return Ok(());
+        }
+    }
+    unreachable!()
+}
+
+// Waits at a ring until it has a message.
+#[cold]
+#[inline(never)]
+fn await_item<T: Copy, H: Wait>(rt: &BodyRuntime<H>, rx: &mut Rx<T>) -> Result<T, Stop>
+    requires looked { LookedForItem rx.old }
+    ensures ring { SameRx rx.old rx.new }
+    ensures received { IfOk result (λ item. received rx.new ≡ received rx.old ++ item ∷ []) }
+    ensures cut { IfErr result (λ why. why ≡ Stop.Cut) }
+{
+    for _ in rt.forever() {
+        if rx.is_cut() {
+            // A message that was published before the sender was dropped is still there.
+            return rx.try_recv().ok_or(Stop::Cut);
+        }
+        rx.pause(&rt.rt);
+        if let Some(item) = rx.try_recv() {
+            return Ok(item);
+        }
+    }
+    unreachable!()
+}
+
+/// A stage waits for a message. If its own receiver is gone, it stops too.
+#[cold]
+pub fn await_message<H: Wait>(
+    rt: &BodyRuntime<H>,
+    stage: &L1Stage,
+    ends: &mut StageEnds,
+) -> Result<ToStage, Stop>
+    requires may { OfStage MayAwaitMessage stage.now ends.old }
+    requires looked { LookedForItem ends.old.from_splitter }
+    requires published { AnswersPublished ends.old }
+    ensures from_splitter { SameRx ends.old.from_splitter ends.new.from_splitter }
+    ensures received { IfOk result (λ message. received ends.new.from_splitter
+        ≡ received ends.old.from_splitter ++ message ∷ []) }
+    ensures to_merge { SameTx ends.old.to_merge ends.new.to_merge }
+    ensures sent { sent ends.new.to_merge ≡ sent ends.old.to_merge }
+    ensures published { AnswersPublished ends.new }
+{
+    for _ in rt.forever() {
+        if ends.to_merge.is_cut() {
+            return Err(Stop::Cut);
+        }
+        if ends.from_splitter.is_cut() {
+            // A message that was published before the sender was dropped is still there.
+            return ends.from_splitter.try_recv().ok_or(Stop::Cut);
+        }
+        ends.from_splitter.pause(&rt.rt);
+        if let Some(message) = ends.from_splitter.try_recv() {
+            return Ok(message);
+        }
+    }
+    unreachable!()
+}
+
+/// The merge waits for a turn.
+#[inline(always)]
+pub fn await_turn<H: Wait>(
+    rt: &BodyRuntime<H>,
+    merge: &Merge,
+    ends: &mut MergeEnds,
+) -> Result<Turn, Stop>
+    requires may { MergeUsed merge.now ends.old }
+    requires wants { wanted merge.now ≡ want.Order }
+    requires looked { LookedForItem ends.old.order }
+    ensures order { SameRx ends.old.order ends.new.order }
+    ensures received { IfOk result (λ turn. received ends.new.order
+        ≡ received ends.old.order ++ turn ∷ []) }
+    ensures from_i { ends.new.from_i ≡ ends.old.from_i }
+    ensures from_d { ends.new.from_d ≡ ends.old.from_d }
+{
+    await_item(rt, &mut ends.order)
+}
+
+/// The merge waits for a message from the I stage.
+#[inline(always)]
+pub fn await_from_i<H: Wait>(
+    rt: &BodyRuntime<H>,
+    merge: &Merge,
+    ends: &mut MergeEnds,
+) -> Result<FromStage, Stop>
+    requires may { MergeUsed merge.now ends.old }
+    requires wants { wanted merge.now ≡ want.I }
+    requires looked { LookedForItem ends.old.from_i }
+    ensures order { ends.new.order ≡ ends.old.order }
+    ensures from_i { SameRx ends.old.from_i ends.new.from_i }
+    ensures received { IfOk result (λ message. received ends.new.from_i
+        ≡ received ends.old.from_i ++ message ∷ []) }
+    ensures from_d { ends.new.from_d ≡ ends.old.from_d }
+{
+    await_item(rt, &mut ends.from_i)
+}
+
+/// The merge waits for a message from the D stage.
+#[inline(always)]
+pub fn await_from_d<H: Wait>(
+    rt: &BodyRuntime<H>,
+    merge: &Merge,
+    ends: &mut MergeEnds,
+) -> Result<FromStage, Stop>
+    requires may { MergeUsed merge.now ends.old }
+    requires wants { wanted merge.now ≡ want.D }
+    requires looked { LookedForItem ends.old.from_d }
+    ensures order { ends.new.order ≡ ends.old.order }
+    ensures from_i { ends.new.from_i ≡ ends.old.from_i }
+    ensures from_d { SameRx ends.old.from_d ends.new.from_d }
+    ensures received { IfOk result (λ message. received ends.new.from_d
+        ≡ received ends.old.from_d ++ message ∷ []) }
+{
+    await_item(rt, &mut ends.from_d)
+}
