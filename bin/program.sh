@@ -7,7 +7,7 @@
 # What stands behind the name keeps the line feeds at its end.
 top=$(CDPATH='' cd -P -- "$(dirname -- "${BASH_SOURCE[0]}")/.." && pwd && echo .)
 top=${top%$'\n.'}
-programs=(dinero_pipe)
+programs=(dinero_pipe dinero_grid)
 
 # uses CRATE: the crates of the repository that it names in crates.txt.
 uses() {

@@ -39,7 +39,7 @@ is_kept() {
 # is_built: it began to prove.
 is_built() {
     [ "$status" -eq 70 ] && [ ! -s "$out" ] &&
-        grep -q '^dinero_pipe: proving and building dinero_pipe from 8 crates' "$err" &&
+        grep -q '^dinero_pipe: proving and building dinero_pipe from 9 crates' "$err" &&
         grep -q '^rt lib: nothing is proved here' "$err"
 }
 

@@ -1,0 +1,129 @@
+#!/usr/bin/env bash
+# Runs the simulator of many configurations as a user does, and compares what each call prints on
+# both streams and its exit status with what it has to. The first argument is the program; without
+# one the launcher is taken.
+set -u
+top=$(cd "$(dirname "$0")/.." && pwd)
+program=${1:-$top/bin/dinero_grid}
+work=$(mktemp -d)
+trap 'rm -rf "$work"' EXIT
+. "$(dirname "$0")/tally.sh"
+
+# The caches but for the size of the data cache.
+caches=(--l1-isize 16 --l1-ibsize 4 --l1-dbsize 4 --l2-usize 32 --l2-ubsize 8 --l2-uassoc 2)
+
+# heads OPTION..: the first line of a table over these options.
+heads() {
+    local cache name
+    printf '%s\t' "$@"
+    for cache in l1-icache l1-dcache l2-ucache; do
+        for name in fetches misses miss-rate compulsory capacity conflict \
+            fully-associative-misses blocks-fetched written-back writes-sent-on flushes; do
+            printf '%s\t' "$cache-$name"
+        done
+    done
+    echo fault
+}
+
+# columns COUNT..: with a tab after each.
+columns() {
+    printf '%s\t' "$@"
+}
+
+# Two blocks of one set of the small data cache, the first of them twice; the large one has a set
+# for each. Then a fetch of the first block.
+printf '0 0\n0 8\n0 0\n2 0\n' >"$work/conflict.din"
+fetch=(1 1 1.000000 1 0 0 1 1 0 0 0)
+small() {
+    columns "$@" "${fetch[@]}" 3 3 1.000000 2 0 1 2 3 0 0 0 4 2 0.500000 2 0 0 2 2 0 0 0
+    echo -
+}
+large() {
+    columns "$@" "${fetch[@]}" 3 2 0.666666 2 0 0 2 2 0 0 0 3 2 0.666666 2 0 0 2 2 0 0 0
+    echo -
+}
+# refused FAULT WORD..
+refused() {
+    columns "${@:2}"
+    printf -- '-\t%.0s' {1..33}
+    echo "$1"
+}
+
+{ heads l1-dsize; small 8; large 16; } >"$work/sizes"
+not_a_power='l1-dcache: size is not a power of two'
+{ heads l1-dsize; small 8; refused "$not_a_power" 3; large 16; } >"$work/some"
+# In two ways the small cache has one set, and no conflict is left; the large one has two.
+{ heads l1-dsize l1-dassoc; small 8 1; large 8 2; large 16 1; large 16 2; } >"$work/ways"
+large >"$work/line" && { heads | sed 's/^\t//'; sed 's/^\t//' "$work/line"; } >"$work/one"
+: >"$work/nothing"
+printf '0 0\n\n5 0\n' >"$work/faulty.din"
+
+# judge NAME STATUS OUTPUT LINE: compares the call that has just left its streams and its status.
+judge() {
+    printf '%s' "$4" >"$work/line"
+    if [ "$status" = "$2" ] && cmp -s "$work/out" "$3" && cmp -s "$work/err" "$work/line"; then
+        pass "$1"
+    else
+        fail "$1 (status $status, wanted $2)"
+        diff "$3" "$work/out" | head -n 5
+        diff "$work/line" "$work/err" | head -n 5
+    fi
+}
+
+# call NAME STATUS OUTPUT LINE INPUT WORD..: runs the program and judges it.
+call() {
+    status=0
+    "$program" "${@:6}" <"$5" >"$work/out" 2>"$work/err" || status=$?
+    judge "$1" "$2" "$3" "$4"
+}
+
+nothing=$work/nothing
+trace=$work/conflict.din
+"$program" --help >/dev/null 2>&1
+
+call 'two sizes' 0 "$work/sizes" '' "$trace" "${caches[@]}" --l1-dsize 8,16
+call 'one configuration' 0 "$work/one" '' "$trace" "${caches[@]}" --l1-dsize 16
+call 'sizes by ways' 0 "$work/ways" '' "$trace" "${caches[@]}" --l1-dsize 8,16 --l1-dassoc 1,2
+call 'a refused size among others' 5 "$work/some" '' "$trace" "${caches[@]}" --l1-dsize 8,3,16
+call 'a required option is missing' 2 "$nothing" 'dinero_grid: command line refused, try --help
+' "$trace" "${caches[@]}"
+call 'an option of the other program' 2 "$nothing" 'dinero_grid: command line refused, try --help
+' "$trace" "${caches[@]}" --l1-dsize 8 --ring 64
+call 'an empty value' 2 "$nothing" 'dinero_grid: --l1-dsize: not a number
+' "$trace" "${caches[@]}" --l1-dsize 8,,16
+call 'a list where there is none' 2 "$nothing" 'dinero_grid: --maxcount: not a number
+' "$trace" "${caches[@]}" --l1-dsize 8 --maxcount 1,2
+call 'a bad letter in a list' 2 "$nothing" 'dinero_grid: --l1-drepl: not a lawful letter
+' "$trace" "${caches[@]}" --l1-dsize 8 --l1-drepl l,x
+sizes=$(printf '8,%.0s' {1..64})8
+call '65 sizes by 64 ways' 2 "$nothing" 'dinero_grid: grid has more than 4096 configurations
+' "$trace" "${caches[@]}" --l1-dsize "$sizes" --l1-dassoc "${sizes%,8}"
+call 'a faulty line' 1 "$nothing" 'dinero_grid: line 3: label
+' "$work/faulty.din" "${caches[@]}" --l1-dsize 8,16
+call 'an input that can not be read' 4 "$nothing" 'dinero_grid: trace read failed
+' / "${caches[@]}" --l1-dsize 8,16
+
+no_write='dinero_grid: table write failed
+'
+: >"$work/out"
+status=0
+"$program" "${caches[@]}" --l1-dsize 8,16 <"$trace" >/dev/full 2>"$work/err" || status=$?
+judge 'a full output' 4 "$nothing" "$no_write"
+status=0
+"$program" "${caches[@]}" --l1-dsize 8,16 <"$trace" >&- 2>"$work/err" || status=$?
+judge 'a closed output' 4 "$nothing" "$no_write"
+status=0
+"$program" --help >/dev/full 2>"$work/err" || status=$?
+judge 'help to a full output' 4 "$nothing" "$no_write"
+
+# Help is right where it names every option; its text is clap's.
+status=0
+"$program" --help >"$work/help" 2>"$work/err" || status=$?
+: >"$work/out"
+for option in l1-{i,d}size l1-{i,d}bsize l1-{i,d}assoc l1-{i,d}repl l1-dwback l1-dwalloc \
+    l2-u{size,bsize,assoc,repl,wback,walloc} skipcount maxcount flushcount; do
+    grep -q -e " --$option <" "$work/help" || echo "--$option is missing" >>"$work/out"
+done
+judge 'help' 0 "$nothing" ''
+
+tell
