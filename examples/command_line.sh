@@ -7,6 +7,7 @@ program=${1:-$top/bin/dinero_pipe}
 work=$(mktemp -d)
 trap 'rm -rf "$work"' EXIT
 . "$(dirname "$0")/tally.sh"
+. "$(dirname "$0")/calls.sh"
 
 caches=(--l1-isize 16 --l1-ibsize 4 --l1-dsize 16 --l1-dbsize 4 --l1-dassoc 2
     --l2-usize 32 --l2-ubsize 8 --l2-uassoc 2 --ring 2)
@@ -125,27 +126,6 @@ END
 : >"$work/nothing"
 printf '1 0\n0 8\n0 10\n' >"$work/worked.din"
 printf '0 0\n\n5 0\n' >"$work/faulty.din"
-
-# judge NAME STATUS OUTPUT LINE: compares the call that has just left its streams and its status.
-judge() {
-    printf '%s' "$4" >"$work/line"
-    if [ "$status" = "$2" ] && cmp -s "$work/out" "$3" && cmp -s "$work/err" "$work/line"; then
-        pass "$1"
-    else
-        fail "$1 (status $status, wanted $2)"
-        diff "$3" "$work/out" | head -n 5
-        diff "$work/line" "$work/err" | head -n 5
-    fi
-}
-
-# call NAME STATUS OUTPUT LINE INPUT WORD..: runs the program and judges it.
-call() {
-    local name=$1 want=$2 output=$3 line=$4 input=$5
-    shift 5
-    "$program" "$@" <"$input" >"$work/out" 2>"$work/err"
-    status=$?
-    judge "$name" "$want" "$output" "$line"
-}
 
 refused='dinero_pipe: command line refused, try --help
 '

@@ -8,6 +8,7 @@ program=${1:-$top/bin/dinero_grid}
 work=$(mktemp -d)
 trap 'rm -rf "$work"' EXIT
 . "$(dirname "$0")/tally.sh"
+. "$(dirname "$0")/calls.sh"
 
 # The caches but for the size of the data cache.
 caches=(--l1-isize 16 --l1-ibsize 4 --l1-dbsize 4 --l2-usize 32 --l2-ubsize 8 --l2-uassoc 2)
@@ -57,25 +58,6 @@ not_a_power='l1-dcache: size is not a power of two'
 large >"$work/line" && { heads | sed 's/^\t//'; sed 's/^\t//' "$work/line"; } >"$work/one"
 : >"$work/nothing"
 printf '0 0\n\n5 0\n' >"$work/faulty.din"
-
-# judge NAME STATUS OUTPUT LINE: compares the call that has just left its streams and its status.
-judge() {
-    printf '%s' "$4" >"$work/line"
-    if [ "$status" = "$2" ] && cmp -s "$work/out" "$3" && cmp -s "$work/err" "$work/line"; then
-        pass "$1"
-    else
-        fail "$1 (status $status, wanted $2)"
-        diff "$3" "$work/out" | head -n 5
-        diff "$work/line" "$work/err" | head -n 5
-    fi
-}
-
-# call NAME STATUS OUTPUT LINE INPUT WORD..: runs the program and judges it.
-call() {
-    status=0
-    "$program" "${@:6}" <"$5" >"$work/out" 2>"$work/err" || status=$?
-    judge "$1" "$2" "$3" "$4"
-}
 
 nothing=$work/nothing
 trace=$work/conflict.din
