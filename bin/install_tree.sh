@@ -1,18 +1,20 @@
 # The files that are installed, in a tree, as it is to stand below a prefix. Read by install.
 # shellcheck shell=bash disable=SC2154  # names that install and its other files set
 #
-#   bin/dinero_NAME               the simulator, and a way to each command
+#   bin/dinero_NAME               the simulators, and a way to each command
 #   lib/dinero_pipe/NAME          the commands themselves, with the files that they read
 #   share/man/man1/dinero_NAME.1  a man page for each
 
 commands=(record sweep plot)
 
-# grow TREE: it fails where a file can't be written.
+# grow TREE VERSION: it fails where a file can't be written.
 grow() {
     local lib=$1/lib/dinero_pipe pages=$1/share/man/man1 name
     mkdir -p "$lib" "$pages" "$1/bin" || return
-    ln -s "$(place_of dinero_pipe)" "$1/bin/dinero_pipe" || return
-    cat "$top/docs/dinero_pipe.1" > "$pages/dinero_pipe.1" || return
+    for name in "${programs[@]}"; do
+        ln -s "$(place_of "$name")" "$1/bin/$name" || return
+        with_version "$2" < "$top/docs/$name.1" > "$pages/$name.1" || return
+    done
     installed_text < "$top/bin/installed_program.sh" > "$lib/program.sh" || return
     for name in $(list_parts); do
         installed_text < "$top/bin/$name" > "$lib/$name" || return
@@ -20,8 +22,21 @@ grow() {
     for name in "${commands[@]}"; do
         print_way "$name" > "$1/bin/dinero_$name" || return
         chmod 755 "$lib/$name" "$1/bin/dinero_$name" || return
-        "$lib/$name" --help | print_page "dinero_$name" > "$pages/dinero_$name.1" || return
+        "$lib/$name" --help | print_page "dinero_$name" | with_version "$2" > \
+            "$pages/dinero_$name.1" || return
     done
+}
+
+# read_version: of the product, from the one file that has it.
+read_version() {
+    local version
+    version=$(cat -- "$top/VERSION" 2>/dev/null) || return
+    [[ $version =~ ^[0-9]+\.[0-9]+\.[0-9]+$ ]] && echo "$version"
+}
+
+# with_version VERSION: a man page, whose first line names the product without a version.
+with_version() {
+    sed "1s/ \"dinero_pipe\" / \"dinero_pipe $1\" /"
 }
 
 # list_parts: the commands and what they read: a file of one command alone is named for it.
@@ -39,7 +54,7 @@ list_parts() {
 installed_text() {
     local names
     names=$(IFS='|' && echo "${commands[*]}")
-    sed -E "s,\\bbin/($names)\\b,dinero_\\1,g; s,\\bbin/dinero_pipe\\b,dinero_pipe,g"
+    sed -E "s,\\bbin/($names)\\b,dinero_\\1,g; s,\\bbin/(dinero_[a-z]+)\\b,\\1,g"
 }
 
 # print_way COMMAND: the file that a user calls. It finds the command wherever the tree stands.
@@ -66,7 +81,8 @@ END
     cat <<'END'
 .fi
 .SH "SEE ALSO"
-.BR dinero_pipe (1)
+.BR dinero_pipe (1),
+.BR dinero_grid (1)
 END
 }
 

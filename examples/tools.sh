@@ -20,8 +20,10 @@ cd "$work/here" || exit
 # shellcheck disable=SC2034  # the files below use them
 bin=$top/bin out=$work/out err=$work/err
 
-# The first call may say which program it runs; the others are then silent.
-"$bin/dinero_pipe" --help >"$out" 2>"$err" || exit
+# The first calls may say which programs they run; the others are then silent.
+for program in pipe grid; do
+    "$bin/dinero_$program" --help >"$out" 2>"$err" || exit
+done
 
 # In this order: a later file uses the tables and traces of those before it.
 for subject in checks names help building record sweep sweep_names sweep_resume slurm plot \

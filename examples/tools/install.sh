@@ -1,9 +1,11 @@
-# Tests bin/install and the man page. Read by tools.sh.
+# Tests bin/install and the man pages. Read by tools.sh.
 # shellcheck shell=bash disable=SC2154  # names that tools.sh and its other files set
 
 install=$bin/install
 program=usr/bin/dinero_pipe
-page=usr/share/man/man1/dinero_pipe.1
+pages=usr/share/man/man1
+page=$pages/dinero_pipe.1
+version=$(<"$top/VERSION")
 
 # files_of FOLDER: each with its mode.
 files_of() {
@@ -13,17 +15,34 @@ files_of() {
 # What is to be installed, besides the files that the commands read.
 wanted() {
     local name
-    for name in pipe plot record sweep; do echo "755 bin/dinero_$name"; done
+    for name in grid pipe plot record sweep; do echo "755 bin/dinero_$name"; done
     for name in plot record sweep; do echo "755 lib/dinero_pipe/$name"; done
-    for name in pipe plot record sweep; do echo "644 share/man/man1/dinero_$name.1"; done
+    for name in grid pipe plot record sweep; do echo "644 share/man/man1/dinero_$name.1"; done
 }
 
 run "$install" usr
 files_of usr >"$work/files"
-[ "$status" -eq 0 ] && [ ! -s "$err" ] && cmp -s "$page" "$top/docs/dinero_pipe.1" &&
+[ "$status" -eq 0 ] && [ ! -s "$err" ] &&
     [ "$(grep -v '^644 lib/dinero_pipe/' "$work/files")" = "$(wanted)" ] &&
     [ "$(<"$out")" = "$(sed "s,^[0-9]* ,$PWD/usr/,; /installed\$/d" "$work/files")" ]
 verdict 'install' $?
+
+# shows_version PAGE: its first line names the product with its version.
+shows_version() {
+    [[ $(head -n 1 "$1") == '.TH DINERO_'*" 1 \"\" \"dinero_pipe $version\" \"User Commands\"" ]]
+}
+
+# The version is in one file, and the newest heading of the changes names it.
+[[ $version =~ ^[0-9]+\.[0-9]+\.[0-9]+$ ]] && [ "$(wc -l <"$top/VERSION")" -eq 1 ] &&
+    [[ $(grep -m 1 '^## ' "$top/CHANGELOG.md") =~ ^"## $version"(,|$) ]]
+verdict 'the version' $?
+for name in grid pipe plot record sweep; do
+    check "the man page of $name shows the version" shows_version "$pages/dinero_$name.1"
+done
+for name in grid pipe; do
+    sed "1s/ $version//" "$pages/dinero_$name.1" | cmp -s - "$top/docs/dinero_$name.1"
+    verdict "the man page of $name is as it was written but for that" $?
+done
 ! grep -rqF -e "$top" -e bin/record -e bin/sweep -e bin/plot usr/lib usr/share
 verdict 'what is installed does not name the checkout' $?
 run "$install" usr
@@ -40,6 +59,10 @@ mapfile -t words <"$top/examples/1-kinds/kinds.words"
 from_away dinero_pipe "${words[@]}" <kinds.din 2>"$err" |
     cmp -s - "$top/examples/1-kinds/kinds.report"
 verdict 'the installed simulator' $?
+mapfile -t many <"$top/crates/dinero_grid/args"
+from_away dinero_grid "${many[@]}" <"$top/crates/dinero_grid/stdin" 2>"$err" |
+    cmp -s - "$top/crates/dinero_grid/stdout"
+verdict 'the installed simulator of many configurations' $?
 run from_away dinero_sweep "${grid[@]}" -- "$PWD/kinds.din"
 [ "$status" -eq 0 ] && [ ! -s "$err" ] && sed "s,^$PWD/,," "$out" | cmp -s - kinds.tsv
 verdict 'the installed sweep' $?
@@ -68,6 +91,11 @@ if has groff; then
         from_away "dinero_$name" --help | sed '1d; s/^ *//; /^$/d' | LC_ALL=C sort >"$work/help"
         [ ! -s "$err" ] && [ -z "$(LC_ALL=C comm -13 "$work/shown" "$work/help")" ]
         verdict "the man page of $name has its help" $?
+    done
+    for name in grid pipe plot record sweep; do
+        groff -ww -man -Tascii -P -cbu "a b/share/man/man1/dinero_$name.1" >"$work/shown" 2>"$err"
+        [ ! -s "$err" ] && grep -q "^dinero_pipe $version  .*(1)\$" "$work/shown"
+        verdict "the man page of $name at a terminal" $?
     done
 else
     skip 'the man pages of the commands' groff
@@ -105,19 +133,26 @@ ends 'install --remove of nothing' 1 "install: nothing to remove in $PWD/usr" "$
 ends 'install with an unknown option' 2 "install: unknown option: '--all'; try --help" "$install" --all
 ends 'install with two folders' 2 'install: more than one folder is given; try --help' "$install" a b
 ends 'install with an empty name' 2 'install: the name of the folder is empty; try --help' "$install" ''
+mkdir damaged && cp -r "$bin" damaged/bin
+ends 'install without a version' 4 "install: $PWD/damaged/VERSION is missing or damaged" \
+    damaged/bin/install usr
+echo 1.0 >damaged/VERSION
+ends 'install with a damaged version' 4 "install: $PWD/damaged/VERSION is missing or damaged" \
+    damaged/bin/install usr
+rm -r damaged
 ends 'install where no folder can be' 4 'install: the folder /dev/null/lib/dinero_pipe could not be made' \
     "$install" /dev/null
 stopped 'install and Ctrl-C' cp "$install" "$PWD/usr"
 [ ! -e usr ]
 verdict 'and nothing is left' $?
-ends 'install where there is no room' 4 "install: $PWD/$program could not be written" \
+ends 'install where there is no room' 4 "install: $PWD/usr/bin/dinero_grid could not be written" \
     no_room 100 "$install" "$PWD/usr"
 [ ! -e usr ]
 verdict 'and no part of it is left' $?
 ends 'install where there is no room for a list' 4 "install: no room for temporary files in $TMPDIR" \
     no_room 4 "$install" "$PWD/usr"
 
-# The man page has the help's options, each with its value and its words, in the help's order.
+# A man page has the help's options, each with its value and its words, in the help's order.
 help_options() {
     sed -nE 's/^  (-h, |    )--([a-z0-9-]+)( <([^>]*)>)? +([^ ].*)$/\2|\4|\5/p' "$1"
 }
@@ -139,12 +174,19 @@ words_of() {
     sed -e 's/\\-/-/g' "$1" | tr '[:upper:]' '[:lower:]' | tr -cs '[:alnum:]' '\n' | sort -u
 }
 
-"$bin/dinero_pipe" --help >"$work/help"
-help_options "$work/help" >"$work/in-help"
-sed -n '/^\.SH OPTIONS/,/^\.SH VALUES/p' "$top/docs/dinero_pipe.1" >"$work/options.1"
-page_options "$work/options.1" >"$work/in-page"
-[ "$(wc -l <"$work/in-help")" -eq 21 ] && diff "$work/in-help" "$work/in-page" >"$err"
-verdict "the man page's options against the help" $?
-comm -23 <(words_of "$work/help") <(words_of "$top/docs/dinero_pipe.1") >"$err"
-[ "$(<"$err")" = usage ]
-verdict "the man page's words against the help" $?
+# compare_page NAME COUNT: of options.
+compare_page() {
+    local page=$top/docs/dinero_$1.1
+    "$bin/dinero_$1" --help >"$work/help"
+    help_options "$work/help" >"$work/in-help"
+    sed -n '/^\.SH OPTIONS/,/^\.SH VALUES/p' "$page" >"$work/options.1"
+    page_options "$work/options.1" >"$work/in-page"
+    [ "$(wc -l <"$work/in-help")" -eq "$2" ] && diff "$work/in-help" "$work/in-page" >"$err"
+    verdict "the options of the man page of $1 against the help" $?
+    comm -23 <(words_of "$work/help") <(words_of "$page") >"$err"
+    [ "$(<"$err")" = usage ]
+    verdict "the words of the man page of $1 against the help" $?
+}
+
+compare_page pipe 21
+compare_page grid 20
