@@ -18,18 +18,23 @@
 //! Only tested: that the writer is flushed after the table.
 #![tactic(auto)]
 
-mod cell;
+mod back;
 mod fault;
 mod figures;
+mod front;
 mod grid;
 mod lane;
 mod lanes;
+mod level;
 mod numbers;
+mod parts;
+mod plan;
 mod requests;
 mod run;
+mod seat;
+mod shelf;
 mod simulation;
 mod table;
-mod tower;
 
 pub use fault::GridFault;
 pub use figures::{Figures, ShadowMisses};
