@@ -1,5 +1,6 @@
 # Calls of a program as a user makes them. Read by the scripts that try command lines, which count
-# with tally.sh; $program is what is called, and $work a folder for what it prints.
+# with tally.sh; $program is what is called, $work a folder for what it prints, $trace a good trace
+# and $nothing an empty file.
 # shellcheck shell=bash disable=SC2154
 
 # judge NAME STATUS OUTPUT LINE: compares the call that has just left its streams and its status.
@@ -21,4 +22,34 @@ call() {
     "$program" "$@" <"$input" >"$work/out" 2>"$work/err"
     status=$?
     judge "$name" "$want" "$output" "$line"
+}
+
+# fail_to_print LINE WORD..: outputs that are full or closed, for these words and for help.
+fail_to_print() {
+    local line=$1
+    shift
+    : >"$work/out"
+    "$program" "$@" <"$trace" >/dev/full 2>"$work/err"
+    status=$?
+    judge 'a full output' 4 "$nothing" "$line"
+    "$program" "$@" <"$trace" >&- 2>"$work/err"
+    status=$?
+    judge 'a closed output' 4 "$nothing" "$line"
+    "$program" --help >/dev/full 2>"$work/err"
+    status=$?
+    judge 'help to a full output' 4 "$nothing" "$line"
+}
+
+# help_names OPTION..: help is right where it names these and the options of the caches; its text is
+# clap's.
+help_names() {
+    local option
+    "$program" --help >"$work/help" 2>"$work/err"
+    status=$?
+    : >"$work/out"
+    for option in l1-{i,d}size l1-{i,d}bsize l1-{i,d}assoc l1-{i,d}repl l1-dwback l1-dwalloc \
+        l2-u{size,bsize,assoc,repl,wback,walloc} "$@"; do
+        grep -q -e " --$option <" "$work/help" || echo "--$option is missing" >>"$work/out"
+    done
+    judge 'help' 0 "$nothing" ''
 }

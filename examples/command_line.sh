@@ -160,29 +160,12 @@ call 'a faulty line' 1 "$nothing" 'dinero_pipe: line 3: label
 call 'an input that can not be read' 4 "$nothing" 'dinero_pipe: trace read failed
 ' / "${caches[@]}"
 
-: >"$work/out"
-"$program" "${caches[@]}" <"$trace" >/dev/full 2>"$work/err"
-status=$?
-judge 'a full output' 4 "$nothing" "$no_write"
-"$program" "${caches[@]}" <"$trace" >&- 2>"$work/err"
-status=$?
-judge 'a closed output' 4 "$nothing" "$no_write"
-"$program" --help >/dev/full 2>"$work/err"
-status=$?
-judge 'help to a full output' 4 "$nothing" "$no_write"
+fail_to_print "$no_write" "${caches[@]}"
 : >"$work/err"
 "$program" "${caches[@]}" --ring <"$trace" >"$work/out" 2>/dev/full
 status=$?
 judge 'a line that can not be printed' 2 "$nothing" ''
 
-# Help is right where it names every option; its text is clap's.
-"$program" --help >"$work/help" 2>"$work/err"
-status=$?
-: >"$work/out"
-for option in l1-{i,d}size l1-{i,d}bsize l1-{i,d}assoc l1-{i,d}repl l1-dwback l1-dwalloc \
-    l2-u{size,bsize,assoc,repl,wback,walloc} ring skipcount maxcount flushcount; do
-    grep -q -e " --$option <" "$work/help" || echo "--$option is missing" >>"$work/out"
-done
-judge 'help' 0 "$nothing" ''
+help_names ring skipcount maxcount flushcount
 
 tell

@@ -85,27 +85,8 @@ call 'a faulty line' 1 "$nothing" 'dinero_grid: line 3: label
 call 'an input that can not be read' 4 "$nothing" 'dinero_grid: trace read failed
 ' / "${caches[@]}" --l1-dsize 8,16
 
-no_write='dinero_grid: table write failed
-'
-: >"$work/out"
-status=0
-"$program" "${caches[@]}" --l1-dsize 8,16 <"$trace" >/dev/full 2>"$work/err" || status=$?
-judge 'a full output' 4 "$nothing" "$no_write"
-status=0
-"$program" "${caches[@]}" --l1-dsize 8,16 <"$trace" >&- 2>"$work/err" || status=$?
-judge 'a closed output' 4 "$nothing" "$no_write"
-status=0
-"$program" --help >/dev/full 2>"$work/err" || status=$?
-judge 'help to a full output' 4 "$nothing" "$no_write"
-
-# Help is right where it names every option; its text is clap's.
-status=0
-"$program" --help >"$work/help" 2>"$work/err" || status=$?
-: >"$work/out"
-for option in l1-{i,d}size l1-{i,d}bsize l1-{i,d}assoc l1-{i,d}repl l1-dwback l1-dwalloc \
-    l2-u{size,bsize,assoc,repl,wback,walloc} skipcount maxcount flushcount; do
-    grep -q -e " --$option <" "$work/help" || echo "--$option is missing" >>"$work/out"
-done
-judge 'help' 0 "$nothing" ''
+fail_to_print 'dinero_grid: table write failed
+' "${caches[@]}" --l1-dsize 8,16
+help_names skipcount maxcount flushcount
 
 tell
