@@ -18,10 +18,8 @@ use Rattle.stage_core.specs.declared.message.What.{What}
 use Rattle.stage_core.specs.declared.message.What.TheVariants as what
 use Rattle.stage_core.proofs.Stands.{history-more}
 use Rattle.stage_core.proofs.Few.{few-history}
-use Rattle.grid_run.specs.Cells.{CellStandsFor, rules_in}
-use Rattle.grid_run.specs.Towers.{after_request, event_of, sent_for}
+use Rattle.grid_run.specs.Sending.{after_request, event_of, sent_for}
 use Rattle.grid_run.specs.declared.requests.Request.{Request}
-use Rattle.grid_run.specs.declared.cell.Cell.{Cell}
 
 -- the history of a side after one more event, from the request that the event makes
 after-requests : (o : Option Request) (h : History)
@@ -37,29 +35,28 @@ after-event s es e o is =
     ∙ ap (λ (l : List Event). newest_first l ++ history s es) is
     ∙ sym (history-more s es e)
 
-sent-requests : (first : Cell) (s : Side) (h : History) (o : Option Request)
-    → sent_for first s h o
-    ≡ flat_map (parts_of (rules_in first) s h) (map event_of (option_to_list o))
-sent-requests first s h None = refl
-sent-requests first s h (Some q) = sym (append-nil (parts_of (rules_in first) s h (event_of q)))
+sent-requests : (r : Rules) (s : Side) (h : History) (o : Option Request)
+    → sent_for r s h o ≡ flat_map (parts_of r s h) (map event_of (option_to_list o))
+sent-requests r s h None = refl
+sent-requests r s h (Some q) = sym (append-nil (parts_of r s h (event_of q)))
 
 -- what a side sends up for one more event, from the request that the event makes
-pub sent-event : (first : Cell) (s : Side) (es : List DinRecord) (e : DinRecord)
+pub sent-event : (r : Rules) (s : Side) (es : List DinRecord) (e : DinRecord)
     (o : Option Request) → map event_of (option_to_list o) ≡ asked s e
-    → sent_for first s (history s es) o ≡ sent_up (parts_of (rules_in first)) s es e
-sent-event first s es e o is =
-    sent-requests first s (history s es) o
-    ∙ ap (flat_map (parts_of (rules_in first) s (history s es))) is
+    → sent_for r s (history s es) o ≡ sent_up (parts_of r) s es e
+sent-event r s es e o is =
+    sent-requests r s (history s es) o
+    ∙ ap (flat_map (parts_of r s (history s es))) is
 
 -- an event may be there or not
 pub few-option : {A : Type 0} (o : Option A) → length (option_to_list o) ≤ 1
 few-option None = omega arith
 few-option (Some x) = omega arith
 
--- a side that has served its requests for few events has room for one more
-pub few-served : (first : Cell) (s : Side) (es : List DinRecord)
-    → CellStandsFor first (history s es) → length es < 2 ^ 41 → length (history s es) < 2 ^ 44
-few-served first s es st short = omega (arith, few-history s es)
+-- a side has room for one more request after few events
+pub few-served : (s : Side) (es : List DinRecord) → length es < 2 ^ 41
+    → length (history s es) < 2 ^ 44
+few-served s es short = omega (arith, few-history s es)
 
 -- what an access sends up, part by part
 pub access-parts : (r : Rules) (s : Side) (h : History) (x : Access) (o : Outcome) (first : ℕ)

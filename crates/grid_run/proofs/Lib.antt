@@ -1,5 +1,8 @@
 pub mod TableLemmas
-pub mod Cells
+pub mod Levels
 pub mod Rooms
 pub mod Events
+pub mod Fronts
+pub mod Behind
+pub mod Placed
 pub mod Readings

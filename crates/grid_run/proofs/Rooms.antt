@@ -9,12 +9,12 @@ use Rattle.stage_core.specs.SecondLevel.{back, read_as, second_history}
 use Rattle.stage_core.specs.declared.message.What.{What}
 use Rattle.stage_core.proofs.Stands.{second_history-more}
 use Rattle.stage_core.proofs.Worked.{length-second_history}
-use Rattle.grid_run.specs.Cells.{CellStandsFor, CanServe}
-use Rattle.grid_run.specs.Towers.{HasRoom, SecondServed}
-use Rattle.grid_run.specs.declared.cell.Cell.{Cell}
+use Rattle.grid_run.specs.Levels.{CanServe, LevelStandsFor}
+use Rattle.grid_run.specs.Sending.{HasRoom, SecondServed}
+use Rattle.grid_run.specs.declared.level.Level.{Level}
 
 -- where there is room for a request, it can be served
-pub room-one : (u : Cell) (w : What) (rest : List What) → HasRoom u (w ∷ rest) → CanServe u
+pub room-one : (u : Level) (w : What) (rest : List What) → HasRoom u (w ∷ rest) → CanServe u
 room-one u w rest room =
     let short = room.short in
     record {
@@ -24,7 +24,7 @@ room-one u w rest room =
     }
 
 -- where there is room for two lists, there is room for the first
-pub room-front : (u : Cell) (a b : List What) → HasRoom u (a ++ b) → HasRoom u a
+pub room-front : (u : Level) (a b : List What) → HasRoom u (a ++ b) → HasRoom u a
 room-front u a b room =
     let short = room.short in
     record {
@@ -34,7 +34,7 @@ room-front u a b room =
     }
 
 -- and for the second, once the first is served
-pub room-next : (old new : Cell) (a b : List What) → HasRoom old (a ++ b)
+pub room-next : (old new : Level) (a b : List What) → HasRoom old (a ++ b)
     → ((ws : List What) → SecondServed old ws → SecondServed new (ws ++ a)) → HasRoom new b
 room-next old new a b room served =
     let short = room.short in
@@ -45,19 +45,19 @@ room-next old new a b room served =
     }
 
 -- one request served at the second level
-pub served-one : (old new : Cell) (w : What)
-    → ((h : History) → CellStandsFor old h → CellStandsFor new (read_as w ∷ h))
+pub served-one : (old new : Level) (w : What)
+    → ((h : History) → LevelStandsFor old h → LevelStandsFor new (read_as w ∷ h))
     → (ws : List What) → SecondServed old ws → SecondServed new (ws ++ w ∷ [])
 served-one old new w longer ws st =
-    subst (λ (h : History). CellStandsFor new h) (sym (second_history-more ws w))
+    subst (λ (h : History). LevelStandsFor new h) (sym (second_history-more ws w))
     (longer (second_history ws) st)
 
 -- no request served
-pub served-none : (u : Cell) (ws : List What) → SecondServed u ws → SecondServed u (ws ++ [])
+pub served-none : (u : Level) (ws : List What) → SecondServed u ws → SecondServed u (ws ++ [])
 served-none u ws st = subst (λ (l : List What). SecondServed u l) (sym (append-nil ws)) st
 
 -- three lists served one after another
-pub served-three : (u : Cell) (ws a b c : List What) → SecondServed u (((ws ++ a) ++ b) ++ c)
+pub served-three : (u : Level) (ws a b c : List What) → SecondServed u (((ws ++ a) ++ b) ++ c)
     → SecondServed u (ws ++ ((a ++ b) ++ c))
 served-three u ws a b c st =
     subst (λ (l : List What). SecondServed u l)

@@ -1,23 +1,55 @@
--- The caches of one row, behind its selection.
-use Rattle.std.specs.Prelude.{List}
+-- The caches of all rows of one selection.
+use Rattle.std.specs.Prelude.{List, map}
+use Rattle.std.specs.List.{All}
 use Rattle.din_trace.specs.declared.record.DinRecord.{DinRecord}
 use Rattle.stage_core.specs.Events.{events}
-use Rattle.stage_core.specs.SecondLevel.{Hierarchy}
 use Rattle.stage_core.specs.Standing.{WasOffered}
+use Rattle.stage_core.specs.declared.message.Side.TheVariants as side
 use Rattle.stage_core.specs.declared.selection.Selection.{Selection}
-use Rattle.grid_run.specs.Towers.{HasServed, hierarchy_in}
+use Rattle.grid_run.specs.Backs.{BackTask, FrontAt, IsPlacedIn, ServedBehind, back_task}
+use Rattle.grid_run.specs.Backs.{task_of_shelf}
+use Rattle.grid_run.specs.Fronts.{front_rules}
+use Rattle.grid_run.specs.Seats.{Table, rules_on}
 use Rattle.grid_run.specs.declared.lane.Lane.{Lane}
+use Rattle.grid_run.specs.declared.plan.LanePlan.{LanePlan}
 
--- what a row asks for: its selection, and the rules of its caches
-pub record Task : Type 0 where
+-- what a lane does: its selection, the rules of its first-level caches, and its second levels
+pub record LaneTask : Type 0 where
   pub selection : Selection
-  pub rules : Hierarchy
+  pub i : Table
+  pub d : Table
+  pub backs : List BackTask
 
--- what a lane does
-unfoldable pub task_in : Lane → Task
-task_in l = record { selection = l.selector.selection; rules = hierarchy_in l.tower }
+-- what this lane does
+unfoldable pub lane_task : Lane → LaneTask
+lane_task l = record {
+  selection = l.selector.selection;
+  i = map front_rules l.i.items;
+  d = map front_rules l.d.items;
+  backs = map back_task l.backs.items;
+}
+
+-- what a lane of this plan does
+unfoldable pub task_of_plan : LanePlan → LaneTask
+task_of_plan p = record {
+  selection = p.selection;
+  i = map rules_on p.i.items;
+  d = map rules_on p.d.items;
+  backs = map task_of_shelf p.backs.items;
+}
+
+-- all second levels are behind caches of the lane
+abbrev pub IsPlaced : LaneTask → Type 0
+IsPlaced t = All (IsPlacedIn t.i t.d) t.backs
+
+-- all caches of a lane have served these events
+pub record HasServed (l : Lane) (es : List DinRecord) : Type 0 where
+  pub i : All (FrontAt side.I es) l.i.items
+  pub d : All (FrontAt side.D es) l.d.items
+  pub backs : All (ServedBehind l.i.items l.d.items es) l.backs.items
 
 -- a lane has taken these records: its caches have served what it selects of them
 pub record HasTaken (l : Lane) (records : List DinRecord) : Type 0 where
+  pub placed : IsPlaced (lane_task l)
   pub offered : WasOffered l.selector records
-  pub served : HasServed l.tower (events l.selector.selection records)
+  pub served : HasServed l (events l.selector.selection records)

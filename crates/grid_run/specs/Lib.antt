@@ -1,7 +1,10 @@
 pub mod Table
 pub mod Grids
-pub mod Cells
-pub mod Towers
+pub mod Levels
+pub mod Sending
+pub mod Fronts
+pub mod Seats
+pub mod Backs
 pub mod Lanes
 pub mod Rows
 pub mod Faults

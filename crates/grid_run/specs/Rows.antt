@@ -1,38 +1,69 @@
 -- The rows of a grid.
-use Rattle.std.specs.Prelude.{◌≡◌, ⊤, List, Some, None, Result, Ok, Err, Option}
+use Rattle.std.specs.Prelude.{◌≡◌, ◌<◌, ℕ, ⊤, ⊥, List, Some, None, Result, Ok, Err, Option, length}
+use Rattle.std.specs.Prelude.{get_or}
 use Rattle.std.specs.List.{All}
 use Rattle.din_trace.specs.Text.{Remaining}
 use Rattle.din_trace.specs.declared.record.DinRecord.{DinRecord}
 use Rattle.stage_core.specs.Config.{hierarchy_of}
+use Rattle.stage_core.specs.Events.{IsBounded}
+use Rattle.stage_core.specs.SecondLevel.{Hierarchy}
+use Rattle.stage_core.specs.declared.selection.Selection.{Selection}
+use Rattle.grid_run.specs.Backs.{BackTask}
 use Rattle.grid_run.specs.Faults.{MayAnswer}
-use Rattle.grid_run.specs.Lanes.{HasTaken, Task, task_in}
+use Rattle.grid_run.specs.Lanes.{HasTaken, IsPlaced, LaneTask, task_of_plan}
+use Rattle.grid_run.specs.Seats.{IsCellOf, IsSeatOf}
 use Rattle.grid_run.specs.declared.fault.GridFault.{GridFault}
 use Rattle.grid_run.specs.declared.grid.Row.{Row}
 use Rattle.grid_run.specs.declared.grid.Setup.{Setup}
 use Rattle.grid_run.specs.declared.grid.Setup.TheVariants.{Simulated, Refused}
 use Rattle.grid_run.specs.declared.lane.Lane.{Lane}
+use Rattle.grid_run.specs.declared.plan.LanePlan.{LanePlan}
+use Rattle.grid_run.specs.declared.plan.Place.{Place}
 
--- what a setup asks for, if it was not refused
-abbrev pub task_asked : Setup → Option Task
-task_asked (Simulated c s) = Some record { selection = s; rules = hierarchy_of c }
-task_asked (Refused fault) = None
+-- the second levels at a place are behind its seats, and one of them has these rules
+pub record IsBackOf (b : BackTask) (c : Hierarchy) (p : Place) : Type 0 where
+  pub on_i : b.i ≡ p.i
+  pub on_d : b.d ≡ p.d
+  pub cell : IsCellOf b.rules c.u p.u.cell
 
--- what a row asks for, if it was not refused
-abbrev pub task_of_row : Row → Option Task
-task_of_row row = task_asked row.setup
+-- the place in a lane is that of a configuration with this selection
+pub record IsPlaceIn (t : LaneTask) (c : Hierarchy) (s : Selection) (p : Place) : Type 0 where
+  pub selection : t.selection ≡ s
+  pub i : IsSeatOf t.i c.i p.i
+  pub d : IsSeatOf t.d c.d p.d
+  pub level : p.u.level < length t.backs
+  pub back : (other : BackTask) → IsBackOf (get_or t.backs p.u.level other) c p
 
--- what a row's lane does, if it has one
-abbrev pub task_had : Option Lane → Option Task
-task_had None = None
-task_had (Some l) = Some (task_in l)
+-- the place is that of a configuration with this selection
+pub record IsPlaceOf (ts : List LaneTask) (c : Hierarchy) (s : Selection) (p : Place) : Type 0 where
+  pub lane : p.lane < length ts
+  pub inside : (other : LaneTask) → IsPlaceIn (get_or ts p.lane other) c s p
 
--- the lane of a row, if it has one, has taken these records
-abbrev pub RowServed : List DinRecord → Option Lane → Type 0
-RowServed records None = ⊤
-RowServed records (Some l) = HasTaken l records
+-- a row that is simulated has its place, and one that was refused has none
+abbrev pub HasPlace : List LaneTask → Setup → Option Place → Type 0
+HasPlace ts (Simulated c s) (Some p) = IsPlaceOf ts (hierarchy_of c) s p
+HasPlace ts (Simulated c s) None = ⊥
+HasPlace ts (Refused fault) (Some p) = ⊥
+HasPlace ts (Refused fault) None = ⊤
 
--- the result of a run over a source that had this left: the lanes of all rows have taken its
--- records, or the fault is one that a run may answer
-abbrev pub ServedAll : Remaining → List (Option Lane) → Result (Unit {0}) GridFault → Type 0
-ServedAll l lanes (Ok done) = (l.fault ≡ None) × All (RowServed l.records) lanes
+-- the same for each row
+pub record HavePlaces (ts : List LaneTask) (rows : List Row) (places : List (Option Place))
+    : Type 0 where
+  pub as_many : length places ≡ length rows
+  pub each : (k : ℕ) (r : Row) (p : Option Place) → k < length rows →
+      HasPlace ts (get_or rows k r).setup (get_or places k p)
+
+-- a lane has taken these records
+abbrev pub Took : List DinRecord → Lane → Type 0
+Took records l = HasTaken l records
+
+-- a plan of a lane has a bounded selection, and its second levels are behind caches of the lane
+pub record IsSound (p : LanePlan) : Type 0 where
+  pub bounded : IsBounded p.selection
+  pub placed : IsPlaced (task_of_plan p)
+
+-- the result of a run over a source that had this left: all lanes have taken its records, or the
+-- fault is one that a run may answer
+abbrev pub ServedAll : Remaining → List Lane → Result (Unit {0}) GridFault → Type 0
+ServedAll l lanes (Ok done) = (l.fault ≡ None) × All (Took l.records) lanes
 ServedAll l lanes (Err why) = MayAnswer l.fault why

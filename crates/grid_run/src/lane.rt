@@ -1,17 +1,24 @@
-//! The caches of one row, behind its selection.
+//! The caches of all rows of one selection.
 
-ghost use Rattle.std.specs.Prelude.{◌≡◌, ◌<◌, ◌++◌, ◌∷◌, [], List, IfOk, OnOk, length};
+ghost use Rattle.std.specs.Prelude.{◌≡◌, ◌<◌, ◌*◌, ◌++◌, ◌∷◌, [], List, IfOk, OnOk, length};
+ghost use Rattle.std.specs.Prelude.{option_to_list};
 ghost use Rattle.din_trace.specs.declared.record.DinRecord.{DinRecord as Event};
-ghost use Rattle.stage_core.specs.Config.{hierarchy_of};
 ghost use Rattle.stage_core.specs.Events.{IsBounded, events};
+ghost use Rattle.stage_core.specs.SecondLevel.{Hierarchy};
+ghost use Rattle.stage_core.specs.declared.selection.Selection.{Selection as Chosen};
 ghost use Rattle.grid_run.specs.Grids.{figures_of};
-ghost use Rattle.grid_run.specs.Lanes.{HasTaken, task_in};
+ghost use Rattle.grid_run.specs.Lanes.{HasServed, HasTaken, IsPlaced, lane_task, task_of_plan};
+ghost use Rattle.grid_run.specs.Rows.{IsPlaceIn};
 
-use crate::figures::Figures;
-use crate::tower::Tower;
+use crate::back::Back;
+use crate::backs::{backs_for, serve_backs};
+use crate::figures::{Figures, ShadowMisses};
+use crate::front::Front;
+use crate::fronts::{fronts_for, serve_fronts};
+use crate::plan::{LanePlan, Place};
 use cache_core::NoMemory;
 use din_trace::{DinRecord, Label, MAX_LIMIT};
-use stage_core::{Config, Selection, Selector, selections_make_at_most_two};
+use stage_core::{Selector, Side, Totals, selections_make_at_most_two};
 use std::alloc::Global;
 
 /// The flush that a selection inserts.
@@ -24,22 +31,57 @@ const INSERTED: DinRecord = DinRecord {
 #[derive(Drop)]
 pub(crate) struct Lane {
     selector: Selector,
-    tower: Tower,
+    i: Vec<Front>,
+    d: Vec<Front>,
+    backs: Vec<Back>,
 }
 
-#[tactic(auto, unfolding(crate::specs::Lanes::task_in))]
+#[tactic(auto, unfolding(crate::specs::Lanes::lane_task, crate::specs::Lanes::task_of_plan))]
 impl Lane {
-    /// The empty caches of a configuration, behind a selection.
-    pub fn new(alloc: Global, config: &Config, selection: Selection) -> Result<Lane, NoMemory>
-        requires { IsBounded selection }
+    /// The empty caches of a plan.
+    pub fn new(alloc: Global, plan: &LanePlan) -> Result<Lane, NoMemory>
+        requires bounded { IsBounded plan.now.selection }
+        requires placed { IsPlaced (task_of_plan plan.now) }
         ensures served { IfOk result (λ lane. HasTaken lane []) }
-        ensures task { IfOk result (λ lane. task_in lane
-            ≡ record { selection = selection; rules = hierarchy_of config.now }) }
+        ensures task { IfOk result (λ lane. lane_task lane ≡ task_of_plan plan.now) }
     {
         Ok(Lane {
-            selector: Selector::new(selection),
-            tower: Tower::new(alloc, config)?,
+            selector: Selector::new(plan.selection),
+            i: fronts_for(alloc, &plan.i)?,
+            d: fronts_for(alloc, &plan.d)?,
+            backs: backs_for(alloc, &plan.backs)?,
         })
+    }
+
+    /// Serves an event in all caches.
+    fn take_event(&mut self, event: DinRecord) -> Result<(), NoMemory>
+        requires placed { IsPlaced (lane_task self.old) }
+        requires room { (es : List Event) × HasServed self.old es
+            × (length es < 2 * MAX_LIMIT) }
+        ensures served { OnOk result ((es : List Event) → HasServed self.old es
+            → HasServed self.new (es ++ event ∷ [])) }
+        ensures task { lane_task self.new ≡ lane_task self.old }
+        ensures selector { self.new.selector ≡ self.old.selector }
+    {
+        serve_fronts(&mut self.i, Side::I, event)?;
+        serve_fronts(&mut self.d, Side::D, event)?;
+        serve_backs(&mut self.backs, &self.i, &self.d)
+    }
+
+    /// Serves an event in all caches, if there is one.
+    fn take_some(&mut self, event: Option<DinRecord>) -> Result<(), NoMemory>
+        requires placed { IsPlaced (lane_task self.old) }
+        requires room { (es : List Event) × HasServed self.old es
+            × (length es < 2 * MAX_LIMIT) }
+        ensures served { OnOk result ((es : List Event) → HasServed self.old es
+            → HasServed self.new (es ++ option_to_list event)) }
+        ensures task { lane_task self.new ≡ lane_task self.old }
+        ensures selector { self.new.selector ≡ self.old.selector }
+    {
+        match event {
+            Some(event) => self.take_event(event),
+            None => Ok(()),
+        }
     }
 
     /// Takes a record, and serves the events that the selection makes of it in all caches.
@@ -48,20 +90,35 @@ impl Lane {
             × (length past < MAX_LIMIT) }
         ensures served { OnOk result ((past : List Event) → HasTaken self.old past
             → HasTaken self.new (past ++ next ∷ [])) }
-        ensures task { task_in self.new ≡ task_in self.old }
+        ensures task { lane_task self.new ≡ lane_task self.old }
     {
         selections_make_at_most_two();
         let picked = self.selector.offer(next);
-        self.tower.take_some(picked.event)?;
-        self.tower.take_some(picked.flush.then_some(INSERTED))
+        self.take_some(picked.event)?;
+        self.take_some(picked.flush.then_some(INSERTED))
     }
 
-    /// What the caches have counted.
-    pub fn figures(&self) -> Figures
-        ensures { (past : List Event) → HasTaken self.now past
-            → result ≡ figures_of (task_in self.now).rules
-            (events (task_in self.now).selection past) }
+    /// What the caches of a row have counted.
+    pub fn figures(&self, place: &Place) -> Figures
+        requires { (c : Hierarchy) × (s : Chosen) × IsPlaceIn (lane_task self.now) c s place.now }
+        ensures { (c : Hierarchy) (s : Chosen) (past : List Event) →
+            IsPlaceIn (lane_task self.now) c s place.now → HasTaken self.now past →
+            result ≡ figures_of c (events s past) }
     {
-        self.tower.figures()
+        let i = &self.i[place.i.level];
+        let d = &self.d[place.d.level];
+        let u = &self.backs[place.u.level].level;
+        Figures {
+            totals: Totals {
+                i: i.counts(place.i.cell),
+                d: d.counts(place.d.cell),
+                u: u.counts(place.u.cell),
+            },
+            shadows: ShadowMisses {
+                i: i.shadow_misses(place.i.cell),
+                d: d.shadow_misses(place.d.cell),
+                u: u.shadow_misses(place.u.cell),
+            },
+        }
     }
 }

@@ -18,18 +18,25 @@
 //! Only tested: that the writer is flushed after the table.
 #![tactic(auto)]
 
-mod cell;
+mod back;
+mod backs;
 mod fault;
 mod figures;
+mod front;
+mod fronts;
 mod grid;
 mod lane;
 mod lanes;
+mod level;
 mod numbers;
+mod parts;
+mod plan;
 mod requests;
 mod run;
+mod seat;
+mod shelf;
 mod simulation;
 mod table;
-mod tower;
 
 pub use fault::GridFault;
 pub use figures::{Figures, ShadowMisses};

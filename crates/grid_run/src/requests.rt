@@ -6,7 +6,7 @@ ghost use Rattle.stage_core.specs.Events.{asked};
 ghost use Rattle.stage_core.specs.SecondLevel.{back, fetch_class, flush_all};
 ghost use Rattle.stage_core.specs.declared.message.Side.TheVariants as side;
 ghost use Rattle.stage_core.specs.declared.message.What.TheVariants as what;
-ghost use Rattle.grid_run.specs.Towers.{event_of};
+ghost use Rattle.grid_run.specs.Sending.{event_of};
 
 use cache_core::{Access, Class};
 use din_trace::{DinRecord, Label};

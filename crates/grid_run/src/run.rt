@@ -5,7 +5,8 @@ ghost use Rattle.std.specs.List.{All};
 ghost use Rattle.din_trace.specs.Text.{Remaining};
 ghost use Rattle.din_trace.specs.Remaining.{Script, Fate, Follows};
 ghost use Rattle.din_trace.specs.Source.{HasLeft, Takes};
-ghost use Rattle.grid_run.specs.Rows.{RowServed, ServedAll, task_had};
+ghost use Rattle.grid_run.specs.Lanes.{lane_task};
+ghost use Rattle.grid_run.specs.Rows.{ServedAll, Took};
 
 use crate::fault::{GridFault, fault_of_source};
 use crate::lane::Lane;
@@ -16,10 +17,10 @@ use din_trace::{ByteReader, Source, TraceFault};
 /// fault of the trace; the rest is then not read.
 pub(crate) fn serve_trace<R: ByteReader>(
     source: &mut Source<R>,
-    lanes: &mut Vec<Option<Lane>>,
+    lanes: &mut Vec<Lane>,
 ) -> Result<(), GridFault>
-    requires fresh { All (RowServed []) lanes.old.items }
-    ensures tasks { map task_had lanes.new.items ≡ map task_had lanes.old.items }
+    requires fresh { All (Took []) lanes.old.items }
+    ensures tasks { map lane_task lanes.new.items ≡ map lane_task lanes.old.items }
     ensures unwritten { IfErr result (λ why. why ≢ GridFault.Write) }
     ensures memory { result ≢ Err (GridFault.Trace TraceFault.Memory) }
     // Whatever the reader did, all rows took all records, or the run stopped with a fault.

@@ -10,12 +10,14 @@ ghost use Rattle.din_trace.specs.Text.{fault};
 ghost use Rattle.din_trace.specs.Faults.{IsFaultOf};
 ghost use Rattle.din_trace.specs.declared.record.DinRecord.{DinRecord};
 ghost use Rattle.grid_run.specs.Grids.{HasBoundedRows, row_line, table, table_of};
-ghost use Rattle.grid_run.specs.Rows.{RowServed, task_had, task_of_row};
+ghost use Rattle.grid_run.specs.Lanes.{lane_task};
+ghost use Rattle.grid_run.specs.Rows.{HasPlace, HavePlaces, Took};
 
 use crate::fault::GridFault;
 use crate::grid::{Columns, Grid, Row, Setup};
 use crate::lane::Lane;
 use crate::lanes::lanes_for;
+use crate::plan::{Place, plan_for};
 use crate::run::serve_trace;
 use crate::table::{write_counted, write_heads, write_refused};
 use din_trace::{ByteReader, ByteWriter, DeviceFailed, MAX_LIMIT, Source, TraceFault};
@@ -25,19 +27,23 @@ use std::alloc::Global;
 fn write_row<W: ByteWriter>(
     columns: Columns,
     row: &Row,
-    lane: &Option<Lane>,
+    place: &Option<Place>,
+    lanes: &[Lane],
     writer: &mut W,
 ) -> Result<(), DeviceFailed>
-    requires { task_had lane.now ≡ task_of_row row.now }
-    ensures line { (rs : List DinRecord) → RowServed rs lane.now → OnOk result
+    requires { HasPlace (map lane_task lanes.now) row.now.setup place.now }
+    ensures line { (rs : List DinRecord) → All (Took rs) lanes.now → OnOk result
         (Appends (W.contents writer.old) (W.contents writer.new) (row_line columns rs row.now)) }
     ensures sound { OnOk result (W.failures writer.new ≡ W.failures writer.old) }
     ensures failed { OnErr result (W.failures writer.new ≡ once_more (W.failures writer.old)) }
 {
     match &row.setup {
         Setup::Refused(fault) => write_refused(columns, &row.words, fault.as_str(), writer),
-        Setup::Simulated(_, _) => match lane {
-            Some(lane) => write_counted(columns, &row.words, &lane.figures(), writer),
+        Setup::Simulated(_, _) => match place {
+            Some(place) => {
+                let figures = lanes[place.lane].figures(place);
+                write_counted(columns, &row.words, &figures, writer)
+            }
             None => unreachable!(),
         },
     }
@@ -47,18 +53,19 @@ fn write_row<W: ByteWriter>(
 fn write_rows<W: ByteWriter>(
     columns: Columns,
     rows: &[Row],
-    lanes: &[Option<Lane>],
+    places: &[Option<Place>],
+    lanes: &[Lane],
     writer: &mut W,
 ) -> Result<(), DeviceFailed>
-    requires { map task_had lanes.now ≡ map task_of_row rows.now }
-    ensures lines { (rs : List DinRecord) → All (RowServed rs) lanes.now → OnOk result
+    requires { HavePlaces (map lane_task lanes.now) rows.now places.now }
+    ensures lines { (rs : List DinRecord) → All (Took rs) lanes.now → OnOk result
         (Appends (W.contents writer.old) (W.contents writer.new)
         (flat_map (row_line columns rs) rows.now)) }
     ensures sound { OnOk result (W.failures writer.new ≡ W.failures writer.old) }
     ensures failed { OnErr result (W.failures writer.new ≡ once_more (W.failures writer.old)) }
 {
     for (index, row) in rows.iter().enumerate() {
-        write_row(columns, row, &lanes[index], writer)?;
+        write_row(columns, row, &places[index], lanes, writer)?;
     }
     Ok(())
 }
@@ -66,34 +73,38 @@ fn write_rows<W: ByteWriter>(
 /// Writes the lines of a table and flushes the writer.
 fn write_lines<W: ByteWriter>(
     grid: &Grid,
-    lanes: &Vec<Option<Lane>>,
+    places: &Vec<Option<Place>>,
+    lanes: &Vec<Lane>,
     writer: &mut W,
 ) -> Result<(), DeviceFailed>
-    requires { map task_had lanes.now.items ≡ map task_of_row grid.now.rows.items }
-    ensures table { (rs : List DinRecord) → All (RowServed rs) lanes.now.items → OnOk result
+    requires { HavePlaces (map lane_task lanes.now.items) grid.now.rows.items
+        places.now.items }
+    ensures table { (rs : List DinRecord) → All (Took rs) lanes.now.items → OnOk result
         (Appends (W.contents writer.old) (W.contents writer.new) (table grid.now rs)) }
     ensures sound { OnOk result (W.failures writer.new ≡ W.failures writer.old) }
     ensures failed { OnErr result (W.failures writer.new ≡ once_more (W.failures writer.old)) }
 {
     write_heads(grid.columns, &grid.names, writer)?;
-    write_rows(grid.columns, &grid.rows, lanes, writer)?;
+    write_rows(grid.columns, &grid.rows, places, lanes, writer)?;
     writer.flush()
 }
 
 /// Writes the table and flushes the writer, with the fault of a grid.
 fn write_table<W: ByteWriter>(
     grid: &Grid,
-    lanes: &Vec<Option<Lane>>,
+    places: &Vec<Option<Place>>,
+    lanes: &Vec<Lane>,
     writer: &mut W,
 ) -> Result<(), GridFault>
-    requires { map task_had lanes.now.items ≡ map task_of_row grid.now.rows.items }
-    ensures table { (rs : List DinRecord) → All (RowServed rs) lanes.now.items → OnOk result
+    requires { HavePlaces (map lane_task lanes.now.items) grid.now.rows.items
+        places.now.items }
+    ensures table { (rs : List DinRecord) → All (Took rs) lanes.now.items → OnOk result
         (Appends (W.contents writer.old) (W.contents writer.new) (table grid.now rs)) }
     ensures sound { OnOk result (W.failures writer.new ≡ W.failures writer.old) }
     ensures failed { OnErr result (W.failures writer.new ≡ once_more (W.failures writer.old)) }
     ensures fault { IsOkUnless result GridFault.Write }
 {
-    write_lines(grid, lanes, writer).or(Err(GridFault::Write))
+    write_lines(grid, places, lanes, writer).or(Err(GridFault::Write))
 }
 
 /// Reads a trace of at most `limit` bytes once, simulates what each row selects of it in the caches
@@ -124,10 +135,13 @@ pub fn simulate_grid<R: ByteReader + Drop, W: ByteWriter>(
         → W.failures writer.new ≡ once_more (W.failures writer.old) }
     ensures unwritten { IfErr result (λ why. why ≢ GridFault.Write → writer.new ≡ writer.old) }
 {
-    let Ok(mut lanes) = lanes_for(alloc, &grid.rows) else {
+    let Ok(plan) = plan_for(alloc, &grid.rows) else {
+        return Err(GridFault::Memory);
+    };
+    let Ok(mut lanes) = lanes_for(alloc, &plan.lanes) else {
         return Err(GridFault::Memory);
     };
     let mut source = Source::new(reader, limit);
     serve_trace(&mut source, &mut lanes)?;
-    write_table(grid, &lanes, writer)
+    write_table(grid, &plan.places, &lanes, writer)
 }

@@ -5,7 +5,7 @@ use Rattle.din_trace.specs.Source.{room_of}
 use Rattle.din_trace.specs.declared.record.DinRecord.{DinRecord}
 use Rattle.din_trace.proofs.Calls.{Calls, calls}
 use Rattle.grid_run.specs.Faults.{MayAnswer}
-use Rattle.grid_run.specs.Rows.{RowServed}
+use Rattle.grid_run.specs.Rows.{Took}
 use Rattle.grid_run.proofs.Readings.{answers-fault, read-end, read-fault, read-more, read-nothing}
 use Rattle.grid_run.proofs.Readings.{when-ok}
 use Rattle.grid_run.proofs.run.serve_trace.Goals as goal
@@ -98,7 +98,7 @@ returns-in-Ok-None-clause-reads g c =
           c.records.source c.next.new.self now.past now.read c.next.result _ _ all
           c.next.ensures.reads.3 answered first last l is left in (
             end.0,
-            subst (λ (rs : List DinRecord). All (RowServed rs) c.records.lanes.items)
+            subst (λ (rs : List DinRecord). All (Took rs) c.records.lanes.items)
                 (sym end.1) now.served,
           ),
     )

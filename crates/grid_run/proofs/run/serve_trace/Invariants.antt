@@ -2,7 +2,8 @@ use Rattle.std.proofs.Common.{◌≡◌, ◌⊎◌, ◌+◌, ◌≤◌, ◌^◌,
 use Rattle.std.specs.List.{All}
 use Rattle.din_trace.specs.Source.{room_of}
 use Rattle.din_trace.specs.declared.record.DinRecord.{DinRecord}
-use Rattle.grid_run.specs.Rows.{RowServed, task_had}
+use Rattle.grid_run.specs.Lanes.{lane_task}
+use Rattle.grid_run.specs.Rows.{Took}
 use Rattle.grid_run.proofs.Readings.{HasRead}
 use Rattle.grid_run.proofs.run.serve_trace.Given as goal
 
@@ -13,8 +14,8 @@ invariant-records g l = record {
   read : HasRead g.R.ByteReader.remaining g.R.ByteReader.failures l.initial.source l.source past;
   -- the records read and those that the source can still give are at most 2 ^ 40
   room : (length past ≡ 0) ⊎ (length past + room_of l.source ≤ 2 ^ 40);
-  served : All (RowServed past) l.lanes.items;
-  tasks : map task_had l.lanes.items ≡ map task_had l.initial.lanes.items;
+  served : All (Took past) l.lanes.items;
+  tasks : map lane_task l.lanes.items ≡ map lane_task l.initial.lanes.items;
 }
 
 abbrev pub decreases-records : goal.decreases-records

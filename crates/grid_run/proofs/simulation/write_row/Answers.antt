@@ -1,28 +1,78 @@
-use Rattle.std.proofs.Common.{◌≡◌, Option, Some, map, ap, sym, subst, unwrap_or, ◌∙◌}
+use Rattle.std.proofs.Common.{◌≡◌, ◌<◌, List, Option, Some, None, length, get_or, map, ap, sym}
+use Rattle.std.proofs.Common.{subst, ◌∙◌, arith}
 use Rattle.std.specs.Io.KnownBytes.{Appends}
 use Rattle.std.specs.Prelude.{string_bytes}
+use Rattle.std.proofs.lemmas.List.{get_or-map, length-map}
 use Rattle.std.proofs.lemmas.Result.{on_ok_weaker}
 use Rattle.stage_core.specs.Config.{hierarchy_of}
-use Rattle.stage_core.specs.Events.{events}
-use Rattle.grid_run.specs.Grids.{figures_of, setup_line}
-use Rattle.grid_run.specs.Lanes.{Task, task_in}
-use Rattle.grid_run.specs.Rows.{RowServed, task_asked, task_had}
+use Rattle.stage_core.specs.declared.config.Config.{Config}
+use Rattle.stage_core.specs.declared.selection.Selection.{Selection}
+use Rattle.grid_run.specs.Grids.{setup_line}
+use Rattle.grid_run.specs.Lanes.{LaneTask, lane_task}
+use Rattle.grid_run.specs.Rows.{HasPlace, IsPlaceIn, IsPlaceOf, Took}
 use Rattle.grid_run.specs.Table.{counted_line}
+use Rattle.grid_run.specs.declared.grid.Setup.{Setup}
+use Rattle.grid_run.specs.declared.grid.Setup.TheVariants.{Simulated}
+use Rattle.grid_run.specs.declared.lane.Lane.{Lane}
+use Rattle.grid_run.specs.declared.plan.Place.{Place}
 use Rattle.grid_run.proofs.simulation.write_row.Goals as goal
+
+-- a row that is simulated has the place of its configuration
+has-place : (ts : List LaneTask) (setup : Setup) (o : Option Place) (c : Config) (s : Selection)
+    (p : Place) → setup ≡ Simulated c s → o ≡ Some p → HasPlace ts setup o
+    → IsPlaceOf ts (hierarchy_of c) s p
+has-place ts setup o c s p simulated there has =
+    subst (λ (t : Setup). HasPlace ts t (Some p)) simulated (subst (HasPlace ts setup) there has)
+
+-- at a place, there is a lane
+lane-inside : (ls : List Lane) (c : Config) (s : Selection) (p : Place)
+    → IsPlaceOf (map lane_task ls) (hierarchy_of c) s p → p.lane < length ls
+lane-inside ls c s p place = omega (arith, place.lane, length-map ls lane_task)
+
+-- in which it is a place
+lane-there : (ls : List Lane) (c : Config) (s : Selection) (p : Place) (l : Lane)
+    → l ≡ get_or ls p.lane l → IsPlaceOf (map lane_task ls) (hierarchy_of c) s p
+    → IsPlaceIn (lane_task l) (hierarchy_of c) s p
+lane-there ls c s p l at place =
+    subst (λ (t : LaneTask). IsPlaceIn t (hierarchy_of c) s p)
+    (get_or-map lane_task ls p.lane l (lane_task l) (lane-inside ls c s p place)
+    ∙ ap lane_task (sym at))
+    (place.inside (lane_task l))
+
+pub index-requires : goal.index-requires
+index-requires g c =
+    let f = c.in-Simulated.field-0 in
+    let s = c.in-Simulated.field-1 in
+    let p = c.in-Some.place in
+    let place = has-place (map lane_task c.args.lanes.now) c.args.row.now.setup c.args.place.now f s p
+    c.in-Simulated.is c.in-Some.is c.requires in
+    lane-inside c.args.lanes.now f s p place
+
+pub figures-requires : goal.figures-requires
+figures-requires g c =
+    let f = c.in-Simulated.field-0 in
+    let s = c.in-Simulated.field-1 in
+    let p = c.in-Some.place in
+    let place = has-place (map lane_task c.args.lanes.now) c.args.row.now.setup c.args.place.now f s p
+    c.in-Simulated.is c.in-Some.is c.requires in (
+      hierarchy_of f,
+      s,
+      lane-there c.args.lanes.now f s p c.index.result.now c.index.ensures place,
+    )
 
 pub returns-in-Some-clause-line : goal.returns-in-Some-clause-line
 returns-in-Some-clause-line g c = λ past served.
+    let f = c.in-Simulated.field-0 in
+    let s = c.in-Simulated.field-1 in
+    let p = c.in-Some.place in
+    let l = c.index.result.now in
     let words = map string_bytes c.args.row.now.words.items in
-    let task : Task = record {
-      selection = c.in-Simulated.field-1;
-      rules = hierarchy_of c.in-Simulated.field-0;
-    } in
-    let known : Some (task_in c.in-Some.lane) ≡ Some task =
-    ap task_had (sym c.in-Some.is) ∙ c.requires ∙ ap task_asked c.in-Simulated.is in
-    let same : task_in c.in-Some.lane ≡ task =
-    ap (λ (o : Option Task). unwrap_or o task) known in
-    let counted = c.figures.ensures past (subst (RowServed past) c.in-Some.is served)
-    ∙ ap (λ (t : Task). figures_of t.rules (events t.selection past)) same in
+    let place = has-place (map lane_task c.args.lanes.now) c.args.row.now.setup c.args.place.now f s p
+    c.in-Simulated.is c.in-Some.is c.requires in
+    let inside = lane-inside c.args.lanes.now f s p place in
+    let there = lane-there c.args.lanes.now f s p l c.index.ensures place in
+    let taken = subst (Took past) (sym c.index.ensures) (served p.lane l inside) in
+    let counted = c.figures.ensures (hierarchy_of f) s past there taken in
     let line = ap (λ ws. counted_line c.args.columns (map string_bytes ws) c.figures.result)
     c.deref-in-Some.ensures.value
     ∙ ap (counted_line c.args.columns words) counted

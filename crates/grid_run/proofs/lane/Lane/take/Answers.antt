@@ -8,10 +8,13 @@ use Rattle.stage_core.specs.Events.{events, events_at, inserted_flush, is_refere
 use Rattle.stage_core.specs.Events.{picked_events}
 use Rattle.stage_core.specs.Places.{list_if}
 use Rattle.stage_core.specs.declared.selection.Picked.{Picked}
+use Rattle.stage_core.specs.Standing.{WasOffered}
 use Rattle.stage_core.specs.declared.selection.Selection.{Selection}
+use Rattle.stage_core.specs.declared.selection.Selector.{Selector}
 use Rattle.stage_core.proofs.Place.{flat_map_with_past-more}
-use Rattle.grid_run.specs.Towers.{HasServed}
+use Rattle.grid_run.specs.Lanes.{HasServed, IsPlaced, lane_task}
 use Rattle.grid_run.proofs.Events.{few-option}
+use Rattle.grid_run.proofs.Placed.{served-by-same}
 use Rattle.grid_run.proofs.lane.Lane.take.Goals as goal
 
 -- the flush that a selection inserts, if it does
@@ -26,28 +29,34 @@ offer-picked-requires c =
     omega (arith, count, room.2)
 
 pub take_some-requires : goal.take_some-requires
+unfolding lane_task
 take_some-requires c =
     let room = c.requires.room in
-    let few = c.selections_make_at_most_two.ensures c.args.self.now.selector.selection room.0 in
+    let sel = c.args.self.now.selector.selection in
+    let few = c.selections_make_at_most_two.ensures sel room.0 in
     record {
+      placed = room.1.placed;
       room = (
-        events c.args.self.now.selector.selection room.0,
-        room.1.served,
+        events sel room.0,
+        served-by-same c.offer-picked.new.self c.args.self.now (events sel room.0) room.1.served,
         omega (arith, few, room.2),
       );
     }
 
 pub take_some-requires-2 : goal.take_some-requires-2
+unfolding lane_task
 take_some-requires-2 c =
     let room = c.requires.room in
     let sel = c.args.self.now.selector.selection in
     let es : List DinRecord = events sel room.0 in
     let event = option_to_list c.offer-picked.result.event in
     let few = c.selections_make_at_most_two.ensures sel room.0 in
+    let picking = served-by-same c.offer-picked.new.self c.args.self.now es room.1.served in
     record {
+      placed = subst IsPlaced (sym c.take_some.ensures.task) room.1.placed;
       room = (
         es ++ event,
-        c.in_ok-take_some.ensures.served es room.1.served,
+        c.in_ok-take_some.ensures.served es picking,
         omega (
           arith,
           few,
@@ -59,13 +68,19 @@ take_some-requires-2 c =
     }
 
 pub returns-clause-served : goal.returns-clause-served
+unfolding lane_task
 returns-clause-served c =
-    let sel = c.args.self.now.selector.selection in
+    let old = c.args.self.now in
+    let new = c.take_some-2.new.self in
+    let sel = old.selector.selection in
     let next = c.args.next in
     let event = option_to_list c.offer-picked.result.event in
     let last = option_to_list c.then_some.result in
     let flushes = ap option_to_list c.then_some.ensures
     ∙ one-flush c.offer-picked.result.flush inserted_flush in
+    let selector = c.take_some-2.ensures.selector ∙ c.take_some.ensures.selector in
+    let selection = ap (λ (s : Selector). s.selection) selector
+    ∙ c.offer-picked.ensures.selection in
     on_ok_weaker c.take_some-2.result (λ second past taken.
     let es : List DinRecord = events sel past in
     let picks : c.offer-picked.result
@@ -76,11 +91,15 @@ returns-clause-served c =
     ∙ ap (λ l. es ++ (event ++ l)) flushes
     ∙ ap (λ (p : Picked). es ++ picked_events p) picks
     ∙ sym (flat_map_with_past-more (events_at sel) past next) in
+    let picking = served-by-same c.offer-picked.new.self old es taken.served in
     record {
-      offered = c.offer-picked.ensures.stands past taken.offered;
-      served = subst (λ (s : Selection). HasServed c.take_some-2.new.self
-          (events s (past ++ next ∷ []))) (sym c.offer-picked.ensures.selection)
-          (subst (λ (l : List DinRecord). HasServed c.take_some-2.new.self l) longer
-          (second (es ++ event) (c.in_ok-take_some.ensures.served es taken.served)));
+      placed = subst IsPlaced (sym (c.take_some-2.ensures.task ∙ c.take_some.ensures.task))
+          taken.placed;
+      offered = subst (λ (s : Selector). WasOffered s (past ++ next ∷ [])) (sym selector)
+          (c.offer-picked.ensures.stands past taken.offered);
+      served = subst (λ (s : Selection). HasServed new (events s (past ++ next ∷ [])))
+          (sym selection)
+          (subst (λ (l : List DinRecord). HasServed new l) longer
+          (second (es ++ event) (c.in_ok-take_some.ensures.served es picking)));
     })
     c.take_some-2.ensures.served

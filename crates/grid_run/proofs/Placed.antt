@@ -1,0 +1,75 @@
+-- Where the caches of a configuration are in a lane.
+use Rattle.std.proofs.Common.{◌≡◌, ℕ, ◌<◌, List, length, get_or, map, ap, sym, subst, ◌∙◌, arith}
+use Rattle.std.specs.List.{All}
+use Rattle.std.proofs.lemmas.List.{get_or-map, length-map}
+use Rattle.cache_core.specs.History.{Rules}
+use Rattle.din_trace.specs.declared.record.DinRecord.{DinRecord}
+use Rattle.stage_core.specs.SecondLevel.{Hierarchy, parts_in, second_level_requests}
+use Rattle.stage_core.specs.declared.selection.Selection.{Selection}
+use Rattle.stage_core.proofs.Worked.{the_hierarchy}
+use Rattle.grid_core.specs.Written.{rules_at}
+use Rattle.grid_run.specs.Backs.{BackServed, BackTask, IsPlacedIn, IsSeatIn, back_task}
+use Rattle.grid_run.specs.Backs.{hierarchy_behind}
+use Rattle.grid_run.specs.Fronts.{front_rules}
+use Rattle.grid_run.specs.Lanes.{HasServed, lane_task}
+use Rattle.grid_run.specs.Rows.{IsBackOf, IsPlaceIn}
+use Rattle.grid_run.specs.Seats.{IsSeatOf, Table, rules_of_seat}
+use Rattle.grid_run.specs.declared.back.Back.{Back}
+use Rattle.grid_run.specs.declared.lane.Lane.{Lane}
+use Rattle.grid_run.specs.declared.plan.Place.{Place}
+use Rattle.grid_run.specs.declared.seat.Seat.{Seat}
+use Rattle.stage_core.specs.declared.selection.Selector.{Selector}
+
+-- a seat of a cache is a seat
+pub seat-in : {t : Table} {r : Rules} {s : Seat} → IsSeatOf t r s → IsSeatIn t s
+seat-in seat = record { level = seat.level; cell = seat.cell }
+
+-- a lane with another selector has served the same
+pub served-by-same : (s : Selector) (l : Lane) (es : List DinRecord) → HasServed l es
+    → HasServed (record l { selector = s }) es
+served-by-same s l es served = record { i = served.i; d = served.d; backs = served.backs }
+
+-- second levels behind caches of the same rules
+pub placed-same : {i i' d d' : Table} {ts : List BackTask} → i ≡ i' → d ≡ d'
+    → All (IsPlacedIn i' d') ts → All (IsPlacedIn i d) ts
+placed-same {i' = i'} {d = d} {ts = ts} on_i on_d all =
+    subst (λ (t : Table). All (IsPlacedIn t d) ts) (sym on_i)
+    (subst (λ (t : Table). All (IsPlacedIn i' t) ts) (sym on_d) all)
+
+pub served-same : {i i' d d' : Table} {es : List DinRecord} {bs : List Back} → i ≡ i' → d ≡ d'
+    → All (BackServed i' d' es) bs → All (BackServed i d es) bs
+served-same {i' = i'} {d = d} {es = es} {bs = bs} on_i on_d all =
+    subst (λ (t : Table). All (BackServed t d es) bs) (sym on_i)
+    (subst (λ (t : Table). All (BackServed i' t es) bs) (sym on_d) all)
+
+module _ (l : Lane) (c : Hierarchy) (s : Selection) (p : Place) (place : IsPlaceIn (lane_task l) c s p)
+    (b : Back) (at : b ≡ get_or l.backs.items p.u.level b) where
+  -- there are second levels at the place
+  pub back-inside : p.u.level < length l.backs.items
+  unfolding lane_task
+  back-inside = omega (arith, place.level, length-map l.backs.items back_task)
+
+  -- which are those of the configuration
+  pub back-there : IsBackOf (back_task b) c p
+  unfolding lane_task
+  back-there =
+      subst (λ t. IsBackOf t c p)
+      (get_or-map back_task l.backs.items p.u.level b (back_task b) back-inside
+      ∙ ap back_task (sym at))
+      (place.back (back_task b))
+
+  -- and they get what the first level of the configuration sends
+  pub requests-there : (es : List DinRecord) →
+      second_level_requests (parts_in (hierarchy_behind (map front_rules l.i.items)
+      (map front_rules l.d.items) (back_task b) 0)) es
+      ≡ second_level_requests (parts_in c) es
+  unfolding lane_task
+  requests-there es =
+      let is = map front_rules l.i.items in
+      let ds = map front_rules l.d.items in
+      let u = rules_at (back_task b).rules 0 in
+      ap (λ (r : Rules). second_level_requests
+      (parts_in (the_hierarchy r (rules_of_seat ds (back_task b).d) u)) es)
+      (ap (rules_of_seat is) back-there.on_i ∙ place.i.rules)
+      ∙ ap (λ (r : Rules). second_level_requests (parts_in (the_hierarchy c.i r u)) es)
+      (ap (rules_of_seat ds) back-there.on_d ∙ place.d.rules)

@@ -1,0 +1,101 @@
+use Rattle.std.proofs.Common.{◌≡◌, ◌++◌, List, Option, ap, option_to_list, subst, sym, ◌∙◌}
+use Rattle.std.proofs.Common.{append-nil}
+use Rattle.std.proofs.lemmas.Result.{on_ok_weaker}
+use Rattle.cache_core.specs.History.{History, access}
+use Rattle.grid_core.specs.Written.{rules_at, written_by}
+use Rattle.stage_core.specs.SecondLevel.{parts_of}
+use Rattle.stage_core.specs.declared.message.What.{What}
+use Rattle.grid_run.specs.Fronts.{HasSent, WasLast}
+use Rattle.grid_run.specs.Levels.{rules_in}
+use Rattle.grid_run.specs.Sending.{HasRoom, SecondServed, sent_for}
+use Rattle.grid_run.specs.declared.front.Last.{Last}
+use Rattle.grid_run.specs.declared.front.Last.TheVariants as last
+use Rattle.grid_run.specs.declared.requests.Request.{Request}
+use Rattle.grid_run.proofs.Events.{access-parts, flush-parts}
+use Rattle.grid_run.proofs.Fronts.{sent-access, sent-flush, sent-nothing}
+use Rattle.grid_run.proofs.Levels.{list-at, list-inside}
+use Rattle.grid_run.proofs.front.Front.send.Goals as goal
+
+pub returns-in-Nothing-clause-sends : goal.returns-in-Nothing-clause-sends
+returns-in-Nothing-clause-sends c = λ h q ws sent st.
+    let level = c.args.self.now.level in
+    let r = rules_at (rules_in level) c.args.cell in
+    let was = subst (λ (w : Last). WasLast level h w q) c.in-Nothing.is sent in
+    subst (λ (l : List What). SecondServed c.args.u.now l)
+    (sym (ap (λ l. ws ++ l) (sent-nothing level h r c.args.side q was) ∙ append-nil ws)) st
+
+pub serve_parts-requires : goal.serve_parts-requires
+serve_parts-requires c =
+    let level = c.args.self.now.level in
+    let r = rules_at (rules_in level) c.args.cell in
+    let h = c.requires.room.0 in
+    let q = c.requires.room.1 in
+    let x = c.in-Access.access in
+    let was = subst (λ (w : Last). WasLast level h w q) c.in-Access.is c.requires.room.2 in
+    let sent = sent-access level h r c.args.side x q was in
+    let parts = access-parts r c.args.side h x c.outcome.result c.first_byte-block.result _ _ _
+    (c.outcome.ensures h x sent.1) (c.first_byte-block.ensures c.args.cell c.requires.inside)
+    c.back_part.ensures c.fetch_part-fetch.ensures c.through_part-through.ensures in
+    record {
+      room = subst (λ (l : List What). HasRoom c.args.u.now l) (sent.0 ∙ sym parts)
+          c.requires.room.3;
+    }
+
+pub returns-in-Access-clause-sends : goal.returns-in-Access-clause-sends
+returns-in-Access-clause-sends c =
+    let level = c.args.self.now.level in
+    let r = rules_at (rules_in level) c.args.cell in
+    let x = c.in-Access.access in
+    on_ok_weaker c.serve_parts.result (λ served h q ws last st.
+    let was = subst (λ (w : Last). WasLast level h w q) c.in-Access.is last in
+    let sent = sent-access level h r c.args.side x q was in
+    let parts = access-parts r c.args.side h x c.outcome.result c.first_byte-block.result _ _ _
+    (c.outcome.ensures h x sent.1) (c.first_byte-block.ensures c.args.cell c.requires.inside)
+    c.back_part.ensures c.fetch_part-fetch.ensures c.through_part-through.ensures in
+    subst (λ (l : List What). SecondServed c.serve_parts.new.u (ws ++ l)) (parts ∙ sym sent.0)
+    (served ws st)) c.serve_parts.ensures.stands
+
+pub index-requires : goal.index-requires
+index-requires c =
+    let level = c.args.self.now.level in
+    let r = rules_at (rules_in level) c.args.cell in
+    let h = c.requires.room.0 in
+    let q = c.requires.room.1 in
+    let was = subst (λ (w : Last). WasLast level h w q) c.in-Flush.is c.requires.room.2 in
+    let sent = sent-flush level h r c.args.side c.in-Flush.lists q was in
+    list-inside h (rules_in level) c.in-Flush.lists.items sent.1 c.args.cell c.requires.inside
+
+pub serve_backs-requires : goal.serve_backs-requires
+serve_backs-requires c =
+    let level = c.args.self.now.level in
+    let r = rules_at (rules_in level) c.args.cell in
+    let h = c.requires.room.0 in
+    let q = c.requires.room.1 in
+    let v = c.in-Flush.lists in
+    let was = subst (λ (w : Last). WasLast level h w q) c.in-Flush.is c.requires.room.2 in
+    let sent = sent-flush level h r c.args.side v q was in
+    let backs = c.deref.ensures.value
+    ∙ list-at h (rules_in level) v.items sent.1 c.args.cell c.index.result.now c.requires.inside
+    c.index.ensures in
+    let parts = flush-parts r c.args.side h c.deref.result.now
+    (option_to_list c.flush_part.result) backs c.flush_part.ensures in
+    record {
+      room = subst (λ (l : List What). HasRoom c.args.u.now l) (sent.0 ∙ sym parts)
+          c.requires.room.3;
+    }
+
+pub returns-in-Flush-clause-sends : goal.returns-in-Flush-clause-sends
+returns-in-Flush-clause-sends c =
+    let level = c.args.self.now.level in
+    let r = rules_at (rules_in level) c.args.cell in
+    let v = c.in-Flush.lists in
+    on_ok_weaker c.serve_backs.result (λ served h q ws last st.
+    let was = subst (λ (w : Last). WasLast level h w q) c.in-Flush.is last in
+    let sent = sent-flush level h r c.args.side v q was in
+    let backs = c.deref.ensures.value
+    ∙ list-at h (rules_in level) v.items sent.1 c.args.cell c.index.result.now c.requires.inside
+    c.index.ensures in
+    let parts = flush-parts r c.args.side h c.deref.result.now
+    (option_to_list c.flush_part.result) backs c.flush_part.ensures in
+    subst (λ (l : List What). SecondServed c.serve_backs.new.u (ws ++ l)) (parts ∙ sym sent.0)
+    (served ws st)) c.serve_backs.ensures.stands

@@ -1,0 +1,66 @@
+use Rattle.std.proofs.Common.{◌++◌, ◌∷◌, [], List, map, ap, sym, subst, ◌∙◌}
+use Rattle.std.specs.List.{All}
+use Rattle.std.proofs.lemmas.Result.{on_ok_weaker}
+use Rattle.stage_core.specs.declared.message.Side.TheVariants as side
+use Rattle.grid_run.specs.Backs.{FrontSent}
+use Rattle.grid_run.specs.Fronts.{front_rules}
+use Rattle.grid_run.specs.Lanes.{lane_task}
+use Rattle.grid_run.specs.declared.front.Front.{Front}
+use Rattle.grid_run.proofs.Placed.{placed-same, served-same}
+use Rattle.grid_run.proofs.lane.Lane.take_event.Goals as goal
+
+pub serve_fronts-requires : goal.serve_fronts-requires
+serve_fronts-requires c =
+    let room = c.requires.room in
+    record { room = (room.0, room.1.i, room.2) }
+
+pub serve_fronts-requires-2 : goal.serve_fronts-requires-2
+serve_fronts-requires-2 c =
+    let room = c.requires.room in
+    record { room = (room.0, room.1.d, room.2) }
+
+pub serve_backs-requires : goal.serve_backs-requires
+unfolding lane_task
+serve_backs-requires c =
+    let room = c.requires.room in
+    let es = room.0 in
+    let e = c.args.event in
+    let i = ap (map front_rules) c.deref.ensures.value ∙ c.serve_fronts.ensures.rules in
+    let d = ap (map front_rules) c.deref-2.ensures.value ∙ c.serve_fronts-2.ensures.rules in
+    record {
+      placed = placed-same i d c.requires.placed;
+      room = (
+        es,
+        e,
+        record {
+          on_i = subst (λ (l : List Front). All (FrontSent side.I es e) l)
+              (sym c.deref.ensures.value) (c.in_ok-serve_fronts.ensures.sent es room.1.i);
+          on_d = subst (λ (l : List Front). All (FrontSent side.D es e) l)
+              (sym c.deref-2.ensures.value) (c.in_ok-serve_fronts-2.ensures.sent es room.1.d);
+        },
+        served-same i d room.1.backs,
+        room.2,
+      );
+    }
+
+pub returns-clause-served : goal.returns-clause-served
+unfolding lane_task
+returns-clause-served c =
+    let e = c.args.event in
+    let now-i = ap (map front_rules) c.deref.ensures.value in
+    let now-d = ap (map front_rules) c.deref-2.ensures.value in
+    let i = now-i ∙ c.serve_fronts.ensures.rules in
+    let d = now-d ∙ c.serve_fronts-2.ensures.rules in
+    on_ok_weaker c.serve_backs.result (λ served es past. record {
+      i = c.in_ok-serve_fronts.ensures.stands es past.i;
+      d = c.in_ok-serve_fronts-2.ensures.stands es past.d;
+      backs = served-same (sym now-i) (sym now-d)
+          (served es e
+          (record {
+            on_i = subst (λ (l : List Front). All (FrontSent side.I es e) l)
+                (sym c.deref.ensures.value) (c.in_ok-serve_fronts.ensures.sent es past.i);
+            on_d = subst (λ (l : List Front). All (FrontSent side.D es e) l)
+                (sym c.deref-2.ensures.value) (c.in_ok-serve_fronts-2.ensures.sent es past.d);
+          })
+          (served-same i d past.backs));
+    }) c.serve_backs.ensures.served

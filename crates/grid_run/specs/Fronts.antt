@@ -1,0 +1,32 @@
+-- First-level caches of one side.
+use Rattle.std.specs.Prelude.{◌≡◌, ℕ, List, Option, None, Some, map}
+use Rattle.std.specs.Global.{Vec}
+use Rattle.cache_core.specs.History.{History, Rules}
+use Rattle.grid_core.specs.Cells.{items_of}
+use Rattle.grid_core.specs.Written.{written_by}
+use Rattle.grid_run.specs.Levels.{HasServedLast, LevelStandsFor, rules_in}
+use Rattle.grid_run.specs.declared.front.Front.{Front}
+use Rattle.grid_run.specs.declared.front.Last.{Last}
+use Rattle.grid_run.specs.declared.front.Last.TheVariants as last
+use Rattle.grid_run.specs.declared.level.Level.{Level}
+use Rattle.grid_run.specs.declared.requests.Request.{Request}
+use Rattle.grid_run.specs.declared.requests.Request.TheVariants as request
+
+-- the rules of the caches
+abbrev pub front_rules : Front → List Rules
+front_rules f = rules_in f.level
+
+-- the caches have served this history
+abbrev pub FrontStandsFor : Front → History → Type 0
+FrontStandsFor f h = LevelStandsFor f.level h
+
+-- what the caches served last is this request, after the history h
+abbrev pub WasLast : Level → History → Last → Option Request → Type 0
+WasLast l h w None = w ≡ last.Nothing
+WasLast l h w (Some (request.Access x)) = (w ≡ last.Access x) × HasServedLast l h x
+WasLast l h w (Some request.Flush) = (v : Vec (Vec ℕ)) × (w ≡ last.Flush v)
+    × (map items_of v.items ≡ map (written_by h) (rules_in l))
+
+-- the last request of the caches, after the history h
+abbrev pub HasSent : Front → History → Option Request → Type 0
+HasSent f h q = WasLast f.level h f.last q

@@ -1,0 +1,24 @@
+-- Caches that are served together.
+use Rattle.std.specs.Prelude.{◌<◌, ◌^◌, List, length}
+use Rattle.cache_core.specs.History.{History, Rules}
+use Rattle.cache_core.specs.declared.access.Access.{Access}
+use Rattle.grid_core.specs.Engines.{EngineStandsFor, HasAnswered, rules_in as rules_served}
+use Rattle.grid_run.specs.declared.level.Level.{Level}
+
+-- the rules of the caches
+unfoldable pub rules_in : Level → List Rules
+rules_in l = rules_served l.engine
+
+-- the caches have served this history
+pub record LevelStandsFor (l : Level) (h : History) : Type 0 where
+  pub engine : EngineStandsFor l.engine h
+
+-- the last access of the caches was x, after the history h
+pub record HasServedLast (l : Level) (h : History) (x : Access) : Type 0 where
+  pub engine : HasAnswered l.engine h x
+
+-- the caches have room for one more request
+pub record CanServe (l : Level) : Type 0 where
+  pub past : History
+  pub stands : LevelStandsFor l past
+  pub short : length past < 2 ^ 44

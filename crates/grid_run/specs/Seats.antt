@@ -1,0 +1,38 @@
+-- Where caches are served: the rules of each cell of each level.
+use Rattle.std.specs.Prelude.{◌≡◌, ◌<◌, ℕ, List, [], length, get_or, map}
+use Rattle.cache_core.specs.History.{Rules}
+use Rattle.cache_core.specs.Standing.{rules_from}
+use Rattle.grid_core.specs.Written.{rules_at}
+use Rattle.grid_run.specs.declared.seat.Seat.{Seat}
+use Rattle.grid_run.specs.declared.shelf.Shelf.{Shelf}
+
+-- the rules of each cell of each level
+abbrev pub Table : Type 0
+Table = List (List Rules)
+
+-- the rules of the caches on a shelf
+unfoldable pub rules_on : Shelf → List Rules
+rules_on s = map (λ g. rules_from g s.policy) s.geometries.items
+
+-- the rules at a seat
+abbrev pub rules_of_seat : Table → Seat → Rules
+rules_of_seat t s = rules_at (get_or t s.level []) s.cell
+
+-- a seat of a cache with these rules
+pub record IsSeatOf (t : Table) (r : Rules) (s : Seat) : Type 0 where
+  pub level : s.level < length t
+  pub cell : s.cell < length (get_or t s.level [])
+  pub rules : rules_of_seat t s ≡ r
+
+-- each seat of a cache stays one of that cache
+abbrev pub Keeps : Table → Table → Type 0
+Keeps old new = (r : Rules) (s : Seat) → IsSeatOf old r s → IsSeatOf new r s
+
+-- the index of a cell with these rules
+pub record IsCellOf (rs : List Rules) (r : Rules) (cell : ℕ) : Type 0 where
+  pub inside : cell < length rs
+  pub rules : rules_at rs cell ≡ r
+
+-- each cell stays where it is
+abbrev pub KeepsCells : List Rules → List Rules → Type 0
+KeepsCells old new = (r : Rules) (cell : ℕ) → IsCellOf old r cell → IsCellOf new r cell

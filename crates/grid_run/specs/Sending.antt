@@ -1,0 +1,35 @@
+-- What a first-level cache sends for a request, and what a second level has served.
+use Rattle.std.specs.Prelude.{◌+◌, ◌≤◌, ◌^◌, List, [], ◌∷◌, length, Option, Some, None}
+use Rattle.cache_core.specs.History.{Event, History, Rules, access, flush}
+use Rattle.stage_core.specs.SecondLevel.{parts_of, second_history}
+use Rattle.stage_core.specs.declared.message.Side.{Side}
+use Rattle.stage_core.specs.declared.message.What.{What}
+use Rattle.grid_run.specs.Levels.{LevelStandsFor}
+use Rattle.grid_run.specs.declared.level.Level.{Level}
+use Rattle.grid_run.specs.declared.requests.Request.{Request}
+use Rattle.grid_run.specs.declared.requests.Request.TheVariants as request
+
+-- a request as an event of a history
+abbrev pub event_of : Request → Event
+event_of (request.Access x) = access x
+event_of request.Flush = flush
+
+-- a history after one more request, or none
+abbrev pub after_request : Option Request → History → History
+after_request None h = h
+after_request (Some q) h = event_of q ∷ h
+
+-- what a first-level cache sends for a request after a history, or for none
+abbrev pub sent_for : Rules → Side → History → Option Request → List What
+sent_for r s h None = []
+sent_for r s h (Some q) = parts_of r s h (event_of q)
+
+-- the second level has served these requests of the first level
+abbrev pub SecondServed : Level → List What → Type 0
+SecondServed u ws = LevelStandsFor u (second_history ws)
+
+-- the second level has served some requests, and has room for these too
+pub record HasRoom (u : Level) (ws : List What) : Type 0 where
+  pub past : List What
+  pub stands : SecondServed u past
+  pub short : length past + length ws ≤ 2 ^ 44

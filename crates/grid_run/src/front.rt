@@ -1,0 +1,115 @@
+//! First-level caches of one side, and what each sends to the second level.
+
+ghost use Rattle.std.specs.Prelude.{◌≡◌};
+
+use crate::level::Level;
+use crate::parts::{serve_backs, serve_parts};
+use crate::requests::{Request, back_part, fetch_part, flush_part, through_part};
+use crate::shelf::Shelf;
+use cache_core::{Access, Counts, NoMemory, PerClass};
+use stage_core::Side;
+use std::alloc::Global;
+
+/// What the caches served last.
+#[derive(Drop)]
+pub(crate) enum Last {
+    /// The event did not concern them.
+    Nothing,
+    /// An access.
+    Access(Access),
+    /// A flush, with the first bytes of the blocks that each cache wrote back.
+    Flush(Vec<Vec<u64>>),
+}
+
+/// First-level caches of one side, of one block size and one policy.
+#[derive(Drop)]
+pub(crate) struct Front {
+    level: Level,
+    last: Last,
+}
+
+impl Front {
+    ghost use Rattle.std.specs.Prelude.{◌≡◌, ◌<◌, ◌++◌, [], List, IfOk, OnOk, Option, length};
+    ghost use Rattle.cache_core.specs.History.{History};
+    ghost use Rattle.cache_core.specs.Counts.{counts_of};
+    ghost use Rattle.grid_core.specs.FullyAssociative.{shadow_misses};
+    ghost use Rattle.grid_core.specs.Written.{rules_at};
+    ghost use Rattle.stage_core.specs.declared.message.What.{What as Sent};
+    ghost use Rattle.grid_run.specs.declared.requests.Request.{Request as Asked};
+    ghost use Rattle.grid_run.specs.Levels.{CanServe, LevelStandsFor, rules_in};
+    ghost use Rattle.grid_run.specs.Fronts.{front_rules, FrontStandsFor, HasSent};
+    ghost use Rattle.grid_run.specs.Sending.{HasRoom, SecondServed, after_request, sent_for};
+    ghost use Rattle.grid_run.specs.Seats.{rules_on};
+
+    /// The empty caches of a shelf.
+    pub fn new(alloc: Global, shelf: &Shelf) -> Result<Front, NoMemory>
+        ensures stands { IfOk result (λ front. FrontStandsFor front []) }
+        ensures rules { IfOk result (λ front. front_rules front ≡ rules_on shelf.now) }
+    {
+        Ok(Front {
+            level: Level::new(alloc, shelf)?,
+            last: Last::Nothing,
+        })
+    }
+
+    /// Serves a request, if there is one.
+    pub fn serve(&mut self, request: Option<Request>) -> Result<(), NoMemory>
+        requires room { (h : History) × FrontStandsFor self.old h × (length h < 2 ^ 44) }
+        ensures stands { OnOk result ((h : History) → FrontStandsFor self.old h →
+            FrontStandsFor self.new (after_request request h)) }
+        ensures last { OnOk result ((h : History) → FrontStandsFor self.old h →
+            HasSent self.new h request) }
+        ensures rules { front_rules self.new ≡ front_rules self.old }
+    {
+        self.last = match request {
+            Some(Request::Access(access)) => {
+                self.level.access(access)?;
+                Last::Access(access)
+            }
+            Some(Request::Flush) => Last::Flush(self.level.flush()?),
+            None => Last::Nothing,
+        };
+        Ok(())
+    }
+
+    /// Serves what one cache sent for the last request at the second level.
+    pub fn send(&self, cell: usize, side: Side, u: &mut Level) -> Result<(), NoMemory>
+        requires inside { cell < length (front_rules self.now) }
+        requires room { (h : History) × (q : Option Asked) × HasSent self.now h q
+            × HasRoom u.old (sent_for (rules_at (front_rules self.now) cell) side h q) }
+        ensures sends { OnOk result ((h : History) (q : Option Asked) (ws : List Sent) →
+            HasSent self.now h q → SecondServed u.old ws → SecondServed u.new
+            (ws ++ sent_for (rules_at (front_rules self.now) cell) side h q)) }
+        ensures rules { rules_in u.new ≡ rules_in u.old }
+    {
+        match &self.last {
+            Last::Nothing => Ok(()),
+            Last::Access(access) => {
+                let outcome = self.level.outcome(cell);
+                let block = self.level.first_byte(access.addr);
+                let fetch = fetch_part(side, outcome.fetch, block);
+                let through = through_part(outcome.through, access.addr);
+                serve_parts(u, back_part(outcome.back), fetch, through)
+            }
+            Last::Flush(lists) => serve_backs(u, &lists[cell], flush_part(side)),
+        }
+    }
+
+    /// The counts of one cache.
+    pub fn counts(&self, cell: usize) -> Counts
+        requires { cell < length (front_rules self.now) }
+        ensures { (h : History) → FrontStandsFor self.now h →
+            result ≡ counts_of (rules_at (front_rules self.now) cell) h }
+    {
+        self.level.counts(cell)
+    }
+
+    /// How often the shadow of one cache missed.
+    pub fn shadow_misses(&self, cell: usize) -> PerClass
+        requires { cell < length (front_rules self.now) }
+        ensures { (h : History) → FrontStandsFor self.now h →
+            result ≡ shadow_misses (rules_at (front_rules self.now) cell) h }
+    {
+        self.level.shadow_misses(cell)
+    }
+}

@@ -1,0 +1,127 @@
+//! Caches of one block size and one policy, served together.
+
+ghost use Rattle.std.specs.Prelude.{◌≡◌};
+ghost use Rattle.std.specs.List.{All};
+ghost use Rattle.cache_core.specs.Geometry.{bsize_of};
+ghost use Rattle.cache_core.specs.History.{Rules as Kept};
+ghost use Rattle.grid_core.specs.Engines.{rules_in as rules_served};
+
+use crate::shelf::Shelf;
+use cache_core::{Access, Class, Counts, Geometry, NoMemory, Outcome, PerClass};
+use grid_core::Engine;
+use stage_core::What;
+use std::alloc::Global;
+
+/// The caches of a shelf, as the cells of an engine.
+#[derive(Drop)]
+pub(crate) struct Level {
+    first: Geometry,
+    engine: Engine,
+    ghost alike: { All (λ (r : Kept). r.bsize ≡ bsize_of first) (rules_served engine) },
+}
+
+#[tactic(auto, unfolding(crate::specs::Levels::rules_in))]
+impl Level {
+    ghost use Rattle.std.specs.Prelude.{◌≡◌, ◌<◌, ◌*◌, ◌/◌, ◌∷◌, [], ℕ, IfOk, OnOk, length, map};
+    ghost use Rattle.cache_core.specs.History.{History, access as accessed, flush as flushed};
+    ghost use Rattle.cache_core.specs.Parts.{outcome_of};
+    ghost use Rattle.cache_core.specs.declared.access.Access.{Access as Asked};
+    ghost use Rattle.cache_core.specs.Counts.{counts_of};
+    ghost use Rattle.grid_core.specs.Cells.{items_of};
+    ghost use Rattle.grid_core.specs.FullyAssociative.{shadow_misses};
+    ghost use Rattle.grid_core.specs.Written.{rules_at, written_by};
+    ghost use Rattle.stage_core.specs.SecondLevel.{read_as};
+    ghost use Rattle.grid_run.specs.Levels.{CanServe, HasServedLast, LevelStandsFor, rules_in};
+    ghost use Rattle.grid_run.specs.Seats.{rules_on};
+
+    /// The empty caches of a shelf.
+    pub fn new(alloc: Global, shelf: &Shelf) -> Result<Level, NoMemory>
+        ensures stands { IfOk result (λ level. LevelStandsFor level []) }
+        ensures rules { IfOk result (λ level. rules_in level ≡ rules_on shelf.now) }
+    {
+        let first = shelf.first();
+        let engine = Engine::new(alloc, shelf.geometries(), first, shelf.policy())?;
+        Ok(Level { first, engine })
+    }
+
+    /// The address of the first byte of the block that holds an address.
+    pub fn first_byte(&self, addr: u64) -> u64
+        ensures { (cell : ℕ) → cell < length (rules_in self.now) → result
+            ≡ addr / (rules_at (rules_in self.now) cell).bsize
+            * (rules_at (rules_in self.now) cell).bsize }
+    {
+        self.first.first_byte(self.first.block(addr))
+    }
+
+    /// Serves an access.
+    pub fn access(&mut self, access: Access) -> Result<(), NoMemory>
+        requires room { CanServe self.old }
+        ensures last { OnOk result ((h : History) → LevelStandsFor self.old h →
+            HasServedLast self.new h access) }
+        ensures stands { OnOk result ((h : History) → LevelStandsFor self.old h →
+            LevelStandsFor self.new (accessed access ∷ h)) }
+        ensures rules { rules_in self.new ≡ rules_in self.old }
+    {
+        self.engine.access(access)
+    }
+
+    /// Serves a flush, and answers for each cache the first bytes of the blocks that it writes
+    /// back, in ascending order.
+    pub fn flush(&mut self) -> Result<Vec<Vec<u64>>, NoMemory>
+        requires room { CanServe self.old }
+        ensures backs { IfOk result (λ lists. (h : History) → LevelStandsFor self.old h →
+            map items_of lists.items ≡ map (written_by h) (rules_in self.old)) }
+        ensures stands { OnOk result ((h : History) → LevelStandsFor self.old h →
+            LevelStandsFor self.new (flushed ∷ h)) }
+        ensures rules { rules_in self.new ≡ rules_in self.old }
+    {
+        self.engine.flush()
+    }
+
+    /// Serves a request of the first level.
+    pub fn serve(&mut self, what: What) -> Result<(), NoMemory>
+        requires room { CanServe self.old }
+        ensures stands { OnOk result ((h : History) → LevelStandsFor self.old h →
+            LevelStandsFor self.new (read_as what ∷ h)) }
+        ensures rules { rules_in self.new ≡ rules_in self.old }
+    {
+        match what {
+            What::Back(addr) | What::Through(addr) => self.access(Access {
+                class: Class::Write,
+                addr,
+            }),
+            What::Fetch(class, addr) => self.access(Access { class, addr }),
+            What::FlushAll => {
+                self.flush()?;
+                Ok(())
+            }
+        }
+    }
+
+    /// What the last access did in one cache.
+    pub fn outcome(&self, cell: usize) -> Outcome
+        requires { cell < length (rules_in self.now) }
+        ensures { (h : History) (x : Asked) → HasServedLast self.now h x →
+            result ≡ outcome_of (rules_at (rules_in self.now) cell) h x }
+    {
+        self.engine.answer(cell)
+    }
+
+    /// The counts of one cache.
+    pub fn counts(&self, cell: usize) -> Counts
+        requires { cell < length (rules_in self.now) }
+        ensures { (h : History) → LevelStandsFor self.now h →
+            result ≡ counts_of (rules_at (rules_in self.now) cell) h }
+    {
+        self.engine.counts(cell)
+    }
+
+    /// How often the shadow of one cache missed.
+    pub fn shadow_misses(&self, cell: usize) -> PerClass
+        requires { cell < length (rules_in self.now) }
+        ensures { (h : History) → LevelStandsFor self.now h →
+            result ≡ shadow_misses (rules_at (rules_in self.now) cell) h }
+    {
+        self.engine.shadow_misses(cell)
+    }
+}

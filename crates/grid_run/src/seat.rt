@@ -1,0 +1,62 @@
+//! Where a cache is served, among the levels of one side.
+
+ghost use Rattle.std.specs.Prelude.{◌≡◌, ◌<◌, ◌×◌, IfOk, IfSome, OnOk, length, map, true};
+ghost use Rattle.cache_core.specs.Geometry.{bsize_of};
+ghost use Rattle.cache_core.specs.Standing.{rules_from};
+ghost use Rattle.grid_core.specs.Written.{rules_at};
+ghost use Rattle.grid_run.specs.Seats.{IsSeatOf, Keeps, KeepsCells, rules_on};
+
+use crate::shelf::Shelf;
+use cache_core::{Geometry, NoMemory, Policy};
+use std::alloc::Global;
+
+/// Which level of some, and which of its cells.
+#[derive(Clone, Copy, Debug, PartialEq, Eq)]
+pub(crate) struct Seat {
+    pub level: usize,
+    pub cell: usize,
+}
+
+/// The index of a shelf for this block size and policy, if there is one.
+fn find_shelf(shelves: &Vec<Shelf>, geometry: Geometry, policy: Policy) -> Option<usize> {
+    for (index, shelf) in shelves.iter().enumerate() {
+        if shelf.suits(geometry, policy) {
+            return Some(index);
+        }
+    }
+    None
+}
+
+/// The index of a shelf for this block size and policy. Where there is none, an empty one joins
+/// them.
+fn shelf_for(
+    alloc: Global,
+    shelves: &mut Vec<Shelf>,
+    geometry: Geometry,
+    policy: Policy,
+) -> Result<usize, NoMemory> {
+    if let Some(index) = find_shelf(shelves, geometry, policy) {
+        return Ok(index);
+    }
+    let index = shelves.len();
+    if shelves.push(Shelf::new(alloc, geometry, policy)).is_err() {
+        return Err(NoMemory);
+    }
+    Ok(index)
+}
+
+/// The seat of a cache. Where there is none yet, it joins the others of its block size and policy.
+pub(crate) fn seat_for(
+    alloc: Global,
+    shelves: &mut Vec<Shelf>,
+    geometry: Geometry,
+    policy: Policy,
+) -> Result<Seat, NoMemory>
+    ensures seat { IfOk result (IsSeatOf (map rules_on shelves.new.items)
+        (rules_from geometry policy)) }
+    ensures keeps { Keeps (map rules_on shelves.old.items) (map rules_on shelves.new.items) }
+{
+    let level = shelf_for(alloc, shelves, geometry, policy)?;
+    let cell = shelves[level].cell_for(geometry)?;
+    Ok(Seat { level, cell })
+}

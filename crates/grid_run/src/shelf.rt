@@ -1,0 +1,96 @@
+//! Which caches are served together.
+
+ghost use Rattle.std.specs.Prelude.{◌≡◌};
+ghost use Rattle.std.specs.List.{All};
+ghost use Rattle.cache_core.specs.Geometry.{bsize_of};
+
+use cache_core::{Geometry, NoMemory, Policy};
+use std::alloc::Global;
+
+/// The geometries of caches of one block size and one policy, each once.
+#[derive(Drop)]
+pub(crate) struct Shelf {
+    first: Geometry,
+    policy: Policy,
+    geometries: Vec<Geometry>,
+    ghost alike: { All (λ g. bsize_of g ≡ bsize_of first) geometries.items },
+}
+
+#[tactic(auto, unfolding(crate::specs::Seats::rules_on))]
+impl Shelf {
+    ghost use Rattle.std.specs.Prelude.{◌≡◌, [], IfOk, true, map, OnOk};
+    ghost use Rattle.cache_core.specs.Geometry.{bsize_of};
+    ghost use Rattle.cache_core.specs.Standing.{rules_from};
+    ghost use Rattle.grid_run.specs.Seats.{IsCellOf, KeepsCells, rules_on};
+
+    /// A shelf without caches, for those of this block size and policy.
+    pub fn new(alloc: Global, first: Geometry, policy: Policy) -> Shelf
+        ensures first { result.first ≡ first }
+        ensures policy { result.policy ≡ policy }
+        ensures empty { rules_on result ≡ [] }
+    {
+        Shelf {
+            first,
+            policy,
+            geometries: Vec::new(alloc),
+        }
+    }
+
+    /// Whether a cache belongs here.
+    pub fn suits(&self, geometry: Geometry, policy: Policy) -> bool
+        ensures bsize { result ≡ true → bsize_of geometry ≡ bsize_of self.now.first }
+        ensures policy { result ≡ true → self.now.policy ≡ policy }
+    {
+        geometry.bsize() == self.first.bsize() && policy == self.policy
+    }
+
+    /// The index of the geometry of as many blocks in as many sets, if it is here.
+    fn find(&self, geometry: Geometry) -> Option<usize> {
+        for (index, other) in self.geometries.iter().enumerate() {
+            if other.blocks() == geometry.blocks() && other.sets() == geometry.sets() {
+                return Some(index);
+            }
+        }
+        None
+    }
+
+    /// The index of a geometry. Where it is not here yet, it joins the others.
+    pub fn cell_for(&mut self, geometry: Geometry) -> Result<usize, NoMemory>
+        requires { bsize_of geometry ≡ bsize_of self.old.first }
+        ensures cell { IfOk result (IsCellOf (rules_on self.new)
+            (rules_from geometry self.old.policy)) }
+        ensures keeps { KeepsCells (rules_on self.old) (rules_on self.new) }
+        ensures policy { self.new.policy ≡ self.old.policy }
+    {
+        if let Some(index) = self.find(geometry) {
+            return Ok(index);
+        }
+        let index = self.geometries.len();
+        if self.geometries.push(geometry).is_err() {
+            return Err(NoMemory);
+        }
+        Ok(index)
+    }
+
+    /// The block size, as that of a geometry.
+    pub fn first(&self) -> Geometry
+        ensures { result ≡ self.now.first }
+    {
+        self.first
+    }
+
+    /// The policy of the caches.
+    pub fn policy(&self) -> Policy
+        ensures { result ≡ self.now.policy }
+    {
+        self.policy
+    }
+
+    /// The geometries of the caches.
+    pub fn geometries(&self) -> &[Geometry]
+        ensures geometries { map (λ g. rules_from g self.now.policy) result.now
+            ≡ rules_on self.now }
+    {
+        &self.geometries
+    }
+}
