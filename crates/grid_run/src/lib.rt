@@ -4,10 +4,15 @@
 //! in the caches of that row. Then it writes a line for each row. [`write_heads`],
 //! [`write_counted`] and [`write_refused`] write the lines of a table from given figures.
 //!
-//! A row's caches are a tower (`tower`), each cache an engine of grid_core (`cell`). `requests` has
-//! what an event asks of each cache, and what the first level asks of the second. A tower behind
-//! its row's selector is a lane (`lane`). `lanes` has those of all rows, `run` reads the trace, and
-//! `simulation` is the whole run. `numbers` and `table` write.
+//! What rows have in common is done once. All rows of one selection share a `lane`. In it, the
+//! first-level caches of a side that have one block size and one policy are served together by an
+//! engine of grid_core (`level`, `front`, `fronts`), and each pair of first-level caches has its
+//! second levels behind it (`back`, `backs`, `parts`). `requests` has what an event asks of each
+//! cache, and what the first level asks of the second.
+//!
+//! `plan` finds the place of each row: its lane, and a `seat` among the caches of each kind, which a
+//! `shelf` lists. `lanes` has the lanes of a plan, `run` reads the trace, and `simulation` is the
+//! whole run. `numbers` and `table` write.
 //!
 //! Proved for every reader whose bytes are known: if a run succeeds, the text has no fault, and the
 //! bytes written are exactly the table whose every line is what the definitions give for its
