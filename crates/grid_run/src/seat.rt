@@ -1,6 +1,6 @@
 //! Where a cache is served, among the levels of one side.
 
-ghost use Rattle.std.specs.Prelude.{◌≡◌, ◌<◌, ◌×◌, IfOk, IfSome, OnOk, length, map, true};
+ghost use Rattle.std.specs.Prelude.{◌≡◌, ◌<◌, IfOk, length, map};
 ghost use Rattle.cache_core.specs.Geometry.{bsize_of};
 ghost use Rattle.cache_core.specs.Standing.{rules_from};
 ghost use Rattle.grid_core.specs.Written.{rules_at};

@@ -1,5 +1,5 @@
 use Rattle.std.proofs.Common.{◌≡◌, ◌++◌, List, Option, ap, option_to_list, subst, sym, ◌∙◌}
-use Rattle.std.proofs.Common.{append-nil}
+use Rattle.std.proofs.Common.{append-nil, arith}
 use Rattle.std.proofs.lemmas.Result.{on_ok_weaker}
 use Rattle.cache_core.specs.History.{History, access}
 use Rattle.grid_core.specs.Written.{rules_at, written_by}
@@ -12,7 +12,7 @@ use Rattle.grid_run.specs.declared.front.Last.{Last}
 use Rattle.grid_run.specs.declared.front.Last.TheVariants as last
 use Rattle.grid_run.specs.declared.requests.Request.{Request}
 use Rattle.grid_run.proofs.Events.{access-parts, flush-parts}
-use Rattle.grid_run.proofs.Fronts.{sent-access, sent-flush, sent-nothing}
+use Rattle.grid_run.proofs.Sent.{sent-access, sent-flush, sent-nothing}
 use Rattle.grid_run.proofs.Levels.{list-at, list-inside}
 use Rattle.grid_run.proofs.front.Front.send.Goals as goal
 
@@ -33,8 +33,8 @@ serve_parts-requires c =
     let x = c.in-Access.access in
     let was = subst (λ (w : Last). WasLast level h w q) c.in-Access.is c.requires.room.2 in
     let sent = sent-access level h r c.args.side x q was in
-    let parts = access-parts r c.args.side h x c.outcome.result c.first_byte-block.result _ _ _
-    (c.outcome.ensures h x sent.1) (c.first_byte-block.ensures c.args.cell c.requires.inside)
+    let parts = access-parts r c.args.side h x c.outcome-outcome.result c.first_byte-block.result _ _ _
+    (c.outcome-outcome.ensures h x sent.1) (c.first_byte-block.ensures c.args.cell c.requires.inside)
     c.back_part.ensures c.fetch_part-fetch.ensures c.through_part-through.ensures in
     record {
       room = subst (λ (l : List What). HasRoom c.args.u.now l) (sent.0 ∙ sym parts)
@@ -49,8 +49,8 @@ returns-in-Access-clause-sends c =
     on_ok_weaker c.serve_parts.result (λ served h q ws last st.
     let was = subst (λ (w : Last). WasLast level h w q) c.in-Access.is last in
     let sent = sent-access level h r c.args.side x q was in
-    let parts = access-parts r c.args.side h x c.outcome.result c.first_byte-block.result _ _ _
-    (c.outcome.ensures h x sent.1) (c.first_byte-block.ensures c.args.cell c.requires.inside)
+    let parts = access-parts r c.args.side h x c.outcome-outcome.result c.first_byte-block.result _ _ _
+    (c.outcome-outcome.ensures h x sent.1) (c.first_byte-block.ensures c.args.cell c.requires.inside)
     c.back_part.ensures c.fetch_part-fetch.ensures c.through_part-through.ensures in
     subst (λ (l : List What). SecondServed c.serve_parts.new.u (ws ++ l)) (parts ∙ sym sent.0)
     (served ws st)) c.serve_parts.ensures.stands
@@ -63,7 +63,12 @@ index-requires c =
     let q = c.requires.room.1 in
     let was = subst (λ (w : Last). WasLast level h w q) c.in-Flush.is c.requires.room.2 in
     let sent = sent-flush level h r c.args.side c.in-Flush.lists q was in
-    list-inside h (rules_in level) c.in-Flush.lists.items sent.1 c.args.cell c.requires.inside
+    let v = c.in-Flush.lists in
+    omega (
+      arith,
+      list-inside h (rules_in level) v.items sent.1 c.args.cell c.requires.inside,
+      v.ok.0,
+    )
 
 pub serve_backs-requires : goal.serve_backs-requires
 serve_backs-requires c =
