@@ -6,3 +6,7 @@ pub mod Sent
 pub mod Behind
 pub mod Placed
 pub mod Readings
+pub mod Growing
+pub mod Shelves
+pub mod BackShelves
+pub mod RowPlaces

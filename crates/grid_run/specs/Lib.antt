@@ -7,4 +7,5 @@ pub mod Seats
 pub mod Backs
 pub mod Lanes
 pub mod Rows
+pub mod Plans
 pub mod Faults

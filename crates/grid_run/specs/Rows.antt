@@ -1,5 +1,5 @@
 -- The rows of a grid.
-use Rattle.std.specs.Prelude.{◌≡◌, ◌<◌, ℕ, ⊤, ⊥, List, Some, None, Result, Ok, Err, Option, length}
+use Rattle.std.specs.Prelude.{◌≡◌, ◌<◌, ℕ, ⊤, List, Some, None, Result, Ok, Err, Option, length}
 use Rattle.std.specs.Prelude.{get_or}
 use Rattle.std.specs.List.{All}
 use Rattle.din_trace.specs.Text.{Remaining}

@@ -29,7 +29,7 @@ pub(crate) struct Front {
 }
 
 impl Front {
-    ghost use Rattle.std.specs.Prelude.{◌≡◌, ◌<◌, ◌++◌, [], List, IfOk, OnOk, Option, length};
+    ghost use Rattle.std.specs.Prelude.{◌≡◌, ◌<◌, ◌^◌, ◌++◌, [], List, IfOk, OnOk, Option, length};
     ghost use Rattle.cache_core.specs.History.{History};
     ghost use Rattle.cache_core.specs.Counts.{counts_of};
     ghost use Rattle.grid_core.specs.FullyAssociative.{shadow_misses};

@@ -1,16 +1,17 @@
 //! Which caches the rows of a grid have in common.
 
-ghost use Rattle.std.specs.Prelude.{◌≡◌, ◌<◌, IfOk, OnOk, length, get_or, map};
+ghost use Rattle.std.specs.Prelude.{◌≡◌, IfOk, IfSome, OnOk, map};
 ghost use Rattle.std.specs.List.{All};
+ghost use Rattle.cache_core.specs.Standing.{rules_from};
 ghost use Rattle.stage_core.specs.Config.{hierarchy_of};
 ghost use Rattle.stage_core.specs.Events.{IsBounded};
-ghost use Rattle.stage_core.specs.SecondLevel.{Hierarchy};
-ghost use Rattle.stage_core.specs.declared.selection.Selection.{Selection as Chosen};
+ghost use Rattle.grid_run.specs.Backs.{IsPlacedIn, IsSeatIn, task_of_shelf};
 ghost use Rattle.grid_run.specs.Grids.{IsBoundedRow, IsBoundedSetup};
 ghost use Rattle.grid_run.specs.Lanes.{task_of_plan};
-ghost use Rattle.grid_run.specs.Rows.{HasPlace, HavePlaces, IsPlaceIn, IsPlaceOf, IsSound};
-ghost use Rattle.grid_run.specs.declared.plan.LanePlan.{LanePlan as Planned};
-ghost use Rattle.grid_run.specs.declared.plan.Place.{Place as Found};
+ghost use Rattle.grid_run.specs.Plans.{AreBacksFor, IsLaneFor, IsSeatBehind, KeepsBehind};
+ghost use Rattle.grid_run.specs.Plans.{KeepsPlaces, KeepsPlacesIn};
+ghost use Rattle.grid_run.specs.Rows.{HasPlace, HavePlaces, IsPlaceIn, IsSound};
+ghost use Rattle.grid_run.specs.Seats.{Table};
 
 use crate::grid::{Row, Setup};
 use crate::seat::{Seat, seat_for};
@@ -27,10 +28,12 @@ pub(crate) struct BackShelf {
     pub shelf: Shelf,
 }
 
-/// The caches of all rows of one selection.
+/// The caches of all rows of one selection and one part.
 #[derive(Drop)]
 pub(crate) struct LanePlan {
     pub selection: Selection,
+    /// Which lane of this selection it is.
+    pub part: usize,
     pub i: Vec<Shelf>,
     pub d: Vec<Shelf>,
     pub backs: Vec<BackShelf>,
@@ -59,7 +62,9 @@ fn find_back(
     d: Seat,
     geometry: Geometry,
     policy: Policy,
-) -> Option<usize> {
+) -> Option<usize>
+    ensures { IfSome result (AreBacksFor i d geometry policy backs.now.items) }
+{
     for (index, back) in backs.iter().enumerate() {
         if back.i == i && back.d == d && back.shelf.suits(geometry, policy) {
             return Some(index);
@@ -76,7 +81,14 @@ fn back_for(
     d: Seat,
     geometry: Geometry,
     policy: Policy,
-) -> Result<usize, NoMemory> {
+) -> Result<usize, NoMemory>
+    ensures back { IfOk result (AreBacksFor i d geometry policy backs.new.items) }
+    ensures keeps { OnOk result (KeepsBehind (map task_of_shelf backs.old.items)
+        (map task_of_shelf backs.new.items)) }
+    ensures placed { (on_i on_d : Table) → OnOk result (IsSeatIn on_i i → IsSeatIn on_d d →
+        All (IsPlacedIn on_i on_d) (map task_of_shelf backs.old.items) →
+        All (IsPlacedIn on_i on_d) (map task_of_shelf backs.new.items)) }
+{
     if let Some(index) = find_back(backs, i, d, geometry, policy) {
         return Ok(index);
     }
@@ -88,41 +100,74 @@ fn back_for(
     Ok(index)
 }
 
-/// The index of the lane of a selection, if there is one.
-fn find_lane(lanes: &Vec<LanePlan>, selection: Selection) -> Option<usize> {
+/// The seat of a second-level cache behind these seats. Where there is none yet, it joins the
+/// others of its block size and policy there.
+fn seat_behind(
+    alloc: Global,
+    backs: &mut Vec<BackShelf>,
+    i: Seat,
+    d: Seat,
+    geometry: Geometry,
+    policy: Policy,
+) -> Result<Seat, NoMemory>
+    ensures seat { IfOk result (IsSeatBehind i d (rules_from geometry policy)
+        (map task_of_shelf backs.new.items)) }
+    ensures keeps { OnOk result (KeepsBehind (map task_of_shelf backs.old.items)
+        (map task_of_shelf backs.new.items)) }
+    ensures placed { (on_i on_d : Table) → OnOk result (IsSeatIn on_i i → IsSeatIn on_d d →
+        All (IsPlacedIn on_i on_d) (map task_of_shelf backs.old.items) →
+        All (IsPlacedIn on_i on_d) (map task_of_shelf backs.new.items)) }
+{
+    let level = back_for(alloc, backs, i, d, geometry, policy)?;
+    let cell = backs[level].shelf.cell_for(geometry)?;
+    Ok(Seat { level, cell })
+}
+
+/// The index of the lane of a selection and a part, if there is one.
+fn find_lane(lanes: &Vec<LanePlan>, selection: Selection, part: usize) -> Option<usize>
+    ensures { IfSome result (IsLaneFor selection lanes.now.items) }
+{
     for (index, lane) in lanes.iter().enumerate() {
-        if lane.selection == selection {
+        if lane.part == part && lane.selection == selection {
             return Some(index);
         }
     }
     None
 }
 
-/// The index of the lane of a selection. Where there is none, it joins the others.
+/// A lane without caches.
+fn empty_lane(alloc: Global, selection: Selection, part: usize) -> LanePlan
+    requires { IsBounded selection }
+    ensures selection { result.selection ≡ selection }
+    ensures sound { IsSound result }
+{
+    LanePlan {
+        selection,
+        part,
+        i: Vec::new(alloc),
+        d: Vec::new(alloc),
+        backs: Vec::new(alloc),
+    }
+}
+
+/// The index of the lane of a selection and a part. Where there is none, it joins the others.
 fn lane_for(
     alloc: Global,
     lanes: &mut Vec<LanePlan>,
     selection: Selection,
+    part: usize,
 ) -> Result<usize, NoMemory>
     requires { IsBounded selection }
-    ensures lane { IfOk result (λ index. (index < length lanes.new.items)
-        × ((other : Planned) → (get_or lanes.new.items index other).selection ≡ selection)) }
-    ensures keeps { (c : Hierarchy) (s : Chosen) (p : Found) →
-        IsPlaceOf (map task_of_plan lanes.old.items) c s p →
-        IsPlaceOf (map task_of_plan lanes.new.items) c s p }
+    ensures lane { IfOk result (IsLaneFor selection lanes.new.items) }
+    ensures keeps { OnOk result
+        (KeepsPlaces (map task_of_plan lanes.old.items) (map task_of_plan lanes.new.items)) }
     ensures sound { OnOk result (All IsSound lanes.old.items → All IsSound lanes.new.items) }
 {
-    if let Some(index) = find_lane(lanes, selection) {
+    if let Some(index) = find_lane(lanes, selection, part) {
         return Ok(index);
     }
     let index = lanes.len();
-    let lane = LanePlan {
-        selection,
-        i: Vec::new(alloc),
-        d: Vec::new(alloc),
-        backs: Vec::new(alloc),
-    };
-    if lanes.push(lane).is_err() {
+    if lanes.push(empty_lane(alloc, selection, part)).is_err() {
         return Err(NoMemory);
     }
     Ok(index)
@@ -135,8 +180,8 @@ impl LanePlan {
         ensures lane { IfOk result (λ place. place.lane ≡ lane) }
         ensures place { IfOk result (IsPlaceIn (task_of_plan self.new) (hierarchy_of config.now)
             self.old.selection) }
-        ensures keeps { (c : Hierarchy) (s : Chosen) (p : Found) →
-            IsPlaceIn (task_of_plan self.old) c s p → IsPlaceIn (task_of_plan self.new) c s p }
+        ensures keeps { OnOk result
+            (KeepsPlacesIn (task_of_plan self.old) (task_of_plan self.new)) }
         ensures sound { OnOk result (IsSound self.old → IsSound self.new) }
     {
         let (i_geometry, i_policy) = config.i();
@@ -144,36 +189,42 @@ impl LanePlan {
         let (u_geometry, u_policy) = config.u();
         let i = seat_for(alloc, &mut self.i, i_geometry, i_policy)?;
         let d = seat_for(alloc, &mut self.d, d_geometry, d_policy)?;
-        let level = back_for(alloc, &mut self.backs, i, d, u_geometry, u_policy)?;
-        let cell = self.backs[level].shelf.cell_for(u_geometry)?;
-        let u = Seat { level, cell };
+        let u = seat_behind(alloc, &mut self.backs, i, d, u_geometry, u_policy)?;
         Ok(Place { lane, i, d, u })
     }
 }
 
-/// The place of a row, if it was not refused.
+/// The place of a row of this part, if it was not refused.
 fn place_for(
     alloc: Global,
     lanes: &mut Vec<LanePlan>,
     setup: &Setup,
+    part: usize,
 ) -> Result<Option<Place>, NoMemory>
     requires { IsBoundedSetup setup.now }
     ensures place { IfOk result (HasPlace (map task_of_plan lanes.new.items) setup.now) }
-    ensures keeps { (c : Hierarchy) (s : Chosen) (p : Found) →
-        IsPlaceOf (map task_of_plan lanes.old.items) c s p →
-        IsPlaceOf (map task_of_plan lanes.new.items) c s p }
+    ensures keeps { OnOk result
+        (KeepsPlaces (map task_of_plan lanes.old.items) (map task_of_plan lanes.new.items)) }
     ensures sound { OnOk result (All IsSound lanes.old.items → All IsSound lanes.new.items) }
 {
     let Setup::Simulated(config, selection) = setup else {
         return Ok(None);
     };
-    let lane = lane_for(alloc, lanes, *selection)?;
+    let lane = lane_for(alloc, lanes, *selection, part)?;
     let place = lanes[lane].place_for(alloc, config, lane)?;
     Ok(Some(place))
 }
 
-/// The plan for the rows of a grid.
-pub(crate) fn plan_for(alloc: Global, rows: &[Row]) -> Result<Plan, NoMemory>
+/// The part that a row belongs to: each part takes one row after another.
+fn part_of(row: usize, parts: usize) -> usize {
+    if parts == 0 {
+        return 0;
+    }
+    row % parts
+}
+
+/// The plan for the rows of a grid, whose lanes are in so many parts.
+pub(crate) fn plan_for(alloc: Global, rows: &[Row], parts: usize) -> Result<Plan, NoMemory>
     requires { All IsBoundedRow rows.now }
     ensures places { IfOk result (λ plan.
         HavePlaces (map task_of_plan plan.lanes.items) rows.now plan.places.items) }
@@ -181,8 +232,9 @@ pub(crate) fn plan_for(alloc: Global, rows: &[Row]) -> Result<Plan, NoMemory>
 {
     let mut lanes = Vec::new(alloc);
     let mut places = Vec::new(alloc);
-    for row in rows {
-        let place = place_for(alloc, &mut lanes, &row.setup)?;
+    for (index, row) in rows.iter().enumerate() {
+        let part = part_of(index, parts);
+        let place = place_for(alloc, &mut lanes, &row.setup, part)?;
         if places.push(place).is_err() {
             return Err(NoMemory);
         }

@@ -1,10 +1,9 @@
 //! Where a cache is served, among the levels of one side.
 
-ghost use Rattle.std.specs.Prelude.{◌≡◌, ◌<◌, IfOk, length, map};
-ghost use Rattle.cache_core.specs.Geometry.{bsize_of};
+ghost use Rattle.std.specs.Prelude.{IfOk, IfSome, OnOk, map};
 ghost use Rattle.cache_core.specs.Standing.{rules_from};
-ghost use Rattle.grid_core.specs.Written.{rules_at};
-ghost use Rattle.grid_run.specs.Seats.{IsSeatOf, Keeps, KeepsCells, rules_on};
+ghost use Rattle.grid_run.specs.Plans.{IsShelfFor};
+ghost use Rattle.grid_run.specs.Seats.{IsSeatOf, Keeps, rules_on};
 
 use crate::shelf::Shelf;
 use cache_core::{Geometry, NoMemory, Policy};
@@ -18,7 +17,9 @@ pub(crate) struct Seat {
 }
 
 /// The index of a shelf for this block size and policy, if there is one.
-fn find_shelf(shelves: &Vec<Shelf>, geometry: Geometry, policy: Policy) -> Option<usize> {
+fn find_shelf(shelves: &Vec<Shelf>, geometry: Geometry, policy: Policy) -> Option<usize>
+    ensures { IfSome result (IsShelfFor geometry policy shelves.now.items) }
+{
     for (index, shelf) in shelves.iter().enumerate() {
         if shelf.suits(geometry, policy) {
             return Some(index);
@@ -34,7 +35,11 @@ fn shelf_for(
     shelves: &mut Vec<Shelf>,
     geometry: Geometry,
     policy: Policy,
-) -> Result<usize, NoMemory> {
+) -> Result<usize, NoMemory>
+    ensures shelf { IfOk result (IsShelfFor geometry policy shelves.new.items) }
+    ensures keeps { OnOk result
+        (Keeps (map rules_on shelves.old.items) (map rules_on shelves.new.items)) }
+{
     if let Some(index) = find_shelf(shelves, geometry, policy) {
         return Ok(index);
     }
@@ -54,7 +59,8 @@ pub(crate) fn seat_for(
 ) -> Result<Seat, NoMemory>
     ensures seat { IfOk result (IsSeatOf (map rules_on shelves.new.items)
         (rules_from geometry policy)) }
-    ensures keeps { Keeps (map rules_on shelves.old.items) (map rules_on shelves.new.items) }
+    ensures keeps { OnOk result
+        (Keeps (map rules_on shelves.old.items) (map rules_on shelves.new.items)) }
 {
     let level = shelf_for(alloc, shelves, geometry, policy)?;
     let cell = shelves[level].cell_for(geometry)?;

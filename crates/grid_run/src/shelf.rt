@@ -18,15 +18,16 @@ pub(crate) struct Shelf {
 
 #[tactic(auto, unfolding(crate::specs::Seats::rules_on))]
 impl Shelf {
-    ghost use Rattle.std.specs.Prelude.{◌≡◌, [], IfOk, true, map, OnOk};
+    ghost use Rattle.std.specs.Prelude.{◌≡◌, [], IfOk, IfSome, OnOk, true, map};
+    ghost use Rattle.std.specs.List.{All};
     ghost use Rattle.cache_core.specs.Geometry.{bsize_of};
     ghost use Rattle.cache_core.specs.Standing.{rules_from};
+    ghost use Rattle.grid_run.specs.Plans.{IsAsLarge, Suits};
     ghost use Rattle.grid_run.specs.Seats.{IsCellOf, KeepsCells, rules_on};
 
     /// A shelf without caches, for those of this block size and policy.
     pub fn new(alloc: Global, first: Geometry, policy: Policy) -> Shelf
-        ensures first { result.first ≡ first }
-        ensures policy { result.policy ≡ policy }
+        ensures suits { Suits first policy result }
         ensures empty { rules_on result ≡ [] }
     {
         Shelf {
@@ -38,14 +39,15 @@ impl Shelf {
 
     /// Whether a cache belongs here.
     pub fn suits(&self, geometry: Geometry, policy: Policy) -> bool
-        ensures bsize { result ≡ true → bsize_of geometry ≡ bsize_of self.now.first }
-        ensures policy { result ≡ true → self.now.policy ≡ policy }
+        ensures { result ≡ true → Suits geometry policy self.now }
     {
         geometry.bsize() == self.first.bsize() && policy == self.policy
     }
 
     /// The index of the geometry of as many blocks in as many sets, if it is here.
-    fn find(&self, geometry: Geometry) -> Option<usize> {
+    fn find(&self, geometry: Geometry) -> Option<usize>
+        ensures { IfSome result (IsAsLarge self.now.geometries.items geometry) }
+    {
         for (index, other) in self.geometries.iter().enumerate() {
             if other.blocks() == geometry.blocks() && other.sets() == geometry.sets() {
                 return Some(index);
@@ -59,8 +61,7 @@ impl Shelf {
         requires { bsize_of geometry ≡ bsize_of self.old.first }
         ensures cell { IfOk result (IsCellOf (rules_on self.new)
             (rules_from geometry self.old.policy)) }
-        ensures keeps { KeepsCells (rules_on self.old) (rules_on self.new) }
-        ensures policy { self.new.policy ≡ self.old.policy }
+        ensures keeps { OnOk result (KeepsCells (rules_on self.old) (rules_on self.new)) }
     {
         if let Some(index) = self.find(geometry) {
             return Ok(index);
@@ -90,6 +91,7 @@ impl Shelf {
     pub fn geometries(&self) -> &[Geometry]
         ensures geometries { map (λ g. rules_from g self.now.policy) result.now
             ≡ rules_on self.now }
+        ensures alike { All (λ g. bsize_of g ≡ bsize_of self.now.first) result.now }
     {
         &self.geometries
     }

@@ -135,7 +135,7 @@ pub fn simulate_grid<R: ByteReader + Drop, W: ByteWriter>(
         → W.failures writer.new ≡ once_more (W.failures writer.old) }
     ensures unwritten { IfErr result (λ why. why ≢ GridFault.Write → writer.new ≡ writer.old) }
 {
-    let Ok(plan) = plan_for(alloc, &grid.rows) else {
+    let Ok(plan) = plan_for(alloc, &grid.rows, 1) else {
         return Err(GridFault::Memory);
     };
     let Ok(mut lanes) = lanes_for(alloc, &plan.lanes) else {

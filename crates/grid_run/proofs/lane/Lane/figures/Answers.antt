@@ -10,19 +10,14 @@ use Rattle.grid_run.proofs.Behind.{at-seat, cell-inside, level-inside, rules-sea
 use Rattle.grid_run.proofs.Placed.{back-inside, back-there, requests-there, seat-in}
 use Rattle.grid_run.proofs.lane.Lane.figures.Goals as goal
 
-pub index-requires : goal.index-requires
-unfolding lane_task
-index-requires c =
-    level-inside c.args.self.now.i.items c.args.place.now.i _ _ (seat-in c.requires.2.i)
-
 pub returns : goal.returns
 unfolding lane_task
 returns c = λ rules chosen past place taken.
     let l = c.args.self.now in
     let p = c.args.place.now in
     let fi = c.index.result.now in
-    let fd = c.index-2.result.now in
-    let b = c.index-3.result.now in
+    let fd = c.index-d.result.now in
+    let b = c.index.result.now in
     let sel : events l.selector.selection past ≡ events chosen past =
     ap (λ (s : Selection). events s past) place.selection in
     let es : List DinRecord = events l.selector.selection past in

@@ -1,0 +1,123 @@
+-- Second levels behind seats of the first level, while more caches join them.
+use Rattle.std.proofs.Common.{◌≡◌, ℕ, ◌<◌, [], ◌∷◌, ◌++◌, List, length, get_or, map, set}
+use Rattle.std.proofs.Common.{ap, sym, subst, ◌∙◌}
+use Rattle.std.specs.List.{All}
+use Rattle.std.proofs.lemmas.List.{get_or-map, length-map, map_push, map-set}
+use Rattle.std.proofs.lemmas.List.Elements.{All-push, All-set, All-weaker}
+use Rattle.cache_core.specs.History.{Rules}
+use Rattle.cache_core.specs.declared.geometry.Geometry.{Geometry}
+use Rattle.cache_core.specs.declared.policy.Policy.{Policy}
+use Rattle.grid_run.specs.Backs.{BackTask, IsPlacedIn, IsSeatIn, task_of_shelf}
+use Rattle.grid_run.specs.Plans.{AreBacksFor, IsCellBehind, IsSeatBehind, KeepsBehind}
+use Rattle.grid_run.specs.Plans.{SuitsBehind}
+use Rattle.grid_run.specs.Seats.{IsCellOf, Keeps, KeepsCells, Table, rules_on}
+use Rattle.grid_run.specs.declared.plan.BackShelf.{BackShelf}
+use Rattle.grid_run.specs.declared.seat.Seat.{Seat}
+use Rattle.grid_run.specs.declared.shelf.Shelf.{Shelf}
+use Rattle.grid_run.proofs.Growing.{at-changed, at-push, at-set, inside-push, inside-set}
+use Rattle.grid_run.proofs.Shelves.{seat-stays}
+
+-- the second levels that were found
+pub backs-at : (i d : Seat) (g : Geometry) (p : Policy) (xs : List BackShelf) (k : ℕ)
+    (x : BackShelf) → AreBacksFor i d g p xs k → x ≡ get_or xs k x → SuitsBehind i d g p x
+backs-at i d g p xs k x own at = subst (SuitsBehind i d g p) (sym at) (own.suits x)
+
+module _ (xs ys : List BackShelf) (x : BackShelf) (is : ys ≡ xs ++ x ∷ []) where
+  joined : map task_of_shelf ys ≡ map task_of_shelf xs ++ task_of_shelf x ∷ []
+  joined = ap (map task_of_shelf) is ∙ map_push task_of_shelf xs x
+
+  -- seats stay where more second levels join
+  pub backs-joined : KeepsBehind (map task_of_shelf xs) (map task_of_shelf ys)
+  backs-joined = λ i d r s own.
+      let old = map task_of_shelf xs in
+      let new = map task_of_shelf ys in
+      record {
+        level = inside-push old new s.level (task_of_shelf x) joined own.level;
+        back = λ other. at-push (IsCellBehind i d r s.cell) old new s.level (task_of_shelf x)
+            other joined own.level (own.back other);
+      }
+
+  -- all are behind seats that are there
+  pub placed-joined : (on_i on_d : Table) → IsSeatIn on_i x.i → IsSeatIn on_d x.d
+      → All (IsPlacedIn on_i on_d) (map task_of_shelf xs)
+      → All (IsPlacedIn on_i on_d) (map task_of_shelf ys)
+  unfolding task_of_shelf
+  placed-joined on_i on_d at_i at_d all =
+      subst (All (IsPlacedIn on_i on_d)) (sym joined)
+      (All-push (IsPlacedIn on_i on_d) (map task_of_shelf xs) (task_of_shelf x) all
+      (record { on_i = at_i; on_d = at_d }))
+
+-- second levels with another shelf
+abbrev pub with_shelf : BackShelf → Shelf → BackShelf
+with_shelf x s = record { i = x.i; d = x.d; shelf = s }
+
+module _ (xs : List BackShelf) (k : ℕ) (x : BackShelf) (s : Shelf) (lt : k < length xs)
+    (at : x ≡ get_or xs k x) where
+  level-inside : k < length (map task_of_shelf xs)
+  level-inside = subst (λ n. k < n) (sym (length-map xs task_of_shelf)) lt
+
+  here : (other : BackTask) → get_or (map task_of_shelf xs) k other ≡ task_of_shelf x
+  here other = get_or-map task_of_shelf xs k x other lt ∙ ap task_of_shelf (sym at)
+
+  changed : map task_of_shelf (set xs k (with_shelf x s))
+      ≡ set (map task_of_shelf xs) k (task_of_shelf (with_shelf x s))
+  changed = map-set task_of_shelf xs k (with_shelf x s)
+
+  cell-kept : KeepsCells (rules_on x.shelf) (rules_on s) → (i d : Seat) (r : Rules) (cell : ℕ)
+      → IsCellBehind i d r cell (task_of_shelf x)
+      → IsCellBehind i d r cell (task_of_shelf (with_shelf x s))
+  unfolding task_of_shelf
+  cell-kept keeps i d r cell own =
+      record { on_i = own.on_i; on_d = own.on_d; cell = keeps r cell own.cell }
+
+  -- seats stay where the shelf keeps its cells
+  pub backs-kept : KeepsCells (rules_on x.shelf) (rules_on s)
+      → KeepsBehind (map task_of_shelf xs) (map task_of_shelf (set xs k (with_shelf x s)))
+  backs-kept keeps = λ i d r u own.
+      let old = map task_of_shelf xs in
+      let y = task_of_shelf (with_shelf x s) in
+      subst (λ (l : List BackTask). IsSeatBehind i d r l u) (sym changed) (record {
+        level = inside-set old k u.level y own.level;
+        back = λ other. at-set (IsCellBehind i d r u.cell) old k u.level y other level-inside
+            (λ was. cell-kept keeps i d r u.cell
+            (subst (IsCellBehind i d r u.cell) (here other) was)) (own.back other);
+      })
+
+  -- the seat of a cell of the shelf
+  pub seat-among : (i d : Seat) (g : Geometry) (p : Policy) (r : Rules) (cell : ℕ)
+      → SuitsBehind i d g p x → IsCellOf (rules_on s) r cell
+      → IsSeatBehind i d r (map task_of_shelf (set xs k (with_shelf x s)))
+      (record { level = k; cell = cell })
+  unfolding task_of_shelf
+  seat-among i d g p r cell suits own =
+      let old = map task_of_shelf xs in
+      let y = task_of_shelf (with_shelf x s) in
+      subst (λ (l : List BackTask). IsSeatBehind i d r l (record { level = k; cell = cell }))
+      (sym changed) (record {
+        level = inside-set old k k y level-inside;
+        back = λ other. at-changed (IsCellBehind i d r cell) old k y other level-inside
+            (record { on_i = suits.on_i; on_d = suits.on_d; cell = own });
+      })
+
+  -- all stay behind their seats
+  pub placed-kept : (on_i on_d : Table) → All (IsPlacedIn on_i on_d) (map task_of_shelf xs)
+      → All (IsPlacedIn on_i on_d) (map task_of_shelf (set xs k (with_shelf x s)))
+  unfolding task_of_shelf
+  placed-kept on_i on_d all =
+      let old = map task_of_shelf xs in
+      let y = task_of_shelf (with_shelf x s) in
+      let was : IsPlacedIn on_i on_d (task_of_shelf x) =
+      subst (IsPlacedIn on_i on_d) (here (task_of_shelf x))
+      (all k (task_of_shelf x) level-inside) in
+      subst (All (IsPlacedIn on_i on_d)) (sym changed)
+      (All-set (IsPlacedIn on_i on_d) old k y
+      (record { on_i = was.on_i; on_d = was.on_d }) all)
+
+-- all stay behind their seats where the seats stay
+pub placed-grows : (i j d e : Table) → Keeps i j → Keeps d e → (bs : List BackTask)
+    → All (IsPlacedIn i d) bs → All (IsPlacedIn j e) bs
+placed-grows i j d e on_i on_d bs all =
+    All-weaker (IsPlacedIn i d) (IsPlacedIn j e) (λ b own. record {
+      on_i = seat-stays i j on_i b.i own.on_i;
+      on_d = seat-stays d e on_d b.d own.on_d;
+    }) bs all

@@ -1,0 +1,150 @@
+-- Shelves, and seats on them.
+use Rattle.std.proofs.Common.{◌≡◌, ℕ, ◌/◌, ◌<◌, [], ◌∷◌, ◌++◌, List, length, get_or, map, set}
+use Rattle.std.proofs.Common.{Bool, true, false, if◌then◌else◌, refl, ap, sym, subst, ◌∙◌}
+use Rattle.std.specs.List.{All}
+use Rattle.std.proofs.lemmas.List.Elements.{All-push}
+use Rattle.std.proofs.lemmas.List.{get_or-map, length-map, map_push, map-set}
+use Rattle.cache_core.specs.Geometry.{assoc_of, blocks_of, bsize_of, sets_of}
+use Rattle.cache_core.specs.History.{Rules}
+use Rattle.cache_core.specs.Policy.{is_fifo}
+use Rattle.cache_core.specs.Standing.{rules_from}
+use Rattle.cache_core.specs.declared.geometry.Geometry.{Geometry}
+use Rattle.cache_core.specs.declared.policy.Policy.{Policy}
+use Rattle.grid_core.specs.Written.{no_rules}
+use Rattle.grid_core.proofs.Geometries.{ways-are}
+use Rattle.grid_run.specs.Backs.{IsSeatIn}
+use Rattle.grid_run.specs.Plans.{IsAsLarge, IsShelfFor, Suits}
+use Rattle.grid_run.specs.Seats.{IsCellOf, IsSeatOf, Keeps, KeepsCells, Table, rules_of_seat}
+use Rattle.grid_run.specs.Seats.{rules_on}
+use Rattle.grid_run.specs.declared.seat.Seat.{Seat}
+use Rattle.grid_run.specs.declared.shelf.Shelf.{Shelf}
+use Rattle.grid_run.proofs.Growing.{at-changed, at-last, at-push, at-set, inside-last}
+use Rattle.grid_run.proofs.Growing.{inside-push, inside-set}
+
+-- geometries of one block size that have as many blocks, in as many sets, give the same rules
+pub same-rules : (a b : Geometry) (p : Policy) → bsize_of a ≡ bsize_of b
+    → blocks_of a ≡ blocks_of b → sets_of a ≡ sets_of b → rules_from a p ≡ rules_from b p
+same-rules a b p bytes blocks sets =
+    let ways : assoc_of a ≡ assoc_of b = sym (ways-are a) ∙ ap (λ n. n / sets_of a) blocks
+    ∙ ap (λ n. blocks_of b / n) sets ∙ ways-are b in
+    λ k. record {
+      bsize = bytes k;
+      sets = sets k;
+      assoc = ways k;
+      blocks = blocks k;
+      fifo = is_fifo p;
+      wback = p.wback;
+      walloc = p.walloc;
+    }
+
+-- so do the same geometry and policy
+pub same-from : (a b : Geometry) (p q : Policy) → a ≡ b → p ≡ q → rules_from a p ≡ rules_from b q
+same-from a b p q at by = ap (λ g. rules_from g p) at ∙ ap (rules_from b) by
+
+-- the cell of a geometry that is on the shelf
+pub cell-found : (s : Shelf) (g : Geometry) (index : ℕ) → IsAsLarge s.geometries.items g index
+    → bsize_of g ≡ bsize_of s.first → IsCellOf (rules_on s) (rules_from g s.policy) index
+unfolding rules_on
+cell-found s g index large bytes =
+    let gs = s.geometries.items in
+    record {
+      inside = subst (λ n. index < n) (sym (length-map gs (λ d. rules_from d s.policy)))
+          large.inside;
+      rules = get_or-map (λ d. rules_from d s.policy) gs index g no_rules large.inside
+          ∙ same-rules (get_or gs index g) g s.policy
+          (s.alike index g large.inside ∙ sym bytes) (large.blocks g) (large.sets g);
+    }
+
+-- the cell of a geometry that joins the others
+pub cell-joined : (gs gs' : List Geometry) (g : Geometry) (p : Policy) (index : ℕ)
+    → gs' ≡ gs ++ g ∷ [] → index ≡ length gs
+    → IsCellOf (map (λ d. rules_from d p) gs') (rules_from g p) index
+cell-joined gs gs' g p index is last =
+    let f = λ (d : Geometry). rules_from d p in
+    let joined = ap (map f) is ∙ map_push f gs g in
+    let at = last ∙ sym (length-map gs f) in
+    record {
+      inside = inside-last (map f gs) (map f gs') index (f g) joined at;
+      rules = at-last (λ r. r ≡ f g) (map f gs) (map f gs') index (f g) no_rules joined at refl;
+    }
+
+-- the other cells stay
+pub cells-joined : (gs gs' : List Geometry) (g : Geometry) (p : Policy) → gs' ≡ gs ++ g ∷ []
+    → KeepsCells (map (λ d. rules_from d p) gs) (map (λ d. rules_from d p) gs')
+cells-joined gs gs' g p is = λ r cell own.
+    let f = λ (d : Geometry). rules_from d p in
+    let joined = ap (map f) is ∙ map_push f gs g in
+    record {
+      inside = inside-push (map f gs) (map f gs') cell (f g) joined own.inside;
+      rules = at-push (λ q. q ≡ r) (map f gs) (map f gs') cell (f g) no_rules joined own.inside
+          own.rules;
+    }
+
+-- the shelf keeps to one block size, whether the push succeeds or not
+pub alike-pushed : (b : ℕ) (ok : Bool) (gs gs' : List Geometry) (g : Geometry)
+    → gs' ≡ (if ok then gs ++ g ∷ [] else gs) → All (λ d. bsize_of d ≡ b) gs
+    → bsize_of g ≡ b → All (λ d. bsize_of d ≡ b) gs'
+alike-pushed b true gs gs' g is all one = subst (All (λ d. bsize_of d ≡ b)) (sym is)
+    (All-push (λ d. bsize_of d ≡ b) gs g all one)
+alike-pushed b false gs gs' g is all one = subst (All (λ d. bsize_of d ≡ b)) (sym is) all
+
+-- a seat by the cell of its level
+seat-of : (t : Table) (r : Rules) (s : Seat) → s.level < length t
+    → IsCellOf (get_or t s.level []) r s.cell → IsSeatOf t r s
+seat-of t r s lt own = record { level = lt; cell = own.inside; rules = own.rules }
+
+cell-of : (t : Table) (r : Rules) (s : Seat) → IsSeatOf t r s
+    → IsCellOf (get_or t s.level []) r s.cell
+cell-of t r s own = record { inside = own.cell; rules = own.rules }
+
+-- seats stay where a shelf joins the others
+pub seats-joined : (xs ys : List Shelf) (x : Shelf) → ys ≡ xs ++ x ∷ []
+    → Keeps (map rules_on xs) (map rules_on ys)
+seats-joined xs ys x is = λ r s own.
+    let joined = ap (map rules_on) is ∙ map_push rules_on xs x in
+    seat-of (map rules_on ys) r s
+    (inside-push (map rules_on xs) (map rules_on ys) s.level (rules_on x) joined own.level)
+    (at-push (λ l. IsCellOf l r s.cell) (map rules_on xs) (map rules_on ys) s.level (rules_on x) []
+    joined own.level (cell-of (map rules_on xs) r s own))
+
+module _ (xs : List Shelf) (i : ℕ) (x y : Shelf) (lt : i < length xs) where
+  -- the caches of the shelf at an index
+  level-inside : i < length (map rules_on xs)
+  level-inside = subst (λ n. i < n) (sym (length-map xs rules_on)) lt
+
+  -- seats stay where a shelf keeps its cells
+  pub seats-kept : x ≡ get_or xs i x → KeepsCells (rules_on x) (rules_on y)
+      → Keeps (map rules_on xs) (map rules_on (set xs i y))
+  seats-kept at keeps = λ r s own.
+      let t = map rules_on xs in
+      let here : get_or t i [] ≡ rules_on x =
+      get_or-map rules_on xs i x [] lt ∙ ap rules_on (sym at) in
+      subst (λ (l : Table). IsSeatOf l r s) (sym (map-set rules_on xs i y))
+      (seat-of (set t i (rules_on y)) r s (inside-set t i s.level (rules_on y) own.level)
+      (at-set (λ l. IsCellOf l r s.cell) t i s.level (rules_on y) [] level-inside
+      (λ old. keeps r s.cell (subst (λ l. IsCellOf l r s.cell) here old))
+      (cell-of t r s own)))
+
+  -- the seat of a cell of the shelf
+  pub seat-on : (r : Rules) (cell : ℕ) → IsCellOf (rules_on y) r cell
+      → IsSeatOf (map rules_on (set xs i y)) r (record { level = i; cell = cell })
+  seat-on r cell own =
+      let t = map rules_on xs in
+      subst (λ (l : Table). IsSeatOf l r (record { level = i; cell = cell }))
+      (sym (map-set rules_on xs i y))
+      (seat-of (set t i (rules_on y)) r (record { level = i; cell = cell })
+      (inside-set t i i (rules_on y) level-inside)
+      (at-changed (λ l. IsCellOf l r cell) t i (rules_on y) [] level-inside own))
+
+-- the shelf that was found
+pub suits-at : (g : Geometry) (p : Policy) (xs : List Shelf) (i : ℕ) (x : Shelf)
+    → IsShelfFor g p xs i → x ≡ get_or xs i x → Suits g p x
+suits-at g p xs i x own at = subst (Suits g p) (sym at) (own.suits x)
+
+-- a seat of a cache is one of the table, and stays one
+pub seat-there : (t : Table) (r : Rules) (s : Seat) → IsSeatOf t r s → IsSeatIn t s
+seat-there t r s own = record { level = own.level; cell = own.cell }
+
+pub seat-stays : (t u : Table) → Keeps t u → (s : Seat) → IsSeatIn t s → IsSeatIn u s
+seat-stays t u keeps s own = seat-there u (rules_of_seat t s) s
+    (keeps (rules_of_seat t s) s (record { level = own.level; cell = own.cell; rules = refl }))
