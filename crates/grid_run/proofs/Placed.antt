@@ -30,15 +30,15 @@ pub served-by-same : (s : Selector) (l : Lane) (es : List DinRecord) → HasServ
 served-by-same s l es served = record { i = served.i; d = served.d; backs = served.backs }
 
 -- second levels behind caches of the same rules
-pub placed-same : {i i' d d' : Table} {ts : List BackTask} → i ≡ i' → d ≡ d'
+pub placed-same : {i i' d d' : Table} (ts : List BackTask) → i ≡ i' → d ≡ d'
     → All (IsPlacedIn i' d') ts → All (IsPlacedIn i d) ts
-placed-same {i' = i'} {d = d} {ts = ts} on_i on_d all =
+placed-same {i' = i'} {d = d} ts on_i on_d all =
     subst (λ (t : Table). All (IsPlacedIn t d) ts) (sym on_i)
     (subst (λ (t : Table). All (IsPlacedIn i' t) ts) (sym on_d) all)
 
-pub served-same : {i i' d d' : Table} {es : List DinRecord} {bs : List Back} → i ≡ i' → d ≡ d'
-    → All (BackServed i' d' es) bs → All (BackServed i d es) bs
-served-same {i' = i'} {d = d} {es = es} {bs = bs} on_i on_d all =
+pub served-same : {i i' d d' : Table} (es : List DinRecord) (bs : List Back) → i ≡ i'
+    → d ≡ d' → All (BackServed i' d' es) bs → All (BackServed i d es) bs
+served-same {i' = i'} {d = d} es bs on_i on_d all =
     subst (λ (t : Table). All (BackServed t d es) bs) (sym on_i)
     (subst (λ (t : Table). All (BackServed i' t es) bs) (sym on_d) all)
 

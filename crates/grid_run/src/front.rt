@@ -29,13 +29,15 @@ pub(crate) struct Front {
 }
 
 impl Front {
-    ghost use Rattle.std.specs.Prelude.{◌≡◌, ◌<◌, ◌^◌, ◌++◌, [], List, IfOk, OnOk, Option, length};
-    ghost use Rattle.cache_core.specs.History.{History};
+    ghost use Rattle.std.specs.Prelude.{◌≡◌, ◌<◌, ◌^◌, ◌++◌, ◌∷◌, [], List, IfOk, OnOk, Option};
+    ghost use Rattle.std.specs.Prelude.{Some, length};
+    ghost use Rattle.cache_core.specs.History.{History, access as accessed, flush as flushed};
     ghost use Rattle.cache_core.specs.Counts.{counts_of};
     ghost use Rattle.grid_core.specs.FullyAssociative.{shadow_misses};
     ghost use Rattle.grid_core.specs.Written.{rules_at};
     ghost use Rattle.stage_core.specs.declared.message.What.{What as Sent};
     ghost use Rattle.grid_run.specs.declared.requests.Request.{Request as Asked};
+    ghost use Rattle.grid_run.specs.declared.requests.Request.TheVariants as asked;
     ghost use Rattle.grid_run.specs.Levels.{CanServe, LevelStandsFor, rules_in};
     ghost use Rattle.grid_run.specs.Fronts.{front_rules, FrontStandsFor, HasSent};
     ghost use Rattle.grid_run.specs.Sending.{HasRoom, SecondServed, after_request, sent_for};
@@ -52,6 +54,34 @@ impl Front {
         })
     }
 
+    /// Serves an access.
+    fn serve_access(&mut self, access: Access) -> Result<(), NoMemory>
+        requires room { (h : History) × FrontStandsFor self.old h × (length h < 2 ^ 44) }
+        ensures stands { OnOk result ((h : History) → FrontStandsFor self.old h →
+            FrontStandsFor self.new (accessed access ∷ h)) }
+        ensures last { OnOk result ((h : History) → FrontStandsFor self.old h →
+            HasSent self.new h (Some (asked.Access access))) }
+        ensures rules { front_rules self.new ≡ front_rules self.old }
+    {
+        self.level.access(access)?;
+        self.last = Last::Access(access);
+        Ok(())
+    }
+
+    /// Serves a flush.
+    fn serve_flush(&mut self) -> Result<(), NoMemory>
+        requires room { (h : History) × FrontStandsFor self.old h × (length h < 2 ^ 44) }
+        ensures stands { OnOk result ((h : History) → FrontStandsFor self.old h →
+            FrontStandsFor self.new (flushed ∷ h)) }
+        ensures last { OnOk result ((h : History) → FrontStandsFor self.old h →
+            HasSent self.new h (Some asked.Flush)) }
+        ensures rules { front_rules self.new ≡ front_rules self.old }
+    {
+        let lists = self.level.flush()?;
+        self.last = Last::Flush(lists);
+        Ok(())
+    }
+
     /// Serves a request, if there is one.
     pub fn serve(&mut self, request: Option<Request>) -> Result<(), NoMemory>
         requires room { (h : History) × FrontStandsFor self.old h × (length h < 2 ^ 44) }
@@ -61,15 +91,14 @@ impl Front {
             HasSent self.new h request) }
         ensures rules { front_rules self.new ≡ front_rules self.old }
     {
-        self.last = match request {
-            Some(Request::Access(access)) => {
-                self.level.access(access)?;
-                Last::Access(access)
+        match request {
+            Some(Request::Access(access)) => self.serve_access(access),
+            Some(Request::Flush) => self.serve_flush(),
+            None => {
+                self.last = Last::Nothing;
+                Ok(())
             }
-            Some(Request::Flush) => Last::Flush(self.level.flush()?),
-            None => Last::Nothing,
-        };
-        Ok(())
+        }
     }
 
     /// Serves what one cache sent for the last request at the second level.

@@ -31,8 +31,8 @@ loop-front-preserved c =
     let inside : k < length xs = omega arith in
     let inside' : k < length c.args.fronts.now = omega arith in
     let same = c.loop-front.invariant.left k e (omega arith) in
-    let q = c.asked_of.result in
-    let is = c.asked_of.ensures in
+    let q = c.asked_of-request.result in
+    let is = c.asked_of-request.ensures in
     record {
       rules = map-set_same front_rules xs k v e c.serve.ensures.rules
           ∙ c.loop-front.invariant.rules;

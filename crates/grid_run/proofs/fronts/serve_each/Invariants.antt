@@ -10,10 +10,10 @@ use Rattle.grid_run.proofs.fronts.serve_each.Given as goal
 abbrev pub invariant-loop-front : goal.invariant-loop-front
 invariant-loop-front l = record {
   rules : map front_rules l.fronts ≡ map front_rules l.initial.fronts;
-  stands : (es : List DinRecord) → All (FrontAt l.side es) l.initial.fronts →
-      AllWithin (FrontAt l.side (es ++ l.event ∷ [])) l.fronts 0 l.front-index;
-  sent : (es : List DinRecord) → All (FrontAt l.side es) l.initial.fronts →
-      AllWithin (FrontSent l.side es l.event) l.fronts 0 l.front-index;
+  stands : (es : List DinRecord) → All (FrontAt l.fn.side es) l.initial.fronts →
+      AllWithin (FrontAt l.fn.side (es ++ l.fn.event ∷ [])) l.fronts 0 l.front-index;
+  sent : (es : List DinRecord) → All (FrontAt l.fn.side es) l.initial.fronts →
+      AllWithin (FrontSent l.fn.side es l.fn.event) l.fronts 0 l.front-index;
   left : (k : ℕ) (d : Front) → l.front-index ≤ k →
       get_or l.fronts k d ≡ get_or l.initial.fronts k d;
 }

@@ -39,17 +39,8 @@ lane-there ls c s p l at place =
     ∙ ap lane_task (sym at))
     (place.inside (lane_task l))
 
-pub index-requires : goal.index-requires
-index-requires g c =
-    let f = c.in-Simulated.field-0 in
-    let s = c.in-Simulated.field-1 in
-    let p = c.in-Some.place in
-    let place = has-place (map lane_task c.args.lanes.now) c.args.row.now.setup c.args.place.now f s p
-    c.in-Simulated.is c.in-Some.is c.requires in
-    lane-inside c.args.lanes.now f s p place
-
-pub figures-requires : goal.figures-requires
-figures-requires g c =
+pub figures-figures-requires : goal.figures-figures-requires
+figures-figures-requires g c =
     let f = c.in-Simulated.field-0 in
     let s = c.in-Simulated.field-1 in
     let p = c.in-Some.place in
@@ -57,7 +48,7 @@ figures-requires g c =
     c.in-Simulated.is c.in-Some.is c.requires in (
       hierarchy_of f,
       s,
-      lane-there c.args.lanes.now f s p c.index.result.now c.index.ensures place,
+      lane-there c.args.lanes.now f s p c.index-lanes-place.result c.index-lanes-place.is place,
     )
 
 pub returns-in-Some-clause-line : goal.returns-in-Some-clause-line
@@ -65,15 +56,15 @@ returns-in-Some-clause-line g c = λ past served.
     let f = c.in-Simulated.field-0 in
     let s = c.in-Simulated.field-1 in
     let p = c.in-Some.place in
-    let l = c.index.result.now in
+    let l = c.index-lanes-place.result in
     let words = map string_bytes c.args.row.now.words.items in
     let place = has-place (map lane_task c.args.lanes.now) c.args.row.now.setup c.args.place.now f s p
     c.in-Simulated.is c.in-Some.is c.requires in
     let inside = lane-inside c.args.lanes.now f s p place in
-    let there = lane-there c.args.lanes.now f s p l c.index.ensures place in
-    let taken = subst (Took past) (sym c.index.ensures) (served p.lane l inside) in
-    let counted = c.figures.ensures (hierarchy_of f) s past there taken in
-    let line = ap (λ ws. counted_line c.args.columns (map string_bytes ws) c.figures.result)
+    let there = lane-there c.args.lanes.now f s p l c.index-lanes-place.is place in
+    let taken = subst (Took past) (sym c.index-lanes-place.is) (served p.lane l inside) in
+    let counted = c.figures-figures.ensures (hierarchy_of f) s past there taken in
+    let line = ap (λ ws. counted_line c.args.columns (map string_bytes ws) c.figures-figures.result)
     c.deref-in-Some.ensures.value
     ∙ ap (counted_line c.args.columns words) counted
     ∙ ap (setup_line c.args.columns past words) (sym c.in-Simulated.is) in

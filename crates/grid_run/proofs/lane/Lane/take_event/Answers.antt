@@ -28,7 +28,7 @@ serve_backs-requires c =
     let i = ap (map front_rules) c.deref.ensures.value ∙ c.serve_fronts.ensures.rules in
     let d = ap (map front_rules) c.deref-2.ensures.value ∙ c.serve_fronts-2.ensures.rules in
     record {
-      placed = placed-same i d c.requires.placed;
+      placed = placed-same _ i d c.requires.placed;
       room = (
         es,
         e,
@@ -38,7 +38,7 @@ serve_backs-requires c =
           on_d = subst (λ (l : List Front). All (FrontSent side.D es e) l)
               (sym c.deref-2.ensures.value) (c.in_ok-serve_fronts-2.ensures.sent es room.1.d);
         },
-        served-same i d room.1.backs,
+        served-same es _ i d room.1.backs,
         room.2,
       );
     }
@@ -54,7 +54,7 @@ returns-clause-served c =
     on_ok_weaker c.serve_backs.result (λ served es past. record {
       i = c.in_ok-serve_fronts.ensures.stands es past.i;
       d = c.in_ok-serve_fronts-2.ensures.stands es past.d;
-      backs = served-same (sym now-i) (sym now-d)
+      backs = served-same (es ++ e ∷ []) _ (sym now-i) (sym now-d)
           (served es e
           (record {
             on_i = subst (λ (l : List Front). All (FrontSent side.I es e) l)
@@ -62,5 +62,5 @@ returns-clause-served c =
             on_d = subst (λ (l : List Front). All (FrontSent side.D es e) l)
                 (sym c.deref-2.ensures.value) (c.in_ok-serve_fronts-2.ensures.sent es past.d);
           })
-          (served-same i d past.backs));
+          (served-same es _ i d past.backs));
     }) c.serve_backs.ensures.served

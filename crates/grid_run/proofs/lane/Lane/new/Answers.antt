@@ -1,0 +1,29 @@
+use Rattle.std.proofs.Common.{List, map, ap, sym, subst, ◌∙◌}
+use Rattle.std.specs.List.{All}
+use Rattle.grid_run.specs.Backs.{BackTask, IsPlacedIn, task_of_shelf}
+use Rattle.grid_run.specs.Fronts.{front_rules}
+use Rattle.grid_run.specs.Lanes.{lane_task, task_of_plan}
+use Rattle.grid_run.specs.Seats.{rules_on}
+use Rattle.grid_run.proofs.Placed.{placed-same}
+use Rattle.grid_run.proofs.lane.Lane.new.Goals as goal
+
+pub returns-clause-served : goal.returns-clause-served
+unfolding lane_task task_of_plan
+returns-clause-served c =
+    let is = c.in_ok-fronts_for.field-0.items in
+    let ds = c.in_ok-fronts_for-2.field-0.items in
+    let i = c.in_ok-fronts_for.ensures.rules ∙ ap (map rules_on) c.deref.ensures.value in
+    let d = c.in_ok-fronts_for-2.ensures.rules ∙ ap (map rules_on) c.deref-2.ensures.value in
+    let backs = c.in_ok-backs_for.ensures.tasks
+    ∙ ap (map task_of_shelf) c.deref-3.ensures.value in
+    record {
+      placed = subst (λ (ts : List BackTask).
+          All (IsPlacedIn (map front_rules is) (map front_rules ds)) ts) (sym backs)
+          (placed-same _ i d c.requires.placed);
+      offered = c.new.ensures.none;
+      served = record {
+        i = c.in_ok-fronts_for.ensures.i;
+        d = c.in_ok-fronts_for-2.ensures.d;
+        backs = c.in_ok-backs_for.ensures.served _ _;
+      };
+    }
