@@ -1,5 +1,5 @@
 -- What second levels get from a cache in front of them.
-use Rattle.std.proofs.Common.{◌≡◌, ℕ, ◌<◌, List, [], length, get_or, map, ap, sym, subst, ◌∙◌, arith}
+use Rattle.std.proofs.Common.{◌≡◌, ◌<◌, List, [], length, get_or, map, ap, sym, subst, ◌∙◌, arith}
 use Rattle.std.specs.List.{All}
 use Rattle.std.proofs.lemmas.List.{get_or-map, length-map}
 use Rattle.cache_core.specs.History.{Rules}
@@ -10,7 +10,7 @@ use Rattle.stage_core.specs.SecondLevel.{parts_of, sent_up}
 use Rattle.stage_core.specs.declared.message.Side.{Side}
 use Rattle.grid_run.specs.Backs.{FrontSent, IsSeatIn}
 use Rattle.grid_run.specs.Fronts.{front_rules}
-use Rattle.grid_run.specs.Seats.{Table, rules_of_seat}
+use Rattle.grid_run.specs.Seats.{rules_of_seat}
 use Rattle.grid_run.specs.Sending.{sent_for}
 use Rattle.grid_run.specs.declared.front.Front.{Front}
 use Rattle.grid_run.specs.declared.seat.Seat.{Seat}

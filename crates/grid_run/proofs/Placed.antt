@@ -1,5 +1,5 @@
 -- Where the caches of a configuration are in a lane.
-use Rattle.std.proofs.Common.{◌≡◌, ℕ, ◌<◌, List, length, get_or, map, ap, sym, subst, ◌∙◌, arith}
+use Rattle.std.proofs.Common.{◌≡◌, ◌<◌, List, length, get_or, map, ap, sym, subst, ◌∙◌, arith}
 use Rattle.std.specs.List.{All}
 use Rattle.std.proofs.lemmas.List.{get_or-map, length-map}
 use Rattle.cache_core.specs.History.{Rules}

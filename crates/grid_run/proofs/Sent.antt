@@ -1,5 +1,5 @@
 -- What was sent, by what the caches of a front served last.
-use Rattle.std.proofs.Common.{◌≡◌, ℕ, [], List, map, Option, Some, None, refl, sym, subst}
+use Rattle.std.proofs.Common.{◌≡◌, ℕ, [], map, Option, Some, None, refl, sym, subst}
 use Rattle.std.specs.Global.{Vec}
 use Rattle.cache_core.specs.History.{History, Rules, access, flush}
 use Rattle.cache_core.specs.declared.access.Access.{Access}

@@ -3,7 +3,7 @@ use Rattle.std.proofs.Common.{ap, sym, subst, ◌∙◌, arith, get_or-set_other
 use Rattle.std.proofs.Math.Seq.{map-set_same}
 use Rattle.std.proofs.lemmas.List.{get_or-map, length-map}
 use Rattle.std.proofs.lemmas.List.Elements.{AllWithin-more_set}
-use Rattle.grid_run.specs.Backs.{BackTask, IsPlacedIn, ServedBehind, back_task}
+use Rattle.grid_run.specs.Backs.{IsPlacedIn, ServedBehind, back_task}
 use Rattle.grid_run.specs.Fronts.{front_rules}
 use Rattle.grid_run.proofs.backs.take_each.Goals as goal
 

@@ -1,4 +1,4 @@
-use Rattle.std.proofs.Common.{◌++◌, List, Option, append-nil, ap, map, subst, sym, ◌∙◌}
+use Rattle.std.proofs.Common.{◌++◌, List, append-nil, ap, map, subst, sym, ◌∙◌}
 use Rattle.std.specs.List.{All, flat_map}
 use Rattle.std.specs.Io.KnownBytes.{Appends}
 use Rattle.std.specs.Prelude.{string_bytes}

@@ -1,5 +1,5 @@
-use Rattle.std.proofs.Common.{ℕ, ◌<◌, ◌++◌, ◌∷◌, [], List, get_or, map, take, ap, sym, subst}
-use Rattle.std.proofs.Common.{◌∙◌, append-nil, arith}
+use Rattle.std.proofs.Common.{ℕ, ◌++◌, ◌∷◌, [], List, get_or, map, take, None, ap, sym, subst}
+use Rattle.std.proofs.Common.{◌∙◌, append-nil}
 use Rattle.std.specs.List.{flat_map}
 use Rattle.std.specs.Io.KnownBytes.{Appends}
 use Rattle.std.proofs.lemmas.Grind.{flat_map-append}
@@ -15,12 +15,9 @@ use Rattle.grid_run.proofs.simulation.write_rows.Goals as goal
 pub write_row-requires : goal.write_row-requires
 write_row-requires g c =
     let k = c.loop-index.index in
-    let r = c.index-rows-index.result in
-    let p = c.index-places-index.result.now in
-    subst (HasPlace (map lane_task c.args.lanes.now) r.setup) (sym c.index-places-index.ensures)
-    (subst (λ (row : Row). HasPlace (map lane_task c.args.lanes.now) row.setup
-    (get_or c.args.places.now k p)) (sym c.index-rows-index.is)
-    (c.requires.each k r p c.loop-index-test.true))
+    subst (λ (row : Row). HasPlace (map lane_task c.args.lanes.now) row.setup
+    (get_or c.args.places.now k None)) (sym c.index-rows-index.is)
+    (c.requires.each k c.index-rows-index.result None c.loop-index-test.true)
 
 pub loop-index-preserved : goal.loop-index-preserved
 loop-index-preserved g c =

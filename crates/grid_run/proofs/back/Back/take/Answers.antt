@@ -1,8 +1,8 @@
-use Rattle.std.proofs.Common.{◌++◌, ◌∷◌, [], List, length, map, sym, ap, subst, ◌∙◌, arith}
+use Rattle.std.proofs.Common.{◌++◌, List, length, map, sym, ap, subst, ◌∙◌, arith}
 use Rattle.std.proofs.Common.{append_assoc, length-append}
 use Rattle.std.proofs.lemmas.Result.{on_ok_weaker}
 use Rattle.stage_core.specs.Events.{history}
-use Rattle.stage_core.specs.SecondLevel.{Hierarchy, parts_in, sent_up, second_level_requests}
+use Rattle.stage_core.specs.SecondLevel.{parts_in, sent_up, second_level_requests}
 use Rattle.stage_core.specs.declared.message.Side.TheVariants as side
 use Rattle.stage_core.specs.declared.message.What.{What}
 use Rattle.stage_core.proofs.Worked.{room-above, second_level_requests-more}

@@ -1,16 +1,12 @@
-use Rattle.std.proofs.Common.{◌≡◌, ◌++◌, List, Option, ap, option_to_list, subst, sym, ◌∙◌}
+use Rattle.std.proofs.Common.{◌++◌, List, ap, option_to_list, subst, sym, ◌∙◌}
 use Rattle.std.proofs.Common.{append-nil, arith}
 use Rattle.std.proofs.lemmas.Result.{on_ok_weaker}
-use Rattle.cache_core.specs.History.{History, access}
-use Rattle.grid_core.specs.Written.{rules_at, written_by}
-use Rattle.stage_core.specs.SecondLevel.{parts_of}
+use Rattle.grid_core.specs.Written.{rules_at}
 use Rattle.stage_core.specs.declared.message.What.{What}
-use Rattle.grid_run.specs.Fronts.{HasSent, WasLast}
+use Rattle.grid_run.specs.Fronts.{WasLast}
 use Rattle.grid_run.specs.Levels.{rules_in}
-use Rattle.grid_run.specs.Sending.{HasRoom, SecondServed, sent_for}
+use Rattle.grid_run.specs.Sending.{HasRoom, SecondServed}
 use Rattle.grid_run.specs.declared.front.Last.{Last}
-use Rattle.grid_run.specs.declared.front.Last.TheVariants as last
-use Rattle.grid_run.specs.declared.requests.Request.{Request}
 use Rattle.grid_run.proofs.Events.{access-parts, flush-parts}
 use Rattle.grid_run.proofs.Sent.{sent-access, sent-flush, sent-nothing}
 use Rattle.grid_run.proofs.Levels.{list-at, list-inside}

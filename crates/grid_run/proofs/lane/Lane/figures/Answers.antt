@@ -15,7 +15,7 @@ use Rattle.grid_run.specs.Backs.{FrontAt, ServedBehind, back_task}
 use Rattle.grid_run.specs.Lanes.{HasServed, lane_task}
 use Rattle.grid_run.specs.Sending.{SecondServed}
 use Rattle.grid_run.specs.declared.figures.Figures.{Figures}
-use Rattle.grid_run.proofs.Behind.{at-seat, cell-inside, rules-seated}
+use Rattle.grid_run.proofs.Behind.{at-seat, rules-seated}
 use Rattle.grid_run.proofs.Placed.{back-inside, back-there, requests-there, seat-in}
 use Rattle.grid_run.proofs.lane.Lane.figures.Goals as goal
 
