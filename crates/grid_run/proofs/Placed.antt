@@ -42,8 +42,9 @@ served-same {i' = i'} {d = d} es bs on_i on_d all =
     subst (λ (t : Table). All (BackServed t d es) bs) (sym on_i)
     (subst (λ (t : Table). All (BackServed i' t es) bs) (sym on_d) all)
 
-module _ (l : Lane) (c : Hierarchy) (s : Selection) (p : Place) (place : IsPlaceIn (lane_task l) c s p)
-    (b : Back) (at : b ≡ get_or l.backs.items p.u.level b) where
+module _ (l : Lane) (c : Hierarchy) (s : Selection) (p : Place)
+    (place : IsPlaceIn (lane_task l) c s p) (b : Back)
+    (at : b ≡ get_or l.backs.items p.u.level b) where
   -- there are second levels at the place
   pub back-inside : p.u.level < length l.backs.items
   unfolding lane_task

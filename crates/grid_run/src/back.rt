@@ -19,7 +19,8 @@ pub(crate) struct Back {
 
 #[tactic(auto, unfolding(crate::specs::Backs::back_task, crate::specs::Backs::task_of_shelf))]
 impl Back {
-    ghost use Rattle.std.specs.Prelude.{◌≡◌, ◌<◌, ◌*◌, ◌++◌, ◌∷◌, [], List, IfOk, OnOk, length, map};
+    ghost use Rattle.std.specs.Prelude.{◌≡◌, ◌<◌, ◌*◌, ◌++◌, ◌∷◌, [], List, IfOk, OnOk, map};
+    ghost use Rattle.std.specs.Prelude.{length};
     ghost use Rattle.din_trace.specs.declared.record.DinRecord.{DinRecord};
     ghost use Rattle.grid_run.specs.Backs.{BackServed, HaveSent, IsPlacedIn, ServedBehind};
     ghost use Rattle.grid_run.specs.Backs.{back_task, task_of_shelf};

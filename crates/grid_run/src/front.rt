@@ -38,7 +38,7 @@ impl Front {
     ghost use Rattle.stage_core.specs.declared.message.What.{What as Sent};
     ghost use Rattle.grid_run.specs.declared.requests.Request.{Request as Asked};
     ghost use Rattle.grid_run.specs.declared.requests.Request.TheVariants as asked;
-    ghost use Rattle.grid_run.specs.Levels.{CanServe, LevelStandsFor, rules_in};
+    ghost use Rattle.grid_run.specs.Levels.{rules_in};
     ghost use Rattle.grid_run.specs.Fronts.{front_rules, FrontStandsFor, HasSent};
     ghost use Rattle.grid_run.specs.Sending.{HasRoom, SecondServed, after_request, sent_for};
     ghost use Rattle.grid_run.specs.Seats.{rules_on};

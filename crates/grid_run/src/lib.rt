@@ -10,8 +10,8 @@
 //! second levels behind it (`back`, `backs`, `parts`). `requests` has what an event asks of each
 //! cache, and what the first level asks of the second.
 //!
-//! `plan` finds the place of each row: its lane, and a `seat` among the caches of each kind, which a
-//! `shelf` lists. `lanes` has the lanes of a plan, `run` reads the trace, and `simulation` is the
+//! `plan` finds the place of each row: its lane, and a `seat` among the caches of each kind, which
+//! a `shelf` lists. `lanes` has the lanes of a plan, `run` reads the trace, and `simulation` is the
 //! whole run. `numbers` and `table` write.
 //!
 //! Proved for every reader whose bytes are known: if a run succeeds, the text has no fault, and the

@@ -28,12 +28,12 @@ pub(crate) struct BackShelf {
     pub shelf: Shelf,
 }
 
-/// The caches of all rows of one selection and one part.
+/// The caches of all rows of one selection and one worker.
 #[derive(Drop)]
 pub(crate) struct LanePlan {
     pub selection: Selection,
     /// Which lane of this selection it is.
-    pub part: usize,
+    pub worker: usize,
     pub i: Vec<Shelf>,
     pub d: Vec<Shelf>,
     pub backs: Vec<BackShelf>,
@@ -123,12 +123,12 @@ fn seat_behind(
     Ok(Seat { level, cell })
 }
 
-/// The index of the lane of a selection and a part, if there is one.
-fn find_lane(lanes: &Vec<LanePlan>, selection: Selection, part: usize) -> Option<usize>
+/// The index of the lane of a selection and a worker, if there is one.
+fn find_lane(lanes: &Vec<LanePlan>, selection: Selection, worker: usize) -> Option<usize>
     ensures { IfSome result (IsLaneFor selection lanes.now.items) }
 {
     for (index, lane) in lanes.iter().enumerate() {
-        if lane.part == part && lane.selection == selection {
+        if lane.worker == worker && lane.selection == selection {
             return Some(index);
         }
     }
@@ -136,26 +136,26 @@ fn find_lane(lanes: &Vec<LanePlan>, selection: Selection, part: usize) -> Option
 }
 
 /// A lane without caches.
-fn empty_lane(alloc: Global, selection: Selection, part: usize) -> LanePlan
+fn empty_lane(alloc: Global, selection: Selection, worker: usize) -> LanePlan
     requires { IsBounded selection }
     ensures selection { result.selection ≡ selection }
     ensures sound { IsSound result }
 {
     LanePlan {
         selection,
-        part,
+        worker,
         i: Vec::new(alloc),
         d: Vec::new(alloc),
         backs: Vec::new(alloc),
     }
 }
 
-/// The index of the lane of a selection and a part. Where there is none, it joins the others.
+/// The index of the lane of a selection and a worker. Where there is none, it joins the others.
 fn lane_for(
     alloc: Global,
     lanes: &mut Vec<LanePlan>,
     selection: Selection,
-    part: usize,
+    worker: usize,
 ) -> Result<usize, NoMemory>
     requires { IsBounded selection }
     ensures lane { IfOk result (IsLaneFor selection lanes.new.items) }
@@ -163,11 +163,11 @@ fn lane_for(
         (KeepsPlaces (map task_of_plan lanes.old.items) (map task_of_plan lanes.new.items)) }
     ensures sound { OnOk result (All IsSound lanes.old.items → All IsSound lanes.new.items) }
 {
-    if let Some(index) = find_lane(lanes, selection, part) {
+    if let Some(index) = find_lane(lanes, selection, worker) {
         return Ok(index);
     }
     let index = lanes.len();
-    if lanes.push(empty_lane(alloc, selection, part)).is_err() {
+    if lanes.push(empty_lane(alloc, selection, worker)).is_err() {
         return Err(NoMemory);
     }
     Ok(index)
@@ -194,12 +194,12 @@ impl LanePlan {
     }
 }
 
-/// The place of a row of this part, if it was not refused.
+/// The place of a row of this worker, if it was not refused.
 fn place_for(
     alloc: Global,
     lanes: &mut Vec<LanePlan>,
     setup: &Setup,
-    part: usize,
+    worker: usize,
 ) -> Result<Option<Place>, NoMemory>
     requires { IsBoundedSetup setup.now }
     ensures place { IfOk result (HasPlace (map task_of_plan lanes.new.items) setup.now) }
@@ -210,21 +210,23 @@ fn place_for(
     let Setup::Simulated(config, selection) = setup else {
         return Ok(None);
     };
-    let lane = lane_for(alloc, lanes, *selection, part)?;
+    let lane = lane_for(alloc, lanes, *selection, worker)?;
     let place = lanes[lane].place_for(alloc, config, lane)?;
     Ok(Some(place))
 }
 
-/// The part that a row belongs to: each part takes one row after another.
-fn part_of(row: usize, parts: usize) -> usize {
-    if parts == 0 {
+/// The worker of a row, of so many, if `count` rows are shared out. Rows beside one another have
+/// more caches in common, so each worker has a run of them.
+fn worker_of(row: usize, count: usize, workers: usize) -> usize {
+    if workers == 0 {
         return 0;
     }
-    row % parts
+    let run = count.div_ceil(workers);
+    if run == 0 { 0 } else { row / run }
 }
 
-/// The plan for the rows of a grid, whose lanes are in so many parts.
-pub(crate) fn plan_for(alloc: Global, rows: &[Row], parts: usize) -> Result<Plan, NoMemory>
+/// The plan for the rows of a grid, whose lanes are shared out among so many workers.
+pub(crate) fn plan_for(alloc: Global, rows: &[Row], workers: usize) -> Result<Plan, NoMemory>
     requires { All IsBoundedRow rows.now }
     ensures places { IfOk result (λ plan.
         HavePlaces (map task_of_plan plan.lanes.items) rows.now plan.places.items) }
@@ -233,8 +235,8 @@ pub(crate) fn plan_for(alloc: Global, rows: &[Row], parts: usize) -> Result<Plan
     let mut lanes = Vec::new(alloc);
     let mut places = Vec::new(alloc);
     for (index, row) in rows.iter().enumerate() {
-        let part = part_of(index, parts);
-        let place = place_for(alloc, &mut lanes, &row.setup, part)?;
+        let worker = worker_of(index, rows.len(), workers);
+        let place = place_for(alloc, &mut lanes, &row.setup, worker)?;
         if places.push(place).is_err() {
             return Err(NoMemory);
         }

@@ -44,7 +44,8 @@ figures-figures-requires g c =
     let f = c.in-Simulated.field-0 in
     let s = c.in-Simulated.field-1 in
     let p = c.in-Some.place in
-    let place = has-place (map lane_task c.args.lanes.now) c.args.row.now.setup c.args.place.now f s p
+    let place = has-place (map lane_task c.args.lanes.now) c.args.row.now.setup
+    c.args.place.now f s p
     c.in-Simulated.is c.in-Some.is c.requires in (
       hierarchy_of f,
       s,
@@ -58,7 +59,8 @@ returns-in-Some-clause-line g c = λ past served.
     let p = c.in-Some.place in
     let l = c.index-lanes-place.result in
     let words = map string_bytes c.args.row.now.words.items in
-    let place = has-place (map lane_task c.args.lanes.now) c.args.row.now.setup c.args.place.now f s p
+    let place = has-place (map lane_task c.args.lanes.now) c.args.row.now.setup
+    c.args.place.now f s p
     c.in-Simulated.is c.in-Some.is c.requires in
     let inside = lane-inside c.args.lanes.now f s p place in
     let there = lane-there c.args.lanes.now f s p l c.index-lanes-place.is place in

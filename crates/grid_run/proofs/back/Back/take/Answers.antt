@@ -57,7 +57,8 @@ send-requires-2 c =
     c.requires.room.2.on_i in
     let last-d = at-seat ds b.d fd c.index-d-self.is c.requires.placed.on_d (FrontSent side.D es e)
     c.requires.room.2.on_d in
-    let sent-i = sent-at-seat is b.i fi c.index-i-self.is c.requires.placed.on_i side.I es e last-i in
+    let sent-i = sent-at-seat is b.i fi c.index-i-self.is c.requires.placed.on_i side.I es e
+    last-i in
     let sent-d = sent-at-seat ds b.d fd c.index-d-self.is c.requires.placed.on_d side.D es e
     last-d in
     let room = room-above c.second_level_sees_at_most_two.ensures h es e c.requires.room.4 in
@@ -99,7 +100,8 @@ returns-clause-served c =
     both.on_i in
     let last-d = at-seat ds b.d fd c.index-d-self.is c.requires.placed.on_d (FrontSent side.D es e)
     both.on_d in
-    let sent-i = sent-at-seat is b.i fi c.index-i-self.is c.requires.placed.on_i side.I es e last-i in
+    let sent-i = sent-at-seat is b.i fi c.index-i-self.is c.requires.placed.on_i side.I es e
+    last-i in
     let sent-d = sent-at-seat ds b.d fd c.index-d-self.is c.requires.placed.on_d side.D es e
     last-d in
     let before : List What = second_level_requests (parts_in h) es in

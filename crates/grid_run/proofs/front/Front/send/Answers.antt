@@ -29,8 +29,9 @@ serve_parts-requires c =
     let x = c.in-Access.access in
     let was = subst (λ (w : Last). WasLast level h w q) c.in-Access.is c.requires.room.2 in
     let sent = sent-access level h r c.args.side x q was in
-    let parts = access-parts r c.args.side h x c.outcome-outcome.result c.first_byte-block.result _ _ _
-    (c.outcome-outcome.ensures h x sent.1) (c.first_byte-block.ensures c.args.cell c.requires.inside)
+    let parts = access-parts r c.args.side h x c.outcome-outcome.result
+    c.first_byte-block.result _ _ _ (c.outcome-outcome.ensures h x sent.1)
+    (c.first_byte-block.ensures c.args.cell c.requires.inside)
     c.back_part.ensures c.fetch_part-fetch.ensures c.through_part-through.ensures in
     record {
       room = subst (λ (l : List What). HasRoom c.args.u.now l) (sent.0 ∙ sym parts)
@@ -45,8 +46,9 @@ returns-in-Access-clause-sends c =
     on_ok_weaker c.serve_parts.result (λ served h q ws last st.
     let was = subst (λ (w : Last). WasLast level h w q) c.in-Access.is last in
     let sent = sent-access level h r c.args.side x q was in
-    let parts = access-parts r c.args.side h x c.outcome-outcome.result c.first_byte-block.result _ _ _
-    (c.outcome-outcome.ensures h x sent.1) (c.first_byte-block.ensures c.args.cell c.requires.inside)
+    let parts = access-parts r c.args.side h x c.outcome-outcome.result
+    c.first_byte-block.result _ _ _ (c.outcome-outcome.ensures h x sent.1)
+    (c.first_byte-block.ensures c.args.cell c.requires.inside)
     c.back_part.ensures c.fetch_part-fetch.ensures c.through_part-through.ensures in
     subst (λ (l : List What). SecondServed c.serve_parts.new.u (ws ++ l)) (parts ∙ sym sent.0)
     (served ws st)) c.serve_parts.ensures.stands
