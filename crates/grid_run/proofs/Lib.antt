@@ -6,6 +6,7 @@ pub mod Sent
 pub mod Behind
 pub mod Placed
 pub mod Readings
+pub mod Crews
 pub mod Growing
 pub mod Shelves
 pub mod BackShelves

@@ -6,6 +6,7 @@ pub mod Fronts
 pub mod Seats
 pub mod Backs
 pub mod Lanes
+pub mod Workers
 pub mod Rows
 pub mod Plans
 pub mod Faults

@@ -3,22 +3,22 @@ use Rattle.std.specs.Prelude.{◌≡◌, ◌<◌, ℕ, ⊤, List, Some, None, Re
 use Rattle.std.specs.Prelude.{get_or}
 use Rattle.std.specs.List.{All}
 use Rattle.din_trace.specs.Text.{Remaining}
-use Rattle.din_trace.specs.declared.record.DinRecord.{DinRecord}
 use Rattle.stage_core.specs.Config.{hierarchy_of}
 use Rattle.stage_core.specs.Events.{IsBounded}
 use Rattle.stage_core.specs.SecondLevel.{Hierarchy}
 use Rattle.stage_core.specs.declared.selection.Selection.{Selection}
 use Rattle.grid_run.specs.Backs.{BackTask}
 use Rattle.grid_run.specs.Faults.{MayAnswer}
-use Rattle.grid_run.specs.Lanes.{HasTaken, IsPlaced, LaneTask, task_of_plan}
+use Rattle.grid_run.specs.Lanes.{IsPlaced, LaneTask, task_of_plan}
 use Rattle.grid_run.specs.Seats.{IsCellOf, IsSeatOf}
+use Rattle.grid_run.specs.Workers.{Took}
 use Rattle.grid_run.specs.declared.fault.GridFault.{GridFault}
 use Rattle.grid_run.specs.declared.grid.Row.{Row}
 use Rattle.grid_run.specs.declared.grid.Setup.{Setup}
 use Rattle.grid_run.specs.declared.grid.Setup.TheVariants.{Simulated, Refused}
-use Rattle.grid_run.specs.declared.lane.Lane.{Lane}
 use Rattle.grid_run.specs.declared.plan.LanePlan.{LanePlan}
 use Rattle.grid_run.specs.declared.plan.Place.{Place}
+use Rattle.grid_run.specs.declared.worker.Worker.{Worker}
 
 -- the second levels at a place are behind its seats, and one of them has these rules
 pub record IsBackOf (b : BackTask) (c : Hierarchy) (p : Place) : Type 0 where
@@ -53,17 +53,13 @@ pub record HavePlaces (ts : List LaneTask) (rows : List Row) (places : List (Opt
   pub each : (k : ℕ) (r : Row) (p : Option Place) → k < length rows →
       HasPlace ts (get_or rows k r).setup (get_or places k p)
 
--- a lane has taken these records
-abbrev pub Took : List DinRecord → Lane → Type 0
-Took records l = HasTaken l records
-
 -- a plan of a lane has a bounded selection, and its second levels are behind caches of the lane
 pub record IsSound (p : LanePlan) : Type 0 where
   pub bounded : IsBounded p.selection
   pub placed : IsPlaced (task_of_plan p)
 
--- the result of a run over a source that had this left: all lanes have taken its records, or the
+-- the result of a run over a source that had this left: all workers have taken its records, or the
 -- fault is one that a run may answer
-abbrev pub ServedAll : Remaining → List Lane → Result (Unit {0}) GridFault → Type 0
-ServedAll l lanes (Ok done) = (l.fault ≡ None) × All (Took l.records) lanes
-ServedAll l lanes (Err why) = MayAnswer l.fault why
+abbrev pub ServedAll : Remaining → List Worker → Result (Unit {0}) GridFault → Type 0
+ServedAll l workers (Ok done) = (l.fault ≡ None) × All (Took l.records) workers
+ServedAll l workers (Err why) = MayAnswer l.fault why

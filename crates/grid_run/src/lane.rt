@@ -1,7 +1,7 @@
 //! The caches of all rows of one selection.
 
-ghost use Rattle.std.specs.Prelude.{◌≡◌, ◌<◌, ◌*◌, ◌++◌, ◌∷◌, [], List, IfOk, OnOk, length};
-ghost use Rattle.std.specs.Prelude.{option_to_list};
+ghost use Rattle.std.specs.Prelude.{◌≡◌, ◌<◌, ◌≤◌, ◌+◌, ◌*◌, ◌++◌, ◌∷◌, [], List, IfOk, OnOk};
+ghost use Rattle.std.specs.Prelude.{length, option_to_list};
 ghost use Rattle.din_trace.specs.declared.record.DinRecord.{DinRecord as Event};
 ghost use Rattle.stage_core.specs.Events.{IsBounded, events};
 ghost use Rattle.stage_core.specs.SecondLevel.{Hierarchy};
@@ -85,7 +85,7 @@ impl Lane {
     }
 
     /// Takes a record, and serves the events that the selection makes of it in all caches.
-    pub fn take(&mut self, next: DinRecord) -> Result<(), NoMemory>
+    fn take(&mut self, next: DinRecord) -> Result<(), NoMemory>
         requires room { (past : List Event) × HasTaken self.old past
             × (length past < MAX_LIMIT) }
         ensures served { OnOk result ((past : List Event) → HasTaken self.old past
@@ -96,6 +96,20 @@ impl Lane {
         let picked = self.selector.offer(next);
         self.take_some(picked.event)?;
         self.take_some(picked.flush.then_some(INSERTED))
+    }
+
+    /// Takes records in their order.
+    pub fn take_batch(&mut self, batch: &[DinRecord]) -> Result<(), NoMemory>
+        requires room { (past : List Event) × HasTaken self.old past
+            × (length past + length batch.now ≤ MAX_LIMIT) }
+        ensures served { OnOk result ((past : List Event) → HasTaken self.old past
+            → HasTaken self.new (past ++ batch.now)) }
+        ensures task { lane_task self.new ≡ lane_task self.old }
+    {
+        for next in batch {
+            self.take(*next)?;
+        }
+        Ok(())
     }
 
     /// What the caches of a row have counted.

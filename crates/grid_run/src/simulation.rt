@@ -10,29 +10,30 @@ ghost use Rattle.din_trace.specs.Text.{fault};
 ghost use Rattle.din_trace.specs.Faults.{IsFaultOf};
 ghost use Rattle.din_trace.specs.declared.record.DinRecord.{DinRecord};
 ghost use Rattle.grid_run.specs.Grids.{HasBoundedRows, row_line, table, table_of};
-ghost use Rattle.grid_run.specs.Lanes.{lane_task};
-ghost use Rattle.grid_run.specs.Rows.{HasPlace, HavePlaces, Took};
+ghost use Rattle.grid_run.specs.Rows.{HasPlace, HavePlaces};
+ghost use Rattle.grid_run.specs.Workers.{Took, worker_task};
 
+use crate::crew::Crew;
 use crate::fault::GridFault;
 use crate::grid::{Columns, Grid, Row, Setup};
-use crate::lane::Lane;
-use crate::lanes::lanes_for;
 use crate::plan::{Place, plan_for};
 use crate::run::serve_trace;
 use crate::table::{write_counted, write_heads, write_refused};
+use crate::worker::Worker;
 use din_trace::{ByteReader, ByteWriter, DeviceFailed, MAX_LIMIT, Source, TraceFault};
 use std::alloc::Global;
+use std::thread::Threads;
 
 /// Writes the line of a row, which has these caches if it was not refused.
 fn write_row<W: ByteWriter>(
     columns: Columns,
     row: &Row,
     place: &Option<Place>,
-    lanes: &[Lane],
+    workers: &[Worker],
     writer: &mut W,
 ) -> Result<(), DeviceFailed>
-    requires { HasPlace (map lane_task lanes.now) row.now.setup place.now }
-    ensures line { (rs : List DinRecord) → All (Took rs) lanes.now → OnOk result
+    requires { HasPlace (map worker_task workers.now) row.now.setup place.now }
+    ensures line { (rs : List DinRecord) → All (Took rs) workers.now → OnOk result
         (Appends (W.contents writer.old) (W.contents writer.new) (row_line columns rs row.now)) }
     ensures sound { OnOk result (W.failures writer.new ≡ W.failures writer.old) }
     ensures failed { OnErr result (W.failures writer.new ≡ once_more (W.failures writer.old)) }
@@ -41,7 +42,7 @@ fn write_row<W: ByteWriter>(
         Setup::Refused(fault) => write_refused(columns, &row.words, fault.as_str(), writer),
         Setup::Simulated(_, _) => match place {
             Some(place) => {
-                let figures = lanes[place.lane].figures(place);
+                let figures = workers[place.lane].figures(place);
                 write_counted(columns, &row.words, &figures, writer)
             }
             None => unreachable!(),
@@ -54,18 +55,18 @@ fn write_rows<W: ByteWriter>(
     columns: Columns,
     rows: &[Row],
     places: &[Option<Place>],
-    lanes: &[Lane],
+    workers: &[Worker],
     writer: &mut W,
 ) -> Result<(), DeviceFailed>
-    requires { HavePlaces (map lane_task lanes.now) rows.now places.now }
-    ensures lines { (rs : List DinRecord) → All (Took rs) lanes.now → OnOk result
+    requires { HavePlaces (map worker_task workers.now) rows.now places.now }
+    ensures lines { (rs : List DinRecord) → All (Took rs) workers.now → OnOk result
         (Appends (W.contents writer.old) (W.contents writer.new)
         (flat_map (row_line columns rs) rows.now)) }
     ensures sound { OnOk result (W.failures writer.new ≡ W.failures writer.old) }
     ensures failed { OnErr result (W.failures writer.new ≡ once_more (W.failures writer.old)) }
 {
     for (index, row) in rows.iter().enumerate() {
-        write_row(columns, row, &places[index], lanes, writer)?;
+        write_row(columns, row, &places[index], workers, writer)?;
     }
     Ok(())
 }
@@ -74,18 +75,18 @@ fn write_rows<W: ByteWriter>(
 fn write_lines<W: ByteWriter>(
     grid: &Grid,
     places: &Vec<Option<Place>>,
-    lanes: &Vec<Lane>,
+    workers: &Vec<Worker>,
     writer: &mut W,
 ) -> Result<(), DeviceFailed>
-    requires { HavePlaces (map lane_task lanes.now.items) grid.now.rows.items
+    requires { HavePlaces (map worker_task workers.now.items) grid.now.rows.items
         places.now.items }
-    ensures table { (rs : List DinRecord) → All (Took rs) lanes.now.items → OnOk result
+    ensures table { (rs : List DinRecord) → All (Took rs) workers.now.items → OnOk result
         (Appends (W.contents writer.old) (W.contents writer.new) (table grid.now rs)) }
     ensures sound { OnOk result (W.failures writer.new ≡ W.failures writer.old) }
     ensures failed { OnErr result (W.failures writer.new ≡ once_more (W.failures writer.old)) }
 {
     write_heads(grid.columns, &grid.names, writer)?;
-    write_rows(grid.columns, &grid.rows, places, lanes, writer)?;
+    write_rows(grid.columns, &grid.rows, places, workers, writer)?;
     writer.flush()
 }
 
@@ -93,29 +94,32 @@ fn write_lines<W: ByteWriter>(
 fn write_table<W: ByteWriter>(
     grid: &Grid,
     places: &Vec<Option<Place>>,
-    lanes: &Vec<Lane>,
+    workers: &Vec<Worker>,
     writer: &mut W,
 ) -> Result<(), GridFault>
-    requires { HavePlaces (map lane_task lanes.now.items) grid.now.rows.items
+    requires { HavePlaces (map worker_task workers.now.items) grid.now.rows.items
         places.now.items }
-    ensures table { (rs : List DinRecord) → All (Took rs) lanes.now.items → OnOk result
+    ensures table { (rs : List DinRecord) → All (Took rs) workers.now.items → OnOk result
         (Appends (W.contents writer.old) (W.contents writer.new) (table grid.now rs)) }
     ensures sound { OnOk result (W.failures writer.new ≡ W.failures writer.old) }
     ensures failed { OnErr result (W.failures writer.new ≡ once_more (W.failures writer.old)) }
     ensures fault { IsOkUnless result GridFault.Write }
 {
-    write_lines(grid, places, lanes, writer).or(Err(GridFault::Write))
+    write_lines(grid, places, workers, writer).or(Err(GridFault::Write))
 }
 
 /// Reads a trace of at most `limit` bytes once, simulates what each row selects of it in the caches
 /// of that row, writes the table and flushes the writer. Of the trace, memory holds a buffer of
 /// bytes, and what the caches know of its blocks. Each number of a selection is at most 2^40. The
-/// rings of the configurations are not used.
-pub fn simulate_grid<R: ByteReader + Drop, W: ByteWriter>(
+/// rings of the configurations are not used. At most `threads` threads work at once, this one among
+/// them; 0 counts as 1. The table does not depend on how many there are.
+pub fn simulate_grid<T: Threads + Sync, R: ByteReader + Drop, W: ByteWriter>(
+    rt: &T,
     alloc: Global,
     grid: &Grid,
     reader: R,
     limit: u64,
+    threads: usize,
     writer: &mut W,
 ) -> Result<(), GridFault>
     requires limit { limit ≤ MAX_LIMIT }
@@ -135,13 +139,13 @@ pub fn simulate_grid<R: ByteReader + Drop, W: ByteWriter>(
         → W.failures writer.new ≡ once_more (W.failures writer.old) }
     ensures unwritten { IfErr result (λ why. why ≢ GridFault.Write → writer.new ≡ writer.old) }
 {
-    let Ok(plan) = plan_for(alloc, &grid.rows, 1) else {
+    let Ok(plan) = plan_for(alloc, &grid.rows, threads) else {
         return Err(GridFault::Memory);
     };
-    let Ok(mut lanes) = lanes_for(alloc, &plan.lanes) else {
+    let Ok(mut crew) = Crew::new(alloc, &plan.lanes, threads) else {
         return Err(GridFault::Memory);
     };
     let mut source = Source::new(reader, limit);
-    serve_trace(&mut source, &mut lanes)?;
-    write_table(grid, &plan.places, &lanes, writer)
+    serve_trace(rt, &mut source, &mut crew)?;
+    write_table(grid, &plan.places, &crew.workers, writer)
 }

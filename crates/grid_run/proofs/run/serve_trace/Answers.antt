@@ -1,11 +1,11 @@
-use Rattle.std.proofs.Common.{◌≡◌, ◌<◌, ◌++◌, ◌∷◌, [], List, Option, Some, None, Ok}
+use Rattle.std.proofs.Common.{rules, ◌≡◌, ◌<◌, ◌++◌, ◌∷◌, [], List, Option, Some, None, Ok}
 use Rattle.std.proofs.Common.{ap, sym, subst, refl, ◌∙◌, arith, inl, inr, length-append}
 use Rattle.std.specs.List.{All}
 use Rattle.din_trace.specs.Source.{room_of}
 use Rattle.din_trace.specs.declared.record.DinRecord.{DinRecord}
 use Rattle.din_trace.proofs.Calls.{Calls, calls}
 use Rattle.grid_run.specs.Faults.{MayAnswer}
-use Rattle.grid_run.specs.Rows.{Took}
+use Rattle.grid_run.specs.Workers.{Took}
 use Rattle.grid_run.proofs.Readings.{answers-fault, read-end, read-fault, read-more, read-nothing}
 use Rattle.grid_run.proofs.Readings.{when-ok}
 use Rattle.grid_run.proofs.run.serve_trace.Goals as goal
@@ -28,7 +28,7 @@ records-init g c = record {
   past = [];
   read = read-nothing g.R.ByteReader.remaining g.R.ByteReader.failures c.args.source.now;
   room = inl refl;
-  served = c.requires.fresh;
+  given = c.requires.fresh;
   tasks = refl;
 }
 
@@ -41,8 +41,7 @@ records-preserved g c =
     let answered : c.next.result ≡ Ok (Some next) =
     c.in-Ok-Some.is ∙ ap (λ (found : Option DinRecord). Ok found)
     c.in-Ok-Some.field-0-is in
-    let served = when-ok c.take_record.result c.if-is_err.ensures.negation
-    c.take_record.ensures.served in
+    let given = when-ok c.give.result c.if-is_err.ensures.negation c.give.ensures.given in
     let less : room_of c.next.new.self < room_of c.records.source =
     (rw answered at c.next.ensures.records) refl in
     let longer = length-append now.past (next ∷ []) in
@@ -55,38 +54,58 @@ records-preserved g c =
         | inl e ↦ omega (arith, longer, c.next.ensures.room)
         | inr h ↦ omega (arith, longer, less)
       ]);
-      served = served now.past now.served;
-      tasks = c.take_record.ensures.tasks ∙ now.tasks;
+      given = given now.past now.given;
+      tasks = c.give.ensures.tasks ∙ now.tasks;
     }
 
-pub take_record-requires : goal.take_record-requires
-take_record-requires g c =
+pub give-requires : goal.give-requires
+give-requires g c =
     let now = c.records.invariant in
     let answered : c.next.result ≡ Ok (Some c.in-Ok-Some.next) =
     c.in-Ok-Some.is ∙ ap (λ (found : Option DinRecord). Ok found)
     c.in-Ok-Some.field-0-is in
     let less : room_of c.next.new.self < room_of c.records.source =
-    (rw answered at c.next.ensures.records) refl in
-    record {
-      room = (
+    (rw answered at c.next.ensures.records) refl in (
+      search rules,
+      (
         now.past,
-        now.served,
+        now.given,
         elim now.room [
           | inl e ↦ omega arith
           | inr h ↦ omega (arith, less)
         ],
-      );
-    }
+      ),
+    )
 
 pub returns-then-is_err-clause-reads : goal.returns-then-is_err-clause-reads
 returns-then-is_err-clause-reads g c =
     let all = composed g (goal.at.returns-then-is_err-clause-reads g c).After-next in
     (all.given, all.fate, all.went, λ first last l is left. tt)
 
+pub work-requires : goal.work-requires
+work-requires g c =
+    let now = c.records.invariant in (
+      search rules,
+      (
+        now.past,
+        now.given,
+        elim now.room [
+          | inl e ↦ omega arith
+          | inr h ↦ omega arith
+        ],
+      ),
+    )
+
+pub returns-then-is_err-2-clause-reads : goal.returns-then-is_err-2-clause-reads
+returns-then-is_err-2-clause-reads g c =
+    let all = composed g (goal.at.returns-then-is_err-2-clause-reads g c).After-next in
+    (all.given, all.fate, all.went, λ first last l is left. tt)
+
 pub returns-in-Ok-None-clause-reads : goal.returns-in-Ok-None-clause-reads
 returns-in-Ok-None-clause-reads g c =
     let all = composed g (goal.at.returns-in-Ok-None-clause-reads g c).After-next in
     let now = c.records.invariant in
+    let taken = when-ok c.work.result c.if-is_err-2.ensures.negation c.work.ensures.taken in
     let answered : c.next.result ≡ Ok None =
     c.in-Ok-None.is ∙ ap (λ (found : Option DinRecord). Ok found)
     c.in-Ok-None.field-0-is in (
@@ -98,8 +117,8 @@ returns-in-Ok-None-clause-reads g c =
           c.records.source c.next.new.self now.past now.read c.next.result _ _ all
           c.next.ensures.reads.3 answered first last l is left in (
             end.0,
-            subst (λ (rs : List DinRecord). All (Took rs) c.records.lanes.items)
-                (sym end.1) now.served,
+            subst (λ (rs : List DinRecord). All (Took rs) c.work.new.self.workers.items)
+                (sym end.1) (taken now.past now.given),
           ),
     )
 

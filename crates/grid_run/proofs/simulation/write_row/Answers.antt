@@ -8,12 +8,13 @@ use Rattle.stage_core.specs.Config.{hierarchy_of}
 use Rattle.stage_core.specs.declared.config.Config.{Config}
 use Rattle.stage_core.specs.declared.selection.Selection.{Selection}
 use Rattle.grid_run.specs.Grids.{setup_line}
-use Rattle.grid_run.specs.Lanes.{LaneTask, lane_task}
-use Rattle.grid_run.specs.Rows.{HasPlace, IsPlaceIn, IsPlaceOf, Took}
+use Rattle.grid_run.specs.Lanes.{LaneTask}
+use Rattle.grid_run.specs.Rows.{HasPlace, IsPlaceIn, IsPlaceOf}
+use Rattle.grid_run.specs.Workers.{Took, worker_task}
 use Rattle.grid_run.specs.Table.{counted_line}
 use Rattle.grid_run.specs.declared.grid.Setup.{Setup}
 use Rattle.grid_run.specs.declared.grid.Setup.TheVariants.{Simulated}
-use Rattle.grid_run.specs.declared.lane.Lane.{Lane}
+use Rattle.grid_run.specs.declared.worker.Worker.{Worker}
 use Rattle.grid_run.specs.declared.plan.Place.{Place}
 use Rattle.grid_run.proofs.simulation.write_row.Goals as goal
 
@@ -25,31 +26,31 @@ has-place ts setup o c s p simulated there has =
     subst (λ (t : Setup). HasPlace ts t (Some p)) simulated (subst (HasPlace ts setup) there has)
 
 -- at a place, there is a lane
-lane-inside : (ls : List Lane) (c : Config) (s : Selection) (p : Place)
-    → IsPlaceOf (map lane_task ls) (hierarchy_of c) s p → p.lane < length ls
-lane-inside ls c s p place = omega (arith, place.lane, length-map ls lane_task)
+lane-inside : (ls : List Worker) (c : Config) (s : Selection) (p : Place)
+    → IsPlaceOf (map worker_task ls) (hierarchy_of c) s p → p.lane < length ls
+lane-inside ls c s p place = omega (arith, place.lane, length-map ls worker_task)
 
 -- in which it is a place
-lane-there : (ls : List Lane) (c : Config) (s : Selection) (p : Place) (l : Lane)
-    → l ≡ get_or ls p.lane l → IsPlaceOf (map lane_task ls) (hierarchy_of c) s p
-    → IsPlaceIn (lane_task l) (hierarchy_of c) s p
+lane-there : (ls : List Worker) (c : Config) (s : Selection) (p : Place) (l : Worker)
+    → l ≡ get_or ls p.lane l → IsPlaceOf (map worker_task ls) (hierarchy_of c) s p
+    → IsPlaceIn (worker_task l) (hierarchy_of c) s p
 lane-there ls c s p l at place =
     subst (λ (t : LaneTask). IsPlaceIn t (hierarchy_of c) s p)
-    (get_or-map lane_task ls p.lane l (lane_task l) (lane-inside ls c s p place)
-    ∙ ap lane_task (sym at))
-    (place.inside (lane_task l))
+    (get_or-map worker_task ls p.lane l (worker_task l) (lane-inside ls c s p place)
+    ∙ ap worker_task (sym at))
+    (place.inside (worker_task l))
 
 pub figures-figures-requires : goal.figures-figures-requires
 figures-figures-requires g c =
     let f = c.in-Simulated.field-0 in
     let s = c.in-Simulated.field-1 in
     let p = c.in-Some.place in
-    let place = has-place (map lane_task c.args.lanes.now) c.args.row.now.setup
+    let place = has-place (map worker_task c.args.workers.now) c.args.row.now.setup
     c.args.place.now f s p
     c.in-Simulated.is c.in-Some.is c.requires in (
       hierarchy_of f,
       s,
-      lane-there c.args.lanes.now f s p c.index-lanes-place.result c.index-lanes-place.is place,
+      lane-there c.args.workers.now f s p c.index-workers-place.result c.index-workers-place.is place,
     )
 
 pub returns-in-Some-clause-line : goal.returns-in-Some-clause-line
@@ -57,14 +58,14 @@ returns-in-Some-clause-line g c = λ past served.
     let f = c.in-Simulated.field-0 in
     let s = c.in-Simulated.field-1 in
     let p = c.in-Some.place in
-    let l = c.index-lanes-place.result in
+    let l = c.index-workers-place.result in
     let words = map string_bytes c.args.row.now.words.items in
-    let place = has-place (map lane_task c.args.lanes.now) c.args.row.now.setup
+    let place = has-place (map worker_task c.args.workers.now) c.args.row.now.setup
     c.args.place.now f s p
     c.in-Simulated.is c.in-Some.is c.requires in
-    let inside = lane-inside c.args.lanes.now f s p place in
-    let there = lane-there c.args.lanes.now f s p l c.index-lanes-place.is place in
-    let taken = subst (Took past) (sym c.index-lanes-place.is) (served p.lane l inside) in
+    let inside = lane-inside c.args.workers.now f s p place in
+    let there = lane-there c.args.workers.now f s p l c.index-workers-place.is place in
+    let taken = subst (Took past) (sym c.index-workers-place.is) (served p.lane l inside) in
     let counted = c.figures-figures.ensures (hierarchy_of f) s past there taken in
     let line = ap (λ ws. counted_line c.args.columns (map string_bytes ws) c.figures-figures.result)
     c.deref-in-Some.ensures.value

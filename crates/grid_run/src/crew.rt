@@ -1,0 +1,145 @@
+//! The lanes of a grid, which take records in batches.
+
+ghost use Rattle.std.specs.Prelude.{◌≡◌, ◌<◌, ◌+◌, ◌≤◌, ◌++◌, ◌∷◌, [], List, IfOk, OnOk, false};
+ghost use Rattle.std.specs.Prelude.{length, map};
+ghost use Rattle.std.specs.List.{All};
+ghost use Rattle.din_trace.specs.declared.record.DinRecord.{DinRecord as Event};
+ghost use Rattle.grid_run.specs.Lanes.{task_of_plan};
+ghost use Rattle.grid_run.specs.Rows.{IsSound};
+ghost use Rattle.grid_run.specs.Workers.{MayHaveTaken, Took, WereGiven, worker_task};
+
+use crate::plan::LanePlan;
+use crate::worker::Worker;
+use cache_core::NoMemory;
+use din_trace::{DinRecord, MAX_LIMIT};
+use std::alloc::Global;
+use std::thread;
+use std::thread::Threads;
+
+/// How many records are taken together. A thread takes some tens of microseconds to start; a batch
+/// gives it milliseconds of work.
+const BATCH: usize = 16_384;
+
+/// The workers of all lanes, and the records that wait for them.
+#[derive(Drop)]
+pub(crate) struct Crew {
+    pub workers: Vec<Worker>,
+    waiting: Vec<DinRecord>,
+    /// At most so many threads take a batch; 0 counts as 1.
+    threads: usize,
+}
+
+/// The workers of these plans.
+fn workers_for(alloc: Global, plans: &[LanePlan]) -> Result<Vec<Worker>, NoMemory>
+    requires { All IsSound plans.now }
+    ensures tasks { IfOk result (λ workers.
+        map worker_task workers.items ≡ map task_of_plan plans.now) }
+    ensures taken { IfOk result (λ workers. All (MayHaveTaken []) workers.items) }
+{
+    let mut workers = Vec::new(alloc);
+    for plan in plans {
+        let worker = Worker::new(alloc, plan)?;
+        if workers.push(worker).is_err() {
+            return Err(NoMemory);
+        }
+    }
+    Ok(workers)
+}
+
+/// Each worker takes the batch, on at most so many threads.
+fn take_batch<T: Threads + Sync>(
+    rt: &T,
+    workers: &mut [Worker],
+    threads: usize,
+    batch: &[DinRecord],
+)
+    requires threads { 0 < threads }
+    requires room { (past : List Event) × All (MayHaveTaken past) workers.old
+        × (length past + length batch.now ≤ MAX_LIMIT) }
+    ensures taken { (past : List Event) → All (MayHaveTaken past) workers.old →
+        All (MayHaveTaken (past ++ batch.now)) workers.new }
+    ensures tasks { map worker_task workers.new ≡ map worker_task workers.old }
+{
+    thread::for_each_mut(rt, workers, threads, &|_, worker| worker.take(batch));
+}
+
+/// The same for the workers of a vector.
+fn take_in<T: Threads + Sync>(
+    rt: &T,
+    workers: &mut Vec<Worker>,
+    threads: usize,
+    batch: &[DinRecord],
+)
+    requires threads { 0 < threads }
+    requires room { (past : List Event) × All (MayHaveTaken past) workers.old.items
+        × (length past + length batch.now ≤ MAX_LIMIT) }
+    ensures taken { (past : List Event) → All (MayHaveTaken past) workers.old.items →
+        All (MayHaveTaken (past ++ batch.now)) workers.new.items }
+    ensures tasks { map worker_task workers.new.items ≡ map worker_task workers.old.items }
+{
+    take_batch(rt, workers, threads, batch);
+}
+
+/// Whether some worker was refused memory.
+fn has_failed(workers: &[Worker]) -> bool
+    ensures { result ≡ false → (past : List Event) → All (MayHaveTaken past) workers.now
+        → All (Took past) workers.now }
+{
+    for worker in workers {
+        if worker.has_failed() {
+            return true;
+        }
+    }
+    false
+}
+
+impl Crew {
+    /// The workers of these plans, to whom no record was given, for at most so many threads.
+    pub fn new(alloc: Global, plans: &[LanePlan], threads: usize) -> Result<Crew, NoMemory>
+        requires { All IsSound plans.now }
+        ensures tasks { IfOk result (λ crew.
+            map worker_task crew.workers.items ≡ map task_of_plan plans.now) }
+        ensures given { IfOk result (WereGiven []) }
+    {
+        Ok(Crew {
+            workers: workers_for(alloc, plans)?,
+            waiting: Vec::new(alloc),
+            threads,
+        })
+    }
+
+    /// All workers take the records that wait.
+    pub fn work<T: Threads + Sync>(&mut self, rt: &T) -> Result<(), NoMemory>
+        requires room { (past : List Event) × WereGiven past self.old × (length past ≤ MAX_LIMIT) }
+        ensures taken { OnOk result ((past : List Event) → WereGiven past self.old →
+            All (Took past) self.new.workers.items) }
+        ensures given { OnOk result ((past : List Event) → WereGiven past self.old →
+            WereGiven past self.new) }
+        ensures tasks { map worker_task self.new.workers.items
+            ≡ map worker_task self.old.workers.items }
+    {
+        take_in(rt, &mut self.workers, self.threads.max(1), &self.waiting);
+        self.waiting.clear();
+        if has_failed(&self.workers) {
+            return Err(NoMemory);
+        }
+        Ok(())
+    }
+
+    /// Gives a record to all workers. They take it when a batch is full.
+    pub fn give<T: Threads + Sync>(&mut self, rt: &T, next: DinRecord) -> Result<(), NoMemory>
+        requires room { (past : List Event) × WereGiven past self.old × (length past < MAX_LIMIT) }
+        ensures given { OnOk result ((past : List Event) → WereGiven past self.old →
+            WereGiven (past ++ next ∷ []) self.new) }
+        ensures tasks { map worker_task self.new.workers.items
+            ≡ map worker_task self.old.workers.items }
+    {
+        if self.waiting.len() >= BATCH {
+            self.work(rt)?;
+        }
+        if self.waiting.push(next).is_err() {
+            return Err(NoMemory);
+        }
+        Ok(())
+    }
+}

@@ -1,0 +1,71 @@
+//! A lane as what one thread works on.
+
+use crate::figures::Figures;
+use crate::lane::Lane;
+use crate::plan::{LanePlan, Place};
+use cache_core::NoMemory;
+use din_trace::{DinRecord, MAX_LIMIT};
+use std::alloc::Global;
+
+/// A lane, and whether it was refused memory. If it was, it takes no more records.
+#[derive(Drop)]
+pub(crate) struct Worker {
+    lane: Lane,
+    failed: bool,
+}
+
+#[tactic(auto, unfolding(crate::specs::Workers::worker_task))]
+impl Worker {
+    ghost use Rattle.std.specs.Prelude.{◌≡◌, ◌+◌, ◌≤◌, ◌++◌, [], List, IfOk, false, length};
+    ghost use Rattle.din_trace.specs.declared.record.DinRecord.{DinRecord as Event};
+    ghost use Rattle.stage_core.specs.Events.{events};
+    ghost use Rattle.stage_core.specs.SecondLevel.{Hierarchy};
+    ghost use Rattle.stage_core.specs.declared.selection.Selection.{Selection as Chosen};
+    ghost use Rattle.grid_run.specs.Grids.{figures_of};
+    ghost use Rattle.grid_run.specs.Lanes.{task_of_plan};
+    ghost use Rattle.grid_run.specs.Rows.{IsPlaceIn, IsSound};
+    ghost use Rattle.grid_run.specs.Workers.{MayHaveTaken, Took, worker_task};
+
+    /// The empty lane of a plan.
+    pub fn new(alloc: Global, plan: &LanePlan) -> Result<Worker, NoMemory>
+        requires { IsSound plan.now }
+        ensures taken { IfOk result (MayHaveTaken []) }
+        ensures task { IfOk result (λ worker. worker_task worker ≡ task_of_plan plan.now) }
+    {
+        Ok(Worker {
+            lane: Lane::new(alloc, plan)?,
+            failed: false,
+        })
+    }
+
+    /// Takes records in their order.
+    pub fn take(&mut self, batch: &[DinRecord])
+        requires room { (past : List Event) × MayHaveTaken past self.old
+            × (length past + length batch.now ≤ MAX_LIMIT) }
+        ensures taken { (past : List Event) → MayHaveTaken past self.old
+            → MayHaveTaken (past ++ batch.now) self.new }
+        ensures task { worker_task self.new ≡ worker_task self.old }
+    {
+        if !self.failed {
+            self.failed = self.lane.take_batch(batch).is_err();
+        }
+    }
+
+    /// Whether it was refused memory.
+    pub fn has_failed(&self) -> bool
+        ensures { result ≡ false → (past : List Event) → MayHaveTaken past self.now
+            → Took past self.now }
+    {
+        self.failed
+    }
+
+    /// What the caches of a row have counted.
+    pub fn figures(&self, place: &Place) -> Figures
+        requires { (c : Hierarchy) × (s : Chosen) × IsPlaceIn (worker_task self.now) c s place.now }
+        ensures { (c : Hierarchy) (s : Chosen) (past : List Event) →
+            IsPlaceIn (worker_task self.now) c s place.now → Took past self.now →
+            result ≡ figures_of c (events s past) }
+    {
+        self.lane.figures(place)
+    }
+}
