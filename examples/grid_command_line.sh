@@ -66,6 +66,10 @@ trace=$work/conflict.din
 call 'two sizes' 0 "$work/sizes" '' "$trace" "${caches[@]}" --l1-dsize 8,16
 call 'one configuration' 0 "$work/one" '' "$trace" "${caches[@]}" --l1-dsize 16
 call 'sizes by ways' 0 "$work/ways" '' "$trace" "${caches[@]}" --l1-dsize 8,16 --l1-dassoc 1,2
+call 'two sizes in three threads' 0 "$work/sizes" '' "$trace" "${caches[@]}" --l1-dsize 8,16 \
+    --threads 3
+call 'two sizes in threads without a number' 0 "$work/sizes" '' "$trace" "${caches[@]}" \
+    --l1-dsize 8,16 --threads=0
 call 'a refused size among others' 5 "$work/some" '' "$trace" "${caches[@]}" --l1-dsize 8,3,16
 call 'a required option is missing' 2 "$nothing" 'dinero_grid: command line refused, try --help
 ' "$trace" "${caches[@]}"
@@ -77,6 +81,14 @@ call 'a list where there is none' 2 "$nothing" 'dinero_grid: --maxcount: not a n
 ' "$trace" "${caches[@]}" --l1-dsize 8 --maxcount 1,2
 call 'a bad letter in a list' 2 "$nothing" 'dinero_grid: --l1-drepl: not a lawful letter
 ' "$trace" "${caches[@]}" --l1-dsize 8 --l1-drepl l,x
+call 'too many threads' 2 "$nothing" 'dinero_grid: --threads: not a number from 0 to 1024
+' "$trace" "${caches[@]}" --l1-dsize 8,16 --threads 1025
+call 'a list of threads' 2 "$nothing" 'dinero_grid: --threads: not a number from 0 to 1024
+' "$trace" "${caches[@]}" --l1-dsize 8,16 --threads 1,2
+call 'a bad size and bad threads' 2 "$nothing" 'dinero_grid: --l1-dsize: not a number
+' "$trace" "${caches[@]}" --l1-dsize 8,x --threads x
+call 'threads given twice' 2 "$nothing" 'dinero_grid: command line refused, try --help
+' "$trace" "${caches[@]}" --l1-dsize 8,16 --threads 1 --threads 2
 sizes=$(printf '8,%.0s' {1..64})8
 call '65 sizes by 64 ways' 2 "$nothing" 'dinero_grid: grid has more than 4096 configurations
 ' "$trace" "${caches[@]}" --l1-dsize "$sizes" --l1-dassoc "${sizes%,8}"
@@ -87,6 +99,6 @@ call 'an input that can not be read' 4 "$nothing" 'dinero_grid: trace read faile
 
 fail_to_print 'dinero_grid: table write failed
 ' "${caches[@]}" --l1-dsize 8,16
-help_names skipcount maxcount flushcount
+help_names skipcount maxcount flushcount threads
 
 tell

@@ -60,7 +60,11 @@ pub(crate) fn grid_for(alloc: Global, asked: ParsedGrid) -> Result<Grid, AllocEr
     ensures grid { IfOk result (IsGridFor asked) }
     ensures bound { IfOk result HasBoundedRows }
 {
-    let ParsedGrid { names, points } = asked;
+    let ParsedGrid {
+        names,
+        points,
+        threads: _,
+    } = asked;
     let rows = rows_of(alloc, points)?;
     Ok(Grid {
         names,

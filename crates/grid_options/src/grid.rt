@@ -29,6 +29,8 @@ pub struct ParsedGrid {
     pub names: Vec<String>,
     /// The points.
     pub points: Vec<GridPoint>,
+    /// How many threads simulate, at most 1,024; 0 for as many as the machine has.
+    pub threads: usize,
 }
 
 pub(crate) fn names_of(alloc: Global, varied: &[Opt]) -> Result<Vec<String>, AllocError>
