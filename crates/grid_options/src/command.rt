@@ -7,7 +7,7 @@ ghost use Rattle.grid_options.specs.Grid.{grid_app, shared_options};
 
 use crate::help::{about, more, usage};
 use crate::options::SHARED;
-use crate::own::threads_argument;
+use crate::own::{full_argument, threads_argument};
 use clap::Command;
 use dinero_options::{NoMemory, add_options};
 use std::alloc::{AllocError, Global};
@@ -30,7 +30,8 @@ pub(crate) fn grid_command<'a>(alloc: Global) -> Result<Command<'a>, AllocError>
     ensures { IfOk result (λ c. app_of c ≡ grid_app) }
 {
     let command = shared_command(alloc)?;
-    command.arg(threads_argument(alloc))
+    let command = command.arg(threads_argument(alloc))?;
+    command.arg(full_argument(alloc))
 }
 
 /// The text of the help, laid out by clap. The contract says nothing about the text.

@@ -6,10 +6,10 @@
 //! library dinero_options.
 //!
 //! The modules: `options` says which options it shares with the program of one configuration, and
-//! which of them may have a list; `own` has the one of its own. `command` gives them to clap, and
+//! which of them may have a list; `own` has those of its own. `command` gives them to clap, and
 //! `help` has the texts around them. `values` cuts a text into its values, `product` makes the
-//! points of the grid, and `grid` reads each. `words` turns the words into the grid, and `refusal`
-//! has the text of each refusal.
+//! points of the grid, and `grid` reads each. `written` writes what an option is set to. `words`
+//! turns the words into the grid, and `refusal` has the text of each refusal.
 //!
 //! Proved: the answer to the words is the one that `specs/Grid` defines, with clap's contracts for
 //! the matches. Only tested: the text of the help.
@@ -24,6 +24,7 @@ mod product;
 mod refusal;
 mod values;
 mod words;
+mod written;
 
 pub use command::grid_help_text;
 pub use grid::{GridPoint, ParsedGrid};

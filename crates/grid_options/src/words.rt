@@ -9,9 +9,9 @@ ghost use Rattle.grid_options.specs.Own.{threads_of};
 
 use crate::command::grid_command;
 use crate::grid::{ParsedGrid, names_of, read_points};
-use crate::own::threads_in;
+use crate::own::{full_in, threads_in};
 use crate::product::points_in;
-use crate::values::{first_unread, varied};
+use crate::values::{first_unread, shown};
 use clap::ArgMatches;
 use dinero_options::{WordsFault, take_words, unread_fault};
 use std::alloc::{AllocError, Global};
@@ -44,13 +44,15 @@ fn grid_of(
     requires threads { Some threads ≡ threads_of (rows_of (found_of matches.now)) }
     ensures { IfOk result (λ grid. IsGridOf (rows_of (found_of matches.now)) grid) }
 {
-    let varied = varied(alloc, matches)?;
-    let names = names_of(alloc, varied.as_slice())?;
-    let points = read_points(alloc, varied.as_slice(), points)?;
+    let full = full_in(matches);
+    let shown = shown(alloc, matches, full)?;
+    let names = names_of(alloc, shown.as_slice())?;
+    let points = read_points(alloc, full, shown.as_slice(), points)?;
     Ok(ParsedGrid {
         names,
         points,
         threads,
+        full,
     })
 }
 

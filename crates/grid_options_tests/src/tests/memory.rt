@@ -49,6 +49,22 @@ fn a_grid_is_read_or_memory_is_wanted(rt: HostRuntime) -> Result<(), Fail> {
 }
 
 #[test]
+fn a_full_table_is_asked_for_or_memory_is_wanted(rt: HostRuntime) -> Result<(), Fail> {
+    match parsed(rt.alloc(), "--l1-dsize 16,32 --full")? {
+        Ok(grid) => {
+            assert!(rt; grid.full);
+            assert_eq!(rt; grid.names.len(), 19);
+            assert_eq!(rt; grid.points.len(), 2);
+            for point in grid.points.iter() {
+                assert_eq!(rt; point.words.len(), 19);
+            }
+            Ok(())
+        }
+        Err(fault) => Ok(wants_memory(&rt, fault)?),
+    }
+}
+
+#[test]
 fn a_bad_value_is_named_or_memory_is_wanted(rt: HostRuntime) -> Result<(), Fail> {
     let answer = parsed(rt.alloc(), "--l1-dsize 16,x")?;
     let want = GridWordsFault::Words(WordsFault::Number(Opt::L1Dsize));

@@ -66,7 +66,10 @@ fn refuses_more_than_4096_configurations(rt: HostRuntime) -> Result<(), Fail> {
 fn names_bad_threads_before_too_many_configurations(rt: HostRuntime) -> Result<(), Fail> {
     let mut line = lists(rt.alloc(), 17, 241)?;
     line.push_str(" --threads x")?;
-    assert_eq!(rt; refusal(rt.alloc(), line.as_str())?, Some(GridWordsFault::Threads));
+    assert_eq!(rt;
+        refusal(rt.alloc(), line.as_str())?,
+        Some(GridWordsFault::Threads)
+    );
     Ok(())
 }
 
