@@ -43,6 +43,25 @@ large() {
     columns "$@" "${fetch[@]}" 3 2 0.666666 2 0 0 2 2 0 0 0 3 2 0.666666 2 0 0 2 2 0 0 0
     echo -
 }
+
+# full_heads: the first line of a full table.
+full_heads() {
+    local cache name
+    printf '%s\t' l1-{isize,ibsize,iassoc,irepl,dsize,dbsize,dassoc,drepl,dwback,dwalloc} \
+        l2-u{size,bsize,assoc,repl,wback,walloc} skipcount maxcount flushcount
+    for cache in l1-icache l1-dcache l2-ucache; do
+        for name in fetches misses miss-rate compulsory capacity conflict \
+            fully-associative-misses blocks-fetched written-back writes-sent-on flushes; do
+            printf '%s\t' "$cache-$name"
+            case $name in
+                *s-fetched | *-rate | *-back | *-on | flushes) ;;
+                *) printf '%s\t' "$cache-$name"-{instr,read,write,misc} ;;
+            esac
+        done
+    done
+    echo fault
+}
+
 # refused FAULT WORD..
 refused() {
     columns "${@:2}"
@@ -55,6 +74,21 @@ not_a_power='l1-dcache: size is not a power of two'
 { heads l1-dsize; small 8; refused "$not_a_power" 3; large 16; } >"$work/some"
 # In two ways the small cache has one set, and no conflict is left; the large one has two.
 { heads l1-dsize l1-dassoc; small 8 1; large 8 2; large 16 1; large 16 2; } >"$work/ways"
+# The same counts by class. A miss of the data cache is a read of the second level. One of them has
+# loaded the block that is fetched, so the fetch hits there.
+full_small() {
+    columns 1024 4 2 l 8 4 1 l a n 32 8 2 f a a 0 0 7
+    columns 1 1 0 0 0 1 1 0 0 0 1.000000 1 1 0 0 0 0 0 0 0 0 0 0 0 0 0 1 1 0 0 0 1 0 0 0
+    columns 3 0 3 0 0 3 0 3 0 0 1.000000 2 0 2 0 0 0 0 0 0 0 1 0 1 0 0 2 0 2 0 0 3 0 0 0
+    columns 4 1 3 0 0 2 0 2 0 0 0.500000 2 0 2 0 0 0 0 0 0 0 0 0 0 0 0 2 0 2 0 0 2 0 0 0
+    echo -
+}
+full_refused() {
+    columns 1024 4 2 l 3 4 1 l a n 32 8 2 f a a 0 0 7
+    printf -- '-\t%.0s' {1..105}
+    echo "$not_a_power"
+}
+{ full_heads; full_small; full_refused; } >"$work/full"
 large >"$work/line" && { heads | sed 's/^\t//'; sed 's/^\t//' "$work/line"; } >"$work/one"
 : >"$work/nothing"
 printf '0 0\n\n5 0\n' >"$work/faulty.din"
@@ -66,6 +100,10 @@ trace=$work/conflict.din
 call 'two sizes' 0 "$work/sizes" '' "$trace" "${caches[@]}" --l1-dsize 8,16
 call 'one configuration' 0 "$work/one" '' "$trace" "${caches[@]}" --l1-dsize 16
 call 'sizes by ways' 0 "$work/ways" '' "$trace" "${caches[@]}" --l1-dsize 8,16 --l1-dassoc 1,2
+call 'two sizes in three threads' 0 "$work/sizes" '' "$trace" "${caches[@]}" --l1-dsize 8,16 \
+    --threads 3
+call 'two sizes in threads without a number' 0 "$work/sizes" '' "$trace" "${caches[@]}" \
+    --l1-dsize 8,16 --threads=0
 call 'a refused size among others' 5 "$work/some" '' "$trace" "${caches[@]}" --l1-dsize 8,3,16
 call 'a required option is missing' 2 "$nothing" 'dinero_grid: command line refused, try --help
 ' "$trace" "${caches[@]}"
@@ -77,6 +115,19 @@ call 'a list where there is none' 2 "$nothing" 'dinero_grid: --maxcount: not a n
 ' "$trace" "${caches[@]}" --l1-dsize 8 --maxcount 1,2
 call 'a bad letter in a list' 2 "$nothing" 'dinero_grid: --l1-drepl: not a lawful letter
 ' "$trace" "${caches[@]}" --l1-dsize 8 --l1-drepl l,x
+full=(--l1-isize 1k --l1-ibsize 4 --l1-iassoc 02 --l1-dbsize 4 --l1-dwalloc n --l2-usize 32
+    --l2-ubsize 8 --l2-uassoc 2 --l2-urepl f --flushcount 007)
+call 'a full table' 5 "$work/full" '' "$trace" "${full[@]}" --full --l1-dsize 8,3
+call 'a flag with a value' 2 "$nothing" 'dinero_grid: command line refused, try --help
+' "$trace" "${full[@]}" --full=yes --l1-dsize 8
+call 'too many threads' 2 "$nothing" 'dinero_grid: --threads: not a number from 0 to 1024
+' "$trace" "${caches[@]}" --l1-dsize 8,16 --threads 1025
+call 'a list of threads' 2 "$nothing" 'dinero_grid: --threads: not a number from 0 to 1024
+' "$trace" "${caches[@]}" --l1-dsize 8,16 --threads 1,2
+call 'a bad size and bad threads' 2 "$nothing" 'dinero_grid: --l1-dsize: not a number
+' "$trace" "${caches[@]}" --l1-dsize 8,x --threads x
+call 'threads given twice' 2 "$nothing" 'dinero_grid: command line refused, try --help
+' "$trace" "${caches[@]}" --l1-dsize 8,16 --threads 1 --threads 2
 sizes=$(printf '8,%.0s' {1..64})8
 call '65 sizes by 64 ways' 2 "$nothing" 'dinero_grid: grid has more than 4096 configurations
 ' "$trace" "${caches[@]}" --l1-dsize "$sizes" --l1-dassoc "${sizes%,8}"
@@ -87,6 +138,8 @@ call 'an input that can not be read' 4 "$nothing" 'dinero_grid: trace read faile
 
 fail_to_print 'dinero_grid: table write failed
 ' "${caches[@]}" --l1-dsize 8,16
-help_names skipcount maxcount flushcount
+help_names skipcount maxcount flushcount threads
+"$program" --help >"$work/help"
+if grep -q -e ' --full ' "$work/help"; then pass 'help on full'; else fail 'help on full'; fi
 
 tell

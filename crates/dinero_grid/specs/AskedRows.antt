@@ -1,5 +1,5 @@
 -- The rows of the table that a command line asks for.
-use Rattle.std.specs.Prelude.{◌≡◌, Bool, List, Result, Ok, Err, string_bytes}
+use Rattle.std.specs.Prelude.{◌≡◌, Bool, true, false, List, Result, Ok, Err, string_bytes}
 use Rattle.std.specs.List.{AllZip, list_any}
 use Rattle.std.specs.Result.{is_err}
 use Rattle.stage_core.specs.Events.{IsBounded}
@@ -9,7 +9,8 @@ use Rattle.stage_core.specs.declared.selection.Selection.{Selection}
 use Rattle.dinero_options.specs.Refusals.{config_fault_text}
 use Rattle.grid_options.specs.declared.grid.GridPoint.{GridPoint}
 use Rattle.grid_options.specs.declared.grid.ParsedGrid.{ParsedGrid}
-use Rattle.grid_run.specs.declared.grid.Columns.TheVariants as columns
+use Rattle.grid_run.specs.declared.grid.Columns.{Columns}
+use Rattle.grid_run.specs.declared.grid.Columns.TheVariants.{Plain, Full}
 use Rattle.grid_run.specs.declared.grid.Grid.{Grid}
 use Rattle.grid_run.specs.declared.grid.Row.{Row}
 use Rattle.grid_run.specs.declared.grid.Setup.{Setup}
@@ -27,10 +28,15 @@ pub record IsRowOf (p : GridPoint) (r : Row) : Type 0 where
   pub words : r.words ≡ p.words
   pub setup : IsSetupOf p.selection p.config r.setup
 
--- the grid has the names that vary, and a row for each point, in order
+-- the columns of a table: if it is full, those of the classes stand behind each count
+abbrev pub columns_for : Bool → Columns
+columns_for true = Full
+columns_for false = Plain
+
+-- the grid has the names that are asked for, the columns, and a row for each point, in order
 pub record IsGridFor (asked : ParsedGrid) (grid : Grid) : Type 0 where
   pub names : grid.names ≡ asked.names
-  pub columns : grid.columns ≡ columns.Plain
+  pub columns : grid.columns ≡ columns_for asked.full
   pub rows : AllZip IsRowOf asked.points.items grid.rows.items
 
 -- each number of the selection of a point is at most 2 ^ 40

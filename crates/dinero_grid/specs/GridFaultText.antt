@@ -43,6 +43,7 @@ run_status run.Write = 4
 -- the exit status for a refused command line; 0 for help
 abbrev pub grid_words_status : GridWordsFault → ℕ
 grid_words_status (grid_words.Words fault) = words_status fault
+grid_words_status grid_words.Threads = 2
 grid_words_status grid_words.TooMany = 2
 
 -- the exit status for a fault

@@ -5,7 +5,7 @@ ghost use Rattle.std.specs.List.{All, AllZip};
 ghost use Rattle.stage_core.specs.Events.{IsBounded};
 ghost use Rattle.grid_run.specs.Grids.{HasBoundedRows, IsBoundedRow, IsBoundedSetup};
 ghost use Rattle.dinero_grid.specs.AskedRows.{IsBoundedPoint, IsGridFor, IsRowOf, IsSetupOf};
-ghost use Rattle.dinero_grid.specs.AskedRows.{has_refused};
+ghost use Rattle.dinero_grid.specs.AskedRows.{columns_for, has_refused};
 
 use dinero_options::config_text;
 use grid_options::{GridPoint, ParsedGrid};
@@ -54,17 +54,29 @@ fn rows_of(alloc: Global, points: Vec<GridPoint>) -> Result<Vec<Row>, AllocError
     Ok(rows)
 }
 
+/// The columns of a table that is full or not.
+fn columns_for(full: bool) -> Columns
+    ensures { result ≡ columns_for full }
+{
+    if full { Columns::Full } else { Columns::Plain }
+}
+
 /// The grid whose table is asked for.
 pub(crate) fn grid_for(alloc: Global, asked: ParsedGrid) -> Result<Grid, AllocError>
     requires { All IsBoundedPoint asked.points.items }
     ensures grid { IfOk result (IsGridFor asked) }
     ensures bound { IfOk result HasBoundedRows }
 {
-    let ParsedGrid { names, points } = asked;
+    let ParsedGrid {
+        names,
+        points,
+        threads: _,
+        full,
+    } = asked;
     let rows = rows_of(alloc, points)?;
     Ok(Grid {
         names,
-        columns: Columns::Plain,
+        columns: columns_for(full),
         rows,
     })
 }

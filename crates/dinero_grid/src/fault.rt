@@ -25,6 +25,7 @@ fn words_status_of(fault: GridWordsFault) -> u8
 {
     match fault {
         GridWordsFault::Words(fault) => words_status(fault),
+        GridWordsFault::Threads => 2,
         GridWordsFault::TooMany => 2,
     }
 }

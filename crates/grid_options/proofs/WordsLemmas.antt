@@ -1,5 +1,6 @@
 -- The answer to the words, from what clap says and what the grid comes to.
-use Rattle.std.proofs.Common.{◌≡◌, ◌⊎◌, List, [], ◌∷◌, Result, Ok, Err, IfOk, inl, inr, refl}
+use Rattle.std.proofs.Common.{◌≡◌, ◌⊎◌, Bool, List, [], ◌∷◌, Result, Ok, Err, IfOk, inl, inr}
+use Rattle.std.proofs.Common.{refl}
 use Rattle.std.proofs.lemmas.List.Elements.{All-cons, All-nil}
 use Rattle.std.specs.List.{All, AllZip}
 use Rattle.clap.specs.Words.{Row, Text}
@@ -8,7 +9,8 @@ use Rattle.stage_core.specs.Events.{IsBounded}
 use Rattle.dinero_options.specs.declared.opt.Opt.{Opt}
 use Rattle.dinero_options.specs.declared.words.WordsFault.{WordsFault}
 use Rattle.grid_options.specs.Grid.{AnswersGrid, AnswersGridWords, IsPoint, grid_app, memory}
-use Rattle.grid_options.specs.Grid.{points_of, varied}
+use Rattle.grid_options.specs.Grid.{points_of, shown}
+use Rattle.grid_options.specs.Own.{is_full}
 use Rattle.grid_options.specs.declared.grid.GridPoint.{GridPoint}
 use Rattle.grid_options.specs.declared.grid.ParsedGrid.{ParsedGrid}
 use Rattle.grid_options.specs.declared.words.GridWordsFault.{GridWordsFault}
@@ -25,18 +27,19 @@ pub answers_refusal : (words : List Text) (f : WordsFault) → RefusesWords grid
 answers_refusal words f refused = inr (inr (f, refused, refl))
 
 -- the selection of each point is within its bounds
-points_bounded : (xs : List Opt) (ts : List (List Text)) (ps : List GridPoint)
-    → AllZip (IsPoint xs) ts ps → All (λ p. IsBounded p.selection) ps
-points_bounded xs [] [] h = All-nil (λ p. IsBounded p.selection)
-points_bounded xs [] (p ∷ ps) h = absurd h
-points_bounded xs (t ∷ ts) [] h = absurd h
-points_bounded xs (t ∷ ts) (p ∷ ps) h =
-    All-cons (λ q. IsBounded q.selection) p ps h.0.bound (points_bounded xs ts ps h.1)
+points_bounded : (full : Bool) (xs : List Opt) (ts : List (List Text)) (ps : List GridPoint)
+    → AllZip (IsPoint full xs) ts ps → All (λ p. IsBounded p.selection) ps
+points_bounded full xs [] [] h = All-nil (λ p. IsBounded p.selection)
+points_bounded full xs [] (p ∷ ps) h = absurd h
+points_bounded full xs (t ∷ ts) [] h = absurd h
+points_bounded full xs (t ∷ ts) (p ∷ ps) h =
+    All-cons (λ q. IsBounded q.selection) p ps h.0.bound (points_bounded full xs ts ps h.1)
 
 pub grid_bounded : (rows : List Row) (r : Result ParsedGrid GridWordsFault)
     → (r ≡ Err memory) ⊎ AnswersGrid rows r
     → IfOk r (λ g. All (λ p. IsBounded p.selection) g.points.items)
 grid_bounded rows (Ok g) (inl none) = cc
 grid_bounded rows (Ok g) (inr is) =
-    points_bounded (varied rows) (points_of rows) g.points.items is.1.points
+    let full = is_full rows in
+    points_bounded full (shown full rows) (points_of rows) g.points.items is.1.points
 grid_bounded rows (Err f) h = tt

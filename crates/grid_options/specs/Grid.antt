@@ -1,10 +1,11 @@
 -- The grid that the words of a command line ask for.
 use Rattle.std.specs.Prelude.{◌≡◌, ◌⊎◌, ◌==◌, Bool, true, false, not, List, [], ◌∷◌, ◌++◌, codes}
 use Rattle.std.specs.Prelude.{filter, find, flat_map, fold, length, map, nat_lt, string_bytes}
-use Rattle.std.specs.Prelude.{if◌then◌else◌, Option, Some, None, unwrap_or, Result, Ok, Err}
+use Rattle.std.specs.Prelude.{if◌then◌else◌, Option, Some, None, is_none, unwrap_or, Result, Ok}
+use Rattle.std.specs.Prelude.{Err}
 use Rattle.std.specs.List.{AllZip, list_all, slice_split}
 use Rattle.std.specs.Option.{option_map_or}
-use Rattle.clap.specs.Words.{App, Row, Text}
+use Rattle.clap.specs.Words.{App, Row, Text, with_rule}
 use Rattle.stage_core.specs.Events.{IsBounded}
 use Rattle.stage_core.specs.Lawful.{refusal_of}
 use Rattle.stage_core.specs.declared.config.Config.{Config}
@@ -19,10 +20,12 @@ use Rattle.dinero_options.specs.declared.opt.Opt.TheVariants.{Ring, Skipcount, M
 use Rattle.dinero_options.specs.declared.settings.Settings.{Settings}
 use Rattle.dinero_options.specs.declared.words.WordsFault.{WordsFault}
 use Rattle.dinero_options.specs.declared.words.WordsFault.TheVariants.{Memory}
+use Rattle.grid_options.specs.Own.{full_rule, is_full, threads_of, threads_rule}
+use Rattle.grid_options.specs.Written.{written}
 use Rattle.grid_options.specs.declared.grid.GridPoint.{GridPoint}
 use Rattle.grid_options.specs.declared.grid.ParsedGrid.{ParsedGrid}
 use Rattle.grid_options.specs.declared.words.GridWordsFault.{GridWordsFault}
-use Rattle.grid_options.specs.declared.words.GridWordsFault.TheVariants.{Words, TooMany}
+use Rattle.grid_options.specs.declared.words.GridWordsFault.TheVariants.{Words, Threads, TooMany}
 
 -- the options that the program shares with that of one configuration: all but the rings
 abbrev pub shared_options : List Opt
@@ -31,7 +34,9 @@ shared_options = cache_options instruction_options ++ (cache_options data_option
 
 -- the command with all options
 abbrev pub grid_app : App
-grid_app = with_options (bare_app (codes "dinero_grid")) shared_options
+grid_app = with_rule
+    (with_rule (with_options (bare_app (codes "dinero_grid")) shared_options) threads_rule)
+    full_rule
 
 -- is it the capacity of the rings, which the program has no option for?
 abbrev pub is_ring : Opt → Bool
@@ -69,6 +74,10 @@ first_unreadable rows = find (λ x. not (has_readable rows x)) options
 abbrev pub varied : List Row → List Opt
 varied rows = filter (λ x. nat_lt 1 (length (values_of rows x))) options
 
+-- the options that the points have words for: in a full table all, or else those that vary
+abbrev pub shown : Bool → List Row → List Opt
+shown full rows = if full then shared_options else varied rows
+
 -- each point with each of these values behind it, point by point
 unfoldable pub extended : List (List Text) → List Text → List (List Text)
 extended points values = flat_map (λ p. map (λ v. p ++ v ∷ []) values) points
@@ -85,28 +94,38 @@ points_of rows = product (values_of rows) options
 abbrev pub memory : GridWordsFault
 memory = Words Memory
 
--- the fault of the grid, if it has one: the first option one of whose values cannot be read, or
--- more than 4096 points
+-- the fault of the grid, if it has one: the first option one of whose values cannot be read, or a
+-- number of threads that cannot be read, or more than 4096 points
 abbrev pub grid_fault : List Row → Option GridWordsFault
 grid_fault rows = option_map_or (λ x. Some (Words (refusal_by_option x))) (first_unreadable rows)
-    (if nat_lt 4096 (length (points_of rows)) then Some TooMany else None)
+    (if is_none (threads_of rows) then Some Threads
+    else (if nat_lt 4096 (length (points_of rows)) then Some TooMany else None))
 
 -- the configuration with these settings, or the first rule that they break
 abbrev pub IsConfigured : Settings → Result Config ConfigFault → Type 0
 IsConfigured w (Ok c) = (refusal_of w.i w.d w.u w.ring ≡ None) × IsConfigOf c w
 IsConfigured w (Err f) = refusal_of w.i w.d w.u w.ring ≡ Some f
 
--- the point has the texts of the options that vary, and what all its texts ask for
-pub record IsPoint (xs : List Opt) (texts : List Text) (p : GridPoint) : Type 0 where
-  pub words : map string_bytes p.words.items ≡ map (text_at texts) xs
+-- the words of a point: in a full table what these options are set to, or else their texts
+abbrev pub words_of : Bool → List Opt → List Text → List Text
+words_of full xs texts =
+    if full then map (written (settings_at (text_at texts))) xs else map (text_at texts) xs
+
+-- the point has the words of these options, and what all its texts ask for
+pub record IsPoint (full : Bool) (xs : List Opt) (texts : List Text) (p : GridPoint) : Type 0 where
+  pub words : map string_bytes p.words.items ≡ words_of full xs texts
   pub selection : p.selection ≡ (settings_at (text_at texts)).selection
   pub config : IsConfigured (settings_at (text_at texts)) p.config
   pub bound : IsBounded p.selection
 
--- the grid has the names of the options that vary, and all points in their order
+-- the grid has the names of the options that are shown, all points in their order, the number of
+-- threads that was asked for, and whether its table is full
 pub record IsGridOf (rows : List Row) (g : ParsedGrid) : Type 0 where
-  pub names : map string_bytes g.names.items ≡ map id_of (varied rows)
-  pub points : AllZip (IsPoint (varied rows)) (points_of rows) g.points.items
+  pub names : map string_bytes g.names.items ≡ map id_of (shown (is_full rows) rows)
+  pub points :
+      AllZip (IsPoint (is_full rows) (shown (is_full rows) rows)) (points_of rows) g.points.items
+  pub threads : Some g.threads ≡ threads_of rows
+  pub full : g.full ≡ is_full rows
 
 -- the answer to clap's matches: the grid, or its fault
 abbrev pub AnswersGrid : List Row → Result ParsedGrid GridWordsFault → Type 0

@@ -1,2 +1,4 @@
 pub mod Grid
+pub mod Own
 pub mod Refusals
+pub mod Written

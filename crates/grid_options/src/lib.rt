@@ -5,10 +5,11 @@
 //! is wrong with refused words. The options, their values and most refusals are those of the
 //! library dinero_options.
 //!
-//! The modules: `options` says which options there are and which may have a list. `command` gives
-//! them to clap, and `help` has the texts around them. `values` cuts a text into its values,
-//! `product` makes the points of the grid, and `grid` reads each. `words` turns the words into the
-//! grid, and `refusal` has the text of each refusal.
+//! The modules: `options` says which options it shares with the program of one configuration, and
+//! which of them may have a list; `own` has those of its own. `command` gives them to clap, and
+//! `help` has the texts around them. `values` cuts a text into its values, `product` makes the
+//! points of the grid, and `grid` reads each. `written` writes what an option is set to. `words`
+//! turns the words into the grid, and `refusal` has the text of each refusal.
 //!
 //! Proved: the answer to the words is the one that `specs/Grid` defines, with clap's contracts for
 //! the matches. Only tested: the text of the help.
@@ -18,10 +19,12 @@ mod command;
 mod grid;
 mod help;
 mod options;
+mod own;
 mod product;
 mod refusal;
 mod values;
 mod words;
+mod written;
 
 pub use command::grid_help_text;
 pub use grid::{GridPoint, ParsedGrid};

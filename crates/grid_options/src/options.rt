@@ -1,4 +1,4 @@
-//! The options of the program.
+//! The options that the program shares with that of one configuration.
 
 ghost use Rattle.std.specs.Prelude.{◌≡◌};
 ghost use Rattle.grid_options.specs.Grid.{is_ring, takes_list};

@@ -16,6 +16,7 @@ pub fn put_grid_words<W: ByteWriter>(
 {
     match fault {
         GridWordsFault::Words(fault) => put_words(fault, writer),
+        GridWordsFault::Threads => writer.put(b"--threads: not a number from 0 to 1024"),
         GridWordsFault::TooMany => writer.put(b"grid has more than 4096 configurations"),
     }
 }

@@ -6,9 +6,10 @@ ghost use Rattle.std.specs.List.{list_all};
 ghost use Rattle.clap.specs.Words.{found_of, rows_of};
 ghost use Rattle.dinero_options.specs.Answer.{reads_as};
 ghost use Rattle.dinero_options.specs.Options.{kind_of_option, options};
-ghost use Rattle.grid_options.specs.Grid.{first_unreadable, grid_text, pieces, values_of, varied};
+ghost use Rattle.grid_options.specs.Grid.{first_unreadable, grid_text, pieces, shown, values_of};
+ghost use Rattle.grid_options.specs.Grid.{varied};
 
-use crate::options::{is_ring, takes_list};
+use crate::options::{SHARED, is_ring, takes_list};
 use clap::ArgMatches;
 use dinero_options::{Opt, can_read, matched_text};
 use std::alloc::{AllocError, Global};
@@ -92,7 +93,7 @@ fn add_varied(varied: &mut Vec<Opt>, option: Opt, values: &[&str]) -> Result<(),
 }
 
 /// The options with two or more values, in their order.
-pub(crate) fn varied(alloc: Global, matches: &ArgMatches) -> Result<Vec<Opt>, AllocError>
+fn varied(alloc: Global, matches: &ArgMatches) -> Result<Vec<Opt>, AllocError>
     ensures { IfOk result (λ v. v.items ≡ varied (rows_of (found_of matches.now))) }
 {
     let mut varied = Vec::new(alloc);
@@ -101,4 +102,15 @@ pub(crate) fn varied(alloc: Global, matches: &ArgMatches) -> Result<Vec<Opt>, Al
         add_varied(&mut varied, option, values.as_slice())?;
     }
     Ok(varied)
+}
+
+/// The options that the points have words for: in a full table all, or else those that vary.
+pub(crate) fn shown(alloc: Global, matches: &ArgMatches, full: bool) -> Result<Vec<Opt>, AllocError>
+    ensures { IfOk result (λ v. v.items ≡ shown full (rows_of (found_of matches.now))) }
+{
+    if full {
+        Vec::from_slice(alloc, &SHARED)
+    } else {
+        varied(alloc, matches)
+    }
 }

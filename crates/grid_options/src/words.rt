@@ -1,25 +1,30 @@
 //! From the words after the program's name to a grid.
 
-ghost use Rattle.std.specs.Prelude.{◌≡◌, ◌⊎◌, All, Err, IfOk, map, string_bytes};
+ghost use Rattle.std.specs.Prelude.{◌≡◌, ◌⊎◌, All, Err, IfOk, Some, map, string_bytes};
 ghost use Rattle.clap.specs.Words.{found_of, rows_of};
 ghost use Rattle.stage_core.specs.Events.{IsBounded};
 ghost use Rattle.grid_options.specs.Grid.{AnswersGrid, AnswersGridWords, IsGridOf, memory};
 ghost use Rattle.grid_options.specs.Grid.{points_of};
+ghost use Rattle.grid_options.specs.Own.{threads_of};
 
 use crate::command::grid_command;
 use crate::grid::{ParsedGrid, names_of, read_points};
+use crate::own::{full_in, threads_in};
 use crate::product::points_in;
-use crate::values::{first_unread, varied};
+use crate::values::{first_unread, shown};
 use clap::ArgMatches;
 use dinero_options::{WordsFault, take_words, unread_fault};
 use std::alloc::{AllocError, Global};
 
 /// Why the words give no grid. If several things are wrong, a refusal of clap comes first, then the
-/// first option one of whose values cannot be read, then the number of the configurations.
+/// first option one of whose values cannot be read, then the number of threads, then that of the
+/// configurations.
 #[derive(Clone, Copy, Debug, PartialEq, Eq)]
 pub enum GridWordsFault {
     /// The words are refused like those of one configuration. Never holds `WordsFault::Config`.
     Words(WordsFault),
+    /// The value of `--threads` is no number, or above 1,024.
+    Threads,
     /// The grid has more than 4,096 configurations.
     TooMany,
 }
@@ -32,15 +37,23 @@ fn grid_of(
     alloc: Global,
     matches: &ArgMatches,
     points: &[Vec<&str>],
+    threads: usize,
 ) -> Result<ParsedGrid, AllocError>
-    requires { map (λ p. map (λ t. t.now) p.items) points.now
+    requires points { map (λ p. map (λ t. t.now) p.items) points.now
         ≡ points_of (rows_of (found_of matches.now)) }
+    requires threads { Some threads ≡ threads_of (rows_of (found_of matches.now)) }
     ensures { IfOk result (λ grid. IsGridOf (rows_of (found_of matches.now)) grid) }
 {
-    let varied = varied(alloc, matches)?;
-    let names = names_of(alloc, varied.as_slice())?;
-    let points = read_points(alloc, varied.as_slice(), points)?;
-    Ok(ParsedGrid { names, points })
+    let full = full_in(matches);
+    let shown = shown(alloc, matches, full)?;
+    let names = names_of(alloc, shown.as_slice())?;
+    let points = read_points(alloc, full, shown.as_slice(), points)?;
+    Ok(ParsedGrid {
+        names,
+        points,
+        threads,
+        full,
+    })
 }
 
 /// The grid that clap's matches ask for.
@@ -53,8 +66,11 @@ fn answer(alloc: Global, matches: &ArgMatches) -> Result<ParsedGrid, GridWordsFa
     if let Some(option) = first {
         return Err(GridWordsFault::Words(unread_fault(option)));
     }
+    let Some(threads) = threads_in(matches) else {
+        return Err(GridWordsFault::Threads);
+    };
     match points_in(alloc, matches) {
-        Ok(points) => match grid_of(alloc, matches, points.as_slice()) {
+        Ok(points) => match grid_of(alloc, matches, points.as_slice(), threads) {
             Ok(grid) => Ok(grid),
             Err(_) => Err(MEMORY),
         },

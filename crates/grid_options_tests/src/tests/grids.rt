@@ -23,7 +23,7 @@ pub fn parsed(alloc: Global, line: &str) -> Result<Result<ParsedGrid, GridWordsF
 }
 
 /// Are these the texts, with a blank after each?
-fn are(texts: &[String], line: &str) -> bool {
+pub fn are(texts: &[String], line: &str) -> bool {
     texts.len() == line.split_whitespace().count()
         && texts
             .iter()

@@ -17,13 +17,13 @@ fn wants_memory(rt: &impl Abort, fault: GridWordsFault) -> Result<(), WordsFault
 fn is_refused(
     rt: &impl Abort,
     answer: Result<ParsedGrid, GridWordsFault>,
-    want: WordsFault,
+    want: GridWordsFault,
 ) -> Result<(), WordsFault> {
     assert!(rt; answer.is_err());
     match answer {
         Ok(_) => Ok(()),
         Err(fault) => {
-            if fault == GridWordsFault::Words(want) {
+            if fault == want {
                 return Ok(());
             }
             wants_memory(rt, fault)
@@ -49,15 +49,38 @@ fn a_grid_is_read_or_memory_is_wanted(rt: HostRuntime) -> Result<(), Fail> {
 }
 
 #[test]
+fn a_full_table_is_asked_for_or_memory_is_wanted(rt: HostRuntime) -> Result<(), Fail> {
+    match parsed(rt.alloc(), "--l1-dsize 16,32 --full")? {
+        Ok(grid) => {
+            assert!(rt; grid.full);
+            assert_eq!(rt; grid.names.len(), 19);
+            assert_eq!(rt; grid.points.len(), 2);
+            for point in grid.points.iter() {
+                assert_eq!(rt; point.words.len(), 19);
+            }
+            Ok(())
+        }
+        Err(fault) => Ok(wants_memory(&rt, fault)?),
+    }
+}
+
+#[test]
 fn a_bad_value_is_named_or_memory_is_wanted(rt: HostRuntime) -> Result<(), Fail> {
     let answer = parsed(rt.alloc(), "--l1-dsize 16,x")?;
-    Ok(is_refused(&rt, answer, WordsFault::Number(Opt::L1Dsize))?)
+    let want = GridWordsFault::Words(WordsFault::Number(Opt::L1Dsize));
+    Ok(is_refused(&rt, answer, want)?)
+}
+
+#[test]
+fn bad_threads_are_named_or_memory_is_wanted(rt: HostRuntime) -> Result<(), Fail> {
+    let answer = parsed(rt.alloc(), "--l1-dsize 16 --threads 1025")?;
+    Ok(is_refused(&rt, answer, GridWordsFault::Threads)?)
 }
 
 #[test]
 fn an_unknown_option_is_refused_or_memory_is_wanted(rt: HostRuntime) -> Result<(), Fail> {
     let answer = parsed(rt.alloc(), "--l1-dsize 16 --ring 2")?;
-    Ok(is_refused(&rt, answer, WordsFault::Words)?)
+    Ok(is_refused(&rt, answer, GridWordsFault::Words(WordsFault::Words))?)
 }
 
 #[test]

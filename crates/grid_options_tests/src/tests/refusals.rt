@@ -7,14 +7,16 @@ use grid_options::{GridWordsFault, grid_help_text, put_grid_words};
 use std::alloc::{AllocError, Global};
 use std::test::Fail;
 
-fn refusal(alloc: Global, line: &str) -> Result<Option<GridWordsFault>, AllocError> {
+/// Why these words, behind those of `OTHERS`, are refused.
+pub fn refusal(alloc: Global, line: &str) -> Result<Option<GridWordsFault>, AllocError> {
     match parsed(alloc, line)? {
         Ok(_) => Ok(None),
         Err(fault) => Ok(Some(fault)),
     }
 }
 
-fn of_words(fault: WordsFault) -> Option<GridWordsFault> {
+/// A refusal of words like those of one configuration.
+pub fn of_words(fault: WordsFault) -> Option<GridWordsFault> {
     Some(GridWordsFault::Words(fault))
 }
 
@@ -27,16 +29,22 @@ fn list(alloc: Global, values: u64) -> Result<String, AllocError> {
     Ok(text)
 }
 
-/// How many points a grid of two lists with so many values has, or why it is refused.
+/// Words for a grid of two lists with so many values.
+fn lists(alloc: Global, sizes: u64, flushes: u64) -> Result<String, AllocError> {
+    let mut line = String::from_str(alloc, "--l1-dsize ")?;
+    line.push_str(list(alloc, sizes)?.as_str())?;
+    line.push_str(" --flushcount ")?;
+    line.push_str(list(alloc, flushes)?.as_str())?;
+    Ok(line)
+}
+
+/// How many points the grid of two such lists has, or why it is refused.
 fn points(
     alloc: Global,
     sizes: u64,
     flushes: u64,
 ) -> Result<Result<usize, GridWordsFault>, AllocError> {
-    let mut line = String::from_str(alloc, "--l1-dsize ")?;
-    line.push_str(list(alloc, sizes)?.as_str())?;
-    line.push_str(" --flushcount ")?;
-    line.push_str(list(alloc, flushes)?.as_str())?;
+    let line = lists(alloc, sizes, flushes)?;
     match parsed(alloc, line.as_str())? {
         Ok(grid) => Ok(Ok(grid.points.len())),
         Err(fault) => Ok(Err(fault)),
@@ -51,6 +59,17 @@ fn refuses_more_than_4096_configurations(rt: HostRuntime) -> Result<(), Fail> {
     assert_eq!(rt; points(alloc, 17, 241)?, Err(GridWordsFault::TooMany));
     assert_eq!(rt; points(alloc, 4097, 1)?, Err(GridWordsFault::TooMany));
     assert_eq!(rt; points(alloc, 1, 4097)?, Err(GridWordsFault::TooMany));
+    Ok(())
+}
+
+#[test]
+fn names_bad_threads_before_too_many_configurations(rt: HostRuntime) -> Result<(), Fail> {
+    let mut line = lists(rt.alloc(), 17, 241)?;
+    line.push_str(" --threads x")?;
+    assert_eq!(rt;
+        refusal(rt.alloc(), line.as_str())?,
+        Some(GridWordsFault::Threads)
+    );
     Ok(())
 }
 
@@ -113,6 +132,10 @@ fn tells_what_is_wrong_with_the_words(rt: HostRuntime) -> Result<(), Fail> {
         (
             GridWordsFault::TooMany,
             "grid has more than 4096 configurations",
+        ),
+        (
+            GridWordsFault::Threads,
+            "--threads: not a number from 0 to 1024",
         ),
         (
             GridWordsFault::Words(WordsFault::Words),

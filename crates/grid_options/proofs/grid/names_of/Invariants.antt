@@ -4,4 +4,4 @@ use Rattle.grid_options.proofs.grid.names_of.Given as goal
 
 abbrev pub invariant-loop-option : goal.invariant-loop-option
 invariant-loop-option l =
-    map string_bytes l.names.items ≡ map id_of (take l.option-index l.varied)
+    map string_bytes l.names.items ≡ map id_of (take l.option-index l.shown)

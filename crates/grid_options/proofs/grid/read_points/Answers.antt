@@ -1,12 +1,13 @@
-use Rattle.std.proofs.Common.{◌+◌, ◌∷◌, ◌++◌, [], map, subst, sym, take}
+use Rattle.std.proofs.Common.{◌+◌, List, [], ◌∷◌, ◌++◌, map, subst, sym, take}
 use Rattle.std.specs.List.{AllZip}
 use Rattle.grid_options.specs.Grid.{IsPoint}
+use Rattle.grid_options.specs.declared.grid.GridPoint.{GridPoint}
 use Rattle.grid_options.proofs.ListLemmas.{seen_more, texts_of, zip_push}
 use Rattle.grid_options.proofs.grid.read_points.Goals as goal
 
 pub loop-texts-preserved : goal.loop-texts-preserved
 loop-texts-preserved c =
-    let R = IsPoint c.args.varied.now in
+    let R = IsPoint c.args.full c.args.shown.now in
     let xs = c.args.points.now in
     let i = c.loop-texts.texts-index in
     let x = c.texts-item.result in
@@ -15,6 +16,7 @@ loop-texts-preserved c =
     c.as_slice.ensures.value c.in_ok-point_of.ensures in
     let zipped = zip_push R (map texts_of (take i xs)) c.loop-texts.read.items (texts_of x) p
     c.loop-texts.invariant point in
-    subst (λ ys. AllZip R (map texts_of (take (i + 1) xs)) ys) (sym c.in_ok-push.ensures.items)
+    subst (λ ys. AllZip R (map texts_of (take (i + 1) xs)) ys)
+    (sym {A = List GridPoint} c.in_ok-push.ensures.items)
     (subst (λ zs. AllZip R zs (c.loop-texts.read.items ++ p ∷ []))
     (sym (seen_more texts_of xs i x c.loop-texts-test.true c.texts-item.is)) zipped)

@@ -4,5 +4,5 @@ use Rattle.grid_options.specs.Grid.{IsPoint}
 use Rattle.grid_options.proofs.grid.read_points.Given as goal
 
 abbrev pub invariant-loop-texts : goal.invariant-loop-texts
-invariant-loop-texts l = AllZip (IsPoint l.varied)
+invariant-loop-texts l = AllZip (IsPoint l.full l.shown)
     (map (λ p. map (λ t. t.now) p.items) (take l.texts-index l.points)) l.read.items

@@ -1,0 +1,205 @@
+//! The options that the program has of its own.
+
+use super::grids::{are, has_data_cache, parsed};
+use super::refusals::{of_words, refusal};
+use cache_core::GeometryFault;
+use dinero_options::{Opt, WordsFault};
+use grid_options::{GridWordsFault, ParsedGrid, grid_help_text};
+use stage_core::{CacheName, ConfigFault};
+use std::alloc::{AllocError, Global};
+use std::test::Fail;
+
+/// The names of all options but that of the rings.
+static ALL: &str = "l1-isize l1-ibsize l1-iassoc l1-irepl l1-dsize l1-dbsize l1-dassoc l1-drepl
+    l1-dwback l1-dwalloc l2-usize l2-ubsize l2-uassoc l2-urepl l2-uwback l2-uwalloc skipcount
+    maxcount flushcount";
+
+/// How many threads the words ask for, or why they are refused.
+fn threads(alloc: Global, line: &str) -> Result<Result<usize, GridWordsFault>, AllocError> {
+    match parsed(alloc, line)? {
+        Ok(grid) => Ok(Ok(grid.threads)),
+        Err(fault) => Ok(Err(fault)),
+    }
+}
+
+#[test]
+fn takes_a_number_of_threads(rt: HostRuntime) -> Result<(), Fail> {
+    let alloc = rt.alloc();
+    assert_eq!(rt; threads(alloc, "--l1-dsize 16")?, Ok(0));
+    assert_eq!(rt; threads(alloc, "--l1-dsize 16 --threads 0")?, Ok(0));
+    assert_eq!(rt; threads(alloc, "--l1-dsize 16 --threads 1")?, Ok(1));
+    assert_eq!(rt; threads(alloc, "--threads=007 --l1-dsize 16,32")?, Ok(7));
+    assert_eq!(rt;
+        threads(alloc, "--threads 1024 --l1-dsize 16 --maxcount 3")?,
+        Ok(1024)
+    );
+    Ok(())
+}
+
+#[test]
+fn refuses_other_numbers_of_threads(rt: HostRuntime) -> Result<(), Fail> {
+    let alloc = rt.alloc();
+    let refused = Some(GridWordsFault::Threads);
+    assert_eq!(rt; refusal(alloc, "--l1-dsize 16 --threads 1025")?, refused);
+    assert_eq!(rt;
+        refusal(alloc, "--l1-dsize 16 --threads 999999999999")?,
+        refused
+    );
+    assert_eq!(rt;
+        refusal(alloc, "--l1-dsize 16 --threads 0000000000001")?,
+        refused
+    );
+    assert_eq!(rt; refusal(alloc, "--l1-dsize 16 --threads 1,2")?, refused);
+    assert_eq!(rt; refusal(alloc, "--l1-dsize 16 --threads 1k")?, refused);
+    assert_eq!(rt; refusal(alloc, "--l1-dsize 16 --threads four")?, refused);
+    assert_eq!(rt; refusal(alloc, "--l1-dsize 16 --threads +1")?, refused);
+    assert_eq!(rt; refusal(alloc, "--l1-dsize 16 --threads=-1")?, refused);
+    assert_eq!(rt; refusal(alloc, "--l1-dsize 16 --threads=")?, refused);
+    Ok(())
+}
+
+#[test]
+fn takes_threads_once_and_with_a_number(rt: HostRuntime) -> Result<(), Fail> {
+    let alloc = rt.alloc();
+    let refused = of_words(WordsFault::Words);
+    assert_eq!(rt;
+        refusal(alloc, "--l1-dsize 16 --threads 1 --threads 1")?,
+        refused
+    );
+    assert_eq!(rt; refusal(alloc, "--l1-dsize 16 --threads")?, refused);
+    assert_eq!(rt; refusal(alloc, "--threads --l1-dsize 16")?, refused);
+    Ok(())
+}
+
+#[test]
+fn names_the_threads_behind_other_options(rt: HostRuntime) -> Result<(), Fail> {
+    let alloc = rt.alloc();
+    let flushes = of_words(WordsFault::Number(Opt::Flushcount));
+    let line = "--threads x --l1-dsize 16 --flushcount x";
+    assert_eq!(rt; refusal(alloc, line)?, flushes);
+    Ok(())
+}
+
+#[test]
+fn helps_with_both(rt: HostRuntime) -> Result<(), Fail> {
+    let text = grid_help_text(rt.alloc());
+    assert!(rt; text.is_ok());
+    if let Ok(text) = text {
+        assert!(rt; text.as_str().contains("--threads <COUNT>"));
+        assert!(rt; text.as_str().contains("--full "));
+    }
+    Ok(())
+}
+
+/// Is this a full grid whose points have these words?
+fn is_full(grid: &ParsedGrid, rows: &[&str]) -> bool {
+    grid.full
+        && are(grid.names.as_slice(), ALL)
+        && grid.points.len() == rows.len()
+        && grid
+            .points
+            .iter()
+            .zip(rows)
+            .all(|(point, row)| are(point.words.as_slice(), *row))
+}
+
+#[test]
+fn gives_a_full_table_all_options(rt: HostRuntime) -> Result<(), Fail> {
+    let answer = parsed(rt.alloc(), "--full --l1-dsize 16")?;
+    assert!(rt; answer.is_ok());
+    if let Ok(grid) = answer {
+        let rows = ["16 4 1 l 16 4 1 l a a 64 8 1 l a a 0 0 0"];
+        assert!(rt; is_full(&grid, rows.as_slice()));
+        assert_eq!(rt; grid.threads, 0);
+        for point in grid.points.iter() {
+            assert!(rt; has_data_cache(&point.config, 4, 4));
+        }
+    }
+    Ok(())
+}
+
+#[test]
+fn writes_sizes_in_bytes_and_counts_without_zeros_in_front(rt: HostRuntime) -> Result<(), Fail> {
+    let line = "--l1-dsize 0016,1k,2K,1m,1M --l1-dassoc 02 --skipcount 007 --maxcount 0
+        --flushcount 00,999999999999 --full --threads 3";
+    let answer = parsed(rt.alloc(), line)?;
+    assert!(rt; answer.is_ok());
+    if let Ok(grid) = answer {
+        let rows = [
+            "16 4 1 l 16 4 2 l a a 64 8 1 l a a 7 0 0",
+            "16 4 1 l 16 4 2 l a a 64 8 1 l a a 7 0 999999999999",
+            "16 4 1 l 1024 4 2 l a a 64 8 1 l a a 7 0 0",
+            "16 4 1 l 1024 4 2 l a a 64 8 1 l a a 7 0 999999999999",
+            "16 4 1 l 2048 4 2 l a a 64 8 1 l a a 7 0 0",
+            "16 4 1 l 2048 4 2 l a a 64 8 1 l a a 7 0 999999999999",
+            "16 4 1 l 1048576 4 2 l a a 64 8 1 l a a 7 0 0",
+            "16 4 1 l 1048576 4 2 l a a 64 8 1 l a a 7 0 999999999999",
+            "16 4 1 l 1048576 4 2 l a a 64 8 1 l a a 7 0 0",
+            "16 4 1 l 1048576 4 2 l a a 64 8 1 l a a 7 0 999999999999",
+        ];
+        assert!(rt; is_full(&grid, rows.as_slice()));
+        assert_eq!(rt; grid.threads, 3);
+    }
+    Ok(())
+}
+
+#[test]
+fn writes_policies_as_their_letters(rt: HostRuntime) -> Result<(), Fail> {
+    let line = "--l1-dsize 16 --full --l1-iassoc 2 --l1-irepl f --l1-dassoc 4 --l1-drepl l,f
+        --l1-dwback n --l1-dwalloc n --l2-uassoc 8 --l2-urepl f --l2-uwback n,a --l2-uwalloc n";
+    let answer = parsed(rt.alloc(), line)?;
+    assert!(rt; answer.is_ok());
+    if let Ok(grid) = answer {
+        let rows = [
+            "16 4 2 f 16 4 4 l n n 64 8 8 f n n 0 0 0",
+            "16 4 2 f 16 4 4 l n n 64 8 8 f a n 0 0 0",
+            "16 4 2 f 16 4 4 f n n 64 8 8 f n n 0 0 0",
+            "16 4 2 f 16 4 4 f n n 64 8 8 f a n 0 0 0",
+        ];
+        assert!(rt; is_full(&grid, rows.as_slice()));
+    }
+    Ok(())
+}
+
+#[test]
+fn gives_refused_points_their_values_too(rt: HostRuntime) -> Result<(), Fail> {
+    let answer = parsed(rt.alloc(), "--l1-dsize 0024,999999999999m --full")?;
+    assert!(rt; answer.is_ok());
+    if let Ok(grid) = answer {
+        let rows = [
+            "16 4 1 l 24 4 1 l a a 64 8 1 l a a 0 0 0",
+            "16 4 1 l 1048575999998951424 4 1 l a a 64 8 1 l a a 0 0 0",
+        ];
+        assert!(rt; is_full(&grid, rows.as_slice()));
+        let refused = ConfigFault::Geometry(CacheName::D, GeometryFault::SizeNotPower);
+        for point in grid.points.iter() {
+            assert_eq!(rt; point.config.err(), Some(refused));
+        }
+    }
+    Ok(())
+}
+
+#[test]
+fn gives_no_full_table_unless_asked(rt: HostRuntime) -> Result<(), Fail> {
+    let answer = parsed(rt.alloc(), "--l1-dsize 0016,1k")?;
+    assert!(rt; answer.is_ok());
+    if let Ok(grid) = answer {
+        assert!(rt; !grid.full);
+        assert!(rt; are(grid.names.as_slice(), "l1-dsize"));
+        for (point, word) in grid.points.iter().zip(["0016", "1k"]) {
+            assert!(rt; are(point.words.as_slice(), word));
+        }
+    }
+    Ok(())
+}
+
+#[test]
+fn takes_the_flag_once_and_without_a_value(rt: HostRuntime) -> Result<(), Fail> {
+    let alloc = rt.alloc();
+    let refused = of_words(WordsFault::Words);
+    assert_eq!(rt; refusal(alloc, "--l1-dsize 16 --full=true")?, refused);
+    assert_eq!(rt; refusal(alloc, "--l1-dsize 16 --full true")?, refused);
+    assert_eq!(rt; refusal(alloc, "--l1-dsize 16 --full --full")?, refused);
+    assert_eq!(rt; refusal(alloc, "--full --l1-dsize 16")?, None);
+    Ok(())
+}
