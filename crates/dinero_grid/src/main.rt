@@ -34,10 +34,30 @@ use std::alloc::Global;
 use std::env;
 use std::io::{BufWriter, ErrorKind, Read, Write};
 use std::process::ExitCode;
+use std::thread;
+use std::thread::Threads;
+
+/// How many threads work if the command line leaves it to the machine, and the machine doesn't say
+/// how many it has.
+const THREADS: usize = 4;
+
+/// How many threads work: as many as are asked for, or if that is 0, as many as the machine has.
+fn threads_for<T: Threads>(rt: &T, asked: usize) -> usize
+    ensures { asked ≢ 0 → result ≡ asked }
+{
+    if asked != 0 {
+        return asked;
+    }
+    match thread::available_parallelism(rt) {
+        Ok(count) => count.get(),
+        Err(_) => THREADS,
+    }
+}
 
 /// Reads a trace of at most 2^40 bytes once, and writes the table of the grid that is asked for.
 /// Answers whether some configuration was refused.
-fn table<R: ByteReader + Drop, W: ByteWriter>(
+fn table<T: Threads + Sync, R: ByteReader + Drop, W: ByteWriter>(
+    rt: &T,
     alloc: Global,
     asked: ParsedGrid,
     reader: R,
@@ -59,15 +79,17 @@ fn table<R: ByteReader + Drop, W: ByteWriter>(
     ensures unwritten { IfErr result (λ why. why ≢ GridFault.Write → writer.new ≡ writer.old) }
 {
     let is_short = has_refused(&asked.points);
+    let threads = threads_for(rt, asked.threads);
     let Ok(grid) = grid_for(alloc, asked) else {
         return Err(GridFault::Memory);
     };
-    simulate_grid(alloc, &grid, reader, MAX_LIMIT, writer)?;
+    simulate_grid(rt, alloc, &grid, reader, MAX_LIMIT, threads, writer)?;
     Ok(is_short)
 }
 
 /// As `table`, from any reader to any writer, through a buffer.
-fn table_through_buffer<R: Read + Drop, W: Write + Drop>(
+fn table_through_buffer<T: Threads + Sync, R: Read + Drop, W: Write + Drop>(
+    rt: &T,
     alloc: Global,
     asked: ParsedGrid,
     input: R,
@@ -80,7 +102,7 @@ fn table_through_buffer<R: Read + Drop, W: Write + Drop>(
     };
     let mut writer = FromWrite::new(output);
     let reader = FromRead::new(input);
-    match table(alloc, asked, reader, &mut writer) {
+    match table(rt, alloc, asked, reader, &mut writer) {
         Ok(is_short) => Ok(is_short),
         Err(fault) => Err(Fault::Run(fault)),
     }
@@ -136,7 +158,7 @@ const SOME_REFUSED: u8 = 5;
 
 fn main(rt: HostRuntime) -> ExitCode {
     let ended = match parse_args(&rt) {
-        Ok(asked) => table_through_buffer(rt.alloc(), asked, rt.stdin(), rt.stdout()),
+        Ok(asked) => table_through_buffer(&rt, rt.alloc(), asked, rt.stdin(), rt.stdout()),
         Err(Fault::Words(GridWordsFault::Words(WordsFault::Help))) => write_help(&rt),
         Err(fault) => Err(fault),
     };

@@ -1,5 +1,6 @@
 -- Workers, each of which goes on with its own task.
-use Rattle.std.proofs.Common.{◌≡◌, ℕ, ◌<◌, List, [], ◌∷◌, length, get_or, map, refl, sym, ◌∙◌, arith}
+use Rattle.std.proofs.Common.{◌≡◌, ℕ, ◌<◌, List, [], ◌∷◌, length, get_or, map, refl, sym}
+use Rattle.std.proofs.Common.{◌∙◌, arith}
 use Rattle.std.proofs.lemmas.List.{get_or-map, length-map, same_lists}
 use Rattle.din_trace.specs.declared.record.DinRecord.{DinRecord}
 use Rattle.std.specs.List.{All}

@@ -14,6 +14,7 @@ use stage_core::{CacheSpec, Config, Selection, run_plain};
 use std::alloc::Global;
 use std::process::Abort;
 use std::test::Fail;
+use std::thread::Threads;
 
 /// The next pseudo-random number, by a linear congruence with Knuth's constants.
 fn next_random(state: &mut u64) -> u64 {
@@ -157,9 +158,9 @@ fn grid_of(alloc: Global, first: &Selection, second: &Selection) -> Result<Grid,
     })
 }
 
-/// The grid has to write what its configurations count alone.
-fn agrees(
-    rt: &impl Abort,
+/// The grid has to write what its configurations count alone, whatever the number of threads.
+fn agrees<H: Abort + Threads + Sync>(
+    rt: &H,
     alloc: Global,
     first: &Selection,
     second: &Selection,
@@ -178,10 +179,13 @@ fn agrees(
         write_counted(Columns::Full, &[], &figures_in_part, &mut lines)?;
     }
     let grid = grid_of(alloc, first, second)?;
-    let mut written = Vec::new(alloc);
-    let mut writer = FromWrite::new(&mut written);
-    simulate_grid(alloc, &grid, FromRead::new(trace), MAX_LIMIT, &mut writer)?;
-    assert!(rt; written.as_slice() == expected.as_slice());
+    for threads in [1, 2, 4] {
+        let mut written = Vec::new(alloc);
+        let mut writer = FromWrite::new(&mut written);
+        let reader = FromRead::new(trace);
+        simulate_grid(rt, alloc, &grid, reader, MAX_LIMIT, threads, &mut writer)?;
+        assert!(rt; written.as_slice() == expected.as_slice());
+    }
     Ok(())
 }
 

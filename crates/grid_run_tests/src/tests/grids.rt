@@ -14,6 +14,7 @@ use std::alloc::Global;
 use std::io::{Read, Write};
 use std::process::Abort;
 use std::test::Fail;
+use std::thread::Threads;
 
 pub(super) static EVERYTHING: Selection = Selection {
     skip: 0,
@@ -82,26 +83,31 @@ static REFUSED: &str = concat!(
 );
 
 /// The result of a grid over a trace, read from any reader and written to any writer.
-pub(super) fn run<R: Read + Drop, W: Write + Drop>(
+pub(super) fn run<H: Threads + Sync, R: Read + Drop, W: Write + Drop>(
+    rt: &H,
     alloc: Global,
     grid: &Grid,
+    threads: usize,
     reader: R,
     writer: W,
 ) -> Result<(), GridFault>
     requires { HasBoundedRows grid.now }
 {
     simulate_grid(
+        rt,
         alloc,
         grid,
         FromRead::new(reader),
         MAX_LIMIT,
+        threads,
         &mut FromWrite::new(writer),
     )
 }
 
-/// The table of a grid over a trace has to have these lines of its first and last rows.
-fn writes(
-    rt: &impl Abort,
+/// The table of a grid over a trace has to have these lines of its first and last rows, whatever
+/// the number of threads.
+fn writes<H: Abort + Threads + Sync>(
+    rt: &H,
     alloc: Global,
     grid: &Grid,
     trace: &[u8],
@@ -110,14 +116,16 @@ fn writes(
 ) -> Result<(), Fail>
     requires { HasBoundedRows grid.now }
 {
-    let mut written = Vec::new(alloc);
-    assert_eq!(rt; run(alloc, grid, trace, &mut written), Ok(()));
     let mut expected = String::from_str(alloc, "l1-dsize\t")?;
     expected.push_str(HEADS)?;
     expected.push_str(small)?;
     expected.push_str(REFUSED)?;
     expected.push_str(large)?;
-    assert!(rt; written.as_slice() == expected.as_bytes());
+    for threads in 0..4 {
+        let mut written = Vec::new(alloc);
+        assert_eq!(rt; run(rt, alloc, grid, threads, trace, &mut written), Ok(()));
+        assert!(rt; written.as_slice() == expected.as_bytes());
+    }
     Ok(())
 }
 
@@ -236,7 +244,7 @@ fn nothing_is_written_for_a_faulty_trace(rt: HostRuntime) -> Result<(), Fail> {
         (b"x 0\n0 8\n0 10\n", 1, Why::Label),
     ] {
         let mut written = Vec::new(rt.alloc());
-        let ended = run(rt.alloc(), &grid, trace.as_slice(), &mut written);
+        let ended = run(&rt, rt.alloc(), &grid, 2, trace.as_slice(), &mut written);
         let fault = TraceFault::Bad { line, why };
         assert_eq!(rt; ended, Err(GridFault::Trace(fault)));
         assert!(rt; written.is_empty());
@@ -254,10 +262,15 @@ pub(super) fn table_len() -> usize {
 }
 
 /// The grid has to fail with `Write` over the trace of a conflict, at a writer with this room.
-fn fails(rt: &impl Abort, alloc: Global, room: usize, can_flush: bool) -> Result<Narrow, Fail> {
+fn fails<H: Abort + Threads + Sync>(
+    rt: &H,
+    alloc: Global,
+    room: usize,
+    can_flush: bool,
+) -> Result<Narrow, Fail> {
     let mut writer = with_room(room, can_flush);
     let grid = grid(alloc, &EVERYTHING, &EVERYTHING)?;
-    let ended = run(alloc, &grid, CONFLICT, &mut writer);
+    let ended = run(rt, alloc, &grid, 2, CONFLICT, &mut writer);
     assert_eq!(rt; ended, Err(GridFault::Write));
     Ok(writer)
 }
@@ -282,7 +295,7 @@ fn a_writer_may_fail_at_its_flush(rt: HostRuntime) -> Result<(), Fail> {
 fn a_table_is_flushed_once(rt: HostRuntime) -> Result<(), Fail> {
     let mut writer = with_room(10_000, true);
     let grid = grid(rt.alloc(), &EVERYTHING, &EVERYTHING)?;
-    let ended = run(rt.alloc(), &grid, CONFLICT, &mut writer);
+    let ended = run(&rt, rt.alloc(), &grid, 2, CONFLICT, &mut writer);
     assert_eq!(rt; ended, Ok(()));
     assert_eq!(rt; (writer.taken, writer.flushes), (table_len(), 1));
     Ok(())

@@ -10,7 +10,7 @@ use std::test::Fail;
 fn a_table_is_whole_or_nothing_is_written(rt: HostRuntime) -> Result<(), Fail> {
     let mut writer = with_room(10_000, true);
     let grid = grid(rt.alloc(), &EVERYTHING, &EVERYTHING)?;
-    let ended = run(rt.alloc(), &grid, CONFLICT, &mut writer);
+    let ended = run(&rt, rt.alloc(), &grid, 2, CONFLICT, &mut writer);
     if ended.is_err() {
         assert_eq!(rt; (writer.taken, writer.flushes), (0, 0));
     }

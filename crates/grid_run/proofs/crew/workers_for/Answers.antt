@@ -31,5 +31,6 @@ loop-plan-preserved c =
           (c.in_ok-worker.ensures.task ∙ ap task_of_plan c.plan-item.is)
           ∙ sym (map_more task_of_plan plans k e inside);
       taken = subst (λ (l : List Worker). All (MayHaveTaken []) l) (sym is)
-          (All-push (MayHaveTaken []) old v c.loop-plan.invariant.taken c.in_ok-worker.ensures.taken);
+          (All-push (MayHaveTaken []) old v c.loop-plan.invariant.taken
+          c.in_ok-worker.ensures.taken);
     }

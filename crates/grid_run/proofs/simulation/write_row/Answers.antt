@@ -50,7 +50,8 @@ figures-figures-requires g c =
     c.in-Simulated.is c.in-Some.is c.requires in (
       hierarchy_of f,
       s,
-      lane-there c.args.workers.now f s p c.index-workers-place.result c.index-workers-place.is place,
+      lane-there c.args.workers.now f s p c.index-workers-place.result c.index-workers-place.is
+          place,
     )
 
 pub returns-in-Some-clause-line : goal.returns-in-Some-clause-line
