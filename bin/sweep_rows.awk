@@ -1,5 +1,5 @@
 # Makes whole rows of what a run has printed, which follows the line of the run on standard input.
-# The first line that it prints has two words: `done`, or `again` if another run of the same could
+# The first line that it prints has two words: `whole`, or `again` if another run of the same could
 # end otherwise; and the fault of the run, which is a hyphen if there is none. sweep_grid.awk is
 # read before it.
 
@@ -33,7 +33,7 @@ END {
     if (unpacked && (unpacked < 128 || is_table()))
         give_fault("again", unpacker[run[0]] " ended with status " unpacked)
     else if (is_table()) give_table()
-    else give_fault(ended == 1 || ended == 2 ? "done" : "again", said)
+    else give_fault(ended == 1 || ended == 2 ? "whole" : "again", said)
 }
 
 function is_table() {
@@ -51,7 +51,7 @@ function front(   text, i, name) {
 }
 
 function give_table(   i, j, field, name, text) {
-    print "done", "-"
+    print "whole", "-"
     for (i = 1; i <= lines; i++) {
         split(line[i], field, "\t")
         for (name in field_of) now[name] = field[field_of[name]]

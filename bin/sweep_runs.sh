@@ -84,10 +84,11 @@ choose_engine() {
     [ -z "$hosts" ] || die 69 '--hosts needs GNU parallel: install the package parallel'
 }
 
-# make_runs: here or on other machines, and takes in what each has to say.
+# make_runs: here or on other machines, and takes in what each has to say, as soon as it has ended;
+# at the end, also those that were not heard of.
 group=
 make_runs() {
-    local number
+    local number heard=()
     mkfifo "$work/finished"
     # In a group of their own, the runs can be ended together. They do not hold the log, so that
     # another call can go on from it as soon as this one has ended.
@@ -100,8 +101,12 @@ make_runs() {
     group=$!
     set +m
     while read -r number; do
-        ! is_number "$number" || take_in "$number"
+        heard[number]=yes
+        take_in "$number"
     done < "$work/finished"
+    for ((number = 1; number <= runs; number++)); do
+        [ -n "${heard[number]-}" ] || take_in "$number"
+    done
 }
 
 # end_runs: ends all runs. parallel, once told to end, winds up on other machines too.
@@ -126,7 +131,7 @@ one_task() {
         run_one "$number" > /dev/null
         read_run "$number"
         tell_fault
-        if [ "$ended" != done ]; then
+        if [ "$ended" != whole ]; then
             end_where_stuck
             die 4 "task $task has no whole report"
         fi

@@ -17,7 +17,8 @@ END {
     print n - from, faults + 0, cells
     to = n
     for (n = from; n < to; n++) print n == 0 ? names() : label(n) "\t" counts(n)
-    for (n in row) if (n >= to) print row[n]
+    # What is taken from an index is a text, and would be compared as one.
+    for (n in row) if (n + 0 >= to) print row[n]
 }
 
 function names(   text, i) {

@@ -10,9 +10,11 @@ last=0
 # there; at the end, also those that have no row.
 put_lines() {
     local count some status=0
-    { of_grid sweep_table.awk -v "from=$next" ${1+-v "$1"} < "$work/pending" > "$work/lines"; } \
-        2>/dev/null && IFS=$'\t' read -r count some last < "$work/lines" &&
-        tail -n "+$((count + 2))" "$work/lines" > "$work/pending" 2>/dev/null || no_room
+    {
+        of_grid sweep_table.awk -v "from=$next" ${1+-v "$1"} < "$work/pending" > "$work/lines" &&
+            IFS=$'\t' read -r count some last < "$work/lines" &&
+            tail -n "+$((count + 2))" "$work/lines" > "$work/pending"
+    } 2>/dev/null || no_room
     faults=$((faults + some))
     next=$((next + count))
     [ "$count" -gt 0 ] || return 0
@@ -26,9 +28,11 @@ put_lines() {
 read_run() {
     local raw=$work/raw/$1
     [ -f "$raw" ] || raw=/dev/null
-    { { sed -n "$1p" "$work/runs" && cat "$raw"; } | of_grid sweep_rows.awk > "$work/made"; } \
-        2>/dev/null && IFS=$'\t' read -r ended fault < "$work/made" &&
-        tail -n +2 "$work/made" > "$work/rows" 2>/dev/null || no_room
+    {
+        { sed -n "$1p" "$work/runs" && cat "$raw"; } | of_grid sweep_rows.awk > "$work/made" &&
+            IFS=$'\t' read -r ended fault < "$work/made" &&
+            tail -n +2 "$work/made" > "$work/rows"
+    } 2>/dev/null || no_room
     trace=${traces[$(sed -n "$1s/\t.*//p" "$work/runs") - 1]}
 }
 
@@ -45,8 +49,11 @@ tell_fault() {
 take_in() {
     read_run "$1"
     rm -f "$work/raw/$1" "$work/raw/$1".*
-    [ "$ended" = done ] || end_where_full
-    [ "$ended" != done ] || [ -z "$log" ] || keep "$work/rows"
+    if [ "$ended" != whole ]; then
+        end_where_full
+    elif [ -n "$log" ]; then
+        keep "$work/rows"
+    fi
     tell_fault
     cat "$work/rows" >> "$work/pending" 2>/dev/null || no_room
     put_lines

@@ -170,17 +170,18 @@ packer_of() {
 # check_trace TRACE: sets `unpacker` to the command that unpacks it, by the ending of its name, or
 # to a hyphen.
 check_trace() {
-    local packer
+    local packer package
     if [ ! -f "$1" ] || [ ! -r "$1" ]; then
         die 4 "no trace to read: $1"
     fi
     packer=$(packer_of "$1")
     case $1 in
-    *.gz) unpacker=zcat && need zcat gzip ;;
-    *.xz) unpacker=xzcat && need xzcat xz-utils ;;
-    *.zst) unpacker=zstdcat && need zstdcat zstd ;;
-    *) unpacker=- ;;
+    *.gz) unpacker='zcat' package=gzip ;;
+    *.xz) unpacker=xzcat package=xz-utils ;;
+    *.zst) unpacker=zstdcat package=zstd ;;
+    *) unpacker=- package= ;;
     esac
+    [ -z "$package" ] || need "$unpacker" "$package"
     [ "${packer:--}" != "$unpacker" ] || return 0
     [ -n "$packer" ] || die 4 "$1 is not packed, though its name says so"
     die 4 "$1 is compressed: pipe it through $packer into a file, and take that"

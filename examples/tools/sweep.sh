@@ -10,7 +10,7 @@ rest=(--l1-isize 16 --l1-ibsize 4 --l1-dbsize 4 --l2-usize 32 --l2-ubsize 8 --l2
 grid=(--vary --l1-dsize 8,16 --vary --l1-dassoc 1,2 "${rest[@]}")
 
 # A trace that takes some tenths of a second.
-awk 'BEGIN { srand(1); for (i = 0; i < 1000000; i++) printf "%d %x\n", 3 * rand(), 65536 * rand() }' >long.din
+awk 'BEGIN { srand(1); for (i = 0; i < 200000; i++) printf "%d %x\n", 3 * rand(), 65536 * rand() }' >long.din
 # shellcheck disable=SC2054
 long=(--vary --l1-dsize 1k,2k,4k,8k,16k,32k --l1-isize 1k --l1-ibsize 16 --l1-dbsize 16
     --l2-usize 64k --l2-ubsize 16)

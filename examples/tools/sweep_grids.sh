@@ -44,6 +44,12 @@ noted --jobs 1 --vary --skipcount 0,1 "${grid[@]}" -- kinds.din
     [ "$(calls_of --l1-dsize)" = '8,16 8,16 ' ] && [ "$(rows_of 2-4)" = \
     '0 8 1,0 8 2,0 16 1,0 16 2,1 8 1,1 8 2,1 16 1,1 16 2,' ]
 verdict 'an option that takes no list cuts the grid' $?
+# Each run has every second row of a trace, and waits with them for the other.
+several_rows=(--vary --l1-dsize 8,16,32 --vary --l1-dassoc 1,2 --vary --skipcount 0,1)
+noted --jobs 1 "${several_rows[@]}" "${rest[@]}" -- kinds.din fifo.din
+[ "$status" -eq 0 ] && [ ! -s "$err" ] && lines_at_least "$out" 25 &&
+    [ "$(calls_of --skipcount)" = '0 0 1 1 ' ]
+verdict 'runs whose rows stand between those of others' $?
 
 # 65 by 64 configurations are more than one call takes. Their values are written in many ways.
 many=$(seq -s , -f 0000%05.0f 100 164)
@@ -102,7 +108,7 @@ for tasks in 1 2 3 5 8; do
     : >"$work/all"
     for ((number = 1; number <= tasks; number++)); do
         noted --task $number/$tasks --into parts "${grid[@]}" -- kinds.din fifo.din
-        [ "$status" -eq 0 ] && [ ! -s "$out" ] && [ -s "$work/calls" ] || break
+        if [ "$status" -ne 0 ] || [ -s "$out" ] || [ ! -s "$work/calls" ]; then break; fi
         name=$number-$tasks
         [ $tasks -lt 8 ] || name=$number
         cut -f 1-21 "parts/$name" >>"$work/all"
@@ -143,7 +149,7 @@ packed() {
     ends "a trace whose name says $1" 4 "sweep: not.$1 is not packed, though its name says so" \
         "$sweep" "${grid[@]}" -- "not.$1"
     cp "long.din.$1" no-ending
-    ends "a trace that is packed by the tool of $2, without the ending" 4 \
+    ends "a trace for $2 without its ending" 4 \
         "sweep: no-ending is compressed: pipe it through $2 into a file, and take that" \
         "$sweep" "${grid[@]}" -- no-ending
     rm "long.din.$1" "half.din.$1" "faulty.din.$1" "not.$1" no-ending
@@ -161,5 +167,6 @@ fi
 
 # Each row beside a run of dinero_pipe.
 run "$top/examples/tools/random_grids" 10
+grep -v '^passed' "$out" >>"$err"
 [ "$status" -eq 0 ] && [ "$(tail -n 1 "$out")" = '10 passed, 0 failed' ]
 verdict 'ten random grids beside dinero_pipe' $?

@@ -14,10 +14,10 @@ is_row_of() {
 # The name stands for the trace, the folder of temporary files, and what the words say, each named
 # from where the command runs, so that it begins as it stands. The second call reads the log.
 sweeps() {
-    local trace=${1//$'\n'/ } words=(--resume "$1.log") i
+    local trace=${1//$'\n'/ } words=(--resume "$1.log")
     mkdir -- "./$1" && cp kinds.din "./$trace.din" && echo : >"./$1.hosts" || return
     ! has parallel || words+=(--hosts "$1.hosts")
-    for i in 1 2; do
+    for _ in 1 2; do
         run env TMPDIR="$1" "$sweep" "${words[@]}" "${one[@]}" -- "$trace.din"
         is_row_of "$trace.din" || return
     done
