@@ -1,6 +1,6 @@
 # Tests how bin/sweep cuts grids into runs, options in step, grids that have grown, and packed
 # traces. Read by tools.sh.
-# shellcheck shell=bash disable=SC2054,SC2154  # names that tools.sh and its other files set
+# shellcheck shell=bash disable=SC2016,SC2054,SC2154  # names that tools.sh and its other files set
 
 # A simulator that notes its calls, in a copy of the commands that have it in place of theirs.
 noting=$work/noting/lib/dinero_pipe
@@ -15,9 +15,10 @@ END
 chmod +x "$work/noting/bin/dinero_grid"
 
 # noted WORD..: a sweep, whose calls of the simulator are then in the file `calls`.
+simulator=$top/crates/dinero_grid/out/dinero_grid
 noted() {
     : >"$work/calls"
-    run env CALLS="$work/calls" GRID="$top/crates/dinero_grid/out/dinero_grid" "$noting/sweep" "$@"
+    run env CALLS="$work/calls" GRID="$simulator" "$noting/sweep" "$@"
 }
 
 # calls_of OPTION: its values in each call, sorted.
@@ -39,6 +40,13 @@ noted --jobs 9 "${grid[@]}" -- kinds.din fifo.din
 is_table_of_rows && [ "$(calls_of --l1-dsize)" = '16 16 16 16 8 8 8 8 ' ] &&
     [ "$(calls_of --l1-dassoc)" = '1 1 1 1 2 2 2 2 ' ]
 verdict 'and then along the next one' $?
+if has parallel; then
+    echo 3/: >machines
+    noted --hosts machines "${grid[@]}" -- kinds.din
+    [ "$status" -eq 0 ] && shared "$out" | cmp -s - <(head -n 4 "$work/rows") &&
+        [ "$(calls_of --l1-dsize)" = '16 8 8 ' ]
+    verdict 'into as many parts as the machines of a list can run at once' $?
+fi
 noted --jobs 1 --vary --skipcount 0,1 "${grid[@]}" -- kinds.din
 [ "$status" -eq 0 ] && [ "$(calls_of --skipcount)" = '0 1 ' ] &&
     [ "$(calls_of --l1-dsize)" = '8,16 8,16 ' ] && [ "$(rows_of 2-4)" = \
@@ -60,6 +68,34 @@ noted --jobs 1 --vary --flushcount "$many" --vary --l1-dassoc "$others" --l1-dsi
     [ "$(calls_of --l1-dassoc)" = "$others $others " ] &&
     [ "$(<"$err")" = 'sweep: 4160 of 4160 configurations have a fault' ]
 verdict 'a grid that is too large for one call' $?
+
+# fails_with COMMAND LINE: a simulator that ends so whenever it reads a trace. Its rows say so, and
+# are not kept in the log, from which the next call goes on.
+fails_with() {
+    printf '#!/bin/sh\n[ "$1" = --help ] || [ /dev/stdin -ef /dev/null ] || %s\nexec "%s" "$@"\n' \
+        "$1" "$top/crates/dinero_grid/out/dinero_grid" >"$work/failing"
+    chmod +x "$work/failing"
+    simulator=$work/failing
+    rm -f failed.log
+    noted --jobs 1 --resume failed.log "${grid[@]}" -- kinds.din fifo.din
+    simulator=$top/crates/dinero_grid/out/dinero_grid
+    [ "$status" -eq 1 ] && [ "$(rows_of 37 | tr -s ,)" = "$(printf "$2,%.0s" {1..8})" ] &&
+        [ "$(<"$err")" = "sweep: kinds.din: $2
+sweep: fifo.din: $2
+sweep: 8 of 8 configurations have a fault" ] && [ "$(wc -l <failed.log)" -eq 1 ] || return
+    run "$sweep" --resume failed.log "${grid[@]}" -- kinds.din fifo.din
+    is_table_of_rows
+}
+check 'a simulator that has no memory' \
+    fails_with '{ echo "dinero_grid: no memory" >&2; exit 3; }' 'no memory'
+check 'a simulator that says nothing' fails_with '{ exit 4; }' 'no report'
+simulator=$work/failing
+noted --task 1/2 --into none "${grid[@]}" -- kinds.din
+simulator=$top/crates/dinero_grid/out/dinero_grid
+[ "$status" -eq 4 ] && [ "$(ls none)" = grid ] &&
+    [ "$(<"$err")" = $'sweep: kinds.din: no report\nsweep: task 1 has no whole report' ]
+verdict 'a task whose simulator says nothing' $?
+rm -r none
 
 # Options in step: the table is that of the rows of all combinations in which they are equal.
 step=(--vary --l1-dsize 8,16,32 --vary --l1-dassoc 1,2 --l1-ibsize 4 --l1-dbsize 4 --l2-usize 32
