@@ -6,10 +6,18 @@
 BEGIN { most = 4096 }
 
 # parts_of_trace(SOME): how many runs a trace is to have, of so many that have any. dinero_grid has
-# one thread, so a run fills one core: with fewer traces than cores, each is cut. No more runs are
-# made than can be made at once, since each reads the trace.
-function parts_of_trace(some) {
-    return some < slots ? int(slots / some) : 1
+# one thread, so a run fills one core. With fewer traces than cores, each is cut into as few parts as
+# give all cores the same number of runs.
+function parts_of_trace(some,   a, b, rest) {
+    if (some >= slots) return 1
+    a = slots
+    b = some
+    while (b > 0) {
+        rest = a % b
+        a = b
+        b = rest
+    }
+    return slots / a
 }
 
 {

@@ -36,6 +36,9 @@ noted --jobs 4 "${grid[@]}" -- kinds.din fifo.din
 is_table_of_rows && [ "$(calls_of --l1-dsize)" = '16 16 8 8 ' ] &&
     [ "$(calls_of --l1-dassoc)" = '1,2 1,2 1,2 1,2 ' ]
 verdict 'with more cores it is cut along the first option' $?
+noted --jobs 3 "${grid[@]}" -- kinds.din fifo.din
+is_table_of_rows && [ "$(calls_of --l1-dsize)" = '16 16 8 8 8 8 ' ]
+verdict 'so that all cores have as many runs' $?
 noted --jobs 9 "${grid[@]}" -- kinds.din fifo.din
 is_table_of_rows && [ "$(calls_of --l1-dsize)" = '16 16 16 16 8 8 8 8 ' ] &&
     [ "$(calls_of --l1-dassoc)" = '1 1 1 1 2 2 2 2 ' ]
