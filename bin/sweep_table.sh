@@ -1,72 +1,62 @@
 # The table of a sweep. Read by sweep.
-# shellcheck shell=bash disable=SC2154  # names that sweep and its other files set
+# shellcheck shell=bash disable=SC2154,SC2034  # names that sweep and its other files set, or use
 
-put() {
-    printf '%s\n' "$1" 2>/dev/null || die 4 'the table could not be written'
-}
-
-put_names() {
-    local cache names
-    names=$(sed -n 2p "$reports/grid")
-    for cache in l1-icache l1-dcache l2-ucache; do
-        names+=$(printf "\t$cache-%s" fetches misses miss-rate compulsory capacity conflict \
-            blocks-fetched written-back)
-    done
-    put "$names"$'\tfault'
-}
-
-# counts: of a report on standard input, the totals of its three blocks and no fault, or no totals
-# and the fault. It fails where there is a fault. The head of a block, which a report begins with,
-# says that the report was cut off; any other line is a fault.
-counts() {
-    awk '
-        NR == 1 { first = $0 }
-        /^(Demand|Miss Rate|Compulsory|Capacity|Conflict|Blocks|Written)/ {
-            split(substr($0, 19), column, " ")
-            line = line column[1] "\t"
-            counts++
-        }
-        END {
-            if (counts == 24) { print line "-"; exit }
-            sub(/^dinero_pipe: /, "", first)
-            gsub(/\t/, " ", first)
-            for (line = ""; n < 24; n++) line = line "-\t"
-            print line (first == "" || first ~ /^l1-icache +Total/ ? "no report" : first)
-            exit 1
-        }'
-}
-
-# put_row N
+# The number of the next line, how many lines have a fault, and how many the grid has.
+next=0
 faults=0
-lacking=
-put_row() {
-    local row label report=$reports/$1
-    label=$(sed -n "$(($1 + 2))p" "$reports/grid")
-    [ -f "$report" ] || report=/dev/null
-    row=$(counts < "$report") || faults=$((faults + 1))
-    [[ $row != *$'\tno report' ]] || lacking=yes
-    put "$label"$'\t'"$row"
+last=0
+
+# put_lines [all=yes]: each that can follow the last one, as soon as its row and all before it are
+# there; at the end, also those that have no row.
+put_lines() {
+    local count some status=0
+    {
+        of_grid sweep_table.awk -v "from=$next" ${1+-v "$1"} < "$work/pending" > "$work/lines" &&
+            IFS=$'\t' read -r count some last < "$work/lines" &&
+            tail -n "+$((count + 2))" "$work/lines" > "$work/pending"
+    } 2>/dev/null || no_room
+    faults=$((faults + some))
+    next=$((next + count))
+    [ "$count" -gt 0 ] || return 0
+    sed -n "2,$((count + 1))p" "$work/lines" 2>/dev/null || status=$?
+    # If its reader has gone away, a command ends so.
+    [ "$status" -ne 141 ] || exit 141
+    [ "$status" -eq 0 ] || die 4 'the table could not be written'
 }
 
-# put_table: a line for each configuration, as soon as it and all before it are finished. Their
-# numbers come on standard input, in any order. At its end, so do those that never came. A number
-# can come from a log that somebody else has made.
-put_table() {
-    local number next=1 finished=()
-    last=$(($(wc -l < "$reports/grid") - 2))
-    put_names
-    while read -r number; do
-        [ "$number" != stuck ] || end_where_stuck
-        is_number "$number" || continue
-        finished[number]=yes
-        while [ "$next" -le "$last" ] && [ -n "${finished[next]-}" ]; do
-            put_row "$next"
-            next=$((next + 1))
-        done
-    done
-    for ((; next <= last; next++)); do
-        put_row "$next"
-    done
+# read_run N: sets `ended` and `fault`, and puts the rows of the run into the file `rows`.
+read_run() {
+    local raw=$work/raw/$1
+    [ -f "$raw" ] || raw=/dev/null
+    {
+        { sed -n "$1p" "$work/runs" && cat "$raw"; } | of_grid sweep_rows.awk > "$work/made" &&
+            IFS=$'\t' read -r ended fault < "$work/made" &&
+            tail -n +2 "$work/made" > "$work/rows"
+    } 2>/dev/null || no_room
+    trace=${traces[$(sed -n "$1s/\t.*//p" "$work/runs") - 1]}
+}
+
+# tell_fault: that of a run, once.
+told=$'\n'
+tell_fault() {
+    if [ "$fault" != - ] && [[ $told != *$'\n'"$trace: $fault"$'\n'* ]]; then
+        complain "$trace: $fault"
+        told+="$trace: $fault"$'\n'
+    fi
+}
+
+# take_in N: a run that has ended. Only what another run would say again is kept in the log.
+take_in() {
+    read_run "$1"
+    rm -f "$work/raw/$1" "$work/raw/$1".*
+    if [ "$ended" != whole ]; then
+        end_where_full
+    elif [ -n "$log" ]; then
+        keep "$work/rows"
+    fi
+    tell_fault
+    cat "$work/rows" >> "$work/pending" 2>/dev/null || no_room
+    put_lines
 }
 
 # tell_faults: how many configurations have one, if any has.
@@ -74,6 +64,21 @@ tell_faults() {
     [ "$faults" -gt 0 ] || return 0
     complain "$faults of $last configurations have a fault"
     exit 1
+}
+
+gather_table() {
+    local file
+    [ -z "$log$restarts$hosts$jobs$task$into${fixed[*]}${varied[*]}${tied[*]}${traces[*]}" ] ||
+        refuse '--gather takes no other words'
+    choose_folder "$gather"
+    described=$reports/grid
+    [ "$({ head -n 1 "$described" | cut -f 1; } 2>/dev/null)" = counts ] ||
+        die 4 "no folder of reports: $gather"
+    for file in "$reports"/*; do
+        [[ ! ${file##*/} =~ ^[0-9]+(-[0-9]+)?$ ]] || cat "$file"
+    done > "$work/pending" 2>/dev/null || no_room
+    put_lines all=yes
+    tell_faults
 }
 
 # writing_fault FOLDER: why no report can be written there, such as a full disk, if none can.
@@ -89,4 +94,9 @@ end_where_stuck() {
     local fault
     fault=$(writing_fault "$reports")
     [ -z "$fault" ] || die 4 "no report can be written to $folder: $fault"
+}
+
+# end_where_full: ends the command if what a run prints can't be kept.
+end_where_full() {
+    [ -z "$(writing_fault "$work")" ] || no_room
 }

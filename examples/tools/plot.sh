@@ -105,9 +105,10 @@ test_lacking_tables() {
         "$plot" rates kinds.tsv none.svg --cache l2-ucache
     ends 'plot of a value that no line has' 1 'plot: kinds.tsv: no line without a fault has trace=none' \
         "$plot" rates kinds.tsv none.svg --only trace=none
+    sed '1s/l1-dcache-fully-associative-misses/others/' kinds.tsv >lacking.tsv
     ends 'plot of whole counts that are not there' 1 \
-        'plot: kinds.tsv: the table has no column l1-dcache-fully-associative-misses' \
-        "$plot" kinds kinds.tsv none.svg --whole-counts
+        'plot: lacking.tsv: the table has no column l1-dcache-fully-associative-misses' \
+        "$plot" kinds lacking.tsv none.svg --whole-counts
     head -n 1 kinds.tsv >empty.tsv
     ends 'plot of no line' 1 'plot: empty.tsv: no line of the table is left' \
         "$plot" rates empty.tsv none.svg
@@ -116,7 +117,7 @@ test_lacking_tables() {
         "$plot" rates empty.tsv none.svg
     head -n 1 kinds.tsv | cat - <(echo $'kinds.din\t8\t1') >short.tsv
     ends 'plot of a line that is cut off' 1 \
-        'plot: short.tsv: line 2: 3 fields, where the names are 28' "$plot" rates short.tsv none.svg
+        'plot: short.tsv: line 2: 3 fields, where the names are 37' "$plot" rates short.tsv none.svg
     ends 'plot into no folder' 4 'plot: nowhere/none.svg could not be written' \
         "$plot" kinds kinds.tsv nowhere/none.svg
     ends 'plot where there is no room' 4 "plot: no room for temporary files in $TMPDIR" \

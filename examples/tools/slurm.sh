@@ -5,11 +5,11 @@
 cd "$work" && mkdir -p array/lab && cd array || exit
 ln -s "$bin" bin
 cp ../here/kinds.din lab/columns.din
-for ((number = 1; number <= 28; number++)); do
+for ((number = 1; number <= 7; number++)); do
     SLURM_ARRAY_TASK_ID=$number bash "$top/examples/sweep.sbatch" || echo "task $number failed"
 done >"$out" 2>"$err"
 [ ! -s "$out" ] && [ ! -s "$err" ] &&
-    grep -q '^#SBATCH --array=1-28$' "$top/examples/sweep.sbatch" &&
+    grep -q '^#SBATCH --array=1-7$' "$top/examples/sweep.sbatch" &&
     run bin/sweep --gather lab/slurm && [ "$status" -eq 0 ] && lines_at_least "$out" 29 &&
     bin/sweep --vary --l1-dsize 1k,2k,4k,8k,16k,32k,64k --vary --l1-dassoc 1,2,4,8 --l1-isize 32k \
         --l1-ibsize 32 --l1-dbsize 32 --l2-usize 1m --l2-ubsize 32 --l2-uassoc 8 \
@@ -73,8 +73,8 @@ test_slurm() {
     run timeout 60 sbatch --wait --array=1-4 --cpus-per-task=1 "$top/examples/sweep.sbatch"
     cp "$err" "$work/submitted"
     [ "$status" -eq 0 ] && run bin/sweep --gather lab/slurm && [ "$status" -eq 1 ] &&
-        head -n 5 "$out" | cmp -s - <(head -n 5 whole) &&
-        [ "$(tail -n +6 "$out" | cut -f 28 | sort | uniq -c | tr -s ' \n' ' ')" = ' 24 no report ' ]
+        head -n 17 "$out" | cmp -s - <(head -n 17 whole) &&
+        [ "$(tail -n +18 "$out" | cut -f 37 | sort | uniq -c | tr -s ' \n' ' ')" = ' 12 no report ' ]
     verdict 'four tasks of the Slurm script on a node' $?
     unset SLURM_CONF
 }

@@ -2,7 +2,7 @@
 # shellcheck shell=bash disable=SC2154  # names that tools.sh and its other files set
 
 sweep=$bin/sweep
-fields=28
+fields=37
 cp "$top/examples/1-kinds/kinds.din" kinds.din
 cp "$top/examples/3-fifo/trace.din" fifo.din
 rest=(--l1-isize 16 --l1-ibsize 4 --l1-dbsize 4 --l2-usize 32 --l2-ubsize 8 --l2-uassoc 2)
@@ -10,26 +10,20 @@ rest=(--l1-isize 16 --l1-ibsize 4 --l1-dbsize 4 --l2-usize 32 --l2-ubsize 8 --l2
 grid=(--vary --l1-dsize 8,16 --vary --l1-dassoc 1,2 "${rest[@]}")
 
 # A trace that takes some tenths of a second.
-awk 'BEGIN { srand(1); for (i = 0; i < 1000000; i++) printf "%d %x\n", 3 * rand(), 65536 * rand() }' >long.din
+awk 'BEGIN { srand(1); for (i = 0; i < 200000; i++) printf "%d %x\n", 3 * rand(), 65536 * rand() }' >long.din
 # shellcheck disable=SC2054
 long=(--vary --l1-dsize 1k,2k,4k,8k,16k,32k --l1-isize 1k --l1-ibsize 16 --l1-dbsize 16
     --l2-usize 64k --l2-ubsize 16)
 
-# one_by_one TRACE..: the table of the grid, from a report for each configuration. The lines of a
-# report are told by their places in it.
+# one_by_one TRACE..: the table of the grid, from a report for each configuration.
 one_by_one() {
     local trace size ways
     for trace; do
         for size in 8 16; do
             for ways in 1 2; do
-                "$bin/dinero_pipe" --l1-dsize "$size" --l1-dassoc "$ways" "${rest[@]}" \
-                    <"$trace" >"$work/report"
                 printf '%s\t%s\t%s\t' "$trace" "$size" "$ways"
-                for line in 2 3 4 5 6 7 8 9 14 15 16 17 18 19 20 21 26 27 28 29 30 31 32 33; do
-                    sed -n "${line}p" "$work/report" | cut -c 19-30 | tr -d ' \n'
-                    printf '\t'
-                done
-                echo -
+                "$bin/dinero_pipe" --l1-dsize "$size" --l1-dassoc "$ways" "${rest[@]}" <"$trace" |
+                    awk -f "$top/examples/tools/report_row.awk"
             done
         done
     done
@@ -37,16 +31,27 @@ one_by_one() {
 
 one_by_one kinds.din fifo.din >"$work/rows"
 
+# shared FILE: the rows of a table, with what a report has too.
+shared() {
+    awk -f "$top/examples/tools/shared.awk" "$1"
+}
+
 is_table_of_rows() {
-    [ "$status" -eq 0 ] && [ ! -s "$err" ] && tail -n +2 "$out" | cmp -s - "$work/rows"
+    [ "$status" -eq 0 ] && [ ! -s "$err" ] && shared "$out" | cmp -s - "$work/rows"
 }
 
 names_are_right() {
     local cache names=$'trace\tl1-dsize\tl1-dassoc'
     for cache in l1-icache l1-dcache l2-ucache; do
-        names+=$(printf "\t$cache-%s" fetches misses miss-rate compulsory capacity conflict blocks-fetched written-back)
+        names+=$(printf "\t$cache-%s" fetches misses miss-rate compulsory capacity conflict \
+            fully-associative-misses blocks-fetched written-back writes-sent-on flushes)
     done
     [ "$(head -n 1 "$out")" = "$names"$'\tfault' ]
+}
+
+# rows_of FIELDS: of the table, joined by commas.
+rows_of() {
+    tail -n +2 "$out" | cut -f "$1" | tr '\t\n' ' ,'
 }
 
 run "$sweep" "${grid[@]}" -- kinds.din fifo.din
@@ -56,48 +61,47 @@ check "the names of sweep's columns" names_are_right
 # Misses of lesson 3, worked out by hand: FIFO in the small and the large cache, LRU in both.
 run "$sweep" --vary --l1-drepl f,l --vary --l1-dsize 8,16 --l1-dassoc 2 "${rest[@]}" -- fifo.din
 [ "$status" -eq 0 ] &&
-    [ "$(tail -n +2 "$out" | cut -f 2,3,13 | tr '\t\n' ' ,')" = 'f 8 6,f 16 7,l 8 7,l 16 6,' ]
+    [ "$(rows_of 2,3,16)" = 'f 8 6,f 16 7,l 8 7,l 16 6,' ]
 verdict 'sweep of a lesson' $?
 
 cp long.din first.din
 run "$sweep" "${grid[@]}" -- first.din kinds.din
-[ "$status" -eq 0 ] && [ "$(cut -f 1-3 "$out" | tail -n +2 | tr '\t\n' ' ,')" = \
+[ "$status" -eq 0 ] && [ "$(rows_of 1-3)" = \
     'first.din 8 1,first.din 8 2,first.din 16 1,first.din 16 2,kinds.din 8 1,kinds.din 8 2,kinds.din 16 1,kinds.din 16 2,' ]
 verdict "sweep's lines stand in the grid's order" $?
 rm first.din
 
 run "$sweep" --vary --l1-dsize 16,24,32 --vary --l1-dassoc 4,8 "${rest[@]}" -- kinds.din
 [ "$status" -eq 1 ] && [ "$(<"$err")" = 'sweep: 3 of 6 configurations have a fault' ] &&
-    whole_lines "$out" $fields && [ "$(cut -f 2,3,28 "$out" | tail -n +2 | tr '\t\n' ' ,')" = \
+    whole_lines "$out" $fields && [ "$(rows_of 2,3,37)" = \
     '16 4 -,16 8 l1-dcache: associativity is too large,24 4 l1-dcache: size is not a power of two,24 8 l1-dcache: size is not a power of two,32 4 -,32 8 -,' ]
 verdict 'sweep goes on behind a refused configuration' $?
 
 printf '2 0\n9 0\n' >faulty.din
 run "$sweep" --vary --l1-dsize 8 "${rest[@]}" -- faulty.din kinds.din
-[ "$status" -eq 1 ] && [ "$(cut -f 1,27 "$out" | tail -n +2 | tr '\t\n' ' ,')" = \
-    'faulty.din line 2: label,kinds.din -,' ]
+[ "$status" -eq 1 ] && [ "$(rows_of 1,36)" = 'faulty.din line 2: label,kinds.din -,' ] &&
+    [ "$(<"$err")" = $'sweep: faulty.din: line 2: label\nsweep: 1 of 2 configurations have a fault' ]
 verdict 'sweep of a faulty trace' $?
 
 for number in 4 1 3 2; do
     "$sweep" --task $number --into tasks "${grid[@]}" -- kinds.din || echo "task $number failed"
 done >"$out" 2>"$err"
 [ ! -s "$out" ] && [ ! -s "$err" ] && run "$sweep" --gather tasks && [ "$status" -eq 0 ] &&
-    tail -n +2 "$out" | cmp -s - <(head -n 4 "$work/rows")
+    shared "$out" | cmp -s - <(head -n 4 "$work/rows")
 verdict 'sweep by tasks, and --gather' $?
-[ "$(head -n 1 tasks/grid)" = "${rest[*]} --ring 65536" ]
-verdict 'sweep takes large rings' $?
-"$sweep" --task 1 --into ringed --ring 2 "${grid[@]}" -- kinds.din
-[ "$(head -n 1 ringed/grid)" = "--ring 2 ${rest[*]}" ]
-verdict 'sweep takes the rings that are given' $?
 rm tasks/3
 run "$sweep" --gather tasks
-[ "$status" -eq 1 ] && [ "$(cut -f 28 "$out" | tr '\n' ,)" = 'fault,-,-,no report,-,' ]
+[ "$status" -eq 1 ] && [ "$(rows_of 37)" = '-,-,no report,-,' ]
 verdict 'gathering where a report is missing' $?
 ends 'a task that the grid has not' 2 'sweep: --task: the grid has 4 configurations, and no 5; try --help' \
     "$sweep" --task 5 --into tasks "${grid[@]}" -- kinds.din
 ends 'a task of another grid' 2 'sweep: tasks is of another grid; try --help' \
     "$sweep" --task 1 --into tasks "${grid[@]}" -- fifo.din
-rm -r tasks ringed
+"$sweep" --task 1 --into faulty --vary --l1-dsize 8 "${rest[@]}" -- faulty.din >"$out" 2>"$err"
+status=$?
+[ "$status" -eq 1 ] && [ ! -s "$out" ] && [ "$(<"$err")" = 'sweep: faulty.din: line 2: label' ]
+verdict 'a task of a faulty trace' $?
+rm -r tasks faulty
 
 # refused LINE WORD..: the words are refused so.
 refused() {
@@ -118,6 +122,16 @@ refused "--jobs: not a number of runs: 'all'" --jobs all "${grid[@]}" -- kinds.d
 refused "--l1-dsize: no such value: '-8'" --vary --l1-dsize -8 "${rest[@]}" -- kinds.din
 refused '--gather takes no other words' --gather tasks "${grid[@]}" -- kinds.din
 refused '--task and --into go together' --task 1 "${grid[@]}" -- kinds.din
+refused "--task: neither N nor N/M: '0/2'" --task 0/2 --into tasks "${grid[@]}" -- kinds.din
+refused '--task: there is no part 3 of 2' --task 3/2 --into tasks "${grid[@]}" -- kinds.din
+refused '--task: the grid has 4 configurations, which are no 5 parts' \
+    --task 3/5 --into tasks "${grid[@]}" -- kinds.din
+refused '--ring is an option of dinero_pipe, and changes no count' \
+    --ring 64 "${grid[@]}" -- kinds.din
+refused '--l1-dsize: 8 stands there twice' --vary --l1-dsize 8,16,8 "${rest[@]}" -- kinds.din
+refused 'the trace kinds.din is given twice' "${grid[@]}" -- kinds.din fifo.din kinds.din
+refused '--l1-drepl: not a lawful letter' --vary --l1-drepl l,x "${grid[@]}" -- kinds.din
+refused '--l2-urepl: not a lawful letter' --l2-urepl x "${grid[@]}" -- kinds.din
 ends 'sweep of a trace that is not there' 4 'sweep: no trace to read: nowhere.din' \
     "$sweep" "${grid[@]}" -- kinds.din nowhere.din
 ends 'gathering from nowhere' 4 'sweep: no folder of reports: nowhere' "$sweep" --gather nowhere
@@ -128,54 +142,60 @@ status=${PIPESTATUS[0]}
 [ "$status" -eq 141 ] && [ ! -s "$err" ]
 verdict 'sweep whose reader goes away' $?
 
-# interrupted NAME SIGNAL WORD..: once the table has two lines. Ctrl-C goes to the whole group.
+# interrupted NAME SIGNAL WORD..: once the table has the lines of one trace. Ctrl-C goes to the
+# whole group.
+several=(long.din again.din third.din)
+for trace in again third; do ln -s long.din $trace.din; done
 interrupted() {
-    start "$sweep" "${@:3}" --jobs 1 "${long[@]}" -- long.din
-    until_true lines_at_least "$out" 3
+    start "$sweep" "${@:3}" --jobs 1 "${long[@]}" -- "${several[@]}"
+    until_true lines_at_least "$out" 7
     if [ "$2" = INT ]; then kill -INT -- "-$started"; else kill "-$2" "$started"; fi
     status=0
     wait "$started" 2>/dev/null || status=$?
-    [ "$status" -eq $((128 + $(kill -l "$2"))) ] && whole_lines "$out" 27 &&
-        ! lines_at_least "$out" 7 && grep -q '^sweep: interrupted' "$err"
+    [ "$status" -eq $((128 + $(kill -l "$2"))) ] && whole_lines "$out" 36 &&
+        ! lines_at_least "$out" 19 && grep -q '^sweep: interrupted' "$err"
     verdict "$1" $?
 }
 interrupted 'sweep and Ctrl-C' INT
 interrupted 'sweep that is sent TERM' TERM
 
-test_parallel() {
-    local finished nothing
-    run "$sweep" "${long[@]}" -- long.din
+# finished: the rows of a log, without their counts.
+finished() {
+    tail -n +2 log | cut -f 1-21
+}
+
+test_log() {
+    run "$sweep" "${long[@]}" -- "${several[@]}"
     cp "$out" whole
     interrupted 'sweep with a log and Ctrl-C' INT --resume log
-    finished=$(tail -n +2 log | awk '$7 == 0' | sort)
-    run "$sweep" --resume log --jobs 1 "${long[@]}" -- long.din
-    # A finished configuration has one line in the log, with the time at which it began.
-    [ "$status" -eq 0 ] && cmp -s "$out" whole && [ -n "$finished" ] &&
-        [ "$(tail -n +2 log | awk '$7 == 0' | sort | comm -12 - <(echo "$finished"))" = "$finished" ] &&
-        [ "$(awk 'NR > 1 && $7 == 0 { print $1 }' log | sort -n | tr '\n' ' ')" = '1 2 3 4 5 6 ' ]
+    cp log before
+    finished >"$work/finished"
+    run "$sweep" --resume log --jobs 1 "${long[@]}" -- "${several[@]}"
+    # The log begins as it did, and has each configuration once.
+    [ "$status" -eq 0 ] && cmp -s "$out" whole && [ -s "$work/finished" ] &&
+        head -n "$(wc -l <before)" log | cmp -s - before && [ "$(finished | wc -l)" -eq 18 ] &&
+        [ -z "$(finished | sort | uniq -d)" ]
     verdict 'sweep goes on after an interrupt' $?
     cp log before
-    run "$sweep" --resume log "${long[@]}" -- long.din
+    run "$sweep" --resume log "${long[@]}" -- "${several[@]}"
     [ "$status" -eq 0 ] && cmp -s "$out" whole && cmp -s log before
     verdict 'a finished sweep runs nothing again' $?
-    run "$sweep" --gather log.reports
-    [ "$status" -eq 0 ] && cmp -s "$out" whole
-    verdict "gathering a log's reports" $?
-    ends 'a log of another grid' 2 'sweep: log.reports is of another grid; --restart begins anew' \
-        "$sweep" --resume log "${grid[@]}" -- kinds.din
     cp kinds.din no-log
     ends 'a log that is none' 2 'sweep: no-log is no log of a sweep; try --help' \
         "$sweep" --resume no-log "${grid[@]}" -- kinds.din
-    [ ! -e no-log.reports ] && cmp -s no-log kinds.din
+    cmp -s no-log kinds.din
     verdict 'it is left as it was' $?
     exec {lock}<log
     flock "$lock"
     ends 'a log in use' 4 'sweep: log is written by another sweep' \
-        "$sweep" --resume log "${long[@]}" -- long.din
+        "$sweep" --resume log "${long[@]}" -- "${several[@]}"
     exec {lock}<&-
-    ends 'a log where none can be' 4 'sweep: the folder /dev/null/log.reports could not be made' \
+    ends 'a log where none can be' 4 'sweep: /dev/null/log could not be written' \
         "$sweep" --resume /dev/null/log "${grid[@]}" -- kinds.din
+}
 
+test_parallel() {
+    local nothing
     echo : >machines
     run "$sweep" --hosts machines "${grid[@]}" -- kinds.din fifo.din
     check "sweep over parallel's own host" is_table_of_rows
@@ -184,6 +204,9 @@ test_parallel() {
     nothing=$(without parallel)
     run env PATH="$nothing" "$sweep" "${grid[@]}" -- kinds.din fifo.din
     check 'sweep without parallel' is_table_of_rows
+    rm -f unlogged
+    run env PATH="$nothing" "$sweep" --resume unlogged "${grid[@]}" -- kinds.din fifo.din
+    check 'sweep with a log without parallel' is_table_of_rows
     test_refusals_without_parallel "$nothing"
     PATH=$nothing interrupted 'sweep without parallel and Ctrl-C' INT
     PATH=$nothing interrupted 'sweep without parallel that is sent TERM' TERM
@@ -191,12 +214,9 @@ test_parallel() {
 
 # test_refusals_without_parallel PATH
 test_refusals_without_parallel() {
-    local option
-    for option in resume hosts; do
-        ends "sweep --$option without parallel" 69 \
-            "sweep: --$option needs GNU parallel: install the package parallel" \
-            env PATH="$1" "$sweep" --$option file "${grid[@]}" -- kinds.din
-    done
+    ends 'sweep --hosts without parallel' 69 \
+        'sweep: --hosts needs GNU parallel: install the package parallel' \
+        env PATH="$1" "$sweep" --hosts file "${grid[@]}" -- kinds.din
 }
 
 # A server of ssh for this user alone, and a list with this machine's address.
@@ -215,7 +235,7 @@ StrictModes no
 UsePAM no
 PasswordAuthentication no
 END
-    env -u TMPDIR "$(command -v sshd)" -D -f "$folder/conf" 2>"$folder/log" &
+    env -u TMPDIR "$(command -v sshd)" -D -e -f "$folder/conf" 2>"$folder/log" &
     daemons+=($!)
     echo "2/ssh -p $port -i $folder/user -o BatchMode=yes -o StrictHostKeyChecking=no -o UserKnownHostsFile=$folder/known -o LogLevel=ERROR 127.0.0.1" >machines
     # shellcheck disable=SC2046  # the words of a line of the list
@@ -223,21 +243,24 @@ END
 }
 
 test_ssh() {
+    local before
     if ! start_sshd; then
         skip 'sweep over ssh' 'a login by ssh to this machine'
         return
     fi
+    before=$(grep -c '^Accepted publickey' "$work/ssh/log")
     run "$sweep" --hosts machines --resume hosts.log "${grid[@]}" -- kinds.din fifo.din
     check 'sweep over ssh' is_table_of_rows
-    [ "$(tail -n +2 hosts.log | cut -f 2 | cut -c 1-3 | sort -u)" = ssh ]
-    verdict 'all of its runs were made there' $?
+    [ "$(grep -c '^Accepted publickey' "$work/ssh/log")" -gt "$before" ]
+    verdict 'its runs were made there' $?
     echo nowhere.invalid >machines
     run "$sweep" --hosts machines "${grid[@]}" -- kinds.din
     [ "$status" -eq 1 ] &&
-        [ "$(cut -f 28 "$out" | sort | uniq -c | tr -s ' \n' ' ')" = ' 1 fault 4 no report ' ]
+        [ "$(cut -f 37 "$out" | sort | uniq -c | tr -s ' \n' ' ')" = ' 1 fault 4 no report ' ]
     verdict 'sweep over a machine that is not there' $?
 }
 
+test_log
 if has parallel; then
     test_parallel
     if has ssh && has rsync && PATH=$PATH:/usr/sbin has sshd; then
@@ -246,6 +269,6 @@ if has parallel; then
         skip 'sweep over ssh' 'ssh, sshd and rsync (openssh-client, openssh-server, rsync)'
     fi
 else
-    skip 'resume and hosts' parallel
+    skip 'hosts' parallel
     test_refusals_without_parallel "$PATH"
 fi

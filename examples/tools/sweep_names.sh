@@ -8,17 +8,28 @@ paths=('x`touch pwned`$(touch pwned);touch pwned;"' "{=system('touch pwned')=}{#
 # is_row_of TRACE: the table has one line, which is that of kinds.din but for the name.
 is_row_of() {
     [ "$status" -eq 0 ] && [ ! -s "$err" ] &&
-        [ "$(tail -n +2 "$out")" = "$1$(head -n 1 "$work/rows" | sed 's/^kinds\.din//')" ]
+        [ "$(shared "$out")" = "$1$(head -n 1 "$work/rows" | sed 's/^kinds\.din//')" ]
 }
 
 # The name stands for the trace, the folder of temporary files, and what the words say, each named
-# from where the command runs, so that it begins as it stands.
+# from where the command runs, so that it begins as it stands. The second call reads the log.
 sweeps() {
-    local trace=${1//$'\n'/ } words=()
+    local trace=${1//$'\n'/ } words=(--resume "$1.log")
     mkdir -- "./$1" && cp kinds.din "./$trace.din" && echo : >"./$1.hosts" || return
-    ! has parallel || words=(--resume "$1.log" --hosts "$1.hosts")
-    run env TMPDIR="$1" "$sweep" "${words[@]}" "${one[@]}" -- "$trace.din"
-    is_row_of "$trace.din" && rmdir -- "./$1" && rm -- "./$trace.din" "./$1.hosts"
+    ! has parallel || words+=(--hosts "$1.hosts")
+    for _ in 1 2; do
+        run env TMPDIR="$1" "$sweep" "${words[@]}" "${one[@]}" -- "$trace.din"
+        is_row_of "$trace.din" || return
+    done
+    rmdir -- "./$1" && rm -- "./$trace.din" "./$1.hosts" "./$1.log"
+}
+
+# The same for a trace that is packed.
+unpacks() {
+    local trace=${1//$'\n'/ }
+    gzip -c kinds.din >"./$trace.gz" || return
+    run "$sweep" "${one[@]}" -- "$trace.gz"
+    is_row_of "$trace.gz" && rm -- "./$trace.gz"
 }
 
 gathers() {
@@ -33,10 +44,15 @@ refuses_option() {
     run "$sweep" --vary "$1" 8 "${one[@]:3}" -- kinds.din
     [ "$status" -eq 2 ] && [ "$(<"$err")" = "sweep: unknown option: $1; try --help" ] || return
     run "$sweep" --vary --l1-dsize "8$1" "${one[@]:3}" -- kinds.din
-    [ "$status" -eq 2 ] && [ "$(<"$err")" = "sweep: --l1-dsize: no such value: '8$1'; try --help" ]
+    [ "$status" -eq 2 ] &&
+        [ "$(<"$err")" = "sweep: --l1-dsize: no such value: '8$1'; try --help" ] || return
+    run "$sweep" --with "$1=--l1-dsize" "${one[@]}" -- kinds.din
+    [ "$status" -eq 2 ] &&
+        [ "$(<"$err")" = "sweep: --with: not OPTION=OPTION: '$1=--l1-dsize'; try --help" ]
 }
 
 at_all_names 'sweep with hostile names' sweeps "${paths[@]}"
+at_all_names 'sweep of packed traces with hostile names' unpacks "${paths[@]}"
 at_all_names 'sweep into folders with hostile names' gathers "${paths[@]}"
 at_all_names 'sweep with hostile options' refuses_option $'--l1-dsize\ntouch pwned\n#' \
     '--l1-dsize\|;touch${IFS}pwned;' '--l1-dsize;touch pwned'
@@ -44,49 +60,40 @@ ends 'sweep of a trace whose name has a line feed' 2 \
     'sweep: the name of a trace has a tab or a line feed; try --help' \
     "$sweep" "${one[@]}" -- $'x\ntouch pwned'
 
-# A log as somebody else could have made it.
-reads_log() {
-    rm -rf theirs theirs.reports
+# A log as somebody else could have made it: the last row has this text in place of a column.
+alter_log() {
+    rm -f theirs
     run "$sweep" --resume theirs "${one[@]}" -- kinds.din
-    printf '%s\t:\t0\t0\t0\t0\t0\t0\ttrue\n' "$1" >>theirs
+    TEXT=$1 COLUMN=$2 awk -F '\t' -v OFS='\t' \
+        '{ print } NR == 2 { $ENVIRON["COLUMN"] = ENVIRON["TEXT"]; print }' theirs >altered
+    mv altered theirs
     run "$sweep" --resume theirs "${one[@]}" -- kinds.din
 }
 
-refuses_log() {
-    reads_log "$1"
+# Such a row is of no configuration of the grid, or of another trace, and what stands in it is data.
+reads_log() {
+    local column
+    for column in 1 3 7 21; do
+        alter_log "$1" $column
+        is_row_of kinds.din || return
+    done
+    alter_log "$1" 2
+    [ "$status" -eq 2 ] && [ "$(<"$err")" = \
+        'sweep: kinds.din has changed since theirs was begun; --restart begins anew' ] || return
+    printf '%s\t:\t0\n' "$1" >>theirs
+    run "$sweep" --resume theirs "${one[@]}" -- kinds.din
     [ "$status" -eq 2 ] && [ "$(<"$err")" = 'sweep: theirs is no log of a sweep; try --help' ]
 }
-
-test_logs() {
-    at_all_names 'sweep with a hostile log' refuses_log 'finished[$(touch pwned)]'
-    reads_log 99999999
-    check 'sweep with a log that tells of more runs' is_row_of kinds.din
-}
-! has parallel || test_logs
-
-# unpacked NAME COMMAND ADVICE: a trace that the command has packed is refused by name.
-unpacked() {
-    if has "$2"; then
-        "$2" -c <kinds.din >"$1"
-        ends "sweep of a trace packed by $2" 4 \
-            "sweep: $1 is compressed: pipe it through $3 into a file, and take that" \
-            "$sweep" "${one[@]}" -- kinds.din "$1"
-    fi
-}
-unpacked kinds.gz gzip zcat
-unpacked -kinds bzip2 bzcat
-unpacked kinds.xz xz xzcat
-unpacked kinds.din.zst zstd zstdcat
+at_all_names 'sweep with a hostile log' reads_log "${few[@]::4}" 'finished[$(touch pwned)]'
 
 # Each refusal of a cache has its reason in the table, also where it begins as a report does.
 run "$sweep" --vary --l1-ibsize 2,4 "${grid[@]:6:2}" --l1-dsize 8 --l1-dbsize 4 "${rest[@]:6}" \
     -- kinds.din
-[ "$status" -eq 1 ] && [ "$(cut -f 2,27 "$out" | tail -n +2 | tr '\t\n' ' ,')" = \
-    '2 l1-icache: block is out of range,4 -,' ]
+[ "$status" -eq 1 ] && [ "$(rows_of 2,36)" = '2 l1-icache: block is out of range,4 -,' ]
 verdict 'sweep tells why an instruction cache was refused' $?
 "$sweep" --task 1 --into cut "${one[@]}" -- kinds.din
-head -n 3 cut/1 >"$work/report" && cp "$work/report" cut/1
+head -c 100 cut/1 >"$work/report" && cp "$work/report" cut/1
 run "$sweep" --gather cut
-[ "$status" -eq 1 ] && [ "$(tail -n 1 "$out" | cut -f 28)" = 'no report' ]
+[ "$status" -eq 1 ] && [ "$(tail -n 1 "$out" | cut -f 37)" = 'no report' ]
 verdict 'gathering a report that was cut off' $?
 rm -r cut

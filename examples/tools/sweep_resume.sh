@@ -1,4 +1,5 @@
-# Tests that a log knows its traces, and that a full disk is told. Read by tools.sh.
+# Tests that a log knows its traces, that it goes on from wherever it was left, and that a full disk
+# is told. Read by tools.sh.
 # shellcheck shell=bash disable=SC2154  # names that tools.sh and its other files set
 
 # with_log WORD..: the grid of one trace, with a log.
@@ -14,19 +15,18 @@ replace_trace() {
     [ "$(wc -c <other.din)" -eq "$(wc -c <kinds.din)" ] && ! cmp -s other.din kinds.din
 }
 
-# is_refused NAME LINE: with status 2, and the log and its reports are as they were.
+# is_refused NAME LINE: with status 2, and the log is as it was.
 is_refused() {
-    rm -rf "$work/before"
-    mkdir "$work/before"
-    cp -r known known.reports "$work/before"
+    cp known "$work/before"
     with_log
     [ "$status" -eq 2 ] && [ ! -s "$out" ] && [ "$(<"$err")" = "sweep: $2" ] &&
-        cmp -s known "$work/before/known" && diff -r known.reports "$work/before/known.reports"
+        cmp -s known "$work/before"
     verdict "$1" $?
 }
 
 test_known_traces() {
-    local changed='known.din has changed since known.reports was begun; --restart begins anew'
+    local changed='known.din has changed since known was begun; --restart begins anew'
+    rm -f known
     cp -p kinds.din known.din
     with_log && cp "$out" first && with_log
     [ "$status" -eq 0 ] && cmp -s "$out" first && lines_at_least "$out" 5
@@ -36,52 +36,87 @@ test_known_traces() {
     touch -r kinds.din known.din
     replace_trace && cp other.din known.din && touch -r kinds.din known.din
     is_refused 'a trace of the same size and time' "$changed"
-    touch known.reports/mine
     with_log --restart
-    [ "$status" -eq 0 ] && cmp -s "$out" whole && [ -e known.reports/mine ]
+    [ "$status" -eq 0 ] && cmp -s "$out" whole && [ "$(wc -l <known)" -eq 5 ]
     verdict 'sweep begins anew with the trace of now' $?
     echo '0 0' >>known.din
     is_refused 'a trace that has grown' "$changed"
-    rm known.reports/traces
-    is_refused 'a log that does not tell of its traces' \
-        'known.reports does not tell of its traces; --restart begins anew'
-    rm known.reports/grid
-    is_refused 'a log without its grid' 'known has no grid in known.reports; --restart begins anew'
     with_log --restart
     [ "$status" -eq 0 ] && lines_at_least "$out" 5
     verdict 'sweep begins anew with it, too' $?
+    sed '1s/l1-dsize/l1-csize/' known >other && cp known mine && cp other known
+    is_refused 'a log of another simulator' 'known is of another simulator; --restart begins anew'
+    cp mine known
     cp kinds.din no-log
-    printf 12 >>known
-    with_log
-    [ "$status" -eq 0 ] && lines_at_least "$out" 5 && [ -z "$(tail -c 1 known)" ]
-    verdict 'sweep goes on from a log whose last line was cut off' $?
     ends 'a log that is none is not begun anew' 2 'sweep: no-log is no log of a sweep; try --help' \
         "$sweep" --resume no-log --restart "${grid[@]}" -- kinds.din
+    cmp -s no-log kinds.din
+    verdict 'it is left as it was' $?
 }
 
-# In a log whose runs are still to be made, and in none yet.
+# A log that ends at any byte, as one may after a kill or on a full disk: the same table, and each
+# row stands in the log once.
+test_cut_logs() {
+    local size cut
+    with_log
+    cp known mine && cp "$out" whole
+    size=$(wc -c <mine) cut=1
+    for ((; cut < size; cut += 83)); do
+        head -c $cut mine >known
+        with_log
+        if [ "$status" -ne 0 ] || ! cmp -s "$out" whole || ! cmp -s <(sort known) <(sort mine); then
+            break
+        fi
+    done
+    [ "$cut" -ge "$size" ]
+    verdict 'sweep goes on from a log that was cut off anywhere' $?
+    cp mine known
+}
+
+# killed SECONDS: a sweep of which nothing is left to tidy up, as after a power cut.
+killed() {
+    start "$sweep" --resume kept --jobs 2 "${long[@]}" -- "${several[@]}"
+    sleep "$1"
+    # shellcheck disable=SC2046  # numbers of processes
+    kill -KILL $(our_processes | sed -nE 's,^/proc/([0-9]+)/.*,\1,p') 2>/dev/null
+    wait "$started" 2>/dev/null
+    until_true all_have_ended
+    rm -rf "${TMPDIR:?}"/*
+}
+
+test_kills() {
+    local seconds
+    run "$sweep" "${long[@]}" -- "${several[@]}"
+    cp "$out" whole
+    rm -f kept
+    for seconds in 0.05 0.4 0.8 1.6 2.4; do
+        killed $seconds
+    done
+    run "$sweep" --resume kept "${long[@]}" -- "${several[@]}"
+    [ "$status" -eq 0 ] && [ ! -s "$err" ] && cmp -s "$out" whole && [ "$(wc -l <kept)" -eq 19 ]
+    verdict 'sweep goes on after kills at five moments' $?
+}
+
+# A log of 145 lines, longer than what else a sweep and GNU parallel write.
 test_full_log() {
-    local fault='sweep: no report can be written to known.reports: File too large'
-    head -n 1 known >"$work/report" && cp "$work/report" known
-    run no_room 1 "$sweep" --resume known "${grid[@]}" -- known.din
-    # GNU parallel may say first what it lacks itself.
-    [ "$status" -eq 4 ] && [ "$(tail -n 1 "$err")" = "$fault" ] && lines_at_least "$out" 1
+    local sizes=8,16,32,64,128,256,512,1k,2k,4k,8k,16k
+    rm -f known
+    run "$sweep" --resume known --vary --l1-dsize $sizes --vary --l1-isize $sizes \
+        --l1-ibsize 4 --l1-dbsize 4 --l2-usize 64 --l2-ubsize 8 -- known.din
+    run no_room 16 "$sweep" --resume known "${grid[@]}" -- known.din
+    [ "$status" -eq 4 ] && [ "$(<"$err")" = 'sweep: known could not be written: File too large' ] &&
+        [ "$(wc -c <known)" -gt 16384 ] && lines_at_least "$out" 1
     verdict 'sweep with a log on a full disk' $?
     with_log
-    [ "$status" -eq 0 ] && whole_lines "$out" "$fields" && lines_at_least "$out" 5
+    [ "$status" -eq 0 ] && whole_lines "$out" "$fields" && cmp -s "$out" whole
     verdict 'it goes on once there is room' $?
-    ends 'a log begun on a full disk' 4 "${fault/known/none}" \
-        no_room 1 "$sweep" --resume none "${grid[@]}" -- known.din
 }
 
-# Without a log the reports are among the temporary files.
 test_full_disk() {
-    run no_room 1 "$sweep" "${grid[@]}" -- kinds.din
-    [ "$status" -eq 4 ] && [ ! -s "$out" ] && grep -qxE \
-        "sweep: no report can be written to $TMPDIR/[^/]*/reports: File too large" "$err"
-    verdict 'sweep on a full disk' $?
+    ends 'sweep on a full disk' 4 "sweep: no room for temporary files in $TMPDIR" \
+        no_room 1 "$sweep" "${grid[@]}" -- kinds.din
     "$sweep" --task 1 --into full "${grid[@]}" -- kinds.din
-    ends 'a task on a full disk' 4 'sweep: no report can be written to full: File too large' \
+    ends 'a task on a full disk' 4 "sweep: no room for temporary files in $TMPDIR" \
         no_room 1 "$sweep" --task 2 --into full "${grid[@]}" -- kinds.din
     [ -s full/1 ] && [ "$(ls full)" = $'1\ngrid' ]
     verdict 'it leaves nothing there' $?
@@ -90,9 +125,8 @@ test_full_disk() {
 
 refused '--restart goes with --resume' --restart "${grid[@]}" -- kinds.din
 test_full_disk
-if has parallel; then
-    test_known_traces
-    test_full_log
-else
-    skip 'traces that a log knows' parallel
-fi
+test_known_traces
+test_cut_logs
+test_kills
+with_log && cp "$out" whole
+test_full_log

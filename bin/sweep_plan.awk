@@ -1,0 +1,141 @@
+# Cuts a grid into runs, and prints a line for each. The lines on standard input are whole rows,
+# whose configurations need no run. With `task` and `tasks`, these are the runs of one part of so
+# many; with `slots`, so many can be made at once. sweep_grid.awk is read before it.
+
+# What one call of dinero_grid takes.
+BEGIN { most = 4096 }
+
+# parts_of_trace(SOME): how many runs a trace is to have, of so many that have any. dinero_grid has
+# one thread, so a run fills one core. With fewer traces than cores, each is cut into as few parts as
+# give all cores the same number of runs.
+function parts_of_trace(some,   a, b, rest) {
+    if (some >= slots) return 1
+    a = slots
+    b = some
+    while (b > 0) {
+        rest = a % b
+        a = b
+        b = rest
+    }
+    return slots / a
+}
+
+{
+    n = number_of_row()
+    if (n) is_done[n] = 1
+}
+
+END {
+    if (tasks == cells) plan_row(task)
+    else if (tasks) plan_task()
+    else plan_rest()
+}
+
+# plan_row(N): a run of one configuration.
+function plan_row(n,   d, line) {
+    choose(n)
+    line = chosen[0]
+    for (d = 1; d <= dimensions; d++) line = line "\t" value[d, chosen[d]]
+    print line
+}
+
+# plan_task(): the same runs are found for each task, each of which makes its share of them.
+function plan_task(   i, past, n) {
+    cover_all()
+    n = boxes
+    for (i = 1; i <= n; i++) {
+        cut(box[i], int((past + size[i]) * tasks / cells) - int(past * tasks / cells))
+        past += size[i]
+    }
+    for (i = 1; i <= runs; i++)
+        if (runs <= tasks ? i == task : int((i - 1) * tasks / runs) + 1 == task) print found[i]
+}
+
+# plan_rest(): of what is not done.
+function plan_rest(   i, number, left, parts) {
+    parts = parts_of_trace(cover_all())
+    for (i = 1; i <= boxes; i++) left[box_trace[i]] += size[i]
+    for (i = 1; i <= boxes; i++) cut(box[i], int(parts * size[i] / left[box_trace[i]] + 0.5))
+    for (i = 1; i <= runs; i++) print found[i]
+}
+
+# cover_all(): finds boxes that together are all that is not done; how many traces have one.
+function cover_all(   t, before, some) {
+    for (t = 1; t <= traces; t++) {
+        before = boxes
+        cover(t, 1, marks_of_trace((t - 1) * cells_of_trace), t)
+        some += boxes > before
+    }
+    return some
+}
+
+# marks_of_trace(PAST): a 1 for each of its configurations that is not done, and a 0 for the others.
+# A long text that grows letter by letter would be copied as often.
+function marks_of_trace(past,   i, marks, some) {
+    for (i = 1; i <= cells_of_trace; i++) {
+        some = some ((past + i) in is_done ? "0" : "1")
+        if (i % 512 == 0) { marks = marks some; some = "" }
+    }
+    return marks some
+}
+
+# cover(T, D, MARKS, LINE): adds boxes for the marked configurations of a trace. LINE has the values
+# of the options before D. Values below which the same is marked go together.
+function cover(t, d, marks, line,   wide, i, slice, groups, group, list, marks_of) {
+    if (d > dimensions) {
+        box[++boxes] = line
+        box_trace[boxes] = t
+        size[boxes] = size_of(line)
+        return
+    }
+    wide = length(marks) / count[d]
+    for (i = 1; i <= count[d]; i++) {
+        slice = substr(marks, (i - 1) * wide + 1, wide)
+        if (!index(slice, "1")) continue
+        if (is_alone(d)) cover(t, d + 1, slice, line "\t" value[d, i])
+        else if (slice in group) list[group[slice]] = list[group[slice]] "," value[d, i]
+        else {
+            group[slice] = ++groups
+            list[groups] = value[d, i]
+            marks_of[groups] = slice
+        }
+    }
+    for (i = 1; i <= groups; i++) cover(t, d + 1, marks_of[i], line "\t" list[i])
+}
+
+# size_of(LINE): how many configurations a run has.
+function size_of(line,   word, some, d, n) {
+    split(line, word, "\t")
+    n = 1
+    for (d = 1; d <= dimensions; d++) n *= split(word[d + 1], some, ",")
+    return n
+}
+
+# cut(LINE, PARTS): adds runs of nearly one size, so many or more. The first option that has several
+# values in the box is cut in two, since its values share least.
+function cut(line, parts,   word, one, d, n, half, share) {
+    split(line, word, "\t")
+    for (d = 1; d <= dimensions; d++) {
+        n = split(word[d + 1], one, ",")
+        if (n > 1) break
+    }
+    if (d > dimensions || parts <= 1 && size_of(line) <= most) {
+        found[++runs] = line
+        return
+    }
+    half = int((n + 1) / 2)
+    share = int(parts * half / n + 0.5)
+    if (share < 1) share = 1
+    if (share > parts - 1) share = parts - 1
+    cut(with_values(word, one, d, 1, half), share)
+    cut(with_values(word, one, d, half + 1, n), parts - share)
+}
+
+# with_values(WORD, ONE, D, FIRST, LAST): a line in which the option D has some of its values.
+function with_values(word, one, d, first, last,   i, line, list) {
+    list = one[first]
+    for (i = first + 1; i <= last; i++) list = list "," one[i]
+    line = word[1]
+    for (i = 1; i <= dimensions; i++) line = line "\t" (i == d ? list : word[i + 1])
+    return line
+}

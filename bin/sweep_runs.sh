@@ -1,0 +1,143 @@
+# The runs of a sweep, here and on other machines. Read by sweep.
+# shellcheck shell=bash disable=SC2154,SC2034  # names that sweep and its other files set, or use
+
+# run_one N: leaves what the run has printed in the folder `raw`, and says the number.
+run_one() {
+    local command
+    command=$(sed -n "$1p" "$work/commands")
+    (cd "$work/run" && { exec > "$work/raw/$1"; } 2>/dev/null && exec sh -c "$command") || true
+    echo "$1"
+}
+
+run_with_xargs() {
+    export -f run_one
+    export work
+    # shellcheck disable=SC2016  # the inner shell's word
+    seq "$runs" | xargs -P "$slots" -n 1 bash -c 'run_one "$1"' run_one
+}
+
+# parallel logs each run as it ends, and keeps what it printed. It takes braces in the name of a
+# file for its own, and runs what stands in them; so it is given names of ours.
+run_with_parallel() {
+    local number words=(--plain --joblog ../joblog --results '../raw/{#}')
+    [ -z "$jobs" ] || words+=(--jobs "$jobs")
+    [ ! -t 2 ] || words+=(--bar)
+    [ -z "$hosts" ] || words+=("${host_words[@]}")
+    cd "$work/run" && : > ../joblog || return
+    TMPDIR=${work%/*} PARALLEL_SHELL=/bin/sh parallel "${words[@]}" < ../commands > /dev/null &
+    tail --pid $! -s 0.1 -n +1 -f ../joblog |
+        while IFS=$'\t' read -r number _; do
+            ! is_number "$number" || echo "$number"
+        done
+}
+
+# On each machine the runs are made in a folder of one name: here it has links, elsewhere copies. It
+# is not the folder that is copied, since a list may name this machine by its address too.
+host_words=()
+choose_hosts() {
+    local name path place=$work
+    find_path "$hosts"
+    hosts=$path
+    # Other machines' shells, and parallel, could take other characters for their own.
+    if [[ $place =~ [^A-Za-z0-9/._-] ]]; then
+        place=$(mktemp -d /tmp/sweep.XXXXXXXXXX) || die 4 'no folder for temporary files'
+        leftovers+=("$place")
+    fi
+    furnish "$place/host" 2>/dev/null || no_room
+    cp "$hosts" "$work/hosts" 2>/dev/null || no_room
+    host_words=(--sshloginfile ../hosts --workdir "$place/host")
+    grep -qvE '^([0-9]+/)?:$' "$work/hosts" || return 0
+    need ssh openssh-client
+    need rsync rsync
+    host_words+=(--basefile dinero_grid --cleanup --rsync-opts -rLDzR)
+    for name in "${!traces[@]}"; do
+        host_words+=(--basefile "$name.din")
+    done
+}
+
+# find_slots: sets `slots` to how many runs can be made at once. A machine of the list that does not
+# say how many has as many cores as this one.
+find_slots() {
+    local line each
+    slots=${jobs:-$(nproc)}
+    [ -n "$hosts" ] || return 0
+    each=$slots slots=0
+    while IFS= read -r line; do
+        if [ -z "$jobs" ] && [[ $line =~ ^([1-9][0-9]{0,3})/ ]]; then
+            slots=$((slots + BASH_REMATCH[1]))
+        elif [[ $line != '#'* && -n $line ]]; then
+            slots=$((slots + each))
+        fi
+    done < "$work/hosts"
+}
+
+has_parallel() {
+    parallel --version 2>/dev/null | grep -q '^GNU parallel'
+}
+
+choose_engine() {
+    if has_parallel; then
+        engine=run_with_parallel
+        return
+    fi
+    engine=run_with_xargs
+    [ -z "$hosts" ] || die 69 '--hosts needs GNU parallel: install the package parallel'
+}
+
+# make_runs: here or on other machines, and takes in what each has to say, as soon as it has ended;
+# at the end, also those that were not heard of.
+group=
+make_runs() {
+    local number heard=()
+    mkfifo "$work/finished"
+    # In a group of their own, the runs can be ended together. They do not hold the log, so that
+    # another call can go on from it as soon as this one has ended.
+    set -m
+    if [ -n "$log_lock" ]; then
+        $engine > "$work/finished" {log_lock}>&- &
+    else
+        $engine > "$work/finished" &
+    fi
+    group=$!
+    set +m
+    while read -r number; do
+        heard[number]=yes
+        take_in "$number"
+    done < "$work/finished"
+    for ((number = 1; number <= runs; number++)); do
+        [ -n "${heard[number]-}" ] || take_in "$number"
+    done
+}
+
+# end_runs: ends all runs. parallel, once told to end, winds up on other machines too.
+end_runs() {
+    local tries
+    kill -TERM -- "-$group" 2>/dev/null || return 0
+    for ((tries = 0; tries < 200; tries++)); do
+        kill -0 -- "-$group" 2>/dev/null || return 0
+        sleep 0.05
+    done
+    kill -KILL -- "-$group" 2>/dev/null || true
+}
+
+# one_task: its rows are kept as soon as a run of it has ended.
+one_task() {
+    local number name=$task failed=
+    [ "$tasks" -eq "$cells" ] || name=$task-$tasks
+    claim "$into"
+    plan -v "task=$task" -v "tasks=$tasks"
+    : > "$work/kept"
+    for ((number = 1; number <= runs; number++)); do
+        run_one "$number" > /dev/null
+        read_run "$number"
+        tell_fault
+        if [ "$ended" != whole ]; then
+            end_where_stuck
+            die 4 "task $task has no whole report"
+        fi
+        [ "$fault" = - ] || failed=yes
+        cat "$work/rows" >> "$work/kept" || no_room
+        place 644 "$work/kept" "$reports/$name"
+    done
+    [ -z "$failed" ] || exit 1
+}

@@ -1,0 +1,51 @@
+# Makes lines of the table from whole rows, which come in any order. The names of the columns are
+# line 0. Prints how many lines it makes, how many of them have a fault, and how many the grid has;
+# then the lines, from number `from` on, as far as there is a row for each, or with `all` to the end
+# of the grid; then the rows that are left. sweep_grid.awk is read before it.
+
+{
+    n = number_of_row()
+    if (n >= from && n > 0) {
+        row[n] = $0
+        has_fault[n] = $NF != "-"
+    }
+}
+
+END {
+    for (n = from; n <= cells && (n == 0 || all || n in row); n++)
+        if (n > 0 && (!(n in row) || has_fault[n])) faults++
+    print n - from, faults + 0, cells
+    to = n
+    for (n = from; n < to; n++) print n == 0 ? names() : label(n) "\t" counts(n)
+    # What is taken from an index is a text, and would be compared as one.
+    for (n in row) if (n + 0 >= to) print row[n]
+}
+
+function names(   text, i) {
+    text = "trace"
+    for (i = 1; i <= dimensions; i++) text = text "\t" varied[i]
+    for (i = 1; i <= ties; i++) text = text "\t" tied[i]
+    return text "\t" heads
+}
+
+function label(n,   text, d, i) {
+    choose(n)
+    text = trace[chosen[0]]
+    for (d = 1; d <= dimensions; d++) text = text "\t" value[d, chosen[d]]
+    for (i = 1; i <= ties; i++) {
+        d = dimension_of[lead[tied[i]]]
+        text = text "\t" value[d, chosen[d]]
+    }
+    return text
+}
+
+function counts(n,   text, field, i) {
+    if (!(n in row)) {
+        for (i = 1; i < head_count; i++) text = text "-\t"
+        return text "no report"
+    }
+    split(row[n], field, "\t")
+    text = field[3 + options]
+    for (i = 2; i <= head_count; i++) text = text "\t" field[2 + options + i]
+    return text
+}

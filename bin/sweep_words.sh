@@ -1,0 +1,200 @@
+# The words of a call of sweep. Read by sweep.
+# shellcheck shell=bash disable=SC2154,SC2034  # names that sweep and its other files set, or use
+
+fixed=()
+varied=()
+values=()
+tied=()
+leads=()
+traces=()
+unpackers=()
+jobs=
+log=
+restarts=
+hosts=
+task=
+tasks=
+into=
+gather=
+
+# once OPTION: it was not given before.
+once() {
+    local other
+    for other in "${fixed[@]}" "${varied[@]}" "${tied[@]}"; do
+        [ "$other" != "$1" ] || refuse "$1 is given twice"
+    done
+}
+
+# take OPTION VALUES: neither has a character that a shell could take for its own.
+take() {
+    local value='[A-Za-z0-9][A-Za-z0-9.+_-]*'
+    [[ $1 =~ ^--[a-z0-9-]+$ ]] || refuse "unknown option: $1"
+    once "$1"
+    [[ $2 =~ ^$value(,$value)*$ ]] || refuse "$1: no such value: '$2'"
+}
+
+# vary OPTION VALUES
+vary() {
+    local twice
+    take "$1" "$2"
+    twice=$(tr , '\n' <<<"$2" | LC_ALL=C sort | LC_ALL=C uniq -d | head -n 1)
+    [ -z "$twice" ] || refuse "$1: $twice stands there twice"
+    varied+=("$1")
+    values+=("$2")
+}
+
+# tie OPTION=OPTION: the hyphens in front may be left out.
+tie() {
+    local name='(--)?([a-z0-9][a-z0-9-]*)' option lead
+    [[ $1 =~ ^$name=$name$ ]] || refuse "--with: not OPTION=OPTION: '$1'"
+    option=--${BASH_REMATCH[2]} lead=--${BASH_REMATCH[4]}
+    once "$option"
+    tied+=("$option")
+    leads+=("$lead")
+}
+
+# set_word OPTION VALUE
+set_word() {
+    case $1 in
+    --with) tie "$2" ;;
+    --jobs) jobs=$2 ;;
+    --resume) log=$2 ;;
+    --hosts) hosts=$2 ;;
+    --task) task=$2 ;;
+    --into) into=$2 ;;
+    --gather) gather=$2 ;;
+    *)
+        take "$1" "$2"
+        [[ $2 != *,* ]] || refuse "$1 has several values, but no --vary before it"
+        fixed+=("$1" "$2")
+        ;;
+    esac
+}
+
+parse() {
+    while [ $# -gt 0 ]; do
+        case $1 in
+        -h | --help) show_help ;;
+        --)
+            traces=("${@:2}")
+            return
+            ;;
+        --restart) restarts=yes && shift && continue ;;
+        --*=*)
+            set -- "${1%%=*}" "${1#*=}" "${@:2}"
+            continue
+            ;;
+        --*) [ $# -ge 2 ] || refuse "$1 has no value" ;;
+        *) refuse "unknown word: $1 (traces stand behind --)" ;;
+        esac
+        if [ "$1" = --vary ]; then
+            [ $# -ge 3 ] || refuse '--vary has no values'
+            vary "$2" "$3"
+            shift
+        else
+            set_word "$1" "$2"
+        fi
+        shift 2
+    done
+}
+
+is_number() {
+    [[ $1 =~ ^[1-9][0-9]{0,8}$ ]]
+}
+
+# list_options: of the simulator, as its help has them, a line for each: its name, and its default
+# if it has one.
+list_options() {
+    "$program" --help | sed -nE 's/^ +--([a-z0-9-]+) <[^>]*>  +[^ ].*/\1 &/p' |
+        sed -E 's/ .*\[default: ([^]]*)\]$/ \1/; t; s/ .*//'
+}
+
+check_words() {
+    local i
+    [ -z "$jobs" ] || is_number "$jobs" || refuse "--jobs: not a number of runs: '$jobs'"
+    [ "${task:+task}" = "${into:+task}" ] || refuse '--task and --into go together'
+    [ -z "$restarts" ] || [ -n "$log" ] || refuse '--restart goes with --resume'
+    [ -z "$task" ] || [ -z "$log$hosts$jobs" ] || refuse '--task runs here and alone'
+    [ ${#varied[@]} -gt 0 ] || refuse 'no option is varied'
+    [ ${#traces[@]} -gt 0 ] || refuse 'no trace is given'
+    for i in "${!tied[@]}"; do
+        [[ " ${varied[*]} " == *" ${leads[i]} "* ]] ||
+            refuse "--with: ${leads[i]} is not varied"
+    done
+    check_options
+    [ -z "$task" ] || check_task
+}
+
+# check_options: the simulator has each that is given, and each that it requires is given.
+check_options() {
+    local option value given
+    options=$(list_options)
+    given=$(printf '%s\n' "${fixed[@]}" "${varied[@]}" "${tied[@]}" | sed -n 's/^--//p')
+    for option in $given; do
+        [ "$option" != ring ] ||
+            refuse '--ring is an option of dinero_pipe, and changes no count'
+        grep -qE "^$option( |\$)" <<<"$options" || refuse "unknown option: --$option"
+    done
+    while read -r option value; do
+        [ -n "$value" ] || grep -qxFe "$option" <<<"$given" || refuse "--$option is required"
+    done <<<"$options"
+}
+
+# check_task: sets `task` and `tasks` to the numbers of N/M, or of a configuration and of all.
+check_task() {
+    local i
+    [[ $task =~ ^([1-9][0-9]{0,8})(/([1-9][0-9]{0,8}))?$ ]] ||
+        refuse "--task: neither N nor N/M: '$task'"
+    task=${BASH_REMATCH[1]} tasks=${BASH_REMATCH[3]}
+    cells=${#traces[@]}
+    for i in "${!values[@]}"; do
+        cells=$((cells * $(tr , '\n' <<<"${values[i]}" | wc -l)))
+    done
+    [ "${tasks:=$cells}" -le "$cells" ] ||
+        refuse "--task: the grid has $cells configurations, which are no $tasks parts"
+    [ "$task" -le "$tasks" ] || [ "$tasks" -ne "$cells" ] ||
+        refuse "--task: the grid has $cells configurations, and no $task"
+    [ "$task" -le "$tasks" ] || refuse "--task: there is no part $task of $tasks"
+}
+
+# packer_of TRACE: the command that unpacks it, if its first bytes are those of a packed file.
+packer_of() {
+    case $(head -c 6 < "$1" | od -An -v -tx1 | tr -d ' \n') in
+    1f8b*) echo zcat ;;
+    fd377a585a00) echo xzcat ;;
+    28b52ffd*) echo zstdcat ;;
+    425a68*) echo bzcat ;;
+    esac
+}
+
+# check_trace TRACE: sets `unpacker` to the command that unpacks it, by the ending of its name, or
+# to a hyphen.
+check_trace() {
+    local packer package
+    if [ ! -f "$1" ] || [ ! -r "$1" ]; then
+        die 4 "no trace to read: $1"
+    fi
+    packer=$(packer_of "$1")
+    case $1 in
+    *.gz) unpacker='zcat' package=gzip ;;
+    *.xz) unpacker=xzcat package=xz-utils ;;
+    *.zst) unpacker=zstdcat package=zstd ;;
+    *) unpacker=- package= ;;
+    esac
+    [ -z "$package" ] || need "$unpacker" "$package"
+    [ "${packer:--}" != "$unpacker" ] || return 0
+    [ -n "$packer" ] || die 4 "$1 is not packed, though its name says so"
+    die 4 "$1 is compressed: pipe it through $packer into a file, and take that"
+}
+
+check_files() {
+    local trace unpacker twice
+    for trace in "${traces[@]}"; do
+        [[ $trace != *[$'\t\n']* ]] || refuse 'the name of a trace has a tab or a line feed'
+        check_trace "$trace"
+        unpackers+=("$unpacker")
+    done
+    twice=$(printf '%s\n' "${traces[@]}" | LC_ALL=C sort | LC_ALL=C uniq -d | head -n 1)
+    [ -z "$twice" ] || refuse "the trace $twice is given twice"
+    [ -z "$hosts" ] || [ -r "$hosts" ] || die 4 "no list of machines to read: $hosts"
+}
