@@ -15,7 +15,7 @@ pub enum Setup {
 /// A row of a grid.
 #[derive(Debug, Drop)]
 pub struct Row {
-    /// The values of the options that vary, as they were given.
+    /// The words that the row begins with, one for each name of the grid.
     pub words: Vec<String>,
     /// What stands behind the row.
     pub setup: Setup,
@@ -30,10 +30,10 @@ pub enum Columns {
     Full,
 }
 
-/// A grid: the names of the options that vary, and its rows in their order.
+/// A grid: the names of the words of its rows, its columns, and its rows in their order.
 #[derive(Debug, Drop)]
 pub struct Grid {
-    /// The names of the options that vary, without hyphens.
+    /// The names of the options that the rows have words of, without hyphens.
     pub names: Vec<String>,
     /// The columns of its table.
     pub columns: Columns,
