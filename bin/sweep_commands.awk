@@ -5,7 +5,8 @@
 {
     read_run($0)
     name = (run[0] - 1) ".din"
-    words = "./dinero_grid"
+    # As many runs are made at once as there are cores.
+    words = "./dinero_grid --threads 1"
     for (i = 1; i <= options; i++) words = words " --" option[i] " " list_of(option[i])
     tool = unpacker[run[0]]
     if (tool == "-") line = words " < " name

@@ -5,8 +5,8 @@
 # What one call of dinero_grid takes.
 BEGIN { most = 4096 }
 
-# parts_of_trace(SOME): how many runs a trace is to have, of so many that have any. dinero_grid has
-# one thread, so a run fills one core. With fewer traces than cores, each is cut into as few parts as
+# parts_of_trace(SOME): how many runs a trace is to have, of so many that have any. A run has
+# one thread, so it fills one core. With fewer traces than cores, each is cut into as few parts as
 # give all cores the same number of runs.
 function parts_of_trace(some,   a, b, rest) {
     if (some >= slots) return 1

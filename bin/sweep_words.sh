@@ -133,6 +133,8 @@ check_options() {
     for option in $given; do
         [ "$option" != ring ] ||
             refuse '--ring is an option of dinero_pipe, and changes no count'
+        [ "$option" != threads ] ||
+            refuse '--threads: each run has one thread, and --jobs says how many run at once'
         grep -qE "^$option( |\$)" <<<"$options" || refuse "unknown option: --$option"
     done
     while read -r option value; do

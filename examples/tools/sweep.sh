@@ -128,6 +128,8 @@ refused '--task: the grid has 4 configurations, which are no 5 parts' \
     --task 3/5 --into tasks "${grid[@]}" -- kinds.din
 refused '--ring is an option of dinero_pipe, and changes no count' \
     --ring 64 "${grid[@]}" -- kinds.din
+refused '--threads: each run has one thread, and --jobs says how many run at once' \
+    --threads 2 "${grid[@]}" -- kinds.din
 refused '--l1-dsize: 8 stands there twice' --vary --l1-dsize 8,16,8 "${rest[@]}" -- kinds.din
 refused 'the trace kinds.din is given twice' "${grid[@]}" -- kinds.din fifo.din kinds.din
 refused '--l1-drepl: not a lawful letter' --vary --l1-drepl l,x "${grid[@]}" -- kinds.din
