@@ -136,6 +136,22 @@ call 'a faulty line' 1 "$nothing" 'dinero_grid: line 3: label
 call 'an input that can not be read' 4 "$nothing" 'dinero_grid: trace read failed
 ' / "${caches[@]}" --l1-dsize 8,16
 
+# A trace of three batches: the table is the same on any number of threads.
+awk 'BEGIN {
+    for (i = 0; i < 40000; i++) {
+        n = (n * 1103515245 + 12345) % 2147483648
+        print int(n / 65536) % 4, int(n / 262144) % 97
+    }
+}' >"$work/long.din"
+several=("${caches[@]}" --l1-dsize 4,8,16,32 --l1-dassoc 1,2 --flushcount 0,1000)
+"$program" "${several[@]}" --threads 1 <"$work/long.din" >"$work/long"
+call 'a faulty line behind two batches' 1 "$nothing" 'dinero_grid: line 40001: label
+' <(cat "$work/long.din" && echo 5 0) "${several[@]}"
+for threads in {0..8}; do
+    call "a table on $threads threads" 5 "$work/long" '' "$work/long.din" "${several[@]}" \
+        --threads "$threads"
+done
+
 fail_to_print 'dinero_grid: table write failed
 ' "${caches[@]}" --l1-dsize 8,16
 help_names skipcount maxcount flushcount threads
