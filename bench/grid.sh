@@ -20,32 +20,13 @@ plain=$(printf '%q' "$top/crates/plain_bench/out/plain_bench")
 grid=$(printf '%q' "$top/crates/grid_bench/out/grid_bench")
 folder=$(mktemp -d)
 trap 'rm -rf "$folder"' EXIT
+. "$top/bench/traces.sh"
 
 # rt run builds a program if it is missing or older than the sources.
 for crate in plain_bench grid_bench; do
     (cd "$top/crates/$crate" && mapfile -t words < args && rt run -- "${words[@]}" < stdin) \
         > "$folder/build.log" 2>&1 || { cat "$folder/build.log" >&2; exit 1; }
 done
-
-# make NEAR SHARE MIDDLE SHARE: six in ten references are fetches, which run on and sometimes jump
-# to one of 64 loops. Of the data references, three in ten are writes. The first share of them is to
-# so many bytes, what is left of the second share to more, and the rest to 16 MiB.
-make() {
-    awk -v references="$references" -v near="$1" -v first="$2" -v middle="$3" -v second="$4" \
-        'BEGIN {
-        srand(1)
-        for (i = 0; i < references; i++) {
-            if (rand() < 0.6) {
-                counter = rand() < 0.1 ? 4194304 + 1024 * int(64 * rand()) : counter + 4
-                printf "2 %x\n", counter
-            } else {
-                where = rand()
-                reach = where < first ? near : where < second ? middle : 16777216
-                printf "%d %x\n", rand() < 0.3, 268435456 + 8 * int(reach / 8 * rand())
-            }
-        }
-    }'
-}
 
 sizes=1024,2048,4096,8192,16384,32768,65536
 names=('plain_bench' 'grid of 4' 'grid of 28' 'grid of 60')
@@ -84,11 +65,11 @@ measure() {
     done
 }
 
-make 16384 0.8 262144 0.97 > "$folder/tame.din"
+tame > "$folder/tame.din"
 measure 'tame' "$folder/tame.din"
 if command -v valgrind > /dev/null; then
     "$top/bin/record" ls /usr/lib 2> /dev/null > "$folder/ls.din"
     measure 'the references of ls' "$folder/ls.din"
 fi
-make 65536 0.5 1048576 0.8 > "$folder/hard.din"
+hard > "$folder/hard.din"
 measure 'hard' "$folder/hard.din"
