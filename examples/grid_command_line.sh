@@ -136,6 +136,10 @@ call 'a faulty line' 1 "$nothing" 'dinero_grid: line 3: label
 call 'an input that can not be read' 4 "$nothing" 'dinero_grid: trace read failed
 ' / "${caches[@]}" --l1-dsize 8,16
 
+lesson=$top/examples/9-whole-counts/table
+mapfile -t words <"$lesson.words"
+call 'the table of a lesson' 0 "$lesson.tsv" '' "$lesson.din" "${words[@]}"
+
 # A trace of three batches: the table is the same on any number of threads.
 awk 'BEGIN {
     for (i = 0; i < 40000; i++) {
