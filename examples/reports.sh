@@ -1,16 +1,15 @@
 #!/usr/bin/env bash
 # Runs each lesson of this folder, and compares its reports with those that were worked out by hand.
 # A run has its words in RUN.words, one a line, its report in RUN.report and its trace in RUN.din;
-# the runs without a trace of their own share trace.din. A table in place of a report is tried by
-# grid_command_line.sh. The first argument is the program; without
-# one the launcher is taken.
+# the runs without a trace of their own share trace.din. A run with a table, RUN.tsv, is tried by
+# grid_command_line.sh. The first argument is the program; without one the launcher is taken.
 set -euo pipefail
 folder=$(cd "$(dirname "$0")" && pwd)
 program=${1:-$folder/../bin/dinero_pipe}
 . "$folder/tally.sh"
 for list in "$folder"/*/*.words; do
     run=${list%.words}
-    [ -f "$run.report" ] || continue
+    [ ! -f "$run.tsv" ] || continue
     trace=$run.din
     [ -f "$trace" ] || trace=$(dirname "$run")/trace.din
     mapfile -t words <"$list"
