@@ -31,11 +31,10 @@ use dinero_options::WordsFault;
 use grid_options::{GridWordsFault, ParsedGrid, grid_help_text, parse_grid_words};
 use grid_run::{GridFault, simulate_grid};
 use std::alloc::Global;
-use std::env;
 use std::io::{BufWriter, ErrorKind, Read, Write};
 use std::process::ExitCode;
-use std::thread;
 use std::thread::Threads;
+use std::{env, thread};
 
 /// How many threads work if the command line leaves it to the machine, and the machine doesn't say
 /// how many it has.

@@ -99,7 +99,10 @@ fn a_full_table_has_columns_by_class(rt: HostRuntime) -> Result<(), Fail> {
     let mut grid = grid(alloc, &EVERYTHING, &EVERYTHING)?;
     grid.columns = Columns::Full;
     let mut written = Vec::new(alloc);
-    assert_eq!(rt; run(&rt, alloc, &grid, 3, ONE_OF_EACH_CLASS, &mut written), Ok(()));
+    assert_eq!(rt;
+        run(&rt, alloc, &grid, 3, ONE_OF_EACH_CLASS, &mut written),
+        Ok(())
+    );
     let mut expected = String::from_str(alloc, HEADS)?;
     expected.push_str(SMALL)?;
     expected.push_str(REFUSED)?;
