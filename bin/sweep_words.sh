@@ -102,10 +102,10 @@ is_number() {
     [[ $1 =~ ^[1-9][0-9]{0,8}$ ]]
 }
 
-# list_options: of the simulator, as its help has them, a line for each: its name, and its default
-# if it has one.
+# list_options: those of the simulator's that say what is counted, as its help has them, a line for
+# each: its name, and its default if it has one.
 list_options() {
-    "$program" --help | sed -nE 's/^ +--([a-z0-9-]+) <[^>]*>  +[^ ].*/\1 &/p' |
+    "$program" --help | sed -nE '/^ +--threads /d; s/^ +--([a-z0-9-]+) <[^>]*>  +[^ ].*/\1 &/p' |
         sed -E 's/ .*\[default: ([^]]*)\]$/ \1/; t; s/ .*//'
 }
 

@@ -56,9 +56,9 @@ write_table() {
 
 make_all() {
     sweep_to "$work/sizes.tsv" --l1-dbsize 32 \
-        --vary l1-dsize 1k,2k,4k,8k,16k,32k,64k --vary l1-dassoc 1,2,4,8
+        --vary --l1-dsize 1k,2k,4k,8k,16k,32k,64k --vary --l1-dassoc 1,2,4,8
     sweep_to "$work/blocks.tsv" --l1-dassoc 2 \
-        --vary l1-dsize 4k,16k,64k --vary l1-dbsize 8,16,32,64,128
+        --vary --l1-dsize 4k,16k,64k --vary --l1-dbsize 8,16,32,64,128
     "$bin/plot" kinds "$work/sizes.tsv" "$work/kinds.svg" --whole-counts
     "$bin/plot" rates "$work/sizes.tsv" "$work/sizes.svg"
     "$bin/plot" rates "$work/blocks.tsv" "$work/blocks.svg" --over l1-dbsize --by l1-dsize
