@@ -4,3 +4,4 @@ pub mod Merges
 pub mod Splitting
 pub mod Wholes
 pub mod Endings
+pub mod Waiting
