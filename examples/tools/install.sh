@@ -189,4 +189,4 @@ compare_page() {
 }
 
 compare_page pipe 21
-compare_page grid 20
+compare_page grid 22
