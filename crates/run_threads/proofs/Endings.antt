@@ -10,6 +10,7 @@ use Rattle.din_trace.specs.declared.record.DinRecord.{DinRecord}
 use Rattle.din_trace.specs.declared.fault.TraceFault.{TraceFault}
 use Rattle.stage_core.specs.Events.{events}
 use Rattle.stage_core.specs.SecondLevel.{Hierarchy}
+use Rattle.stage_core.specs.Waiting.{HasPosted}
 use Rattle.stage_core.specs.declared.selection.Selection.{Selection}
 use Rattle.run_threads.specs.declared.ends.SplitterEnds.{SplitterEnds}
 use Rattle.run_threads.specs.declared.fault.RunFault.{RunFault}
@@ -18,8 +19,9 @@ use Rattle.run_threads.specs.declared.fault.RunFault.TheVariants.{Memory, Thread
 use Rattle.run_threads.specs.declared.fault.Stop.{Stop}
 use Rattle.run_threads.specs.declared.fault.Stop.TheVariants as stop
 use Rattle.run_threads.specs.Faults.{MayAnswer, fault_of_stop}
-use Rattle.run_threads.specs.Threads.{HasSentAll, LeavesRest, SplitUp, at_end}
+use Rattle.run_threads.specs.Threads.{LeavesRest, SplitUp, at_end}
 use Rattle.run_threads.specs.Runs.{HasRun, RunsOver}
+use Rattle.run_threads.specs.Waits.{splitter_at}
 
 -- if a property holds for the records that are left, whatever the reader did, and no fault is left,
 -- it holds for the records of some text
@@ -84,7 +86,8 @@ pub runs-over : (ring : ℕ) (c : Hierarchy) (selection : Selection) (l : Remain
     (HasLeft : Remaining → Type 0) (ends : SplitterEnds) (fed : Result (Unit {0}) RunFault)
     (result : Result Settled RunFault)
     → SplitUp selection l HasLeft ends fed → OnOk result (IsOk fed)
-    → IfOk result (λ s. (es : List DinRecord) → HasSentAll es ends → HasRun ring c es s)
+    → IfOk result (λ s. (es : List DinRecord) → HasPosted (splitter_at es true ends)
+    → HasRun ring c es s)
     → IfErr result (λ why. (left : Option TraceFault) → IfErr fed (MayAnswer left)
     → MayAnswer left why) → RunsOver ring c selection l HasLeft result
 runs-over ring c selection l HasLeft ends (Ok done) (Ok settled) up fine whole answers =

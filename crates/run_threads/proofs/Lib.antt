@@ -4,4 +4,3 @@ pub mod Merges
 pub mod Splitting
 pub mod Wholes
 pub mod Endings
-pub mod Waiting

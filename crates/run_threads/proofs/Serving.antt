@@ -1,19 +1,28 @@
 -- A first-level stage after one more message.
 use Rattle.std.proofs.Common.{◌≡◌, true, false, List, [], ◌∷◌, ◌++◌, refl, ap, sym, ◌∙◌, subst}
+use Rattle.std.proofs.Common.{append-nil}
 use Rattle.pipe_rings.specs.Rings.{sent, received, SameTx, SameRx}
-use Rattle.pipe_rings.proofs.Ends.{tx_stays, rx_stays}
-use Rattle.cache_core.specs.History.{Rules}
+use Rattle.pipe_rings.proofs.Ends.{tx_stays, rx_stays, none_held}
 use Rattle.cache_core.specs.Standing.{rules_of}
-use Rattle.stage_core.specs.SecondLevel.{parts_of}
+use Rattle.stage_core.specs.SecondLevel.{Parts, parts_of}
 use Rattle.stage_core.specs.Streams.{reply, replies, is_finish}
-use Rattle.stage_core.specs.Standing.{StageStandsFor, cache_of, side_of, took_finish}
-use Rattle.stage_core.specs.declared.message.Side.{Side}
+use Rattle.stage_core.specs.Standing.{StageStandsFor, cache_of, side_of, outbox_of, took_finish}
+use Rattle.stage_core.specs.Waiting.{HasAnswered}
 use Rattle.stage_core.specs.declared.message.ToStage.{ToStage}
 use Rattle.stage_core.specs.declared.message.ToStage.TheVariants.{Ref, Flush, Finish}
 use Rattle.stage_core.specs.declared.l1_stage.L1Stage.{L1Stage}
 use Rattle.stage_core.proofs.Place.{flat_map_with_past-more}
 use Rattle.run_threads.specs.declared.ends.StageEnds.{StageEnds}
+use Rattle.run_threads.specs.Ends.{UnusedStage}
 use Rattle.run_threads.specs.Threads.{StageServed, StageEnded}
+use Rattle.run_threads.specs.Waits.{AnswersPublished, OfStage}
+
+-- a stage that has sent nothing holds no answer back
+pub unused-published : (ends : StageEnds) → UnusedStage ends → AnswersPublished ends
+unused-published ends new = record {
+  held = none_held ends.to_merge new.to_merge;
+  announced = new.announced;
+}
 
 -- the messages sent in two steps, put together
 pub grows : {X : Type 0} (now mid was out answer : List X) → now ≡ mid ++ out → out ≡ answer
@@ -31,8 +40,33 @@ pub record Serves (stage : L1Stage) (was : StageEnds) (m : ToStage) (next : L1St
   pub rules : rules_of (cache_of next) ≡ rules_of (cache_of stage)
   pub sends : (before : List ToStage) → StageStandsFor stage before → sent now.to_merge
       ≡ sent was.to_merge ++ reply (parts_of (rules_of (cache_of stage))) (side_of stage) before m
+  pub empty : outbox_of next ≡ []
   pub stands : (before : List ToStage) → StageStandsFor stage before
       → StageStandsFor next (before ++ m ∷ [])
+
+-- what the stage that served all has sent
+pub all-sent : (began : L1Stage) (start : StageEnds) (stage : L1Stage) (now : StageEnds)
+    → StageServed began start stage now → sent now.to_merge
+    ≡ replies (parts_of (rules_of (cache_of stage))) (side_of stage) (received now.from_splitter)
+all-sent began start stage now served =
+    sym (append-nil (sent now.to_merge)) ∙ ap (λ l. sent now.to_merge ++ l) (sym served.empty)
+    ∙ served.answered
+
+-- a stage that was sent one more message has answered it too, if its answer was added to what it
+-- has sent and has still to send
+pub answers-more : (began : L1Stage) (start : StageEnds) (stage : L1Stage) (was : StageEnds)
+    (m : ToStage) (next : L1Stage) (now : StageEnds) → StageServed began start stage was
+    → received now.from_splitter ≡ received was.from_splitter ++ m ∷ []
+    → side_of next ≡ side_of stage → rules_of (cache_of next) ≡ rules_of (cache_of stage)
+    → sent now.to_merge ++ outbox_of next ≡ sent was.to_merge
+    ++ reply (parts_of (rules_of (cache_of stage))) (side_of stage) (received was.from_splitter) m
+    → OfStage HasAnswered next now
+answers-more began start stage was m next now going got side rules adds =
+    let before : List ToStage = received was.from_splitter in
+    let parts : Parts = parts_of (rules_of (cache_of stage)) in
+    rw (rules, side, got) (adds
+    ∙ ap (λ l. l ++ reply parts (side_of stage) before m) (all-sent began start stage was going)
+    ∙ sym (flat_map_with_past-more (reply parts (side_of stage)) before m))
 
 pub serves-more : (began : L1Stage) (start : StageEnds) (stage : L1Stage) (was : StageEnds)
     (m : ToStage) (next : L1Stage) (now : StageEnds)
@@ -40,7 +74,6 @@ pub serves-more : (began : L1Stage) (start : StageEnds) (stage : L1Stage) (was :
     → StageServed began start next now
 serves-more began start stage was m next now going one =
     let before : List ToStage = received was.from_splitter in
-    let rules : Rules = rules_of (cache_of began) in
     record {
       rings = record {
         from_splitter = rx_stays start.from_splitter was.from_splitter now.from_splitter
@@ -51,14 +84,10 @@ serves-more began start stage was m next now going one =
       side = one.side ∙ going.side;
       rules = one.rules ∙ going.rules;
       stands = subst (StageStandsFor next) (sym one.got) (one.stands before going.stands);
-      answered =
-          one.sends before going.stands
-          ∙ ap (λ (r : Rules). sent was.to_merge ++ reply (parts_of r) (side_of stage) before m)
-          going.rules
-          ∙ ap (λ (s : Side). sent was.to_merge ++ reply (parts_of rules) s before m) going.side
-          ∙ ap (λ l. l ++ reply (parts_of rules) (side_of began) before m) going.answered
-          ∙ sym (flat_map_with_past-more (reply (parts_of rules) (side_of began)) before m)
-          ∙ ap (replies (parts_of rules) (side_of began)) (sym one.got);
+      answered = answers-more began start stage was m next now going one.got one.side one.rules
+          (ap (λ l. sent now.to_merge ++ l) one.empty ∙ append-nil (sent now.to_merge)
+          ∙ one.sends before going.stands);
+      empty = one.empty;
     }
 
 finish-is : (m : ToStage) → is_finish m ≡ true → m ≡ Finish
@@ -95,4 +124,5 @@ served-publishes began start stage now later going same ring kept = record {
   rules = going.rules;
   stands = rw same going.stands;
   answered = rw (same, kept) going.answered;
+  empty = going.empty;
 }

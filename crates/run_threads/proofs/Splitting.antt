@@ -1,9 +1,10 @@
 -- The splitter after one more record.
-use Rattle.std.proofs.Common.{◌≡◌, ◌⊎◌, ℕ, ◌+◌, ◌*◌, ◌≤◌, ◌^◌, List, [], ◌∷◌, ◌++◌, map, drop}
+use Rattle.std.proofs.Common.{◌≡◌, ◌⊎◌, ℕ, ◌+◌, ◌*◌, ◌≤◌, ◌^◌, Bool, false}
+use Rattle.std.proofs.Common.{List, [], ◌∷◌, ◌++◌, map, drop, length}
 use Rattle.std.proofs.Common.{Option, Some, None, Result, Ok, Err, option_to_list}
-use Rattle.std.proofs.Common.{refl, ap, sym, ◌∙◌, subst, append_assoc, append-nil, arith}
-use Rattle.std.proofs.Common.{length-append}
-use Rattle.std.proofs.lemmas.List.{map-append}
+use Rattle.std.proofs.Common.{refl, ap, sym, ◌∙◌, subst, append_assoc, append-nil}
+use Rattle.std.proofs.lemmas.List.{map-append, length-map}
+use Rattle.pipe_rings.specs.Rings.{sent}
 use Rattle.pipe_rings.proofs.Ends.{tx_stays}
 use Rattle.din_trace.specs.Text.{Remaining}
 use Rattle.din_trace.specs.Remaining.{Script, Fate, Follows, first_answer, after_first}
@@ -17,9 +18,11 @@ use Rattle.stage_core.specs.Places.{flat_map_with_past}
 use Rattle.stage_core.specs.Events.{events, asked}
 use Rattle.stage_core.specs.Streams.{turn_of, message, messages_to}
 use Rattle.stage_core.specs.Standing.{Offers, WasOffered}
+use Rattle.stage_core.specs.Waiting.{HasPosted}
+use Rattle.stage_core.specs.declared.message.Side.{Side}
 use Rattle.stage_core.specs.declared.message.Side.TheVariants as side
-use Rattle.stage_core.specs.declared.message.Turn.TheVariants as turn
-use Rattle.stage_core.specs.declared.message.ToStage.TheVariants as to_stage
+use Rattle.stage_core.specs.declared.message.Turn.{Turn}
+use Rattle.stage_core.specs.declared.message.ToStage.{ToStage}
 use Rattle.stage_core.specs.declared.message.Routed.{Routed}
 use Rattle.stage_core.specs.declared.selection.Selection.{Selection}
 use Rattle.stage_core.proofs.Place.{flat_map_with_past-more}
@@ -27,7 +30,8 @@ use Rattle.run_threads.specs.declared.ends.SplitterEnds.{SplitterEnds}
 use Rattle.din_trace.specs.declared.fault.TraceFault.TheVariants.{Bad, TooLong, Read, Memory}
 use Rattle.run_threads.specs.Faults.{MayAnswer, source_fault}
 use Rattle.run_threads.specs.Ends.{SameSplitterEnds, SentSame}
-use Rattle.run_threads.specs.Threads.{Sends, HasSent, HasSentAll, LeavesRest, at_end}
+use Rattle.run_threads.specs.Threads.{Sends, LeavesRest, at_end}
+use Rattle.run_threads.specs.Waits.{splitter_at}
 
 pub same-ends : (ends : SplitterEnds) → SameSplitterEnds ends ends
 same-ends ends = record {
@@ -44,50 +48,56 @@ ends-stay a b c s t = record {
   to_d = tx_stays a.to_d b.to_d c.to_d s.to_d t.to_d;
 }
 
--- ends that have sent the same messages have sent those of the same events
-pub sent-same : (es : List DinRecord) (place : ℕ) (was now : SplitterEnds) → SentSame was now
-    → HasSent es place was → HasSent es place now
-sent-same es place was now same going = record {
-  last = going.last;
+-- what holds for both sides holds for each
+pub each_side : (P : Side → Type 0) → P side.I → P side.D → (s : Side) → P s
+each_side P i d side.I = i
+each_side P i d side.D = d
+
+-- ends that have sent the same messages have posted those of the same events
+pub posted-same : (es : List DinRecord) (closed : Bool) (was now : SplitterEnds)
+    → SentSame was now → HasPosted (splitter_at es closed was)
+    → HasPosted (splitter_at es closed now)
+posted-same es closed was now same going = record {
   order = same.order ∙ going.order;
-  to_i = same.to_i ∙ going.to_i;
-  to_d = same.to_d ∙ going.to_d;
+  to = each_side _ (same.to_i ∙ going.to side.I) (same.to_d ∙ going.to side.D);
 }
+
+-- the turns of some events
+abbrev turns : List DinRecord → List Turn
+turns es = map (λ e. turn_of e.label) es
+
+-- the messages to a side after those of one more event
+more-to : (s : Side) (es : List DinRecord) (e : DinRecord) (place : ℕ) (was now : List ToStage)
+    (out : Option ToStage) → was ≡ flat_map_with_past (messages_to s) es ++ []
+    → place ≡ length es → option_to_list out ≡ map (message (place + 1)) (asked s e)
+    → now ≡ was ++ option_to_list out
+    → now ≡ flat_map_with_past (messages_to s) (es ++ e ∷ []) ++ []
+more-to s es e place was now out going count routed sends =
+    let before : List ToStage = flat_map_with_past (messages_to s) es in
+    sends ∙ ap (λ l. l ++ option_to_list out) (going ∙ append-nil before)
+    ∙ ap (λ l. before ++ l) (routed ∙ ap (λ n. map (message (n + 1)) (asked s e)) count)
+    ∙ sym (flat_map_with_past-more (messages_to s) es e) ∙ sym (append-nil _)
 
 -- the splitter after the messages of one more event
-pub sends-event : (es : List DinRecord) (e : DinRecord) (place next : ℕ) (routed : Routed)
-    (was now : SplitterEnds) → HasSent es place was → next ≡ place + 1
-    → routed.turn ≡ turn_of e.label
+pub sends-event : (es : List DinRecord) (e : DinRecord) (place : ℕ) (routed : Routed)
+    (was now : SplitterEnds) → HasPosted (splitter_at es false was)
+    → place ≡ length (sent was.order) → routed.turn ≡ turn_of e.label
     → option_to_list routed.i ≡ map (message (place + 1)) (asked side.I e)
     → option_to_list routed.d ≡ map (message (place + 1)) (asked side.D e)
-    → Sends was routed now → HasSent (es ++ e ∷ []) next now
-sends-event es e place next routed was now going is_next turn i d sends = record {
-  last = omega (arith, length-append es (e ∷ []), going.last);
-  order = sends.order ∙ ap (λ l. l ++ routed.turn ∷ []) going.order
-      ∙ ap (λ t. map (λ (x : DinRecord). turn_of x.label) es ++ t ∷ []) turn
-      ∙ sym (map-append (λ (x : DinRecord). turn_of x.label) es (e ∷ []));
-  to_i = sends.to_i ∙ ap (λ l. l ++ option_to_list routed.i) going.to_i
-      ∙ ap (λ l. flat_map_with_past (messages_to side.I) es ++ l)
-      (i ∙ ap (λ n. map (message (n + 1)) (asked side.I e)) going.last)
-      ∙ sym (flat_map_with_past-more (messages_to side.I) es e);
-  to_d = sends.to_d ∙ ap (λ l. l ++ option_to_list routed.d) going.to_d
-      ∙ ap (λ l. flat_map_with_past (messages_to side.D) es ++ l)
-      (d ∙ ap (λ n. map (message (n + 1)) (asked side.D e)) going.last)
-      ∙ sym (flat_map_with_past-more (messages_to side.D) es e);
-}
-
--- the splitter after the messages of the end
-pub sends-end : (es : List DinRecord) (place : ℕ) (routed : Routed) (was now : SplitterEnds)
-    → HasSent es place was → routed.turn ≡ turn.Finish → routed.i ≡ Some to_stage.Finish
-    → routed.d ≡ Some to_stage.Finish → Sends was routed now → HasSentAll es now
-sends-end es place routed was now going turn i d sends = record {
-  order = sends.order ∙ ap (λ l. l ++ routed.turn ∷ []) going.order
-      ∙ ap (λ t. map (λ (x : DinRecord). turn_of x.label) es ++ t ∷ []) turn;
-  to_i = sends.to_i ∙ ap (λ l. l ++ option_to_list routed.i) going.to_i
-      ∙ ap (λ o. flat_map_with_past (messages_to side.I) es ++ option_to_list o) i;
-  to_d = sends.to_d ∙ ap (λ l. l ++ option_to_list routed.d) going.to_d
-      ∙ ap (λ o. flat_map_with_past (messages_to side.D) es ++ option_to_list o) d;
-}
+    → Sends was routed now → HasPosted (splitter_at (es ++ e ∷ []) false now)
+sends-event es e place routed was now going counted turn i d sends =
+    let posted : sent was.order ≡ turns es = going.order ∙ append-nil (turns es) in
+    let count : place ≡ length es =
+    counted ∙ ap length posted ∙ length-map es (λ (x : DinRecord). turn_of x.label) in
+    record {
+      order = sends.order ∙ ap (λ l. l ++ routed.turn ∷ []) posted
+          ∙ ap (λ t. turns es ++ t ∷ []) turn
+          ∙ sym (map-append (λ (x : DinRecord). turn_of x.label) es (e ∷ []))
+          ∙ sym (append-nil (turns (es ++ e ∷ [])));
+      to = each_side _
+          (more-to side.I es e place _ _ routed.i (going.to side.I) count i sends.to_i)
+          (more-to side.D es e place _ _ routed.d (going.to side.D) count d sends.to_d);
+    }
 
 -- the splitter has read these records of a source, and sent all messages of the events that are
 -- selected from them
@@ -107,7 +117,9 @@ pub record Splits {R : Type 0} (remaining : R → Option (List ℕ)) (failures :
   pub room : (offers.records ≡ 0) ⊎ (offers.records + room_of now ≤ 2 ^ 40)
   pub at_most : place ≤ 2 * offers.records
   pub rings : SameSplitterEnds began ends
-  pub sends : HasSent (events selection past) place ends
+  -- the splitter has counted as many events as it has sent turns
+  pub counted : place ≡ length (sent ends.order)
+  pub posted : HasPosted (splitter_at (events selection past) false ends)
 
 module _ {R : Type 0} (remaining : R → Option (List ℕ)) (failures : R → ℕ) (selection : Selection)
     (start : Source R) (began : SplitterEnds) (offers : Offers) (place : ℕ) (now : Source R)

@@ -1,5 +1,5 @@
 -- If each thread did its part and all messages were received, the whole run is as `HasRun` says.
-use Rattle.std.proofs.Common.{◌≡◌, ℕ, List, [], ◌∷◌, ◌++◌, refl, ap, sym, ◌∙◌}
+use Rattle.std.proofs.Common.{◌≡◌, ℕ, true, List, [], ◌∷◌, ◌++◌, refl, ap, sym, ◌∙◌}
 use Rattle.pipe_rings.specs.Rings.{sent, received, capacity_of}
 use Rattle.pipe_rings.proofs.Ends.{ends_stay}
 use Rattle.din_trace.specs.declared.record.DinRecord.{DinRecord}
@@ -17,6 +17,7 @@ use Rattle.stage_core.specs.Merging.{merged, all_used, AtEnd, Merged}
 use Rattle.stage_core.specs.Laws.{MergeTakesTheRequests, StagesAnswerTheirStreams}
 use Rattle.stage_core.specs.Standing.{StageStandsFor, L2StandsFor, cache_of, side_of}
 use Rattle.stage_core.specs.Standing.{l2_cache}
+use Rattle.stage_core.specs.Waiting.{HasPosted}
 use Rattle.stage_core.specs.declared.message.Side.{Side}
 use Rattle.stage_core.specs.declared.message.Side.TheVariants as side
 use Rattle.stage_core.specs.declared.message.What.{What}
@@ -36,9 +37,11 @@ use Rattle.run_threads.specs.Ends.{Carried, whole, ArePaired, SameRings, AllRece
 use Rattle.run_threads.specs.Ends.{SameSplitterEnds, SameStageEnds, SameMergeEnds}
 use Rattle.run_threads.specs.Ends.{on_order, on_to_i, on_to_d, on_from_i}
 use Rattle.run_threads.specs.Ends.{on_from_d, HaveCapacity}
-use Rattle.run_threads.specs.Threads.{HasSentAll, StageServed, MergeServed}
-use Rattle.run_threads.specs.Machines.{AreNew, IsNew, rules_in}
+use Rattle.run_threads.specs.Threads.{StageServed, MergeServed}
+use Rattle.run_threads.specs.Machines.{AreNew, IsNew, hierarchy_in}
 use Rattle.run_threads.specs.Runs.{HasRun}
+use Rattle.run_threads.specs.Waits.{splitter_at}
+use Rattle.run_threads.proofs.Serving.{all-sent}
 
 -- the ends that come back from the threads are still the two ends of each ring
 pub paired-after : (was now : Rings) → ArePaired was → SameSplitterEnds was.splitter now.splitter
@@ -112,9 +115,11 @@ module _ (law : StagesAnswerTheirStreams) (c : Hierarchy) (s : Side) (es : List 
     (got : received now.from_splitter ≡ to_side s es) where
   pub stage-sent : sent now.to_merge ≡ from_side (parts_in c) s es
   stage-sent =
-      served.answered ∙ ap (replies (parts_of (rules_of (cache_of began))) (side_of began)) got
-      ∙ ap (λ (x : Side). replies (parts_of (rules_of (cache_of began))) x (to_side s es)) new.side
-      ∙ ap (λ (r : Rules). replies (parts_of r) s (to_side s es)) own
+      all-sent began start stage now served
+      ∙ ap (replies (parts_of (rules_of (cache_of stage))) (side_of stage)) got
+      ∙ ap (λ (x : Side). replies (parts_of (rules_of (cache_of stage))) x (to_side s es))
+      (served.side ∙ new.side)
+      ∙ ap (λ (r : Rules). replies (parts_of r) s (to_side s es)) (served.rules ∙ own)
       ∙ law (parts_of (rules_at c s)) s es
       ∙ ap (λ l. l ++ from_stage.Finish ∷ []) (own-parts c s [] es)
 
@@ -130,29 +135,30 @@ module _ (law : StagesAnswerTheirStreams) (c : Hierarchy) (s : Side) (es : List 
 -- the whole of a run
 module _ (stages : StagesAnswerTheirStreams) (merges : MergeTakesTheRequests) (es : List DinRecord)
     (machines : Machines) (new : AreNew machines) (start : Rings) (was now : Rings)
-    (i d : L1Stage) (u : L2Stage) (fed : HasSentAll es was.splitter)
+    (i d : L1Stage) (u : L2Stage) (fed : HasPosted (splitter_at es true was.splitter))
     (ran_i : StageServed machines.i start.i i was.i)
     (ran_d : StageServed machines.d start.d d was.d)
     (ran_u : MergeServed AtEnd machines.u start.merge u was.merge) (same : SameRings was now)
     (all : AllReceived now) (ring : ℕ) (room : HaveCapacity ring start)
     (feeder : was.splitter ≡ start.splitter) where
   abbrev c : Hierarchy
-  c = rules_in machines
+  c = hierarchy_in machines
 
   abbrev parts : Parts
   parts = parts_in c
 
+  -- all messages of some events, and those of the end, are the whole streams
   into-order : on_order now ≡ whole (streams.order es)
   into-order = carried-whole (on_order now) _ all.order
       (ap (λ (x : Carried Turn). x.sent) same.order ∙ fed.order)
 
   into-i : on_to_i now ≡ whole (to_side side.I es)
   into-i = carried-whole (on_to_i now) _ all.to_i
-      (ap (λ (x : Carried ToStage). x.sent) same.to_i ∙ fed.to_i)
+      (ap (λ (x : Carried ToStage). x.sent) same.to_i ∙ fed.to side.I)
 
   into-d : on_to_d now ≡ whole (to_side side.D es)
   into-d = carried-whole (on_to_d now) _ all.to_d
-      (ap (λ (x : Carried ToStage). x.sent) same.to_d ∙ fed.to_d)
+      (ap (λ (x : Carried ToStage). x.sent) same.to_d ∙ fed.to side.D)
 
   got-i : received was.i.from_splitter ≡ to_side side.I es
   got-i = sym (ap (λ (x : Carried ToStage). x.received) same.to_i)

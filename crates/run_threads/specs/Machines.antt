@@ -24,8 +24,8 @@ pub record AreNew (m : Machines) : Type 0 where
   pub u : L2StandsFor m.u []
 
 -- the rules of the machines' caches
-abbrev pub rules_in : Machines → Hierarchy
-rules_in m = record {
+abbrev pub hierarchy_in : Machines → Hierarchy
+hierarchy_in m = record {
   i = rules_of (cache_of m.i);
   d = rules_of (cache_of m.d);
   u = rules_of (l2_cache m.u);

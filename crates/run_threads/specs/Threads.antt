@@ -1,5 +1,5 @@
 -- What each of the four threads has sent and received.
-use Rattle.std.specs.Prelude.{◌≡◌, ℕ, List, [], ◌∷◌, ◌++◌, map, length, option_to_list}
+use Rattle.std.specs.Prelude.{◌≡◌, true, List, [], ◌∷◌, ◌++◌, option_to_list}
 use Rattle.std.specs.Prelude.{Some, None, Result, Ok, Err}
 use Rattle.pipe_rings.specs.Rings.{sent, received}
 use Rattle.din_trace.specs.declared.record.DinRecord.{DinRecord}
@@ -9,14 +9,12 @@ use Rattle.cache_core.specs.Standing.{rules_of}
 use Rattle.cache_core.specs.declared.counts.Counts.{Counts}
 use Rattle.stage_core.specs.Events.{events}
 use Rattle.stage_core.specs.Finishes.{EndOnce}
-use Rattle.stage_core.specs.Places.{flat_map_with_past}
-use Rattle.stage_core.specs.SecondLevel.{parts_of, second_history}
-use Rattle.stage_core.specs.Streams as streams
-use Rattle.stage_core.specs.Streams.{turn_of, messages_to, replies, is_finish, taken_in}
-use Rattle.stage_core.specs.Merging.{MergeState, AtEnd, merged, all_used}
-use Rattle.stage_core.specs.Standing.{StageStandsFor, L2StandsFor, cache_of, side_of}
+use Rattle.stage_core.specs.SecondLevel.{second_history}
+use Rattle.stage_core.specs.Streams.{is_finish, taken_in}
+use Rattle.stage_core.specs.Merging.{MergeState, AtEnd}
+use Rattle.stage_core.specs.Standing.{StageStandsFor, L2StandsFor, cache_of, side_of, outbox_of}
 use Rattle.stage_core.specs.Standing.{l2_cache}
-use Rattle.stage_core.specs.declared.message.Side.TheVariants as side
+use Rattle.stage_core.specs.Waiting.{HasPosted, HasAnswered, HasMerged}
 use Rattle.stage_core.specs.declared.message.Routed.{Routed}
 use Rattle.stage_core.specs.declared.message.What.{What}
 use Rattle.stage_core.specs.declared.message.Turn.TheVariants as turn
@@ -31,6 +29,7 @@ use Rattle.run_threads.specs.declared.ends.MergeEnds.{MergeEnds}
 use Rattle.run_threads.specs.declared.fault.RunFault.{RunFault}
 use Rattle.run_threads.specs.Faults.{MayAnswer}
 use Rattle.run_threads.specs.Ends.{SameStageEnds, SameMergeEnds}
+use Rattle.run_threads.specs.Waits.{splitter_at, OfStage, merge_at}
 
 -- the splitter sent the messages of one event, or those of the end
 pub record Sends (was : SplitterEnds) (routed : Routed) (now : SplitterEnds) : Type 0 where
@@ -43,19 +42,6 @@ pub record IsEnd (routed : Routed) : Type 0 where
   pub turn : routed.turn ≡ turn.Finish
   pub i : routed.i ≡ Some to_stage.Finish
   pub d : routed.d ≡ Some to_stage.Finish
-
--- the splitter has sent all messages of these events; `place` is how many they are
-pub record HasSent (events : List DinRecord) (place : ℕ) (ends : SplitterEnds) : Type 0 where
-  pub last : place ≡ length events
-  pub order : sent ends.order ≡ map (λ e. turn_of e.label) events
-  pub to_i : sent ends.to_i ≡ flat_map_with_past (messages_to side.I) events
-  pub to_d : sent ends.to_d ≡ flat_map_with_past (messages_to side.D) events
-
--- the splitter has sent all messages of these events and those of the end
-pub record HasSentAll (events : List DinRecord) (ends : SplitterEnds) : Type 0 where
-  pub order : sent ends.order ≡ streams.order events
-  pub to_i : sent ends.to_i ≡ streams.to_side side.I events
-  pub to_d : sent ends.to_d ≡ streams.to_side side.D events
 
 -- a source has answered some of the records that it had left; what it has left now is the rest
 pub record LeavesRest (l : Remaining) (HasLeft : Remaining → Type 0) : Type 0 where
@@ -74,18 +60,19 @@ abbrev pub SplitUp : Selection → Remaining → (Remaining → Type 0) → Spli
     → Result (Unit {0}) RunFault
     → Type 0
 SplitUp selection l HasLeft ends (Ok done) =
-    (l.fault ≡ None) × HasSentAll (events selection l.records) ends × HasLeft at_end
+    (l.fault ≡ None) × HasPosted (splitter_at (events selection l.records) true ends)
+    × HasLeft at_end
 SplitUp selection l HasLeft ends (Err why) = MayAnswer l.fault why × LeavesRest l HasLeft
 
--- a stage, compared with its start: it has sent the answers to what it has received
+-- a stage, compared with its start: it has answered what it has received, and sent all answers
 pub record StageServed (began : L1Stage) (was : StageEnds) (stage : L1Stage) (now : StageEnds)
     : Type 0 where
   pub rings : SameStageEnds was now
   pub side : side_of stage ≡ side_of began
   pub rules : rules_of (cache_of stage) ≡ rules_of (cache_of began)
   pub stands : StageStandsFor stage (received now.from_splitter)
-  pub answered : sent now.to_merge
-      ≡ replies (parts_of (rules_of (cache_of began))) (side_of began) (received now.from_splitter)
+  pub answered : OfStage HasAnswered stage now
+  pub empty : outbox_of stage ≡ []
 
 -- a stage has served its whole stream, up to `Finish`
 pub record StageEnded (began : L1Stage) (was : StageEnds) (stage : L1Stage) (now : StageEnds)
@@ -100,8 +87,7 @@ pub record MergeServed (at : MergeState) (began : L2Stage) (was : MergeEnds) (u 
   pub rings : SameMergeEnds was now
   pub rules : rules_of (l2_cache u) ≡ rules_of (l2_cache began)
   pub requests : List What
-  pub used : merged (received now.order) (received now.from_i) (received now.from_d)
-      ≡ all_used requests at
+  pub used : HasMerged (merge_at at requests now)
   pub stands : L2StandsFor u requests
 
 -- a stage has served its whole stream, and these are its counts

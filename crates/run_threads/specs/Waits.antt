@@ -1,4 +1,4 @@
--- When a thread may wait, in terms of its machine and its ends.
+-- A thread's machine and ends as stage_core's rules see them, and when the thread may wait.
 use Rattle.std.specs.Prelude.{◌≡◌, ℕ, ◌+◌, Bool, true, List, length}
 use Rattle.pipe_rings.specs.Rings as ring
 use Rattle.pipe_rings.specs.Rings.{received, LookedForRoom, IsAnnounced}
@@ -30,7 +30,7 @@ abbrev pub sender_to : SplitterEnds → Side → Sender ToStage
 sender_to ends side.I = sender ends.to_i
 sender_to ends side.D = sender ends.to_d
 
--- the splitter, which has posted the messages of these events, and those of the end if `closed`
+-- the splitter with these ends, after these events, and after the end too if `closed`
 abbrev pub splitter_at : List DinRecord → Bool → SplitterEnds → SplitterThread
 splitter_at es closed ends = record {
   events = es;

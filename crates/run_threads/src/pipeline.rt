@@ -1,7 +1,7 @@
 //! The run in four threads: starts the threads, feeds them, joins them and checks the rings.
 
 ghost use Rattle.std.specs.Prelude.{◌≡◌, ◌⊎◌, List, ℕ, Option, None, IfOk, IfErr, IsOk};
-ghost use Rattle.std.specs.Prelude.{OnOk, Ok, Err};
+ghost use Rattle.std.specs.Prelude.{OnOk, Ok, Err, true};
 ghost use Rattle.din_trace.specs.Text.{Remaining};
 ghost use Rattle.din_trace.specs.Remaining.{Script, Fate, Follows};
 ghost use Rattle.din_trace.specs.Source.{HasLeft, Takes};
@@ -9,12 +9,13 @@ ghost use Rattle.din_trace.specs.declared.fault.TraceFault.{TraceFault};
 ghost use Rattle.din_trace.specs.declared.record.DinRecord.{DinRecord};
 ghost use Rattle.stage_core.specs.Config.{hierarchy_of, ring_of};
 ghost use Rattle.stage_core.specs.Events.{IsBounded};
+ghost use Rattle.stage_core.specs.Waiting.{HasPosted};
 ghost use Rattle.run_threads.specs.Faults.{IsMet, MayAnswer};
 ghost use Rattle.run_threads.specs.Ends.{AllReceived, ArePaired, AreUnused, HaveCapacity};
 ghost use Rattle.run_threads.specs.Ends.{SameRings};
-ghost use Rattle.run_threads.specs.Threads.{HasSentAll};
-ghost use Rattle.run_threads.specs.Machines.{AreNew, rules_in, machines_at, rings_at};
+ghost use Rattle.run_threads.specs.Machines.{AreNew, hierarchy_in, machines_at, rings_at};
 ghost use Rattle.run_threads.specs.Runs.{HasRun, RunsOver};
+ghost use Rattle.run_threads.specs.Waits.{splitter_at};
 
 use crate::ends::{MergeEnds, Rings, SplitterEnds, StageEnds};
 use crate::fault::{NoThread, RunFault, gravest};
@@ -55,7 +56,7 @@ pub struct Machines {
 impl Machines {
     fn new(alloc: Global, config: &Config) -> Result<Machines, NoMemory>
         ensures new { IfOk result (λ machines. AreNew machines) }
-        ensures rules { IfOk result (λ machines. rules_in machines ≡ hierarchy_of config.now) }
+        ensures rules { IfOk result (λ machines. hierarchy_in machines ≡ hierarchy_of config.now) }
     {
         let (i_geometry, i_policy) = config.i();
         let (d_geometry, d_policy) = config.d();
@@ -71,7 +72,7 @@ impl Machines {
 /// Makes the rings and the machines of a run. Each outbox has room for `outbox` messages.
 pub fn prepare(alloc: Global, config: &Config, outbox: usize) -> Result<(Machines, Rings), NoMemory>
     ensures new { IfOk result (λ r. AreNew r.0) }
-    ensures rules { IfOk result (λ r. rules_in r.0 ≡ hierarchy_of config.now) }
+    ensures rules { IfOk result (λ r. hierarchy_in r.0 ≡ hierarchy_of config.now) }
     ensures paired { IfOk result (λ r. ArePaired r.1) }
     ensures unused { IfOk result (λ r. AreUnused r.1) }
     ensures capacity { IfOk result (λ r. HaveCapacity (ring_of config.now) r.1) }
@@ -167,8 +168,9 @@ fn finish<H: Threads>(
     requires met { IfErr fed IsMet }
     ensures fed { OnOk result (IsOk fed) }
     ensures whole { IfOk result (λ settled. (ring : ℕ) → HaveCapacity ring (rings_at started)
-        → (es : List DinRecord) → AreNew (machines_at started) → HasSentAll es started.splitter
-        → HasRun ring (rules_in (machines_at started)) es settled) }
+        → (es : List DinRecord) → AreNew (machines_at started)
+        → HasPosted (splitter_at es true started.splitter)
+        → HasRun ring (hierarchy_in (machines_at started)) es settled) }
     ensures met { IfErr result IsMet }
     ensures answers { IfErr result (λ why. (left : Option TraceFault)
         → IfErr fed (MayAnswer left) → MayAnswer left why) }
@@ -227,7 +229,7 @@ pub fn run_in<'s, E, T: Threads, H: Wait + Sync, R: ByteReader + Drop, G: Gate>(
         × Takes R.remaining R.failures source result.0 given fate
         × ((ring : ℕ) (before later : Script) (l : Remaining) → HaveCapacity ring rings
         → Follows fate given before later → HasLeft source before l
-        → RunsOver ring (rules_in machines) selection l (HasLeft result.0 later) result.1) }
+        → RunsOver ring (hierarchy_in machines) selection l (HasLeft result.0 later) result.1) }
 {
     let mut source = source;
     let mut started = match start(scope, rt, body_rt, gate, machines, rings) {
@@ -281,7 +283,7 @@ pub fn run_pipeline<H: Threads + Wait + Sync, R: ByteReader + Drop, G: Gate>(
                 × Takes R.remaining R.failures source result.0 given fate
                 × ((ring : ℕ) (before later : Script) (l : Remaining) → HaveCapacity ring rings
                 → Follows fate given before later → HasLeft source before l
-                → RunsOver ring (rules_in machines) selection l (HasLeft result.0 later)
+                → RunsOver ring (hierarchy_in machines) selection l (HasLeft result.0 later)
                 result.1) }
         { run_in(scope, rt, body_rt, gate, selection, source, machines, rings) },
     )

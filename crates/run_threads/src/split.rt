@@ -1,21 +1,22 @@
 //! The splitter, which runs in the caller's thread: it reads the source and feeds the rings.
 
 ghost use Rattle.std.specs.Prelude.{◌≡◌, ◌<◌, ◌≤◌, ◌+◌, ◌*◌, ◌++◌, List, ℕ, OnOk};
-ghost use Rattle.std.specs.Prelude.{◌≢◌, ◌⊎◌, IfOk, IfErr, IsSome, true, MatchResult};
-ghost use Rattle.std.specs.Prelude.{option_to_list};
+ghost use Rattle.std.specs.Prelude.{◌≢◌, ◌⊎◌, IfOk, IfErr, IsSome, true, false, MatchResult};
+ghost use Rattle.std.specs.Prelude.{option_to_list, length};
 ghost use Rattle.pipe_rings.specs.Rings.{sent};
 ghost use Rattle.din_trace.specs.Text.{Remaining};
 ghost use Rattle.din_trace.specs.Remaining.{Script, Fate, Follows, first_answer, after_first};
 ghost use Rattle.din_trace.specs.Source.{HasLeft, IsSettled, Takes, reader_of, room_of};
 ghost use Rattle.din_trace.specs.declared.record.DinRecord.{DinRecord};
 ghost use Rattle.stage_core.specs.Events.{IsBounded, picked_events};
+ghost use Rattle.stage_core.specs.Waiting.{HasPosted};
 ghost use Rattle.run_threads.specs.Faults.{IsMet};
 ghost use Rattle.run_threads.specs.declared.fault.Stop.{Stop};
 ghost use Rattle.run_threads.specs.declared.fault.RunFault.{RunFault};
 ghost use Rattle.run_threads.specs.Ends.{SameSplitterEnds, SentSame, HaveRoom, UnusedSplitter};
-ghost use Rattle.run_threads.specs.Threads.{HasSent, IsEnd, Sends, SplitUp};
+ghost use Rattle.run_threads.specs.Threads.{IsEnd, Sends, SplitUp};
 ghost use Rattle.run_threads.specs.Waits.{AllAnnounced, AllPublished, PostedWhole};
-ghost use Rattle.run_threads.specs.Waits.{SplitterHasEnded};
+ghost use Rattle.run_threads.specs.Waits.{SplitterHasEnded, splitter_at};
 ghost use Rattle.run_threads.specs.declared.waits.Until.TheVariants as Until;
 
 use crate::ends::SplitterEnds;
@@ -159,10 +160,11 @@ fn send_end<H: Wait>(
     ends: &mut SplitterEnds,
     routed: Routed,
 ) -> Result<(), Stop>
-    requires sent { (es : List DinRecord) × (place : ℕ) × HasSent es place ends.old }
+    requires posted { (es : List DinRecord) × HasPosted (splitter_at es false ends.old) }
     requires finish { IsEnd routed }
     ensures rings { SameSplitterEnds ends.old ends.new }
-    ensures sent { OnOk result (Sends ends.old routed ends.new) }
+    ensures posted { OnOk result ((es : List DinRecord)
+        → HasPosted (splitter_at es false ends.old) → HasPosted (splitter_at es true ends.new)) }
     ensures rests { OnOk result (SplitterHasEnded ends.new) }
     ensures announced { OnOk result (AllAnnounced ends.new) }
     ensures cut { IfErr result (λ why. why ≡ Stop.Cut) }
@@ -172,7 +174,8 @@ fn send_end<H: Wait>(
     Ok(())
 }
 
-// Routes an event, if there is one, and sends its messages.
+// Routes an event, if there is one, and sends its messages. The splitter counts the events, as many
+// as it has sent turns.
 #[inline(always)]
 fn send_some<H: Wait>(
     rt: &BodyRuntime<H>,
@@ -181,11 +184,14 @@ fn send_some<H: Wait>(
     event: Option<DinRecord>,
 ) -> Result<(), Stop>
     requires at_most { splitter.old < 2 * MAX_LIMIT }
-    requires sent { (es : List DinRecord) × HasSent es splitter.old ends.old }
+    requires counted { splitter.old ≡ length (sent ends.old.order) }
+    requires posted { (es : List DinRecord) × HasPosted (splitter_at es false ends.old) }
     ensures rings { SameSplitterEnds ends.old ends.new }
     ensures place { splitter.new ≤ splitter.old + 1 }
-    ensures sent { OnOk result ((es : List DinRecord) → HasSent es splitter.old ends.old
-        → HasSent (es ++ option_to_list event) splitter.new ends.new) }
+    ensures counted { OnOk result (splitter.new ≡ length (sent ends.new.order)) }
+    ensures posted { OnOk result ((es : List DinRecord)
+        → HasPosted (splitter_at es false ends.old)
+        → HasPosted (splitter_at (es ++ option_to_list event) false ends.new)) }
     ensures cut { IfErr result (λ why. why ≡ Stop.Cut) }
 {
     let Some(event) = event else {
@@ -202,11 +208,14 @@ fn send_picked<H: Wait>(
     picked: Picked,
 ) -> Result<(), Stop>
     requires at_most { splitter.old + 1 < 2 * MAX_LIMIT }
-    requires sent { (es : List DinRecord) × HasSent es splitter.old ends.old }
+    requires counted { splitter.old ≡ length (sent ends.old.order) }
+    requires posted { (es : List DinRecord) × HasPosted (splitter_at es false ends.old) }
     ensures rings { SameSplitterEnds ends.old ends.new }
     ensures place { splitter.new ≤ splitter.old + 2 }
-    ensures sent { OnOk result ((es : List DinRecord) → HasSent es splitter.old ends.old
-        → HasSent (es ++ picked_events picked) splitter.new ends.new) }
+    ensures counted { OnOk result (splitter.new ≡ length (sent ends.new.order)) }
+    ensures posted { OnOk result ((es : List DinRecord)
+        → HasPosted (splitter_at es false ends.old)
+        → HasPosted (splitter_at (es ++ picked_events picked) false ends.new)) }
     ensures cut { IfErr result (λ why. why ≡ Stop.Cut) }
 {
     send_some(rt, splitter, ends, picked.event)?;

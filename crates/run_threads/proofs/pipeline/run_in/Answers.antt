@@ -6,7 +6,7 @@ use Rattle.din_trace.proofs.Calls.{no_calls}
 use Rattle.run_threads.specs.declared.pipeline.Machines.{Machines}
 use Rattle.run_threads.specs.declared.pipeline.Settled.{Settled}
 use Rattle.run_threads.specs.Ends.{HaveCapacity}
-use Rattle.run_threads.specs.Machines.{AreNew, rules_in}
+use Rattle.run_threads.specs.Machines.{AreNew, hierarchy_in}
 use Rattle.run_threads.specs.Runs.{HasRun}
 use Rattle.run_threads.proofs.Endings.{runs-over, runs-refused}
 use Rattle.run_threads.proofs.Wholes.{capacity-fed}
@@ -17,8 +17,8 @@ returns-in-Err-clause-reads g c = (
   [],
   Open,
   no_calls g.R.ByteReader.remaining g.R.ByteReader.failures c.args.source,
-  λ ring first last l room is left. runs-refused ring (rules_in c.args.machines) c.args.selection l
-      (HasLeft c.args.source last) c.in-Err.fault c.in-Err.ensures.refused
+  λ ring first last l room is left. runs-refused ring (hierarchy_in c.args.machines)
+      c.args.selection l (HasLeft c.args.source last) c.in-Err.fault c.in-Err.ensures.refused
       (subst (λ s. HasLeft c.args.source s l) is left),
 )
 
@@ -32,11 +32,11 @@ returns-clause-reads g c =
       reads.0,
       reads.1,
       reads.2,
-      λ ring first last l room is left. runs-over ring (rules_in c.args.machines) c.args.selection l
-          (HasLeft c.split-fed.new.source last) c.split-fed.new.ends c.split-fed.result
-          c.finish.result (reads.3 first last l is left) c.finish.ensures.fed
+      λ ring first last l room is left. runs-over ring (hierarchy_in c.args.machines)
+          c.args.selection l (HasLeft c.split-fed.new.source last) c.split-fed.new.ends
+          c.split-fed.result c.finish.result (reads.3 first last l is left) c.finish.ensures.fed
           (IfOk-weaker c.finish.result _ _ (λ (s : Settled) whole es sent.
-          subst (λ (m : Machines). HasRun ring (rules_in m) es s) same
+          subst (λ (m : Machines). HasRun ring (hierarchy_in m) es s) same
           (whole ring (fed ring room) es (subst AreNew (sym same) c.requires.new) sent))
           c.finish.ensures.whole)
           c.finish.ensures.answers,

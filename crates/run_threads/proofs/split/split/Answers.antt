@@ -1,18 +1,18 @@
 use Rattle.std.proofs.Common.{rules, ◌≡◌, ◌∙◌, ap, sym, subst, refl, ℕ, List, [], ◌∷◌, ◌++◌, Option}
-use Rattle.std.proofs.Common.{Some, None, Ok, count_by, arith, inl, inr, ◌<◌}
+use Rattle.std.proofs.Common.{Some, None, Ok, count_by, arith, inl, inr, ◌<◌, true, false, length}
 use Rattle.din_trace.specs.Remaining.{Fate, Open}
 use Rattle.din_trace.specs.Source.{HasLeft, Takes, room_of}
 use Rattle.din_trace.specs.declared.record.DinRecord.{DinRecord}
 use Rattle.din_trace.proofs.Calls.{Calls, calls, no_calls}
 use Rattle.stage_core.specs.Events.{events, events_at, picked, picked_events, is_reference}
+use Rattle.stage_core.specs.Waiting.{HasPosted}
 use Rattle.stage_core.specs.declared.selection.Selection.{Selection}
 use Rattle.stage_core.proofs.Place.{flat_map_with_past-more}
 use Rattle.run_threads.specs.Faults.{MayAnswer}
-use Rattle.run_threads.specs.Threads.{HasSent, HasSentAll}
-use Rattle.run_threads.proofs.Splitting.{same-ends, ends-stay, sent-same, sends-end, left-record}
+use Rattle.run_threads.specs.Waits.{splitter_at}
+use Rattle.run_threads.proofs.Splitting.{same-ends, ends-stay, each_side, posted-same, left-record}
 use Rattle.run_threads.proofs.Splitting.{left-end}
 use Rattle.run_threads.proofs.Splitting.{left-fault, rest-record, rest-end, rest-cut, answers-fault}
-use Rattle.run_threads.proofs.Waiting.{events-whole}
 use Rattle.run_threads.proofs.split.split.Goals as goal
 use Rattle.run_threads.proofs.split.split.Goals.{After-next_record}
 use Rattle.run_threads.proofs.split.split.Given.{Over}
@@ -32,8 +32,7 @@ composed g c given fate went =
 pub next_record-requires : goal.next_record-requires
 next_record-requires g c = (
   search rules,
-  events-whole (events c.args.selection c.loop.invariant.2.past) c.loop.splitter c.loop.ends
-      c.loop.invariant.2.sends,
+  (events c.args.selection c.loop.invariant.2.past, false, c.loop.invariant.2.posted),
 )
 
 pub loop-init : goal.loop-init
@@ -52,11 +51,10 @@ loop-init g c = (
     room = inl c.new-selector.ensures.none.count;
     at_most = omega (arith, c.new-splitter.ensures);
     rings = same-ends c.args.ends.now;
-    sends = record {
-      last = c.new-splitter.ensures;
+    counted = c.new-splitter.ensures ∙ sym (ap length c.requires.unused.order);
+    posted = record {
       order = c.requires.unused.order;
-      to_i = c.requires.unused.to_i;
-      to_d = c.requires.unused.to_d;
+      to = each_side _ c.requires.unused.to_i c.requires.unused.to_d;
     };
   },
 )
@@ -80,9 +78,9 @@ loop-preserved g c =
     let es : List DinRecord = events c.args.selection going.past in
     let longer = ap (λ p. es ++ picked_events p) picks
     ∙ sym (flat_map_with_past-more (events_at c.args.selection) going.past next) in
-    let sent : (xs : List DinRecord) → HasSent xs c.loop.splitter c.next_record.new.ends
-    → HasSent (xs ++ picked_events c.offer-picked.result) c.send_picked.new.splitter
-    c.send_picked.new.ends = search rules in (
+    let posts : (xs : List DinRecord) → HasPosted (splitter_at xs false c.next_record.new.ends)
+    → HasPosted (splitter_at (xs ++ picked_events c.offer-picked.result) false
+    c.send_picked.new.ends) = search rules in (
       tt,
       tt,
       record {
@@ -104,10 +102,11 @@ loop-preserved g c =
         rings = ends-stay c.args.ends.now c.next_record.new.ends c.send_picked.new.ends
             (ends-stay c.args.ends.now c.loop.ends c.next_record.new.ends going.rings
             c.next_record.ensures.rings) c.send_picked.ensures.rings;
-        sends = subst (λ (l : List DinRecord).
-            HasSent l c.send_picked.new.splitter c.send_picked.new.ends) longer
-            (sent es (sent-same es c.loop.splitter c.loop.ends c.next_record.new.ends
-            c.next_record.ensures.sent going.sends));
+        counted = search rules;
+        posted = subst (λ (l : List DinRecord).
+            HasPosted (splitter_at l false c.send_picked.new.ends)) longer
+            (posts es (posted-same es false c.loop.ends c.next_record.new.ends
+            c.next_record.ensures.sent going.posted));
       },
     )
 
@@ -198,7 +197,8 @@ returns-in-Ok-None-clause-reads g c =
     let answered : c.in-Ok.answer ≡ Ok None =
     c.in-Ok-None.is ∙ ap (λ (found : Option DinRecord). Ok found)
     (rw c.in-Ok-None.is at c.in-Ok-None.field-0-is) in
-    let end = c.finish.ensures in (
+    let closes : (xs : List DinRecord) → HasPosted (splitter_at xs false c.next_record.new.ends)
+    → HasPosted (splitter_at xs true c.send_end.new.ends) = search rules in (
       all.given,
       all.fate,
       all.went,
@@ -209,12 +209,10 @@ returns-in-Ok-None-clause-reads g c =
           c.in-Ok.ensures.reads.3 answered first last l is left in (
             none.0,
             subst (λ (rs : List DinRecord).
-                HasSentAll (events c.args.selection rs) c.send_end.new.ends)
+                HasPosted (splitter_at (events c.args.selection rs) true c.send_end.new.ends))
                 (sym none.1)
-                (sends-end (events c.args.selection going.past) c.loop.splitter c.finish.result
-                c.next_record.new.ends c.send_end.new.ends (sent-same _ c.loop.splitter c.loop.ends
-                c.next_record.new.ends c.next_record.ensures.sent going.sends) end.turn end.i end.d
-                (search rules)),
+                (closes (events c.args.selection going.past) (posted-same _ false c.loop.ends
+                c.next_record.new.ends c.next_record.ensures.sent going.posted)),
             none.2,
           ),
     )

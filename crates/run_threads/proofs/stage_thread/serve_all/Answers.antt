@@ -10,9 +10,8 @@ use Rattle.stage_core.specs.Streams.{is_finish}
 use Rattle.stage_core.specs.declared.message.ToStage.TheVariants as to_stage
 use Rattle.stage_core.proofs.Stands.{same_stands}
 use Rattle.run_threads.specs.Threads.{StageServed}
-use Rattle.run_threads.proofs.Serving.{grows, Serves, serves-more, serves-finish}
-use Rattle.run_threads.proofs.Serving.{served-publishes}
-use Rattle.run_threads.proofs.Waiting.{taken-answers, served-answers, unused-published}
+use Rattle.run_threads.proofs.Serving.{grows, Serves, answers-more, serves-more, serves-finish}
+use Rattle.run_threads.proofs.Serving.{served-publishes, unused-published}
 use Rattle.run_threads.proofs.stage_thread.serve_all.Goals as goal
 use Rattle.run_threads.proofs.stage_thread.serve_all.Goals.{After-finished, After-publish}
 use Rattle.run_threads.proofs.stage_thread.serve_all.Given.{Over}
@@ -30,6 +29,7 @@ served g c = record {
   rules = ap rules_of c.send_outbox.ensures.cache ∙ c.on.ensures.rules;
   sends = λ before stands. grows _ _ _ _ _ c.in_ok-send_outbox.ensures.sent
       (c.in-Ok-on.ensures.sent before stands) c.receive.ensures.sent;
+  empty = c.in_ok-send_outbox.ensures.empty;
   stands = λ before stands. same_stands c.on.new.self c.send_outbox.new.stage _
       c.send_outbox.ensures.cache c.send_outbox.ensures.finish
       (c.in-Ok-on.ensures.stands before stands);
@@ -37,10 +37,13 @@ served g c = record {
 
 pub send_outbox-requires : goal.send_outbox-requires
 send_outbox-requires g c = record {
-  answered = taken-answers c.args.stage.now c.args.ends.now c.loop.stage c.loop.ends
+  answered = answers-more c.args.stage.now c.args.ends.now c.loop.stage c.loop.ends
       c.in-Ok.message c.on.new.self c.receive.new.ends c.loop.invariant.2 c.in-Ok.ensures.received
-      c.receive.ensures.sent c.on.ensures.side c.on.ensures.rules
-      (c.in-Ok-on.ensures.sent _ c.loop.invariant.2.stands);
+      c.on.ensures.side c.on.ensures.rules
+      (rw (
+        c.receive.ensures.sent,
+        c.in-Ok-on.ensures.sent (received c.loop.ends.from_splitter) c.loop.invariant.2.stands,
+      ) refl);
 }
 
 -- the stage after the last message
@@ -52,10 +55,7 @@ served-all g c = serves-more c.args.stage.now c.args.ends.now c.loop.stage c.loo
 pub publish-requires : goal.publish-requires
 publish-requires g c =
     let c₁ = (goal.at.publish-requires g c).After-finished in
-    record {
-      answered = served-answers c.args.stage.now c.args.ends.now c.send_outbox.new.stage
-          c.send_outbox.new.ends (served-all g c₁) c.in_ok-send_outbox.ensures.empty;
-    }
+    record { answered = (served-all g c₁).answered }
 
 -- the stage after it has published all answers
 served-published : (g : Over) (c : After-publish g)
@@ -87,9 +87,8 @@ returns-then-finished-clause-rests g c =
     let done : took_finish c.send_outbox.new.stage ≡ true = search rules in
     let now = served-published g c₂ (served-all g c₁) in
     record {
-      answered = served-answers c.args.stage.now c.args.ends.now c.send_outbox.new.stage
-          c.publish.new.ends now c.in_ok-send_outbox.ensures.empty;
-      posted = c.in_ok-send_outbox.ensures.empty;
+      answered = now.answered;
+      posted = now.empty;
       published = nil_from_length _ (c.in_ok-publish.ensures.published refl).held;
       finish = sym now.stands.finish ∙ done;
     }
