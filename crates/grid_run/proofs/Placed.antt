@@ -1,5 +1,6 @@
 -- Where the caches of a configuration are in a lane.
 use Rattle.std.proofs.Common.{◌≡◌, ◌<◌, List, length, get_or, map, ap, sym, subst, ◌∙◌, arith}
+use Rattle.std.proofs.Common.{Result, Ok, Err, OnOk}
 use Rattle.std.specs.List.{All}
 use Rattle.std.proofs.lemmas.List.{get_or-map, length-map}
 use Rattle.cache_core.specs.History.{Rules}
@@ -8,7 +9,7 @@ use Rattle.stage_core.specs.SecondLevel.{Hierarchy, parts_in, second_level_reque
 use Rattle.stage_core.specs.declared.selection.Selection.{Selection}
 use Rattle.stage_core.proofs.Worked.{the_hierarchy}
 use Rattle.grid_core.specs.Written.{rules_at}
-use Rattle.grid_run.specs.Backs.{BackServed, BackTask, IsPlacedIn, IsSeatIn, back_task}
+use Rattle.grid_run.specs.Backs.{BackAsked, BackTask, IsPlacedIn, IsSeatIn, back_task}
 use Rattle.grid_run.specs.Backs.{hierarchy_behind}
 use Rattle.grid_run.specs.Fronts.{front_rules}
 use Rattle.grid_run.specs.Lanes.{HasServed, lane_task}
@@ -19,6 +20,12 @@ use Rattle.grid_run.specs.declared.lane.Lane.{Lane}
 use Rattle.grid_run.specs.declared.plan.Place.{Place}
 use Rattle.grid_run.specs.declared.seat.Seat.{Seat}
 use Rattle.stage_core.specs.declared.selection.Selector.{Selector}
+
+-- what follows from two facts of the answer Ok
+pub on-ok-both : {T E A B C : Type 0} (r : Result T E) → (A → B → C) → OnOk r A → OnOk r B
+    → OnOk r C
+on-ok-both (Ok t) f a b = f a b
+on-ok-both (Err e) f a b = tt
 
 -- a seat of a cache is a seat
 pub seat-in : {t : Table} {r : Rules} {s : Seat} → IsSeatOf t r s → IsSeatIn t s
@@ -37,10 +44,10 @@ placed-same {i' = i'} {d = d} ts on_i on_d all =
     (subst (λ (t : Table). All (IsPlacedIn i' t) ts) (sym on_d) all)
 
 pub served-same : {i i' d d' : Table} (es : List DinRecord) (bs : List Back) → i ≡ i'
-    → d ≡ d' → All (BackServed i' d' es) bs → All (BackServed i d es) bs
+    → d ≡ d' → All (BackAsked i' d' es) bs → All (BackAsked i d es) bs
 served-same {i' = i'} {d = d} es bs on_i on_d all =
-    subst (λ (t : Table). All (BackServed t d es) bs) (sym on_i)
-    (subst (λ (t : Table). All (BackServed i' t es) bs) (sym on_d) all)
+    subst (λ (t : Table). All (BackAsked t d es) bs) (sym on_i)
+    (subst (λ (t : Table). All (BackAsked i' t es) bs) (sym on_d) all)
 
 module _ (l : Lane) (c : Hierarchy) (s : Selection) (p : Place)
     (place : IsPlaceIn (lane_task l) c s p) (b : Back)

@@ -10,8 +10,9 @@ use Rattle.stage_core.specs.declared.message.What.{What}
 use Rattle.stage_core.proofs.Stands.{second_history-more}
 use Rattle.stage_core.proofs.Worked.{length-second_history}
 use Rattle.grid_run.specs.Levels.{CanServe, LevelStandsFor}
-use Rattle.grid_run.specs.Sending.{HasRoom, SecondServed}
+use Rattle.grid_run.specs.Sending.{HasRoom, HasSettled, SecondAsked, SecondServed}
 use Rattle.grid_run.specs.declared.level.Level.{Level}
+use Rattle.grid_run.specs.declared.second.Second.{Second}
 
 -- where there is room for a request, it can be served
 pub room-one : (u : Level) (w : What) (rest : List What) → HasRoom u (w ∷ rest) → CanServe u
@@ -23,17 +24,7 @@ room-one u w rest room =
       short = omega (arith, length-second_history room.past);
     }
 
--- where there is room for two lists, there is room for the first
-pub room-front : (u : Level) (a b : List What) → HasRoom u (a ++ b) → HasRoom u a
-room-front u a b room =
-    let short = room.short in
-    record {
-      past = room.past;
-      stands = room.stands;
-      short = omega (arith, length-append a b);
-    }
-
--- and for the second, once the first is served
+-- where there is room for two lists, there is room for the second once the first is served
 pub room-next : (old new : Level) (a b : List What) → HasRoom old (a ++ b)
     → ((ws : List What) → SecondServed old ws → SecondServed new (ws ++ a)) → HasRoom new b
 room-next old new a b room served =
@@ -52,27 +43,42 @@ served-one old new w longer ws st =
     subst (λ (h : History). LevelStandsFor new h) (sym (second_history-more ws w))
     (longer (second_history ws) st)
 
--- no request served
-pub served-none : (u : Level) (ws : List What) → SecondServed u ws → SecondServed u (ws ++ [])
-served-none u ws st = subst (λ (l : List What). SecondServed u l) (sym (append-nil ws)) st
+-- nothing more was asked for
+pub asked-none : (u : Second) (ws : List What) → SecondAsked u ws → SecondAsked u (ws ++ [])
+asked-none u ws asked = subst (λ (l : List What). SecondAsked u l) (sym (append-nil ws)) asked
 
--- three lists served one after another
-pub served-three : (u : Level) (ws a b c : List What) → SecondServed u (((ws ++ a) ++ b) ++ c)
-    → SecondServed u (ws ++ ((a ++ b) ++ c))
-served-three u ws a b c st =
-    subst (λ (l : List What). SecondServed u l)
+-- three lists asked for one after another
+pub asked-three : (u : Second) (ws a b c : List What) → SecondAsked u (((ws ++ a) ++ b) ++ c)
+    → SecondAsked u (ws ++ ((a ++ b) ++ c))
+asked-three u ws a b c asked =
+    subst (λ (l : List What). SecondAsked u l)
     (append_assoc (ws ++ a) b c ∙ append_assoc ws a (b ++ c)
-    ∙ ap (λ l. ws ++ l) (sym (append_assoc a b c))) st
+    ∙ ap (λ l. ws ++ l) (sym (append_assoc a b c))) asked
+
+-- where nothing waits, all that was asked for is served
+pub settled-served : (u : Second) (ws : List What) → SecondAsked u ws → HasSettled u
+    → SecondServed u.level ws
+settled-served u ws asked settled =
+    subst (λ (l : List What). SecondServed u.level l)
+    (sym (asked.all ∙ ap (λ l. asked.served ++ l) settled.none ∙ append-nil asked.served))
+    asked.stands
 
 one-more : (i : ℕ) → suc i ≡ i + 1
 one-more i = omega arith
 
--- of the write-backs from one on, that one comes first
-pub backs-from : (xs : List ℕ) (i : ℕ) (more : List What) → i < length xs
-    → map back (drop i xs) ++ more ≡ back (get_or xs i 0) ∷ (map back (drop (i + 1) xs) ++ more)
-backs-from xs i more lt =
-    ap (λ l. map back l ++ more) (drop-cons xs i 0 lt)
-    ∙ ap (λ n. back (get_or xs i 0) ∷ (map back (drop n xs) ++ more)) (one-more i)
+-- of the requests from one on, that one comes first
+pub requests-from : (xs : List What) (i : ℕ) (x : What) → x ≡ get_or xs i x → i < length xs
+    → drop i xs ≡ x ∷ drop (i + 1) xs
+requests-from xs i x at lt =
+    drop-cons xs i x lt ∙ ap (λ w. w ∷ drop (suc i) xs) (sym at)
+    ∙ ap (λ n. x ∷ drop n xs) (one-more i)
+
+-- the requests up to one end with that one
+pub requests-to : (ws xs : List What) (i : ℕ) (x : What) → x ≡ get_or xs i x → i < length xs
+    → (ws ++ take i xs) ++ x ∷ [] ≡ ws ++ take (i + 1) xs
+requests-to ws xs i x at lt =
+    append_assoc ws (take i xs) (x ∷ [])
+    ∙ ap (λ l. ws ++ l) (ap (λ w. take i xs ++ w ∷ []) at ∙ sym (take_more xs i x lt))
 
 -- the write-backs up to one end with that one
 pub backs-to : (ws : List What) (xs : List ℕ) (i : ℕ) → i < length xs

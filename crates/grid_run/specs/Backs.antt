@@ -11,7 +11,7 @@ use Rattle.stage_core.specs.declared.message.Side.TheVariants as side
 use Rattle.grid_run.specs.Fronts.{FrontStandsFor, HasSent, front_rules}
 use Rattle.grid_run.specs.Levels.{rules_in}
 use Rattle.grid_run.specs.Seats.{Table, rules_of_seat, rules_on}
-use Rattle.grid_run.specs.Sending.{SecondServed, event_of}
+use Rattle.grid_run.specs.Sending.{HasSettled, SecondAsked, event_of}
 use Rattle.grid_run.specs.declared.back.Back.{Back}
 use Rattle.grid_run.specs.declared.front.Front.{Front}
 use Rattle.grid_run.specs.declared.plan.BackShelf.{BackShelf}
@@ -26,7 +26,7 @@ pub record BackTask : Type 0 where
 
 -- what these second levels do
 unfoldable pub back_task : Back → BackTask
-back_task b = record { i = b.i; d = b.d; rules = rules_in b.level }
+back_task b = record { i = b.i; d = b.d; rules = rules_in b.second.level }
 
 -- what second levels made for this shelf do
 unfoldable pub task_of_shelf : BackShelf → BackTask
@@ -50,14 +50,18 @@ hierarchy_behind i d t cell = record {
   u = rules_at t.rules cell;
 }
 
--- the second levels have served what caches of these rules sent for these events
-pub record BackServed (i d : Table) (es : List DinRecord) (b : Back) : Type 0 where
-  pub second : SecondServed b.level
+-- the second levels were asked for what caches of these rules sent for these events
+pub record BackAsked (i d : Table) (es : List DinRecord) (b : Back) : Type 0 where
+  pub second : SecondAsked b.second
       (second_level_requests (parts_in (hierarchy_behind i d (back_task b) 0)) es)
 
 -- the same behind these first-level caches
-abbrev pub ServedBehind : List Front → List Front → List DinRecord → Back → Type 0
-ServedBehind i d = BackServed (map front_rules i) (map front_rules d)
+abbrev pub AskedBehind : List Front → List Front → List DinRecord → Back → Type 0
+AskedBehind i d = BackAsked (map front_rules i) (map front_rules d)
+
+-- no request waits for the second levels
+abbrev pub NothingWaits : Back → Type 0
+NothingWaits b = HasSettled b.second
 
 -- the first-level caches of a side have served what these events ask of them
 pub record FrontAt (s : Side) (es : List DinRecord) (f : Front) : Type 0 where

@@ -6,8 +6,8 @@ use Rattle.stage_core.specs.Events.{events}
 use Rattle.stage_core.specs.Standing.{WasOffered}
 use Rattle.stage_core.specs.declared.message.Side.TheVariants as side
 use Rattle.stage_core.specs.declared.selection.Selection.{Selection}
-use Rattle.grid_run.specs.Backs.{BackTask, FrontAt, IsPlacedIn, ServedBehind, back_task}
-use Rattle.grid_run.specs.Backs.{task_of_shelf}
+use Rattle.grid_run.specs.Backs.{AskedBehind, BackTask, FrontAt, IsPlacedIn, NothingWaits}
+use Rattle.grid_run.specs.Backs.{back_task, task_of_shelf}
 use Rattle.grid_run.specs.Fronts.{front_rules}
 use Rattle.grid_run.specs.Seats.{Table, rules_on}
 use Rattle.grid_run.specs.declared.lane.Lane.{Lane}
@@ -42,14 +42,20 @@ task_of_plan p = record {
 abbrev pub IsPlaced : LaneTask → Type 0
 IsPlaced t = All (IsPlacedIn t.i t.d) t.backs
 
--- all caches of a lane have served these events
+-- the first-level caches of a lane have served these events, and its second levels were asked for
+-- what was sent for them
 pub record HasServed (l : Lane) (es : List DinRecord) : Type 0 where
   pub i : All (FrontAt side.I es) l.i.items
   pub d : All (FrontAt side.D es) l.d.items
-  pub backs : All (ServedBehind l.i.items l.d.items es) l.backs.items
+  pub backs : All (AskedBehind l.i.items l.d.items es) l.backs.items
 
--- a lane has taken these records: its caches have served what it selects of them
-pub record HasTaken (l : Lane) (records : List DinRecord) : Type 0 where
+-- a lane was given these records: its caches were given what it selects of them
+pub record WasGiven (l : Lane) (records : List DinRecord) : Type 0 where
   pub placed : IsPlaced (lane_task l)
   pub offered : WasOffered l.selector records
   pub served : HasServed l (events l.selector.selection records)
+
+-- a lane has taken these records: all its caches have served what it selects of them
+pub record HasTaken (l : Lane) (records : List DinRecord) : Type 0 where
+  pub given : WasGiven l records
+  pub settled : All NothingWaits l.backs.items

@@ -1,5 +1,6 @@
--- What a first-level cache sends for a request, and what a second level has served.
-use Rattle.std.specs.Prelude.{◌+◌, ◌≤◌, ◌^◌, List, [], ◌∷◌, length, Option, Some, None}
+-- What a first-level cache sends for a request, and what a second level was asked for.
+use Rattle.std.specs.Prelude.{◌≡◌, ◌+◌, ◌≤◌, ◌^◌, List, [], ◌∷◌, ◌++◌, length}
+use Rattle.std.specs.Prelude.{Option, Some, None}
 use Rattle.cache_core.specs.History.{Event, History, Rules, access, flush}
 use Rattle.stage_core.specs.SecondLevel.{parts_of, second_history}
 use Rattle.stage_core.specs.declared.message.Side.{Side}
@@ -8,6 +9,7 @@ use Rattle.grid_run.specs.Levels.{LevelStandsFor}
 use Rattle.grid_run.specs.declared.level.Level.{Level}
 use Rattle.grid_run.specs.declared.requests.Request.{Request}
 use Rattle.grid_run.specs.declared.requests.Request.TheVariants as request
+use Rattle.grid_run.specs.declared.second.Second.{Second}
 
 -- a request as an event of a history
 abbrev pub event_of : Request → Event
@@ -24,12 +26,22 @@ abbrev pub sent_for : Rules → Side → History → Option Request → List Wha
 sent_for r s h None = []
 sent_for r s h (Some q) = parts_of r s h (event_of q)
 
--- the second level has served these requests of the first level
+-- the caches of a second level have served these requests of the first level
 abbrev pub SecondServed : Level → List What → Type 0
 SecondServed u ws = LevelStandsFor u (second_history ws)
 
--- the second level has served some requests, and has room for these too
+-- they have served some requests, and have room for these too
 pub record HasRoom (u : Level) (ws : List What) : Type 0 where
   pub past : List What
   pub stands : SecondServed u past
   pub short : length past + length ws ≤ 2 ^ 44
+
+-- a second level was asked for these requests: it has served the first of them, the others wait
+pub record SecondAsked (u : Second) (ws : List What) : Type 0 where
+  pub served : List What
+  pub stands : SecondServed u.level served
+  pub all : ws ≡ served ++ u.waiting.items
+
+-- no request waits
+pub record HasSettled (u : Second) : Type 0 where
+  pub none : u.waiting.items ≡ []

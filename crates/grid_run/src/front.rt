@@ -3,10 +3,11 @@
 ghost use Rattle.std.specs.Prelude.{◌≡◌};
 
 use crate::level::Level;
-use crate::parts::{serve_backs, serve_parts};
+use crate::parts::{ask_backs, ask_parts};
 use crate::requests::{Request, back_part, fetch_part, flush_part, through_part};
+use crate::second::Second;
 use crate::shelf::Shelf;
-use cache_core::{Access, Counts, NoMemory, PerClass};
+use cache_core::{Access, NoMemory};
 use stage_core::Side;
 use std::alloc::Global;
 
@@ -24,7 +25,7 @@ pub(crate) enum Last {
 /// First-level caches of one side, of one block size and one policy.
 #[derive(Drop)]
 pub(crate) struct Front {
-    level: Level,
+    pub level: Level,
     last: Last,
 }
 
@@ -32,15 +33,12 @@ impl Front {
     ghost use Rattle.std.specs.Prelude.{◌≡◌, ◌<◌, ◌^◌, ◌++◌, ◌∷◌, [], List, IfOk, OnOk, Option};
     ghost use Rattle.std.specs.Prelude.{Some, length};
     ghost use Rattle.cache_core.specs.History.{History, access as accessed, flush as flushed};
-    ghost use Rattle.cache_core.specs.Counts.{counts_of};
-    ghost use Rattle.grid_core.specs.FullyAssociative.{shadow_misses};
     ghost use Rattle.grid_core.specs.Written.{rules_at};
     ghost use Rattle.stage_core.specs.declared.message.What.{What as Sent};
     ghost use Rattle.grid_run.specs.declared.requests.Request.{Request as Asked};
     ghost use Rattle.grid_run.specs.declared.requests.Request.TheVariants as asked;
-    ghost use Rattle.grid_run.specs.Levels.{rules_in};
     ghost use Rattle.grid_run.specs.Fronts.{front_rules, FrontStandsFor, HasSent};
-    ghost use Rattle.grid_run.specs.Sending.{HasRoom, SecondServed, after_request, sent_for};
+    ghost use Rattle.grid_run.specs.Sending.{SecondAsked, after_request, sent_for};
     ghost use Rattle.grid_run.specs.Seats.{rules_on};
 
     /// The empty caches of a shelf.
@@ -101,15 +99,14 @@ impl Front {
         }
     }
 
-    /// Serves what one cache sent for the last request at the second level.
-    pub fn send(&self, cell: usize, side: Side, u: &mut Level) -> Result<(), NoMemory>
+    /// Asks for what one cache sent for the last request at the second level.
+    pub fn send(&self, cell: usize, side: Side, u: &mut Second) -> Result<(), NoMemory>
         requires inside { cell < length (front_rules self.now) }
-        requires room { (h : History) × (q : Option Asked) × HasSent self.now h q
-            × HasRoom u.old (sent_for (rules_at (front_rules self.now) cell) side h q) }
+        requires last { (h : History) × (q : Option Asked) × HasSent self.now h q }
         ensures sends { OnOk result ((h : History) (q : Option Asked) (ws : List Sent) →
-            HasSent self.now h q → SecondServed u.old ws → SecondServed u.new
+            HasSent self.now h q → SecondAsked u.old ws → SecondAsked u.new
             (ws ++ sent_for (rules_at (front_rules self.now) cell) side h q)) }
-        ensures rules { rules_in u.new ≡ rules_in u.old }
+        ensures level { u.new.level ≡ u.old.level }
     {
         match &self.last {
             Last::Nothing => Ok(()),
@@ -118,27 +115,9 @@ impl Front {
                 let block = self.level.first_byte(access.addr);
                 let fetch = fetch_part(side, outcome.fetch, block);
                 let through = through_part(outcome.through, access.addr);
-                serve_parts(u, back_part(outcome.back), fetch, through)
+                ask_parts(u, back_part(outcome.back), fetch, through)
             }
-            Last::Flush(lists) => serve_backs(u, &lists[cell], flush_part(side)),
+            Last::Flush(lists) => ask_backs(u, &lists[cell], flush_part(side)),
         }
-    }
-
-    /// The counts of one cache.
-    pub fn counts(&self, cell: usize) -> Counts
-        requires { cell < length (front_rules self.now) }
-        ensures { (h : History) → FrontStandsFor self.now h →
-            result ≡ counts_of (rules_at (front_rules self.now) cell) h }
-    {
-        self.level.counts(cell)
-    }
-
-    /// How often the shadow of one cache missed.
-    pub fn shadow_misses(&self, cell: usize) -> PerClass
-        requires { cell < length (front_rules self.now) }
-        ensures { (h : History) → FrontStandsFor self.now h →
-            result ≡ shadow_misses (rules_at (front_rules self.now) cell) h }
-    {
-        self.level.shadow_misses(cell)
     }
 }

@@ -7,11 +7,12 @@ ghost use Rattle.stage_core.specs.Events.{IsBounded, events};
 ghost use Rattle.stage_core.specs.SecondLevel.{Hierarchy};
 ghost use Rattle.stage_core.specs.declared.selection.Selection.{Selection as Chosen};
 ghost use Rattle.grid_run.specs.Grids.{figures_of};
-ghost use Rattle.grid_run.specs.Lanes.{HasServed, HasTaken, IsPlaced, lane_task, task_of_plan};
+ghost use Rattle.grid_run.specs.Lanes.{HasServed, HasTaken, IsPlaced, WasGiven, lane_task};
+ghost use Rattle.grid_run.specs.Lanes.{task_of_plan};
 ghost use Rattle.grid_run.specs.Rows.{IsPlaceIn};
 
 use crate::back::Back;
-use crate::backs::{backs_for, serve_backs};
+use crate::backs::{ask_backs, backs_for, settle_backs};
 use crate::figures::{Figures, ShadowMisses};
 use crate::front::Front;
 use crate::fronts::{fronts_for, serve_fronts};
@@ -42,7 +43,7 @@ impl Lane {
     pub fn new(alloc: Global, plan: &LanePlan) -> Result<Lane, NoMemory>
         requires bounded { IsBounded plan.now.selection }
         requires placed { IsPlaced (task_of_plan plan.now) }
-        ensures served { IfOk result (λ lane. HasTaken lane []) }
+        ensures taken { IfOk result (λ lane. HasTaken lane []) }
         ensures task { IfOk result (λ lane. lane_task lane ≡ task_of_plan plan.now) }
     {
         Ok(Lane {
@@ -53,7 +54,7 @@ impl Lane {
         })
     }
 
-    /// Serves an event in all caches.
+    /// Serves an event in all first-level caches. What these send waits for the second levels.
     fn take_event(&mut self, event: DinRecord) -> Result<(), NoMemory>
         requires placed { IsPlaced (lane_task self.old) }
         requires room { (es : List Event) × HasServed self.old es
@@ -65,10 +66,10 @@ impl Lane {
     {
         serve_fronts(&mut self.i, Side::I, event)?;
         serve_fronts(&mut self.d, Side::D, event)?;
-        serve_backs(&mut self.backs, &self.i, &self.d)
+        ask_backs(&mut self.backs, &self.i, &self.d)
     }
 
-    /// Serves an event in all caches, if there is one.
+    /// The same for an event, if there is one.
     fn take_some(&mut self, event: Option<DinRecord>) -> Result<(), NoMemory>
         requires placed { IsPlaced (lane_task self.old) }
         requires room { (es : List Event) × HasServed self.old es
@@ -84,12 +85,13 @@ impl Lane {
         }
     }
 
-    /// Takes a record, and serves the events that the selection makes of it in all caches.
+    /// Takes a record, and serves the events that the selection makes of it in all first-level
+    /// caches. What these send waits for the second levels.
     fn take(&mut self, next: DinRecord) -> Result<(), NoMemory>
-        requires room { (past : List Event) × HasTaken self.old past
+        requires room { (past : List Event) × WasGiven self.old past
             × (length past < MAX_LIMIT) }
-        ensures served { OnOk result ((past : List Event) → HasTaken self.old past
-            → HasTaken self.new (past ++ next ∷ [])) }
+        ensures given { OnOk result ((past : List Event) → WasGiven self.old past
+            → WasGiven self.new (past ++ next ∷ [])) }
         ensures task { lane_task self.new ≡ lane_task self.old }
     {
         selections_make_at_most_two();
@@ -98,18 +100,20 @@ impl Lane {
         self.take_some(picked.flush.then_some(INSERTED))
     }
 
-    /// Takes records in their order.
+    /// Takes records in their order: first all first-level caches, then each second level what
+    /// waits for it.
     pub fn take_batch(&mut self, batch: &[DinRecord]) -> Result<(), NoMemory>
         requires room { (past : List Event) × HasTaken self.old past
             × (length past + length batch.now ≤ MAX_LIMIT) }
-        ensures served { OnOk result ((past : List Event) → HasTaken self.old past
+        ensures taken { OnOk result ((past : List Event) → HasTaken self.old past
             → HasTaken self.new (past ++ batch.now)) }
         ensures task { lane_task self.new ≡ lane_task self.old }
     {
         for next in batch {
             self.take(*next)?;
         }
-        Ok(())
+        selections_make_at_most_two();
+        settle_backs(&mut self.backs)
     }
 
     /// What the caches of a row have counted.
@@ -119,9 +123,9 @@ impl Lane {
             IsPlaceIn (lane_task self.now) c s place.now → HasTaken self.now past →
             result ≡ figures_of c (events s past) }
     {
-        let i = &self.i[place.i.level];
-        let d = &self.d[place.d.level];
-        let u = &self.backs[place.u.level].level;
+        let i = &self.i[place.i.level].level;
+        let d = &self.d[place.d.level].level;
+        let u = &self.backs[place.u.level].second.level;
         Figures {
             totals: Totals {
                 i: i.counts(place.i.cell),

@@ -40,6 +40,7 @@ mod plan;
 mod requests;
 mod run;
 mod seat;
+mod second;
 mod shelf;
 mod simulation;
 mod table;

@@ -1,55 +1,50 @@
-//! What the first level sends, served at the second.
+//! What the first level sends, asked of the second.
 
 ghost use Rattle.std.specs.Prelude.{◌≡◌, ◌++◌, List, OnOk, map, option_to_list};
 ghost use Rattle.stage_core.specs.SecondLevel.{back};
 ghost use Rattle.stage_core.specs.declared.message.What.{What as Sent};
-ghost use Rattle.grid_run.specs.Levels.{rules_in};
-ghost use Rattle.grid_run.specs.Sending.{HasRoom, SecondServed};
+ghost use Rattle.grid_run.specs.Sending.{SecondAsked};
 
-use crate::level::Level;
+use crate::second::Second;
 use cache_core::NoMemory;
 use stage_core::What;
 
-/// Serves a request at the second level, if there is one.
-fn serve_part(u: &mut Level, part: Option<What>) -> Result<(), NoMemory>
-    requires room { HasRoom u.old (option_to_list part) }
-    ensures stands { OnOk result ((ws : List Sent) → SecondServed u.old ws →
-        SecondServed u.new (ws ++ option_to_list part)) }
-    ensures rules { rules_in u.new ≡ rules_in u.old }
+/// Asks for a request at the second level, if there is one.
+fn ask_part(u: &mut Second, part: Option<What>) -> Result<(), NoMemory>
+    ensures asked { OnOk result ((ws : List Sent) → SecondAsked u.old ws →
+        SecondAsked u.new (ws ++ option_to_list part)) }
+    ensures level { u.new.level ≡ u.old.level }
 {
     match part {
-        Some(what) => u.serve(what),
+        Some(what) => u.ask(what),
         None => Ok(()),
     }
 }
 
-/// Serves the requests of an access at the second level, in this order.
-pub(crate) fn serve_parts(
-    u: &mut Level,
+/// Asks for the requests of an access at the second level, in this order.
+pub(crate) fn ask_parts(
+    u: &mut Second,
     back: Option<What>,
     fetch: Option<What>,
     through: Option<What>,
 ) -> Result<(), NoMemory>
-    requires room { HasRoom u.old
-        (option_to_list back ++ option_to_list fetch ++ option_to_list through) }
-    ensures stands { OnOk result ((ws : List Sent) → SecondServed u.old ws → SecondServed u.new
+    ensures asked { OnOk result ((ws : List Sent) → SecondAsked u.old ws → SecondAsked u.new
         (ws ++ (option_to_list back ++ option_to_list fetch ++ option_to_list through))) }
-    ensures rules { rules_in u.new ≡ rules_in u.old }
+    ensures level { u.new.level ≡ u.old.level }
 {
-    serve_part(u, back)?;
-    serve_part(u, fetch)?;
-    serve_part(u, through)
+    ask_part(u, back)?;
+    ask_part(u, fetch)?;
+    ask_part(u, through)
 }
 
-/// Serves write-backs at the second level, and then a flush, if there is one.
-pub(crate) fn serve_backs(u: &mut Level, addrs: &[u64], flush: Option<What>) -> Result<(), NoMemory>
-    requires room { HasRoom u.old (map back addrs.now ++ option_to_list flush) }
-    ensures stands { OnOk result ((ws : List Sent) → SecondServed u.old ws →
-        SecondServed u.new (ws ++ (map back addrs.now ++ option_to_list flush))) }
-    ensures rules { rules_in u.new ≡ rules_in u.old }
+/// Asks for write-backs at the second level, and then for a flush, if there is one.
+pub(crate) fn ask_backs(u: &mut Second, addrs: &[u64], flush: Option<What>) -> Result<(), NoMemory>
+    ensures asked { OnOk result ((ws : List Sent) → SecondAsked u.old ws →
+        SecondAsked u.new (ws ++ (map back addrs.now ++ option_to_list flush))) }
+    ensures level { u.new.level ≡ u.old.level }
 {
     for addr in addrs {
-        u.serve(What::Back(*addr))?;
+        u.ask(What::Back(*addr))?;
     }
-    serve_part(u, flush)
+    ask_part(u, flush)
 }

@@ -1,6 +1,6 @@
 use Rattle.std.proofs.Common.{◌≡◌, [], map, take}
 use Rattle.std.specs.List.{All}
-use Rattle.grid_run.specs.Backs.{BackServed, back_task, task_of_shelf}
+use Rattle.grid_run.specs.Backs.{BackAsked, NothingWaits, back_task, task_of_shelf}
 use Rattle.grid_run.specs.Seats.{Table}
 use Rattle.grid_run.proofs.backs.backs_for.Given as goal
 
@@ -8,5 +8,6 @@ use Rattle.grid_run.proofs.backs.backs_for.Given as goal
 abbrev pub invariant-loop-shelf : goal.invariant-loop-shelf
 invariant-loop-shelf l = record {
   tasks : map back_task l.backs.items ≡ map task_of_shelf (take l.shelf-index l.shelves);
-  served : (i d : Table) → All (BackServed i d []) l.backs.items;
+  asked : (i d : Table) → All (BackAsked i d []) l.backs.items;
+  settled : All NothingWaits l.backs.items;
 }

@@ -5,7 +5,7 @@ use Rattle.grid_core.specs.Written.{rules_at}
 use Rattle.stage_core.specs.declared.message.What.{What}
 use Rattle.grid_run.specs.Fronts.{WasLast}
 use Rattle.grid_run.specs.Levels.{rules_in}
-use Rattle.grid_run.specs.Sending.{HasRoom, SecondServed}
+use Rattle.grid_run.specs.Sending.{SecondAsked}
 use Rattle.grid_run.specs.declared.front.Last.{Last}
 use Rattle.grid_run.proofs.Events.{access-parts, flush-parts}
 use Rattle.grid_run.proofs.Sent.{sent-access, sent-flush, sent-nothing}
@@ -17,49 +17,31 @@ returns-in-Nothing-clause-sends c = λ h q ws sent st.
     let level = c.args.self.now.level in
     let r = rules_at (rules_in level) c.args.cell in
     let was = subst (λ (w : Last). WasLast level h w q) c.in-Nothing.is sent in
-    subst (λ (l : List What). SecondServed c.args.u.now l)
+    subst (λ (l : List What). SecondAsked c.args.u.now l)
     (sym (ap (λ l. ws ++ l) (sent-nothing level h r c.args.side q was) ∙ append-nil ws)) st
-
-pub serve_parts-requires : goal.serve_parts-requires
-serve_parts-requires c =
-    let level = c.args.self.now.level in
-    let r = rules_at (rules_in level) c.args.cell in
-    let h = c.requires.room.0 in
-    let q = c.requires.room.1 in
-    let x = c.in-Access.access in
-    let was = subst (λ (w : Last). WasLast level h w q) c.in-Access.is c.requires.room.2 in
-    let sent = sent-access level h r c.args.side x q was in
-    let parts = access-parts r c.args.side h x c.outcome-outcome.result
-    c.first_byte-block.result _ _ _ (c.outcome-outcome.ensures h x sent.1)
-    (c.first_byte-block.ensures c.args.cell c.requires.inside)
-    c.back_part.ensures c.fetch_part-fetch.ensures c.through_part-through.ensures in
-    record {
-      room = subst (λ (l : List What). HasRoom c.args.u.now l) (sent.0 ∙ sym parts)
-          c.requires.room.3;
-    }
 
 pub returns-in-Access-clause-sends : goal.returns-in-Access-clause-sends
 returns-in-Access-clause-sends c =
     let level = c.args.self.now.level in
     let r = rules_at (rules_in level) c.args.cell in
     let x = c.in-Access.access in
-    on_ok_weaker c.serve_parts.result (λ served h q ws last st.
+    on_ok_weaker c.ask_parts.result (λ served h q ws last st.
     let was = subst (λ (w : Last). WasLast level h w q) c.in-Access.is last in
     let sent = sent-access level h r c.args.side x q was in
     let parts = access-parts r c.args.side h x c.outcome-outcome.result
     c.first_byte-block.result _ _ _ (c.outcome-outcome.ensures h x sent.1)
     (c.first_byte-block.ensures c.args.cell c.requires.inside)
     c.back_part.ensures c.fetch_part-fetch.ensures c.through_part-through.ensures in
-    subst (λ (l : List What). SecondServed c.serve_parts.new.u (ws ++ l)) (parts ∙ sym sent.0)
-    (served ws st)) c.serve_parts.ensures.stands
+    subst (λ (l : List What). SecondAsked c.ask_parts.new.u (ws ++ l)) (parts ∙ sym sent.0)
+    (served ws st)) c.ask_parts.ensures.asked
 
 pub index-requires : goal.index-requires
 index-requires c =
     let level = c.args.self.now.level in
     let r = rules_at (rules_in level) c.args.cell in
-    let h = c.requires.room.0 in
-    let q = c.requires.room.1 in
-    let was = subst (λ (w : Last). WasLast level h w q) c.in-Flush.is c.requires.room.2 in
+    let h = c.requires.last.0 in
+    let q = c.requires.last.1 in
+    let was = subst (λ (w : Last). WasLast level h w q) c.in-Flush.is c.requires.last.2 in
     let sent = sent-flush level h r c.args.side c.in-Flush.lists q was in
     let v = c.in-Flush.lists in
     omega (
@@ -68,31 +50,12 @@ index-requires c =
       v.ok.0,
     )
 
-pub serve_backs-requires : goal.serve_backs-requires
-serve_backs-requires c =
-    let level = c.args.self.now.level in
-    let r = rules_at (rules_in level) c.args.cell in
-    let h = c.requires.room.0 in
-    let q = c.requires.room.1 in
-    let v = c.in-Flush.lists in
-    let was = subst (λ (w : Last). WasLast level h w q) c.in-Flush.is c.requires.room.2 in
-    let sent = sent-flush level h r c.args.side v q was in
-    let backs = c.deref.ensures.value
-    ∙ list-at h (rules_in level) v.items sent.1 c.args.cell c.index.result.now c.requires.inside
-    c.index.ensures in
-    let parts = flush-parts r c.args.side h c.deref.result.now
-    (option_to_list c.flush_part.result) backs c.flush_part.ensures in
-    record {
-      room = subst (λ (l : List What). HasRoom c.args.u.now l) (sent.0 ∙ sym parts)
-          c.requires.room.3;
-    }
-
 pub returns-in-Flush-clause-sends : goal.returns-in-Flush-clause-sends
 returns-in-Flush-clause-sends c =
     let level = c.args.self.now.level in
     let r = rules_at (rules_in level) c.args.cell in
     let v = c.in-Flush.lists in
-    on_ok_weaker c.serve_backs.result (λ served h q ws last st.
+    on_ok_weaker c.ask_backs.result (λ served h q ws last st.
     let was = subst (λ (w : Last). WasLast level h w q) c.in-Flush.is last in
     let sent = sent-flush level h r c.args.side v q was in
     let backs = c.deref.ensures.value
@@ -100,5 +63,5 @@ returns-in-Flush-clause-sends c =
     c.index.ensures in
     let parts = flush-parts r c.args.side h c.deref.result.now
     (option_to_list c.flush_part.result) backs c.flush_part.ensures in
-    subst (λ (l : List What). SecondServed c.serve_backs.new.u (ws ++ l)) (parts ∙ sym sent.0)
-    (served ws st)) c.serve_backs.ensures.stands
+    subst (λ (l : List What). SecondAsked c.ask_backs.new.u (ws ++ l)) (parts ∙ sym sent.0)
+    (served ws st)) c.ask_backs.ensures.asked

@@ -11,12 +11,13 @@ use Rattle.stage_core.specs.declared.message.What.{What}
 use Rattle.stage_core.specs.declared.message.Side.TheVariants as side
 use Rattle.stage_core.specs.declared.selection.Selection.{Selection}
 use Rattle.grid_core.specs.FullyAssociative.{shadow_misses}
-use Rattle.grid_run.specs.Backs.{FrontAt, ServedBehind, back_task}
+use Rattle.grid_run.specs.Backs.{AskedBehind, FrontAt, NothingWaits, back_task}
 use Rattle.grid_run.specs.Lanes.{HasServed, lane_task}
 use Rattle.grid_run.specs.Sending.{SecondServed}
 use Rattle.grid_run.specs.declared.figures.Figures.{Figures}
 use Rattle.grid_run.proofs.Behind.{at-seat, rules-seated}
 use Rattle.grid_run.proofs.Placed.{back-inside, back-there, requests-there, seat-in}
+use Rattle.grid_run.proofs.Rooms.{settled-served}
 use Rattle.grid_run.proofs.lane.Lane.figures.Goals as goal
 
 abbrev made : (i d u : Counts) (i' d' u' : PerClass) → Figures
@@ -30,9 +31,9 @@ same-figures : {i j d e u v : Counts} {i' j' d' e' u' v' : PerClass} → i ≡ j
     → i' ≡ j' → d' ≡ e' → u' ≡ v' → made i d u i' d' u' ≡ made j e v j' e' v'
 same-figures p q r p' q' r' = cc
 
-pub index-requires : goal.index-requires
+pub index-requires-3 : goal.index-requires-3
 unfolding lane_task
-index-requires c =
+index-requires-3 c =
     omega (
       arith,
       c.requires.2.level,
@@ -44,42 +45,46 @@ pub counts-requires-3 : goal.counts-requires-3
 unfolding back_task
 counts-requires-3 c =
     let place = c.requires.2 in
-    (back-there c.args.self.now c.requires.0 c.requires.1 c.args.place.now place c.index.result.now
-    c.index.ensures).cell.inside
+    (back-there c.args.self.now c.requires.0 c.requires.1 c.args.place.now place
+    c.index-3.result.now c.index-3.ensures).cell.inside
 
 pub shadow_misses-requires-3 : goal.shadow_misses-requires-3
 unfolding back_task
 shadow_misses-requires-3 c =
     let place = c.requires.2 in
-    (back-there c.args.self.now c.requires.0 c.requires.1 c.args.place.now place c.index.result.now
-    c.index.ensures).cell.inside
+    (back-there c.args.self.now c.requires.0 c.requires.1 c.args.place.now place
+    c.index-3.result.now c.index-3.ensures).cell.inside
 
 pub returns : goal.returns
 unfolding lane_task back_task
 returns c = λ rules chosen past place taken.
     let l = c.args.self.now in
     let p = c.args.place.now in
-    let fi = c.index-i.result.now in
-    let fd = c.index-d.result.now in
-    let b = c.index.result.now in
+    let fi = c.index.result.now in
+    let fd = c.index-2.result.now in
+    let b = c.index-3.result.now in
     let sel : events l.selector.selection past ≡ events chosen past =
     ap (λ (s : Selection). events s past) place.selection in
     let es : List DinRecord = events chosen past in
-    let served = subst (HasServed l) sel taken.served in
+    let served = subst (HasServed l) sel taken.given.served in
     let on-i = seat-in place.i in
     let on-d = seat-in place.d in
-    let st-i = at-seat l.i.items p.i fi c.index-i.ensures on-i (FrontAt side.I es) served.i in
-    let st-d = at-seat l.d.items p.d fd c.index-d.ensures on-d (FrontAt side.D es) served.d in
-    let there = back-there l rules chosen p place b c.index.ensures in
-    let st-u = subst (λ (ws : List What). SecondServed b.level ws)
-    (requests-there l rules chosen p place b c.index.ensures es)
-    (subst (ServedBehind l.i.items l.d.items es) (sym c.index.ensures)
-    (served.backs p.u.level b (back-inside l rules chosen p place b c.index.ensures))).second in
+    let st-i = at-seat l.i.items p.i fi c.index.ensures on-i (FrontAt side.I es) served.i in
+    let st-d = at-seat l.d.items p.d fd c.index-2.ensures on-d (FrontAt side.D es) served.d in
+    let at = c.index-3.ensures in
+    let there = back-there l rules chosen p place b at in
+    let inside = back-inside l rules chosen p place b at in
+    let asked = subst (AskedBehind l.i.items l.d.items es) (sym at)
+    (served.backs p.u.level b inside) in
+    let settled = subst NothingWaits (sym at) (taken.settled p.u.level b inside) in
+    let st-u = subst (λ (ws : List What). SecondServed b.second.level ws)
+    (requests-there l rules chosen p place b at es)
+    (settled-served b.second _ asked.second settled) in
     let h-i = history side.I es in
     let h-d = history side.D es in
     let h-u = second_history (second_level_requests (parts_in rules) es) in
-    let rules-i = rules-seated l.i.items p.i fi c.index-i.ensures on-i ∙ place.i.rules in
-    let rules-d = rules-seated l.d.items p.d fd c.index-d.ensures on-d ∙ place.d.rules in
+    let rules-i = rules-seated l.i.items p.i fi c.index.ensures on-i ∙ place.i.rules in
+    let rules-d = rules-seated l.d.items p.d fd c.index-2.ensures on-d ∙ place.d.rules in
     let rules-u = there.cell.rules in
     let i = c.counts.ensures h-i st-i.stands ∙ ap (λ (r : Rules). counts_of r h-i) rules-i in
     let d = c.counts-2.ensures h-d st-d.stands ∙ ap (λ (r : Rules). counts_of r h-d) rules-d in

@@ -7,9 +7,9 @@ use Rattle.grid_run.specs.Seats.{rules_on}
 use Rattle.grid_run.proofs.Placed.{placed-same}
 use Rattle.grid_run.proofs.lane.Lane.new.Goals as goal
 
-pub returns-clause-served : goal.returns-clause-served
+pub returns-clause-taken : goal.returns-clause-taken
 unfolding lane_task task_of_plan
-returns-clause-served c =
+returns-clause-taken c =
     let is = c.in_ok-fronts_for.field-0.items in
     let ds = c.in_ok-fronts_for-2.field-0.items in
     let i = c.in_ok-fronts_for.ensures.rules ∙ ap (map rules_on) c.deref.ensures.value in
@@ -17,13 +17,16 @@ returns-clause-served c =
     let backs = c.in_ok-backs_for.ensures.tasks
     ∙ ap (map task_of_shelf) c.deref-3.ensures.value in
     record {
-      placed = subst (λ (ts : List BackTask).
-          All (IsPlacedIn (map front_rules is) (map front_rules ds)) ts) (sym backs)
-          (placed-same _ i d c.requires.placed);
-      offered = c.new.ensures.none;
-      served = record {
-        i = c.in_ok-fronts_for.ensures.i;
-        d = c.in_ok-fronts_for-2.ensures.d;
-        backs = c.in_ok-backs_for.ensures.served _ _;
+      given = record {
+        placed = subst (λ (ts : List BackTask).
+            All (IsPlacedIn (map front_rules is) (map front_rules ds)) ts) (sym backs)
+            (placed-same _ i d c.requires.placed);
+        offered = c.new.ensures.none;
+        served = record {
+          i = c.in_ok-fronts_for.ensures.i;
+          d = c.in_ok-fronts_for-2.ensures.d;
+          backs = c.in_ok-backs_for.ensures.asked _ _;
+        };
       };
+      settled = c.in_ok-backs_for.ensures.settled;
     }

@@ -67,9 +67,9 @@ take_some-requires-2 c =
       );
     }
 
-pub returns-clause-served : goal.returns-clause-served
+pub returns-clause-given : goal.returns-clause-given
 unfolding lane_task
-returns-clause-served c =
+returns-clause-given c =
     let old = c.args.self.now in
     let new = c.take_some-2.new.self in
     let sel = old.selector.selection in
@@ -81,22 +81,22 @@ returns-clause-served c =
     let selector = c.take_some-2.ensures.selector ∙ c.take_some.ensures.selector in
     let selection = ap (λ (s : Selector). s.selection) selector
     ∙ c.offer-picked.ensures.selection in
-    on_ok_weaker c.take_some-2.result (λ second past taken.
+    on_ok_weaker c.take_some-2.result (λ second past was.
     let es : List DinRecord = events sel past in
     let picks : c.offer-picked.result
     ≡ picked sel (count_by is_reference (past ++ next ∷ [])) next =
-    c.offer-picked.ensures.picked past taken.offered in
+    c.offer-picked.ensures.picked past was.offered in
     let longer : (es ++ event) ++ last ≡ events sel (past ++ next ∷ []) =
     append_assoc es event last
     ∙ ap (λ l. es ++ (event ++ l)) flushes
     ∙ ap (λ (p : Picked). es ++ picked_events p) picks
     ∙ sym (flat_map_with_past-more (events_at sel) past next) in
-    let picking = served-by-same c.offer-picked.new.self old es taken.served in
+    let picking = served-by-same c.offer-picked.new.self old es was.served in
     record {
       placed = subst IsPlaced (sym (c.take_some-2.ensures.task ∙ c.take_some.ensures.task))
-          taken.placed;
+          was.placed;
       offered = subst (λ (s : Selector). WasOffered s (past ++ next ∷ [])) (sym selector)
-          (c.offer-picked.ensures.stands past taken.offered);
+          (c.offer-picked.ensures.stands past was.offered);
       served = subst (λ (s : Selection). HasServed new (events s (past ++ next ∷ [])))
           (sym selection)
           (subst (λ (l : List DinRecord). HasServed new l) longer

@@ -19,9 +19,9 @@ serve_fronts-requires-2 c =
     let room = c.requires.room in
     record { room = (room.0, room.1.d, room.2) }
 
-pub serve_backs-requires : goal.serve_backs-requires
+pub ask_backs-requires : goal.ask_backs-requires
 unfolding lane_task
-serve_backs-requires c =
+ask_backs-requires c =
     let room = c.requires.room in
     let es = room.0 in
     let e = c.args.event in
@@ -29,7 +29,7 @@ serve_backs-requires c =
     let d = ap (map front_rules) c.deref-2.ensures.value ∙ c.serve_fronts-2.ensures.rules in
     record {
       placed = placed-same _ i d c.requires.placed;
-      room = (
+      sent = (
         es,
         e,
         record {
@@ -38,8 +38,6 @@ serve_backs-requires c =
           on_d = subst (λ (l : List Front). All (FrontSent side.D es e) l)
               (sym c.deref-2.ensures.value) (c.in_ok-serve_fronts-2.ensures.sent es room.1.d);
         },
-        served-same es _ i d room.1.backs,
-        room.2,
       );
     }
 
@@ -51,11 +49,11 @@ returns-clause-served c =
     let now-d = ap (map front_rules) c.deref-2.ensures.value in
     let i = now-i ∙ c.serve_fronts.ensures.rules in
     let d = now-d ∙ c.serve_fronts-2.ensures.rules in
-    on_ok_weaker c.serve_backs.result (λ served es past. record {
+    on_ok_weaker c.ask_backs.result (λ asked es past. record {
       i = c.in_ok-serve_fronts.ensures.stands es past.i;
       d = c.in_ok-serve_fronts-2.ensures.stands es past.d;
       backs = served-same (es ++ e ∷ []) _ (sym now-i) (sym now-d)
-          (served es e
+          (asked es e
           (record {
             on_i = subst (λ (l : List Front). All (FrontSent side.I es e) l)
                 (sym c.deref.ensures.value) (c.in_ok-serve_fronts.ensures.sent es past.i);
@@ -63,4 +61,4 @@ returns-clause-served c =
                 (sym c.deref-2.ensures.value) (c.in_ok-serve_fronts-2.ensures.sent es past.d);
           })
           (served-same es _ i d past.backs));
-    }) c.serve_backs.ensures.served
+    }) c.ask_backs.ensures.asked

@@ -3,13 +3,12 @@ use Rattle.std.proofs.Common.{ap, sym, subst, ◌∙◌, arith, get_or-set_other
 use Rattle.std.proofs.Math.Seq.{map-set_same}
 use Rattle.std.proofs.lemmas.List.{get_or-map, length-map}
 use Rattle.std.proofs.lemmas.List.Elements.{AllWithin-more_set}
-use Rattle.grid_run.specs.Backs.{IsPlacedIn, ServedBehind, back_task}
+use Rattle.grid_run.specs.Backs.{AskedBehind, IsPlacedIn, back_task}
 use Rattle.grid_run.specs.Fronts.{front_rules}
-use Rattle.grid_run.proofs.backs.take_each.Goals as goal
+use Rattle.grid_run.proofs.backs.ask_each.Goals as goal
 
-pub take-requires : goal.take-requires
-take-requires c =
-    let room = c.requires.room in
+pub ask-requires : goal.ask-requires
+ask-requires c =
     let first = c.args.backs.now in
     let k = c.loop-back.back-index in
     let b = c.back-item.result in
@@ -19,13 +18,7 @@ take-requires c =
     record {
       placed = subst (IsPlacedIn (map front_rules c.args.i.now) (map front_rules c.args.d.now))
           (get_or-map back_task first k b (back_task b) inside ∙ ap back_task (sym same)) placed;
-      room = (
-        room.0,
-        room.1,
-        room.2,
-        subst (ServedBehind c.args.i.now c.args.d.now room.0) (sym same) (room.3 k b inside),
-        room.4,
-      );
+      sent = c.requires.sent;
     }
 
 pub loop-back-preserved : goal.loop-back-preserved
@@ -35,28 +28,28 @@ loop-back-preserved c =
     let xs = c.loop-back.backs in
     let k = c.loop-back.back-index in
     let b = c.back-item.result in
-    let v = c.take.new.self in
+    let v = c.ask.new.self in
     let inside : k < length xs = omega arith in
     let inside' : k < length c.args.backs.now = omega arith in
     let same = c.loop-back.invariant.left k b (omega arith) in
     record {
-      tasks = map-set_same back_task xs k v b c.take.ensures.task
+      tasks = map-set_same back_task xs k v b c.ask.ensures.task
           ∙ c.loop-back.invariant.tasks;
-      served = λ es e both all.
-          AllWithin-more_set xs k v inside (ServedBehind is ds (es ++ e ∷ []))
-          (c.loop-back.invariant.served es e both all)
-          (c.in_ok-take.ensures.served es e both
-          (subst (ServedBehind is ds es) (sym same) (all k b inside')));
+      asked = λ es e both all.
+          AllWithin-more_set xs k v inside (AskedBehind is ds (es ++ e ∷ []))
+          (c.loop-back.invariant.asked es e both all)
+          (c.in_ok-ask.ensures.asked es e both
+          (subst (AskedBehind is ds es) (sym same) (all k b inside')));
       left = λ j d lt. let ne : j ≢ k = omega arith in get_or-set_other xs k j v d ne
           ∙ c.loop-back.invariant.left j d (omega arith);
     }
 
-pub returns-in_err-take-clause-tasks : goal.returns-in_err-take-clause-tasks
-returns-in_err-take-clause-tasks c =
-    map-set_same back_task c.loop-back.backs c.loop-back.back-index c.take.new.self
-    c.back-item.result c.take.ensures.task
+pub returns-in_err-ask-clause-tasks : goal.returns-in_err-ask-clause-tasks
+returns-in_err-ask-clause-tasks c =
+    map-set_same back_task c.loop-back.backs c.loop-back.back-index c.ask.new.self
+    c.back-item.result c.ask.ensures.task
     ∙ c.loop-back.invariant.tasks
 
-pub returns-clause-served : goal.returns-clause-served
-returns-clause-served c = λ es e both all k d lt.
-    c.loop-back.invariant.served es e both all k d (omega arith) (omega arith)
+pub returns-clause-asked : goal.returns-clause-asked
+returns-clause-asked c = λ es e both all k d lt.
+    c.loop-back.invariant.asked es e both all k d (omega arith) (omega arith)

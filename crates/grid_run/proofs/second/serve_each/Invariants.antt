@@ -1,0 +1,14 @@
+use Rattle.std.proofs.Common.{◌≡◌, ◌++◌, List, drop, take}
+use Rattle.stage_core.specs.declared.message.What.{What}
+use Rattle.grid_run.specs.Levels.{rules_in}
+use Rattle.grid_run.specs.Sending.{HasRoom, SecondServed}
+use Rattle.grid_run.proofs.second.serve_each.Given as goal
+
+-- the requests that were passed are served, and there is room for the others
+abbrev pub invariant-loop-what : goal.invariant-loop-what
+invariant-loop-what l = record {
+  served : (ws : List What) → SecondServed l.initial.level ws →
+      SecondServed l.level (ws ++ take l.what-index l.requests);
+  room : HasRoom l.level (drop l.what-index l.requests);
+  rules : rules_in l.level ≡ rules_in l.initial.level;
+}

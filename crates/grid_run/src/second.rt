@@ -1,0 +1,78 @@
+//! Second-level caches, and the requests that wait for them.
+
+ghost use Rattle.std.specs.Prelude.{◌≡◌, ◌++◌, List, OnOk};
+ghost use Rattle.stage_core.specs.declared.message.What.{What as Sent};
+ghost use Rattle.grid_run.specs.Levels.{rules_in};
+ghost use Rattle.grid_run.specs.Sending.{HasRoom, SecondServed};
+
+use crate::level::Level;
+use crate::shelf::Shelf;
+use cache_core::NoMemory;
+use stage_core::What;
+use std::alloc::Global;
+
+/// Second-level caches of one block size and one policy. Requests wait until `settle` serves them
+/// in one go: while it does, what these caches need stays in the processor's own caches.
+#[derive(Drop)]
+pub(crate) struct Second {
+    pub level: Level,
+    waiting: Vec<What>,
+}
+
+/// Serves requests in their order.
+fn serve_each(level: &mut Level, requests: &[What]) -> Result<(), NoMemory>
+    requires room { HasRoom level.old requests.now }
+    ensures served { OnOk result ((ws : List Sent) → SecondServed level.old ws →
+        SecondServed level.new (ws ++ requests.now)) }
+    ensures rules { rules_in level.new ≡ rules_in level.old }
+{
+    for what in requests {
+        level.serve(*what)?;
+    }
+    Ok(())
+}
+
+impl Second {
+    ghost use Rattle.std.specs.Prelude.{◌≡◌, ◌≤◌, ◌^◌, ◌++◌, ◌∷◌, [], List, IfOk, OnOk, length};
+    ghost use Rattle.stage_core.specs.declared.message.What.{What as Sent};
+    ghost use Rattle.grid_run.specs.Levels.{rules_in};
+    ghost use Rattle.grid_run.specs.Seats.{rules_on};
+    ghost use Rattle.grid_run.specs.Sending.{HasSettled, SecondAsked};
+
+    /// The empty caches of a shelf, for which nothing waits.
+    pub fn new(alloc: Global, shelf: &Shelf) -> Result<Second, NoMemory>
+        ensures asked { IfOk result (λ second. SecondAsked second []) }
+        ensures settled { IfOk result HasSettled }
+        ensures rules { IfOk result (λ second. rules_in second.level ≡ rules_on shelf.now) }
+    {
+        Ok(Second {
+            level: Level::new(alloc, shelf)?,
+            waiting: Vec::new(alloc),
+        })
+    }
+
+    /// Takes a request, which waits.
+    pub fn ask(&mut self, what: What) -> Result<(), NoMemory>
+        ensures asked { OnOk result ((ws : List Sent) → SecondAsked self.old ws →
+            SecondAsked self.new (ws ++ what ∷ [])) }
+        ensures level { self.new.level ≡ self.old.level }
+    {
+        if self.waiting.push(what).is_err() {
+            return Err(NoMemory);
+        }
+        Ok(())
+    }
+
+    /// Serves all requests that wait.
+    pub fn settle(&mut self) -> Result<(), NoMemory>
+        requires room { (ws : List Sent) × SecondAsked self.old ws × (length ws ≤ 2 ^ 44) }
+        ensures asked { OnOk result ((ws : List Sent) → SecondAsked self.old ws →
+            SecondAsked self.new ws) }
+        ensures settled { OnOk result (HasSettled self.new) }
+        ensures rules { rules_in self.new.level ≡ rules_in self.old.level }
+    {
+        serve_each(&mut self.level, &self.waiting)?;
+        self.waiting.clear();
+        Ok(())
+    }
+}
