@@ -67,18 +67,16 @@ one-more : (i : ℕ) → suc i ≡ i + 1
 one-more i = omega arith
 
 -- of the requests from one on, that one comes first
-pub requests-from : (xs : List What) (i : ℕ) (x : What) → x ≡ get_or xs i x → i < length xs
-    → drop i xs ≡ x ∷ drop (i + 1) xs
-requests-from xs i x at lt =
-    drop-cons xs i x lt ∙ ap (λ w. w ∷ drop (suc i) xs) (sym at)
-    ∙ ap (λ n. x ∷ drop n xs) (one-more i)
+pub requests-from : (xs : List What) (i : ℕ) (d : What) → i < length xs
+    → drop i xs ≡ get_or xs i d ∷ drop (i + 1) xs
+requests-from xs i d lt = drop-cons xs i d lt ∙ ap (λ n. get_or xs i d ∷ drop n xs) (one-more i)
 
 -- the requests up to one end with that one
-pub requests-to : (ws xs : List What) (i : ℕ) (x : What) → x ≡ get_or xs i x → i < length xs
-    → (ws ++ take i xs) ++ x ∷ [] ≡ ws ++ take (i + 1) xs
-requests-to ws xs i x at lt =
-    append_assoc ws (take i xs) (x ∷ [])
-    ∙ ap (λ l. ws ++ l) (ap (λ w. take i xs ++ w ∷ []) at ∙ sym (take_more xs i x lt))
+pub requests-to : (ws xs : List What) (i : ℕ) (d : What) → i < length xs
+    → (ws ++ take i xs) ++ get_or xs i d ∷ [] ≡ ws ++ take (i + 1) xs
+requests-to ws xs i d lt =
+    append_assoc ws (take i xs) (get_or xs i d ∷ [])
+    ∙ ap (λ l. ws ++ l) (sym (take_more xs i d lt))
 
 -- the write-backs up to one end with that one
 pub backs-to : (ws : List What) (xs : List ℕ) (i : ℕ) → i < length xs

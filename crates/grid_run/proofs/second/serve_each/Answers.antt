@@ -2,6 +2,7 @@ use Rattle.std.proofs.Common.{◌≡◌, ◌+◌, ◌∷◌, ◌++◌, [], List,
 use Rattle.std.proofs.Common.{ap, sym, subst, ◌∙◌, append_assoc}
 use Rattle.std.proofs.lemmas.List.{take_all}
 use Rattle.stage_core.specs.declared.message.What.{What}
+use Rattle.stage_core.specs.declared.message.What.TheVariants as what
 use Rattle.grid_run.specs.Sending.{HasRoom, SecondServed}
 use Rattle.grid_run.proofs.Rooms.{requests-from, requests-to, room-next, room-one, served-one}
 use Rattle.grid_run.proofs.second.serve_each.Goals as goal
@@ -10,28 +11,26 @@ pub serve-requires : goal.serve-requires
 serve-requires c =
     let xs = c.args.requests.now in
     let i = c.loop-what.what-index in
-    let x = c.what-item.result in
     record {
-      room = room-one c.loop-what.level x (drop (i + 1) xs)
+      room = room-one c.loop-what.level (get_or xs i what.FlushAll) (drop (i + 1) xs)
           (subst (HasRoom c.loop-what.level)
-          (requests-from xs i x c.what-item.is c.loop-what-test.true) c.loop-what.invariant.room);
+          (requests-from xs i what.FlushAll c.loop-what-test.true)
+          c.loop-what.invariant.room);
     }
 
 pub loop-what-preserved : goal.loop-what-preserved
 loop-what-preserved c =
     let xs = c.args.requests.now in
     let i = c.loop-what.what-index in
-    let x = c.what-item.result in
     let old = c.loop-what.level in
     let lt = c.loop-what-test.true in
-    let one = served-one old c.serve.new.self x c.in_ok-serve.ensures.stands in
+    let one = served-one old c.serve.new.self _ c.in_ok-serve.ensures.stands in
     record {
       served = λ ws st. subst (λ (l : List What). SecondServed c.serve.new.self l)
-          (requests-to ws xs i x c.what-item.is lt)
+          (requests-to ws xs i _ lt)
           (one (ws ++ take i xs) (c.loop-what.invariant.served ws st));
-      room = room-next old c.serve.new.self (x ∷ []) (drop (i + 1) xs)
-          (subst (HasRoom old) (requests-from xs i x c.what-item.is lt)
-          c.loop-what.invariant.room) one;
+      room = room-next old c.serve.new.self (_ ∷ []) (drop (i + 1) xs)
+          (subst (HasRoom old) (requests-from xs i _ lt) c.loop-what.invariant.room) one;
       rules = c.serve.ensures.rules ∙ c.loop-what.invariant.rules;
     }
 
