@@ -1,8 +1,8 @@
 -- What a hit counts.
 use Rattle.std.proofs.Common.{◌≡◌, ℕ, ◌+◌, Bool, true, false, ◌&&◌}
-use Rattle.std.proofs.Common.{not, None, refl, sym, ap, ◌∙◌, arith}
+use Rattle.std.proofs.Common.{refl, sym, ap, ◌∙◌, arith}
 use Rattle.std.proofs.Common.{◌<◌, ltb}
-use Rattle.std.proofs.lemmas.Bool.{ltb-false}
+use Rattle.std.proofs.lemmas.Bool.{ltb-false, false≢true}
 use Rattle.cache_core.specs.declared.access.Access.{Access}
 use Rattle.cache_core.specs.declared.counts.PerClass.{PerClass}
 use Rattle.cache_core.specs.declared.counts.Counts.{Counts}
@@ -79,6 +79,11 @@ hit-counts x through c =
     (with_one x false c.capacity) (with_one x false c.conflict) n c.written_back s c.flushes) l
     ∙ ap (λ n. counted f (with_one x false c.misses) (with_one x false c.compulsory)
     (with_one x false c.capacity) (with_one x false c.conflict) (0 + c.loaded) n s c.flushes) w
+
+-- where both are true, each is
+pub both-true : (a b : Bool) → (a && b) ≡ true → (a ≡ true) × (b ≡ true)
+both-true true b e = (refl, e)
+both-true false b e = absurd (false≢true e)
 
 pub as-true : (m n : ℕ) → m < n → ltb m n ≡ true
 as-true m n lt = (elim (ltb m n) as (λ t. ltb m n ≡ t → t ≡ true) [

@@ -22,3 +22,4 @@ pub mod After
 pub mod OtherWays
 pub mod Seats
 pub mod Kept
+pub mod Silence

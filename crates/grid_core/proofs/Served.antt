@@ -1,7 +1,7 @@
 -- One access in the cache of one cell.
-use Rattle.std.proofs.Common.{◌≡◌, ℕ, ◌+◌, Bool, true, false, cond, not, ◌&&◌, ◌==◌, ltb, ◌∷◌}
-use Rattle.std.proofs.Common.{Option, Some}
-use Rattle.std.proofs.Common.{None, refl, sym, ap, subst, ◌∙◌}
+use Rattle.std.proofs.Common.{◌≡◌, ℕ, ◌-◌, Bool, true, false, not, ◌&&◌, ◌==◌, ltb, ◌∷◌}
+use Rattle.std.proofs.Common.{Option}
+use Rattle.std.proofs.Common.{None, sym, ap, subst, ◌∙◌}
 use Rattle.std.specs.List.{list_any}
 use Rattle.cache_core.specs.declared.access.Access.{Access}
 use Rattle.cache_core.specs.declared.access.Outcome.{Outcome}
@@ -10,15 +10,17 @@ use Rattle.cache_core.specs.History.{Rules, History, access, block_of, is_write}
 use Rattle.cache_core.specs.Residents.{hits, renewals}
 use Rattle.cache_core.specs.Kinds.{shadow_of, referenced_blocks}
 use Rattle.cache_core.specs.Parts.{outcome_of}
-use Rattle.cache_core.specs.Counting.{with_one, with_access}
+use Rattle.cache_core.specs.Counting.{with_one}
 use Rattle.cache_core.proofs.Steps.{counts-step}
 use Rattle.grid_core.specs.declared.cells.Shape.{Shape}
 use Rattle.grid_core.specs.declared.shadows.Prior.{Prior}
 use Rattle.grid_core.specs.FullyAssociative.{shadow_misses}
 use Rattle.grid_core.specs.Ways.{with_ways, IsStacked, stack_distance}
-use Rattle.grid_core.specs.Cells.{IsPlacedOn, KnowsPrior, shape_rules}
+use Rattle.grid_core.specs.Cells.{IsPlacedOn, KnowsPrior, HitsIn, shape_rules}
+use Rattle.grid_core.specs.Hits.{hit_made}
 use Rattle.grid_core.proofs.Outcomes.{outcome-hit, outcome-kind, outcome-fetch, outcome-through}
-use Rattle.grid_core.proofs.Outcomes.{kind_made}
+use Rattle.grid_core.proofs.Outcomes.{kind_made, outcome-kept}
+use Rattle.grid_core.proofs.StackStep.{suc-pred}
 
 -- an outcome by its parts
 abbrev pub made : Bool → Option MissKind → Option ℕ → Bool → Bool → Outcome
@@ -75,6 +77,26 @@ module _ (r : Rules) (st : IsStacked r) (s : Shape) (on : IsPlacedOn r s) (h : H
         (ap (λ t. not (ltb t s.ways)) found ∙ sym (outcome-fetch r st s.ways on.fits h x))
         (et ∙ sym (outcome-through r st s.ways on.fits h x))
         ∙ ap (λ w. outcome_of w h x) on.same
+
+-- a hit, whatever is known of the block
+pub hit-is : (r : Rules) → IsStacked r → (s : Shape) → IsPlacedOn r s → (h : History) (x : Access)
+    → ltb (stack_distance r h (block_of r x)) s.ways ≡ true → HitsIn h x s
+hit-is r st s on h x near =
+    let n = s.ways in
+    let q = with_ways n r in
+    let o = outcome_of q h x in
+    let b = block_of q x in
+    ap (λ w. outcome_of w h x) (sym on.same)
+    ∙ same-parts o.hit true o.kind None o.back None o.fetch false o.through
+    (is_write x && not r.wback)
+    (outcome-hit r st n on.fits h x ∙ near)
+    (outcome-kind r st n on.fits h x
+    ∙ ap (λ t. kind_made t (list_any (λ z. z == b) (referenced_blocks q h))
+    (hits (shadow_of q) (renewals (shadow_of q) h) x)) near)
+    (outcome-kept r st n on.fits h x (n - 1) (suc-pred n on.some) near)
+    (outcome-fetch r st n on.fits h x ∙ ap not near)
+    (outcome-through r st n on.fits h x)
+    ∙ ap (λ (w : Rules). hit_made (is_write x && not w.wback)) on.same
 
 -- the misses of the shadow after an access
 pub far-step : (s : Shape) (h : History) (x : Access) (p : Prior) → KnowsPrior s h x p

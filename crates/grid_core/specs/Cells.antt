@@ -1,12 +1,12 @@
 -- The caches of one engine, and what each counts.
-use Rattle.std.specs.Prelude.{◌≡◌, ℕ, ◌+◌, ◌*◌, ◌<◌, ◌≤◌, ◌^◌, not, ◌==◌, nat_lt, List, length}
-use Rattle.std.specs.Prelude.{get_or, map}
-use Rattle.std.specs.Prelude.{◌∷◌}
+use Rattle.std.specs.Prelude.{◌≡◌, ℕ, ◌+◌, ◌<◌, ◌≤◌, ◌^◌, not, ◌==◌, nat_lt, List, length}
+use Rattle.std.specs.Prelude.{get_or}
+use Rattle.std.specs.Prelude.{◌∷◌, ◌&&◌}
 use Rattle.std.specs.List.{list_any}
 use Rattle.std.specs.Global.{Vec}
 use Rattle.cache_core.specs.declared.access.Access.{Access}
 use Rattle.cache_core.specs.declared.access.Outcome.{Outcome}
-use Rattle.cache_core.specs.History.{History, Rules, block_of, access}
+use Rattle.cache_core.specs.History.{History, Rules, block_of, access, is_write}
 use Rattle.cache_core.specs.Residents.{hits, renewals}
 use Rattle.cache_core.specs.Kinds.{referenced_blocks, shadow_of}
 use Rattle.cache_core.specs.Parts.{outcome_of}
@@ -18,6 +18,7 @@ use Rattle.grid_core.specs.declared.shadows.Prior.{Prior}
 use Rattle.grid_core.specs.Ways.{with_ways}
 use Rattle.grid_core.specs.Standing.{stack_rules}
 use Rattle.grid_core.specs.FullyAssociative.{shadow_misses}
+use Rattle.grid_core.specs.Hits.{hit_made}
 use Rattle.grid_core.specs.Written.{written_by}
 
 -- the rules of the cache of a shape
@@ -60,6 +61,10 @@ pub record IsDue (h : History) (x : Access) (p : Prior) (c : Cell) : Type 0 wher
 pub record IsServed (h : History) (x : Access) (c : Cell) : Type 0 where
   pub counted : IsCounted (access x ∷ h) c
   pub answer : c.answer ≡ outcome_of (shape_rules c.shape) h x
+
+-- the access x hits in the cache of a shape, after the history h
+abbrev pub HitsIn : History → Access → Shape → Type 0
+HitsIn h x s = outcome_of (shape_rules s) h x ≡ hit_made (is_write x && not s.wback)
 
 -- no count of the cell is above n
 pub record IsWithinCell (n : ℕ) (c : Cell) : Type 0 where

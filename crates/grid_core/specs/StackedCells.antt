@@ -1,5 +1,5 @@
 -- How the caches that are served together relate to the history.
-use Rattle.std.specs.Prelude.{◌≡◌, ℕ, Bool, false, List, length, map}
+use Rattle.std.specs.Prelude.{◌≡◌, ℕ, Bool, true, false, List, length, map}
 use Rattle.std.specs.List.{All}
 use Rattle.std.specs.Global.{Vec}
 use Rattle.cache_core.specs.declared.access.Access.{Access}
@@ -11,6 +11,7 @@ use Rattle.grid_core.specs.declared.stacked.Stacked.{Stacked}
 use Rattle.grid_core.specs.Standing.{StandsFor}
 use Rattle.grid_core.specs.Cells.{shape_rules, shape_in, items_of, dirty_bytes_of}
 use Rattle.grid_core.specs.State.{IsAfter, kept_by}
+use Rattle.grid_core.specs.Written.{SendsNothing}
 
 -- the rules of the caches
 unfoldable pub stacked_rules : Stacked → List Rules
@@ -37,6 +38,8 @@ pub record StackedStandsFor (e : Stacked) (h : History) : Type 0 where
 -- the last access was x, after the history h
 pub record StackedHasAnswered (e : Stacked) (h : History) (x : Access) : Type 0 where
   pub answers : All (λ c. c.answer ≡ outcome_of (shape_rules c.shape) h x) e.cells.items
+  pub silent : e.silent ≡ true →
+      All (λ c. SendsNothing (outcome_of (shape_rules c.shape) h x)) e.cells.items
 
 -- the lists are those of the dirty blocks of each cache, for any history that the rows stand for
 abbrev pub AreDirtyIn : Stacked → List (Vec ℕ) → Type 0

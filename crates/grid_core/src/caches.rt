@@ -11,7 +11,7 @@ ghost use Rattle.grid_core.specs.Written.{written_by};
 
 use crate::places::{Place, Seat, lists_of};
 use crate::single::Single;
-use crate::singles::{flush_in, serve_in, settle_in};
+use crate::singles::{flush_in, none_sent, serve_in, settle_in};
 use crate::stacked::Stacked;
 use cache_core::{Access, Counts, Outcome, PerClass};
 use std::alloc::{AllocError, Global};
@@ -76,7 +76,8 @@ fn flush_stacked(stacked: &mut Stacked, lists: &Vec<Vec<u64>>)
 }
 
 impl Caches {
-    ghost use Rattle.std.specs.Prelude.{◌≡◌, ◌<◌, ◌+◌, ◌^◌, ◌∷◌, ℕ, map, IfOk, OnOk, OnErr};
+    ghost use Rattle.std.specs.Prelude.{◌≡◌, ◌<◌, ◌+◌, ◌^◌, ◌∷◌, ℕ, true, map};
+    ghost use Rattle.std.specs.Prelude.{IfOk, OnOk, OnErr};
     ghost use Rattle.std.specs.List.{All};
     ghost use Rattle.cache_core.specs.History.{History, access as accessed, flush as flushed};
     ghost use Rattle.cache_core.specs.Counts.{counts_of};
@@ -86,7 +87,7 @@ impl Caches {
     ghost use Rattle.grid_core.specs.Caches.{HaveSameRules, HaveSameCounts, counts_in, misses_in};
     ghost use Rattle.grid_core.specs.Caches.{together_rules, apart_rules};
     ghost use Rattle.grid_core.specs.Places.{rules_placed, shadow_placed};
-    ghost use Rattle.grid_core.specs.Written.{written_by};
+    ghost use Rattle.grid_core.specs.Written.{written_by, SendsNothing};
 
     /// Serves an access in all caches. What can fail comes first, and only then is it counted.
     pub fn access(&mut self, access: Access) -> Result<(), AllocError>
@@ -155,6 +156,18 @@ impl Caches {
             Place::Together(index) => self.stacked.shadow_misses(index),
             Place::Apart(index) => self.singles[index].counts().misses,
         }
+    }
+
+    /// Whether the last access sent nothing to the next level at any place, as far as is known.
+    pub fn sent_nothing(&self) -> bool
+        ensures { result ≡ true → (h : History) (x : Access) → HaveAnswered h x self.now →
+            (place : Place) → HasPlace self.now place → SendsNothing (outcome_of
+            (rules_placed (together_rules self.now) (apart_rules self.now) place) h x) }
+    {
+        if !self.stacked.sent_nothing() {
+            return false;
+        }
+        none_sent(&self.singles)
     }
 
     /// What the last access did at a place.

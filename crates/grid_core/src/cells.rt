@@ -1,7 +1,7 @@
 //! The caches of one engine: what each counts, and what each did last.
 
 ghost use Rattle.std.specs.Prelude.{◌≡◌, ◌<◌, ◌≤◌, ◌^◌, ◌+◌, ℕ, not, ◌&&◌, nat_lt, map, []};
-ghost use Rattle.std.specs.Prelude.{if◌then◌else◌, Some, None, IfOk, length};
+ghost use Rattle.std.specs.Prelude.{if◌then◌else◌, Some, None, IfOk, length, true};
 ghost use Rattle.std.specs.List.{All};
 ghost use Rattle.cache_core.specs.declared.access.MissKind.TheVariants.{Compulsory, Capacity};
 ghost use Rattle.cache_core.specs.declared.access.MissKind.TheVariants.{Conflict};
@@ -13,7 +13,7 @@ ghost use Rattle.grid_core.specs.Standing.{StandsFor, HasLooked, rules_of, found
 ghost use Rattle.grid_core.specs.Cells.{IsPlacedOn, IsPlacedAmong, shape_rules, shape_in};
 ghost use Rattle.grid_core.specs.Cells.{KnowsPrior, IsDue, IsServed, IsCounted, IsWithinCell};
 ghost use Rattle.grid_core.specs.Cells.{HaveRoom, AreFlushedBy, flushed_by, dirty_bytes_of};
-ghost use Rattle.grid_core.specs.Cells.{items_of, after_outcome};
+ghost use Rattle.grid_core.specs.Cells.{items_of, after_outcome, HitsIn};
 ghost use Rattle.cache_core.specs.Counting.{AreWithin};
 ghost use Rattle.grid_core.specs.Hits.{hit_made};
 
@@ -114,7 +114,7 @@ fn back_in(stack: &Stack, access: Access, ways: usize, hit: bool) -> Option<u64>
 }
 
 /// Whether a write is sent on, where writes allocate.
-fn sends_on(write: bool, wback: bool) -> bool
+pub(crate) fn sends_on(write: bool, wback: bool) -> bool
     ensures { result ≡ (write && not wback) }
 {
     write && !wback
@@ -149,42 +149,56 @@ fn hit_outcome(through: bool) -> Outcome
     }
 }
 
-/// Serves an access in the cache of one cell, but for its shadow. A hit takes few steps.
-fn serve_ways(cell: &mut Cell, stack: &Stack, access: Access, prior: Prior)
+/// Serves an access in the cache of one cell, but for its shadow, and answers whether it hits. A
+/// hit takes few steps.
+fn serve_ways(cell: &mut Cell, stack: &Stack, access: Access, prior: Prior) -> bool
     requires placed { IsPlacedOn (rules_of stack.now) cell.old.shape }
     requires within { AreWithin cell.old.counts (2 ^ 46) }
-    ensures { (o : Outcome) × (cell.new ≡ after_outcome access o cell.old)
+    ensures serves { (o : Outcome) × (cell.new ≡ after_outcome access o cell.old)
         × ((h : History) → HasLooked stack.now h access →
         KnowsPrior cell.old.shape h access prior →
         o ≡ outcome_of (shape_rules cell.old.shape) h access) }
+    ensures hits { result ≡ true → (h : History) → HasLooked stack.now h access →
+        HitsIn h access cell.old.shape }
 {
     if stack.position() < cell.shape.ways {
         let through = sends_on(writes(access), stack.wback());
         count_hit(&mut cell.counts, access, through);
         cell.answer = hit_outcome(through);
-        return;
+        return true;
     }
     let outcome = outcome_in(stack, cell.shape, access, prior);
     count_outcome(&mut cell.counts, access, outcome);
     cell.answer = outcome;
+    false
 }
 
-/// Serves an access in the cache of one cell.
-fn serve_cell(cell: &mut Cell, stack: &Stack, access: Access, prior: Prior)
+/// Serves an access in the cache of one cell, and answers whether it hits.
+fn serve_cell(cell: &mut Cell, stack: &Stack, access: Access, prior: Prior) -> bool
     requires placed { IsPlacedOn (rules_of stack.now) cell.old.shape }
     requires within { (n : ℕ) × IsWithinCell n cell.old × (n < 2 ^ 46) }
     ensures shape { cell.new.shape ≡ cell.old.shape }
     ensures serves { (h : History) → HasLooked stack.now h access →
         IsDue h access prior cell.old → IsServed h access cell.new }
     ensures bounds { (n : ℕ) → IsWithinCell n cell.old → IsWithinCell (n + 1) cell.new }
+    ensures hits { result ≡ true → (h : History) → HasLooked stack.now h access →
+        HitsIn h access cell.old.shape }
 {
-    serve_ways(cell, stack, access, prior);
+    let hit = serve_ways(cell, stack, access, prior);
     let far = cell.shape.rank < prior.level;
     count(&mut cell.far, access, far);
+    hit
 }
 
-/// Serves an access in the caches of all cells.
-fn serve_all(cells: &mut [Cell], stacks: &[Stack], access: Access, prior: Prior)
+/// Whether both are true.
+fn both(first: bool, second: bool) -> bool
+    ensures { result ≡ (first && second) }
+{
+    first && second
+}
+
+/// Serves an access in the caches of all cells, and answers whether it hits in each.
+fn serve_all(cells: &mut [Cell], stacks: &[Stack], access: Access, prior: Prior) -> bool
     requires placed { All (λ s. IsPlacedAmong (map rules_of stacks.now) s)
         (map shape_in cells.old) }
     requires within { (n : ℕ) × All (IsWithinCell n) cells.old × (n < 2 ^ 46) }
@@ -193,15 +207,25 @@ fn serve_all(cells: &mut [Cell], stacks: &[Stack], access: Access, prior: Prior)
         All (IsDue h access prior) cells.old → All (IsServed h access) cells.new }
     ensures bounds { (n : ℕ) → All (IsWithinCell n) cells.old →
         All (IsWithinCell (n + 1)) cells.new }
+    ensures hits { result ≡ true → (h : History) → All (λ s. HasLooked s h access) stacks.now →
+        All (λ c. HitsIn h access c.shape) cells.new }
 {
+    let mut all_hit = true;
     for cell in cells.iter_mut() {
         let stack = &stacks[cell.shape.stack];
-        serve_cell(cell, stack, access, prior);
+        let hit = serve_cell(cell, stack, access, prior);
+        all_hit = both(all_hit, hit);
     }
+    all_hit
 }
 
 /// The same for the cells of a vector.
-pub(crate) fn serve_in(cells: &mut Vec<Cell>, stacks: &Vec<Stack>, access: Access, prior: Prior)
+pub(crate) fn serve_in(
+    cells: &mut Vec<Cell>,
+    stacks: &Vec<Stack>,
+    access: Access,
+    prior: Prior,
+) -> bool
     requires placed { All (λ s. IsPlacedAmong (map rules_of stacks.now.items) s)
         (map shape_in cells.old.items) }
     requires within { (n : ℕ) × All (IsWithinCell n) cells.old.items × (n < 2 ^ 46) }
@@ -210,8 +234,11 @@ pub(crate) fn serve_in(cells: &mut Vec<Cell>, stacks: &Vec<Stack>, access: Acces
         All (IsDue h access prior) cells.old.items → All (IsServed h access) cells.new.items }
     ensures bounds { (n : ℕ) → All (IsWithinCell n) cells.old.items →
         All (IsWithinCell (n + 1)) cells.new.items }
+    ensures hits { result ≡ true → (h : History) →
+        All (λ s. HasLooked s h access) stacks.now.items →
+        All (λ c. HitsIn h access c.shape) cells.new.items }
 {
-    serve_all(cells, stacks, access, prior);
+    serve_all(cells, stacks, access, prior)
 }
 
 /// The dirty blocks of one cell, by their first bytes, in rising order.

@@ -31,7 +31,7 @@ pub struct Engine {
 #[tactic(auto, unfolding(crate::specs::Engines::rules_in, crate::specs::Engines::served_in, crate::specs::Engines::kept_in, crate::specs::Engines::has_failed))]
 impl Engine {
     ghost use Rattle.std.specs.Prelude.{◌≡◌, ◌<◌, ◌+◌, ◌^◌, ◌∷◌, [], map, true, false};
-    ghost use Rattle.std.specs.Prelude.{OnOk, OnErr, IfOk, IsErr, get_or, length};
+    ghost use Rattle.std.specs.Prelude.{OnOk, OnErr, IfOk, IsErr, get_or, length, ℕ};
     ghost use Rattle.std.specs.List.{All};
     ghost use Rattle.cache_core.specs.Geometry.{bsize_of};
     ghost use Rattle.cache_core.specs.History.{History, access as accessed, flush as flushed};
@@ -42,7 +42,7 @@ impl Engine {
     ghost use Rattle.grid_core.specs.Cells.{items_of};
     ghost use Rattle.grid_core.specs.Engines.{EngineStandsFor, HasAnswered, rules_in};
     ghost use Rattle.grid_core.specs.Engines.{served_in, kept_in, has_failed};
-    ghost use Rattle.grid_core.specs.Written.{rules_at, written_by, none_kept};
+    ghost use Rattle.grid_core.specs.Written.{rules_at, written_by, none_kept, SendsNothing};
 
     /// Empty caches of these geometries.
     fn made(
@@ -187,6 +187,16 @@ impl Engine {
             result ≡ shadow_misses (rules_at (rules_in self.now) index) h }
     {
         self.caches.shadow_misses(self.seats[index].shade)
+    }
+
+    /// Whether the last access sent nothing to the next level in any cache: it wrote nothing back,
+    /// fetched nothing and is no write that is sent on. May be `false` though nothing was sent.
+    pub fn sent_nothing(&self) -> bool
+        ensures { result ≡ true → (h : History) (x : Access) → HasAnswered self.now h x →
+            (index : ℕ) → index < length (rules_in self.now) →
+            SendsNothing (outcome_of (rules_at (rules_in self.now) index) h x) }
+    {
+        self.caches.sent_nothing()
     }
 
     /// What the last access did in one cache.

@@ -3,6 +3,7 @@
 ghost use Rattle.std.specs.Prelude.{◌≡◌, true};
 ghost use Rattle.cache_core.specs.Standing.{rules_of, rules_from};
 ghost use Rattle.grid_core.specs.Wholes.{IsWholeOf, IsLruOf};
+ghost use Rattle.grid_core.specs.Written.{SendsNothing};
 
 use crate::cells::no_outcome;
 use crate::shapes::is_lru;
@@ -35,6 +36,13 @@ fn is_lru_of(policy: Policy, other: Policy) -> bool
     is_lru(policy) && policy.wback == other.wback && policy.walloc == other.walloc
 }
 
+/// Whether an access of this outcome sends nothing to the next level.
+fn sends_nothing(outcome: Outcome) -> bool
+    ensures { result ≡ true → SendsNothing outcome }
+{
+    outcome.back.is_none() && !outcome.fetch && !outcome.through
+}
+
 #[tactic(auto, unfolding(crate::specs::Singles::HasReached, crate::specs::Singles::HasServed))]
 impl Single {
     ghost use Rattle.std.specs.Prelude.{◌≡◌, ◌<◌, ◌+◌, ◌^◌, ◌∷◌, ℕ, true, [], IfOk, OnOk};
@@ -45,7 +53,7 @@ impl Single {
     ghost use Rattle.cache_core.specs.Parts.{outcome_of};
     ghost use Rattle.grid_core.specs.Singles.{SingleStandsFor, SingleHasAnswered, HasServed};
     ghost use Rattle.grid_core.specs.Singles.{HasReached, single_rules, single_counts};
-    ghost use Rattle.grid_core.specs.Written.{written_by};
+    ghost use Rattle.grid_core.specs.Written.{written_by, SendsNothing};
 
     /// An empty cache.
     pub fn new(alloc: Global, geometry: Geometry, policy: Policy) -> Result<Single, AllocError>
@@ -131,6 +139,14 @@ impl Single {
             result ≡ counts_of (single_rules self.now) h }
     {
         self.counts
+    }
+
+    /// Whether the last access sent nothing to the next level.
+    pub fn sent_nothing(&self) -> bool
+        ensures { result ≡ true → (h : History) (x : Access) → SingleHasAnswered h x self.now →
+            SendsNothing (outcome_of (single_rules self.now) h x) }
+    {
+        sends_nothing(self.answer)
     }
 
     /// What the last access did.

@@ -1,12 +1,13 @@
 //! All caches of their own.
 
-ghost use Rattle.std.specs.Prelude.{◌≡◌, ◌<◌, ◌+◌, ◌^◌, ◌∷◌, ℕ, map, length, IfOk, OnOk};
+ghost use Rattle.std.specs.Prelude.{◌≡◌, ◌<◌, ◌+◌, ◌^◌, ◌∷◌, ℕ, true, map, length, IfOk, OnOk};
 ghost use Rattle.std.specs.List.{All};
 ghost use Rattle.cache_core.specs.History.{History, access as accessed, flush as flushed};
+ghost use Rattle.cache_core.specs.Parts.{outcome_of};
 ghost use Rattle.grid_core.specs.Cells.{items_of};
 ghost use Rattle.grid_core.specs.Singles.{SingleStandsFor, SingleHasAnswered, HasServed};
 ghost use Rattle.grid_core.specs.Singles.{HasReached, single_rules, single_counts};
-ghost use Rattle.grid_core.specs.Written.{written_by};
+ghost use Rattle.grid_core.specs.Written.{written_by, SendsNothing};
 
 use crate::single::Single;
 use cache_core::Access;
@@ -110,4 +111,18 @@ pub(crate) fn settle_in(singles: &mut Vec<Single>)
     ensures rules { map single_rules singles.new.items ≡ map single_rules singles.old.items }
 {
     settle_all(singles);
+}
+
+/// Whether the last access sent nothing to the next level in any of these caches.
+pub(crate) fn none_sent(singles: &[Single]) -> bool
+    ensures { result ≡ true → (h : History) (x : Access) →
+        All (SingleHasAnswered h x) singles.now →
+        All (λ s. SendsNothing (outcome_of (single_rules s) h x)) singles.now }
+{
+    for single in singles {
+        if !single.sent_nothing() {
+            return false;
+        }
+    }
+    true
 }

@@ -1,7 +1,7 @@
 //! Caches that are served together by their stack order: LRU, with write allocation.
 
 ghost use Rattle.std.specs.Prelude.{◌≡◌, ◌≤◌, ◌^◌, ◌*◌, [], length, map, true, false, IfOk};
-ghost use Rattle.std.specs.Prelude.{OnOk};
+ghost use Rattle.std.specs.Prelude.{OnOk, not, ◌&&◌};
 ghost use Rattle.std.specs.List.{All};
 ghost use Rattle.cache_core.specs.History.{History};
 ghost use Rattle.cache_core.specs.Dirty.{rising};
@@ -13,10 +13,10 @@ ghost use Rattle.grid_core.specs.Shapes.{has_size, IsSuitedShape};
 ghost use Rattle.grid_core.specs.Cells.{IsPlacedAmong, IsWithinCell, shape_in, shape_rules};
 ghost use Rattle.grid_core.specs.State.{IsAfter, IsRanked, IsFresh, IsCellFor};
 
-use crate::cells::{Cell, Shape, dirty_lists, flush_in, fresh_cell, serve_in};
+use crate::cells::{Cell, Shape, dirty_lists, flush_in, fresh_cell, sends_on, serve_in};
 use crate::shadows::Shadows;
 use crate::shapes::{rank_of, rising_sizes, stack_for, ways_of};
-use crate::stack::Stack;
+use crate::stack::{Stack, writes};
 use crate::stacks::{clear_in, look_in, touch_in};
 use cache_core::{Access, Counts, Geometry, NoMemory, Outcome, PerClass};
 use std::alloc::{AllocError, Global};
@@ -29,15 +29,19 @@ pub(crate) struct Stacked {
     alloc: Global,
     /// A geometry of the block size.
     geometry: Geometry,
+    wback: bool,
     stacks: Vec<Stack>,
     shadows: Shadows,
     cells: Vec<Cell>,
     served: u64,
     failed: bool,
+    /// Whether it is known that the last access sent nothing to the next level.
+    silent: bool,
     ghost rises: { rising (shadow_sizes shadows) ≡ shadow_sizes shadows },
     ghost placed: { All (λ s. IsPlacedAmong (map rules_of stacks.items) s)
         (map shape_in cells.items) },
     ghost ranked: { All (IsRanked (shadow_sizes shadows) geometry) (map shape_in cells.items) },
+    ghost one_policy: { All (λ s. s.wback ≡ wback) (map shape_in cells.items) },
     ghost bounded: { All (IsWithinCell (2 * served)) cells.items },
     ghost few: { served ≤ 2 ^ 44 },
     // Unless it has failed, a history of as many events made it; so a flush has room for its
@@ -96,6 +100,8 @@ fn parts_for(
         All (IsRanked sizes.now first) (map shape_in parts.cells.items)) }
     ensures placed { IfOk result (λ parts.
         All (IsPlacedAmong (map rules_of parts.stacks.items)) (map shape_in parts.cells.items)) }
+    ensures one_policy { IfOk result (λ parts.
+        All (λ s. s.wback ≡ wback) (map shape_in parts.cells.items)) }
     ensures stands { IfOk result (λ parts. All (λ s. StandsFor s []) parts.stacks.items) }
     ensures fresh { IfOk result (λ parts. All IsFresh parts.cells.items) }
 {
@@ -108,10 +114,18 @@ fn parts_for(
     Ok(Parts { stacks, cells })
 }
 
+/// Whether an access sends nothing on, by whether it hits in all caches, and is a write that is
+/// sent on.
+fn is_silent(all_hit: bool, through: bool) -> bool
+    ensures { result ≡ (all_hit && not through) }
+{
+    all_hit && !through
+}
+
 #[tactic(auto, unfolding(crate::specs::StackedCells::stacked_rules, crate::specs::StackedCells::stacked_served, crate::specs::StackedCells::stacked_kept, crate::specs::StackedCells::stacked_failed))]
 impl Stacked {
     ghost use Rattle.std.specs.Prelude.{◌≡◌, ◌<◌, ◌≤◌, ◌+◌, ◌*◌, ◌^◌, ◌∷◌, [], map, true, false};
-    ghost use Rattle.std.specs.Prelude.{OnOk, OnErr, IfOk, IsErr, get_or, length};
+    ghost use Rattle.std.specs.Prelude.{OnOk, OnErr, IfOk, IsErr, get_or, length, ℕ};
     ghost use Rattle.std.specs.List.{All};
     ghost use Rattle.cache_core.specs.Geometry.{bsize_of};
     ghost use Rattle.cache_core.specs.History.{History, access as accessed, flush as flushed};
@@ -123,7 +137,7 @@ impl Stacked {
     ghost use Rattle.grid_core.specs.StackedCells.{StackedStandsFor, StackedHasAnswered};
     ghost use Rattle.grid_core.specs.StackedCells.{stacked_rules, AreDirtyIn};
     ghost use Rattle.grid_core.specs.StackedCells.{stacked_served, stacked_kept, stacked_failed};
-    ghost use Rattle.grid_core.specs.Written.{rules_at, written_by, none_kept};
+    ghost use Rattle.grid_core.specs.Written.{rules_at, written_by, none_kept, SendsNothing};
 
     /// Empty caches of these geometries, which have the block size of `first`.
     pub fn new(
@@ -145,11 +159,13 @@ impl Stacked {
         Ok(Stacked {
             alloc,
             geometry: first,
+            wback,
             stacks: parts.stacks,
             shadows,
             cells: parts.cells,
             served: 0,
             failed: false,
+            silent: true,
         })
     }
 
@@ -178,8 +194,10 @@ impl Stacked {
             return Err(NoMemory);
         };
         look_in(&mut self.stacks, access);
-        serve_in(&mut self.cells, &self.stacks, access, prior);
+        let all_hit = serve_in(&mut self.cells, &self.stacks, access, prior);
         touch_in(&mut self.stacks, access);
+        let through = sends_on(writes(access), self.wback);
+        self.silent = is_silent(all_hit, through);
         self.served += 1;
         Ok(())
     }
@@ -240,6 +258,15 @@ impl Stacked {
             result ≡ shadow_misses (rules_at (stacked_rules self.now) index) h }
     {
         self.cells[index].far
+    }
+
+    /// Whether the last access sent nothing to the next level in any cache, as far as is known.
+    pub fn sent_nothing(&self) -> bool
+        ensures { result ≡ true → (h : History) (x : Access) → StackedHasAnswered self.now h x →
+            (index : ℕ) → index < length (stacked_rules self.now) →
+            SendsNothing (outcome_of (rules_at (stacked_rules self.now) index) h x) }
+    {
+        self.silent
     }
 
     /// What the last access did in one cache.

@@ -1,12 +1,13 @@
 //! An engine beside single caches, on pseudo-random accesses and flushes.
 
-use cache_core::{Access, Cache, Class, Geometry, MAX_EVENTS, Policy, Repl};
+use cache_core::{Access, Cache, Class, Geometry, MAX_EVENTS, Outcome, Policy, Repl};
 use grid_core::{Engine, share_block_size};
 use std::alloc::Global;
 use std::process::Abort;
 use std::test::Fail;
 
 mod memory;
+mod sent;
 
 /// The next pseudo-random number, by a linear congruence with Knuth's constants.
 fn next_random(state: &mut u64) -> u64 {
@@ -76,7 +77,13 @@ fn caches_of(
     caches
 }
 
-/// Serves an access in the engine and in each cache. The outcomes have to agree.
+/// Whether an access of this outcome sends nothing to the next level.
+fn sends_nothing(outcome: Outcome) -> bool {
+    outcome.back.is_none() && !outcome.fetch && !outcome.through
+}
+
+/// Serves an access in the engine and in each cache. The outcomes have to agree, and where the
+/// engine says that nothing was sent, no outcome sends anything.
 fn access_alike(rt: &impl Abort, engine: &mut Engine, caches: &mut Vec<Cache>, access: Access) {
     assert!(rt; engine.served() < MAX_EVENTS);
     engine.access(access).expect(rt, "memory");
@@ -85,6 +92,7 @@ fn access_alike(rt: &impl Abort, engine: &mut Engine, caches: &mut Vec<Cache>, a
         let outcome = cache.access(access).expect(rt, "memory");
         assert!(rt; index < engine.cells());
         assert_eq!(rt; engine.answer(index), outcome);
+        assert!(rt; sends_nothing(outcome) || !engine.sent_nothing());
     }
 }
 

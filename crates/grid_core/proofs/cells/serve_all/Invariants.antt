@@ -1,9 +1,9 @@
-use Rattle.std.proofs.Common.{◌≡◌, ℕ, ◌≤◌, ◌+◌, get_or, map}
+use Rattle.std.proofs.Common.{◌≡◌, ℕ, ◌≤◌, ◌+◌, true, get_or, map}
 use Rattle.std.specs.List.{All, AllWithin}
 use Rattle.cache_core.specs.History.{History}
 use Rattle.grid_core.specs.declared.cells.Cell.{Cell}
 use Rattle.grid_core.specs.Standing.{HasLooked}
-use Rattle.grid_core.specs.Cells.{IsDue, IsServed, IsWithinCell, shape_in}
+use Rattle.grid_core.specs.Cells.{IsDue, IsServed, IsWithinCell, HitsIn, shape_in}
 use Rattle.grid_core.proofs.cells.serve_all.Given as goal
 
 -- the cells that were passed are served, and the others are as they were
@@ -15,6 +15,8 @@ invariant-loop-cell l = record {
       AllWithin (IsServed h l.access) l.cells 0 l.cell-index;
   bounds : (n : ℕ) → All (IsWithinCell n) l.initial.cells →
       AllWithin (IsWithinCell (n + 1)) l.cells 0 l.cell-index;
+  hits : l.all_hit ≡ true → (h : History) → All (λ s. HasLooked s h l.access) l.stacks →
+      AllWithin (λ c. HitsIn h l.access c.shape) l.cells 0 l.cell-index;
   left : (k : ℕ) (d : Cell) → l.cell-index ≤ k →
       get_or l.cells k d ≡ get_or l.initial.cells k d;
 }

@@ -1,9 +1,9 @@
-use Rattle.std.proofs.Common.{◌≡◌, ◌+◌, ltb, sym, ap, subst, ◌∙◌, refl}
+use Rattle.std.proofs.Common.{◌≡◌, ◌+◌, ltb, sym, ap, subst, ◌∙◌}
 use Rattle.cache_core.specs.declared.access.Access.{Access}
 use Rattle.cache_core.specs.declared.access.Outcome.{Outcome}
 use Rattle.cache_core.specs.declared.counts.PerClass.{PerClass}
 use Rattle.cache_core.specs.Parts.{outcome_of}
-use Rattle.cache_core.specs.Counting.{AreWithin, IsWithin, with_access, with_one}
+use Rattle.cache_core.specs.Counting.{with_access, with_one}
 use Rattle.cache_core.proofs.CacheFacts.{AreWithin-with_access, IsWithin-with_one}
 use Rattle.cache_core.proofs.Steps.{counts-step}
 use Rattle.grid_core.specs.declared.cells.Cell.{Cell}
@@ -35,10 +35,10 @@ returns-clause-serves c = λ h looked due.
     let p = c.args.prior in
     let r = shape_rules s in
     let old = c.args.cell.now in
-    let o = c.serve_ways.ensures.0 in
-    let is = c.serve_ways.ensures.2 h looked due.prior in
-    subst (IsServed h x) (sym (two-steps x p o old c.serve_ways.new.cell c.count.new.per_class
-    c.serve_ways.ensures.1 c.count.ensures)) (record {
+    let o = c.serve_ways-hit.ensures.serves.0 in
+    let is = c.serve_ways-hit.ensures.serves.2 h looked due.prior in
+    subst (IsServed h x) (sym (two-steps x p o old c.serve_ways-hit.new.cell c.count.new.per_class
+    c.serve_ways-hit.ensures.serves.1 c.count.ensures)) (record {
       counted = record {
         counts = ap (λ o. with_access x o old.counts) is
             ∙ ap (with_access x (outcome_of r h x)) due.counted.counts ∙ counts-step r h x;
@@ -52,9 +52,9 @@ returns-clause-bounds c = λ n within.
     let old = c.args.cell.now in
     let x = c.args.access in
     let p = c.args.prior in
-    let o = c.serve_ways.ensures.0 in
-    subst (IsWithinCell (n + 1)) (sym (two-steps x p o old c.serve_ways.new.cell
-    c.count.new.per_class c.serve_ways.ensures.1 c.count.ensures)) (record {
+    let o = c.serve_ways-hit.ensures.serves.0 in
+    subst (IsWithinCell (n + 1)) (sym (two-steps x p o old c.serve_ways-hit.new.cell
+    c.count.new.per_class c.serve_ways-hit.ensures.serves.1 c.count.ensures)) (record {
       counts = AreWithin-with_access x o old.counts n within.counts;
       far = IsWithin-with_one x (ltb old.shape.rank p.level) old.far n within.far;
     })

@@ -52,6 +52,9 @@ loop-geometry-preserved c =
           (All-push (IsSuitedShape stacks') (map shape_in old) v.shape
           (All-weaker (IsSuitedShape stacks) (IsSuitedShape stacks') c.in_ok-cell.ensures.kept
           (map shape_in old) c.loop-geometry.invariant.suited) own.suited);
+      one_policy = subst (All (λ s. s.wback ≡ wback)) (sym shapes)
+          (All-push (λ s. s.wback ≡ wback) (map shape_in old) v.shape
+          c.loop-geometry.invariant.one_policy own.same_wback);
       stands = c.in_ok-cell.ensures.stands c.loop-geometry.invariant.stands;
       fresh = subst (All IsFresh) (sym is)
           (All-push IsFresh old v c.loop-geometry.invariant.fresh own.fresh);

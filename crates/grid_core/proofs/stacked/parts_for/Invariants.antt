@@ -13,6 +13,7 @@ invariant-loop-geometry l = record {
       ≡ map (λ g. stack_rules g l.wback) (take l.geometry-index l.geometries);
   ranked : All (IsRanked l.sizes l.fn.first) (map shape_in l.cells.items);
   suited : All (IsSuitedShape l.stacks.items) (map shape_in l.cells.items);
+  one_policy : All (λ s. s.wback ≡ l.wback) (map shape_in l.cells.items);
   stands : All (λ s. StandsFor s []) l.stacks.items;
   fresh : All IsFresh l.cells.items;
 }

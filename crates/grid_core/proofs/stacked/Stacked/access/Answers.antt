@@ -1,6 +1,7 @@
-use Rattle.std.proofs.Common.{◌≤◌, ◌+◌, ◌*◌, ◌^◌, ◌||◌, ◌==◌, ℕ, List, map, sym, ap}
+use Rattle.std.proofs.Common.{◌≡◌, ◌≤◌, ◌+◌, ◌*◌, ◌^◌, ◌||◌, ◌&&◌, ◌==◌, ℕ, not, List, map, sym, ap}
 use Rattle.std.proofs.Common.{subst, ◌∙◌, arith}
 use Rattle.std.specs.List.{All}
+use Rattle.std.proofs.lemmas.Bool.{not-true}
 use Rattle.std.proofs.lemmas.List.Elements.{All-weaker}
 use Rattle.cache_core.specs.Dirty.{rising}
 use Rattle.cache_core.specs.History.{Rules, access as accessed}
@@ -12,11 +13,13 @@ use Rattle.grid_core.specs.Cells.{IsPlacedAmong, shape_in}
 use Rattle.grid_core.specs.State.{IsRanked}
 use Rattle.grid_core.specs.StackedCells.{stacked_rules, stacked_served, stacked_failed}
 use Rattle.grid_core.proofs.After.{cells-due, after-access, lived-next, all-more, same-rules}
+use Rattle.grid_core.proofs.Hitting.{both-true}
+use Rattle.grid_core.proofs.Silence.{hits-send-nothing}
 use Rattle.grid_core.proofs.Sizes.{rising-is}
 use Rattle.grid_core.proofs.stacked.Stacked.access.Goals as goal
 
-pub serve_in-requires-clause-within : goal.serve_in-requires-clause-within
-serve_in-requires-clause-within c =
+pub serve_in-all_hit-requires-clause-within : goal.serve_in-all_hit-requires-clause-within
+serve_in-all_hit-requires-clause-within c =
     let old = c.args.self.now in
     let few = old.few in
     (2 * old.served, old.bounded, omega arith)
@@ -30,8 +33,8 @@ invariant_of-self-2 c =
     let n = old.served in
     let sizes = shadow_sizes old.shadows in
     let looked = c.look_in.new.stacks.items in
-    let new = c.serve_in.new.cells.items in
-    let shapes = c.serve_in.ensures.shapes in
+    let new = c.serve_in-all_hit.new.cells.items in
+    let shapes = c.serve_in-all_hit.ensures.shapes in
     let same = c.in-Ok.ensures.sizes in
     let block = c.block-block.ensures in
     let few : n + 1 ≤ 2 ^ 44 = let lt = c.requires in omega arith in
@@ -43,8 +46,10 @@ invariant_of-self-2 c =
           (sym shapes) old.placed);
       ranked = subst (λ (z : List ℕ). All (IsRanked z g) (map shape_in new)) (sym same)
           (subst (λ (l : List Shape). All (IsRanked sizes g) l) (sym shapes) old.ranked);
+      one_policy = subst (λ (l : List Shape). All (λ s. s.wback ≡ old.wback) l) (sym shapes)
+          old.one_policy;
       bounded = all-more (2 * n + 1) (2 * (n + 1)) (omega arith) new
-          (c.serve_in.ensures.bounds (2 * n) old.bounded);
+          (c.serve_in-all_hit.ensures.bounds (2 * n) old.bounded);
       few = few;
       lived = λ _. lived-next g old.stacks.items c.touch_in.new.stacks.items old.shadows
           c.touch.new.self old.cells.items new n (accessed x) (old.lived c.if-self.false)
@@ -55,7 +60,7 @@ invariant_of-self-2 c =
           (λ zs held. subst (λ b. HoldsOrder c.touch.new.self (brought_front b zs)) block
           (c.in-Ok.ensures.order zs held))
           (λ q. c.in-Ok.ensures.adds q ∙ ap (λ b. b == q || is_known old.shadows q) block)
-          (c.serve_in.ensures.serves h (c.look_in.ensures.looked h st.rows)
+          (c.serve_in-all_hit.ensures.serves h (c.look_in.ensures.looked h st.rows)
           (cells-due g h x sizes (rising-is sizes old.rises) old.stacks.items old.shadows
           old.cells.items c.in-Ok.prior st
           (c.in-Ok.ensures.known ∙ ap (is_known old.shadows) block)
@@ -71,7 +76,7 @@ returns-clause-stands c = λ h e.
     let g = old.geometry in
     let sizes = shadow_sizes old.shadows in
     let looked = c.look_in.new.stacks.items in
-    let new = c.serve_in.new.cells.items in
+    let new = c.serve_in-all_hit.new.cells.items in
     let block = c.block-block.ensures in
     let st = e.state in
     record {
@@ -84,7 +89,7 @@ returns-clause-stands c = λ h e.
           (λ zs held. subst (λ b. HoldsOrder c.touch.new.self (brought_front b zs)) block
           (c.in-Ok.ensures.order zs held))
           (λ q. c.in-Ok.ensures.adds q ∙ ap (λ b. b == q || is_known old.shadows q) block)
-          (c.serve_in.ensures.serves h (c.look_in.ensures.looked h st.rows)
+          (c.serve_in-all_hit.ensures.serves h (c.look_in.ensures.looked h st.rows)
           (cells-due g h x sizes (rising-is sizes old.rises) old.stacks.items old.shadows
           old.cells.items c.in-Ok.prior st
           (c.in-Ok.ensures.known ∙ ap (is_known old.shadows) block)
@@ -101,15 +106,25 @@ returns-clause-answers c = λ h e.
     let block = c.block-block.ensures in
     let st = e.state in
     record {
-      answers = λ k d lt. (c.serve_in.ensures.serves h (c.look_in.ensures.looked h st.rows)
+      answers = λ k d lt. (c.serve_in-all_hit.ensures.serves h (c.look_in.ensures.looked h st.rows)
           (cells-due g h x sizes (rising-is sizes old.rises) old.stacks.items old.shadows
           old.cells.items c.in-Ok.prior st
           (c.in-Ok.ensures.known ∙ ap (is_known old.shadows) block)
           (λ zs held. c.in-Ok.ensures.level zs held ∙ ap (level_of sizes zs) block)
           old.ranked) k d lt).answer;
+      silent = λ none.
+          let each = both-true c.serve_in-all_hit.result (not c.sends_on-through.result)
+          (sym c.is_silent-self.ensures ∙ none) in
+          hits-send-nothing h x old.wback c.sends_on-through.result
+          c.serve_in-all_hit.new.cells.items
+          (c.serve_in-all_hit.ensures.hits each.0 h (c.look_in.ensures.looked h st.rows))
+          (subst (λ (l : List Shape). All (λ s. s.wback ≡ old.wback) l)
+          (sym c.serve_in-all_hit.ensures.shapes) old.one_policy)
+          (c.sends_on-through.ensures ∙ ap (λ t. t && not old.wback) c.writes.ensures)
+          (not-true c.sends_on-through.result each.1);
     }
 
 pub returns-clause-rules : goal.returns-clause-rules
 unfolding stacked_rules
-returns-clause-rules c = same-rules c.args.self.now.cells.items c.serve_in.new.cells.items
-    c.serve_in.ensures.shapes
+returns-clause-rules c = same-rules c.args.self.now.cells.items c.serve_in-all_hit.new.cells.items
+    c.serve_in-all_hit.ensures.shapes

@@ -1,4 +1,4 @@
-use Rattle.std.proofs.Common.{◌≤◌, ◌+◌, ◌^◌, ℕ, List, map, sym, ap, subst, ◌∙◌}
+use Rattle.std.proofs.Common.{◌≡◌, ◌≤◌, ◌+◌, ◌^◌, ℕ, List, map, sym, ap, subst, ◌∙◌}
 use Rattle.std.proofs.Common.{arith}
 use Rattle.std.specs.List.{All}
 use Rattle.cache_core.specs.Dirty.{rising}
@@ -53,6 +53,8 @@ invariant_of-self c =
       ranked = subst (λ (z : List ℕ). All (IsRanked z g) (map shape_in new)) (sym same)
           (subst (λ (l : List Shape). All (IsRanked (shadow_sizes old.shadows) g) l)
           (sym shapes) old.ranked);
+      one_policy = subst (λ (l : List Shape). All (λ s. s.wback ≡ old.wback) l) (sym shapes)
+          old.one_policy;
       bounded = flushed-within n lists cells new len size done
           (paid-of g old.stacks.items old.shadows cells n lists len lived c.requires.lists)
           old.bounded;

@@ -22,6 +22,7 @@ invariant_of-result c =
       placed = c.in_ok-parts.ensures.placed;
       ranked = subst (λ (l : List ℕ). All (IsRanked l first) (map shape_in cells))
           (sym (sizes ∙ sym c.deref-2.ensures.value)) c.in_ok-parts.ensures.ranked;
+      one_policy = c.in_ok-parts.ensures.one_policy;
       bounded = λ k d lt. (fresh k d lt).within;
       few = omega arith;
       lived = λ _. ∣ (

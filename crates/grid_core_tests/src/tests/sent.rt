@@ -1,0 +1,76 @@
+//! Whether an access sent nothing to the next level, worked out by hand.
+
+use cache_core::{Access, Class, Geometry, MAX_EVENTS, Policy, Repl};
+use grid_core::{Engine, share_block_size};
+use std::alloc::Global;
+use std::process::Abort;
+use std::test::Fail;
+
+/// An engine of a direct-mapped and a two-way cache, each of four sets of blocks of four bytes.
+fn made(rt: &impl Abort, alloc: Global, repl: Repl, wback: bool) -> Engine {
+    let narrow = Geometry::new(16, 4, 1).expect(rt, "a lawful geometry");
+    let wide = Geometry::new(32, 4, 2).expect(rt, "a lawful geometry");
+    let geometries = [narrow, wide];
+    let policy = Policy {
+        repl,
+        wback,
+        walloc: true,
+    };
+    assert!(rt; share_block_size(&geometries, narrow));
+    Engine::new(alloc, &geometries, narrow, policy).expect(rt, "memory")
+}
+
+/// Serves an access. It has to send something, or the engine has to say that it sent nothing.
+fn expect_sent(rt: &impl Abort, engine: &mut Engine, class: Class, addr: u64, sent: bool) {
+    assert!(rt; engine.served() < MAX_EVENTS);
+    engine.access(Access { class, addr }).expect(rt, "memory");
+    assert_eq!(rt; engine.sent_nothing(), !sent);
+}
+
+/// Reads of two blocks of one set. Both stay in the two-way cache, and push one another out of the
+/// direct-mapped one.
+fn reads_alike(rt: &impl Abort, engine: &mut Engine) {
+    expect_sent(rt, engine, Class::Read, 0, true);
+    expect_sent(rt, engine, Class::Read, 3, false);
+    expect_sent(rt, engine, Class::Instr, 16, true);
+    expect_sent(rt, engine, Class::Misc, 17, false);
+    expect_sent(rt, engine, Class::Read, 0, true);
+    expect_sent(rt, engine, Class::Read, 16, true);
+    assert!(rt; engine.served() < MAX_EVENTS);
+    let _lists = engine.flush().expect(rt, "memory");
+    expect_sent(rt, engine, Class::Read, 16, true);
+    expect_sent(rt, engine, Class::Read, 16, false);
+}
+
+/// A write to a block that all caches hold is sent on if they write through. A block that was
+/// written is written back if the direct-mapped cache needs its place.
+fn writes_alike(rt: &impl Abort, engine: &mut Engine, through: bool) {
+    expect_sent(rt, engine, Class::Write, 18, through);
+    expect_sent(rt, engine, Class::Read, 18, false);
+    expect_sent(rt, engine, Class::Write, 4, true);
+    expect_sent(rt, engine, Class::Write, 4, through);
+    expect_sent(rt, engine, Class::Read, 16, false);
+    expect_sent(rt, engine, Class::Write, 0, true);
+}
+
+#[test]
+fn stacked_caches_tell_what_they_send(rt: HostRuntime) -> Result<(), Fail> {
+    let mut back = made(&rt, rt.alloc(), Repl::Lru, true);
+    reads_alike(&rt, &mut back);
+    writes_alike(&rt, &mut back, false);
+    let mut through = made(&rt, rt.alloc(), Repl::Lru, false);
+    reads_alike(&rt, &mut through);
+    writes_alike(&rt, &mut through, true);
+    Ok(())
+}
+
+#[test]
+fn fifo_caches_tell_what_they_send(rt: HostRuntime) -> Result<(), Fail> {
+    let mut back = made(&rt, rt.alloc(), Repl::Fifo, true);
+    reads_alike(&rt, &mut back);
+    writes_alike(&rt, &mut back, false);
+    let mut through = made(&rt, rt.alloc(), Repl::Fifo, false);
+    reads_alike(&rt, &mut through);
+    writes_alike(&rt, &mut through, true);
+    Ok(())
+}
