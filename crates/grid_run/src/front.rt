@@ -1,6 +1,7 @@
 //! First-level caches of one side, and what each sends to the second level.
 
-ghost use Rattle.std.specs.Prelude.{◌≡◌};
+ghost use Rattle.std.specs.Prelude.{◌≡◌, if◌then◌else◌};
+ghost use Rattle.grid_run.specs.declared.front.Last.TheVariants as last;
 
 use crate::level::Level;
 use crate::parts::{ask_backs, ask_parts};
@@ -16,7 +17,9 @@ use std::alloc::Global;
 pub(crate) enum Last {
     /// The event did not concern them.
     Nothing,
-    /// An access.
+    /// An access that sent nothing in any cache.
+    Silence,
+    /// Another access.
     Access(Access),
     /// A flush, with the first bytes of the blocks that each cache wrote back.
     Flush(Vec<Vec<u64>>),
@@ -29,15 +32,22 @@ pub(crate) struct Front {
     last: Last,
 }
 
+/// What the caches served last, if that was an access, which may have sent nothing in any cache.
+fn last_of(access: Access, sent_nothing: bool) -> Last
+    ensures { result ≡ (if sent_nothing then last.Silence else last.Access access) }
+{
+    if sent_nothing { Last::Silence } else { Last::Access(access) }
+}
+
 impl Front {
     ghost use Rattle.std.specs.Prelude.{◌≡◌, ◌<◌, ◌^◌, ◌++◌, ◌∷◌, [], List, IfOk, OnOk, Option};
-    ghost use Rattle.std.specs.Prelude.{Some, length};
+    ghost use Rattle.std.specs.Prelude.{Some, true, length};
     ghost use Rattle.cache_core.specs.History.{History, access as accessed, flush as flushed};
     ghost use Rattle.grid_core.specs.Written.{rules_at};
     ghost use Rattle.stage_core.specs.declared.message.What.{What as Sent};
     ghost use Rattle.grid_run.specs.declared.requests.Request.{Request as Asked};
     ghost use Rattle.grid_run.specs.declared.requests.Request.TheVariants as asked;
-    ghost use Rattle.grid_run.specs.Fronts.{front_rules, FrontStandsFor, HasSent};
+    ghost use Rattle.grid_run.specs.Fronts.{FrontStandsFor, HasSent, IsSilent, front_rules};
     ghost use Rattle.grid_run.specs.Sending.{SecondAsked, after_request, sent_for};
     ghost use Rattle.grid_run.specs.Seats.{rules_on};
 
@@ -62,7 +72,7 @@ impl Front {
         ensures rules { front_rules self.new ≡ front_rules self.old }
     {
         self.level.access(access)?;
-        self.last = Last::Access(access);
+        self.last = last_of(access, self.level.sent_nothing());
         Ok(())
     }
 
@@ -99,6 +109,16 @@ impl Front {
         }
     }
 
+    /// Whether no cache sent anything for the last request. May be `false` though none did.
+    pub fn is_silent(&self) -> bool
+        ensures { result ≡ true → IsSilent self.now }
+    {
+        match &self.last {
+            Last::Nothing | Last::Silence => true,
+            Last::Access(_) | Last::Flush(_) => false,
+        }
+    }
+
     /// Asks for what one cache sent for the last request at the second level.
     pub fn send(&self, cell: usize, side: Side, u: &mut Second) -> Result<(), NoMemory>
         requires inside { cell < length (front_rules self.now) }
@@ -109,7 +129,7 @@ impl Front {
         ensures level { u.new.level ≡ u.old.level }
     {
         match &self.last {
-            Last::Nothing => Ok(()),
+            Last::Nothing | Last::Silence => Ok(()),
             Last::Access(access) => {
                 let outcome = self.level.outcome(cell);
                 let block = self.level.first_byte(access.addr);

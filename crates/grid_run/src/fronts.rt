@@ -1,11 +1,12 @@
 //! The first-level caches of one side.
 
 ghost use Rattle.std.specs.Prelude.{◌≡◌, ◌<◌, ◌*◌, ◌++◌, ◌∷◌, [], List, IfOk, OnOk, map, length};
+ghost use Rattle.std.specs.Prelude.{true};
 ghost use Rattle.std.specs.List.{All};
 ghost use Rattle.din_trace.specs.declared.record.DinRecord.{DinRecord as Event};
 ghost use Rattle.stage_core.specs.declared.message.Side.TheVariants as side;
 ghost use Rattle.grid_run.specs.Backs.{FrontAt, FrontSent};
-ghost use Rattle.grid_run.specs.Fronts.{front_rules};
+ghost use Rattle.grid_run.specs.Fronts.{IsSilent, front_rules};
 ghost use Rattle.grid_run.specs.Seats.{rules_on};
 
 use crate::front::Front;
@@ -65,4 +66,24 @@ pub(crate) fn serve_fronts(
     ensures rules { map front_rules fronts.new.items ≡ map front_rules fronts.old.items }
 {
     serve_each(fronts, side, event)
+}
+
+/// Whether no cache sent anything for the last event. May be `false` though none did.
+fn are_silent(fronts: &[Front]) -> bool
+    ensures { result ≡ true → All IsSilent fronts.now }
+{
+    for front in fronts {
+        if !front.is_silent() {
+            return false;
+        }
+    }
+    true
+}
+
+/// The same for the caches of both sides.
+pub(crate) fn are_both_silent(i: &Vec<Front>, d: &Vec<Front>) -> bool
+    ensures i { result ≡ true → All IsSilent i.now.items }
+    ensures d { result ≡ true → All IsSilent d.now.items }
+{
+    are_silent(i) && are_silent(d)
 }

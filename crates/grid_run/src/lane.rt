@@ -15,7 +15,7 @@ use crate::back::Back;
 use crate::backs::{ask_backs, backs_for, settle_backs};
 use crate::figures::{Figures, ShadowMisses};
 use crate::front::Front;
-use crate::fronts::{fronts_for, serve_fronts};
+use crate::fronts::{are_both_silent, fronts_for, serve_fronts};
 use crate::plan::{LanePlan, Place};
 use cache_core::NoMemory;
 use din_trace::{DinRecord, Label, MAX_LIMIT};
@@ -66,6 +66,9 @@ impl Lane {
     {
         serve_fronts(&mut self.i, Side::I, event)?;
         serve_fronts(&mut self.d, Side::D, event)?;
+        if are_both_silent(&self.i, &self.d) {
+            return Ok(());
+        }
         ask_backs(&mut self.backs, &self.i, &self.d)
     }
 

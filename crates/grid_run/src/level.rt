@@ -23,13 +23,14 @@ pub(crate) struct Level {
 #[tactic(auto, unfolding(crate::specs::Levels::rules_in))]
 impl Level {
     ghost use Rattle.std.specs.Prelude.{◌≡◌, ◌<◌, ◌*◌, ◌/◌, ◌∷◌, [], ℕ, IfOk, OnOk, length, map};
+    ghost use Rattle.std.specs.Prelude.{true};
     ghost use Rattle.cache_core.specs.History.{History, access as accessed, flush as flushed};
     ghost use Rattle.cache_core.specs.Parts.{outcome_of};
     ghost use Rattle.cache_core.specs.declared.access.Access.{Access as Asked};
     ghost use Rattle.cache_core.specs.Counts.{counts_of};
     ghost use Rattle.grid_core.specs.Cells.{items_of};
     ghost use Rattle.grid_core.specs.FullyAssociative.{shadow_misses};
-    ghost use Rattle.grid_core.specs.Written.{rules_at, written_by};
+    ghost use Rattle.grid_core.specs.Written.{SendsNothing, rules_at, written_by};
     ghost use Rattle.stage_core.specs.SecondLevel.{read_as};
     ghost use Rattle.grid_run.specs.Levels.{CanServe, HasServedLast, LevelStandsFor, rules_in};
     ghost use Rattle.grid_run.specs.Seats.{rules_on};
@@ -105,6 +106,15 @@ impl Level {
             result ≡ outcome_of (rules_at (rules_in self.now) cell) h x }
     {
         self.engine.answer(cell)
+    }
+
+    /// Whether the last access sent nothing in any cache. May be `false` though nothing was sent.
+    pub fn sent_nothing(&self) -> bool
+        ensures { result ≡ true → (h : History) (x : Asked) → HasServedLast self.now h x →
+            (cell : ℕ) → cell < length (rules_in self.now) →
+            SendsNothing (outcome_of (rules_at (rules_in self.now) cell) h x) }
+    {
+        self.engine.sent_nothing()
     }
 
     /// The counts of one cache.

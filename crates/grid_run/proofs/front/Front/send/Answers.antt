@@ -8,17 +8,21 @@ use Rattle.grid_run.specs.Levels.{rules_in}
 use Rattle.grid_run.specs.Sending.{SecondAsked}
 use Rattle.grid_run.specs.declared.front.Last.{Last}
 use Rattle.grid_run.proofs.Events.{access-parts, flush-parts}
-use Rattle.grid_run.proofs.Sent.{sent-access, sent-flush, sent-nothing}
+use Rattle.grid_run.proofs.Sent.{sent-access, sent-by-silent, sent-flush}
 use Rattle.grid_run.proofs.Levels.{list-at, list-inside}
 use Rattle.grid_run.proofs.front.Front.send.Goals as goal
 
 pub returns-in-Nothing-clause-sends : goal.returns-in-Nothing-clause-sends
-returns-in-Nothing-clause-sends c = λ h q ws sent st.
-    let level = c.args.self.now.level in
-    let r = rules_at (rules_in level) c.args.cell in
-    let was = subst (λ (w : Last). WasLast level h w q) c.in-Nothing.is sent in
+returns-in-Nothing-clause-sends c = λ h q ws sent asked.
     subst (λ (l : List What). SecondAsked c.args.u.now l)
-    (sym (ap (λ l. ws ++ l) (sent-nothing level h r c.args.side q was) ∙ append-nil ws)) st
+    (sym (ap (λ l. ws ++ l) (sent-by-silent c.args.self.now h c.args.cell c.args.side q
+    c.requires.inside c.in-Nothing.is sent) ∙ append-nil ws)) asked
+
+pub returns-in-Nothing-2-clause-sends : goal.returns-in-Nothing-2-clause-sends
+returns-in-Nothing-2-clause-sends c = λ h q ws sent asked.
+    subst (λ (l : List What). SecondAsked c.args.u.now l)
+    (sym (ap (λ l. ws ++ l) (sent-by-silent c.args.self.now h c.args.cell c.args.side q
+    c.requires.inside c.in-Nothing.is sent) ∙ append-nil ws)) asked
 
 pub returns-in-Access-clause-sends : goal.returns-in-Access-clause-sends
 returns-in-Access-clause-sends c =

@@ -1,4 +1,4 @@
-use Rattle.std.proofs.Common.{◌++◌, List, take, length, ap, subst, sym, refl, ◌∙◌, arith}
+use Rattle.std.proofs.Common.{◌++◌, List, map, take, length, ap, subst, sym, refl, ◌∙◌, arith}
 use Rattle.std.proofs.Common.{append_assoc, append-nil, length-append, length-take}
 use Rattle.std.specs.List.{All}
 use Rattle.std.proofs.lemmas.List.{take_all, take_more}
@@ -80,14 +80,17 @@ unfolding lane_task
 returns-clause-taken c =
     let k = c.loop-next.next-index in
     let xs = c.args.batch.now in
+    let l = c.loop-next.self in
     let whole = take_all k xs c.loop-next-test.false in
     let tasks = c.settle_backs.ensures.tasks in
     on-ok-both c.settle_backs.result (λ asked settled past taken.
-    let given = subst (λ (l : List DinRecord). WasGiven c.loop-next.self (past ++ l)) whole
+    let given = subst (λ (rs : List DinRecord). WasGiven l (past ++ rs)) whole
     (c.loop-next.invariant.given past taken.given) in
     record {
       given = record {
-        placed = subst (λ (ts : List BackTask). All (IsPlacedIn _ _) ts) (sym tasks) given.placed;
+        placed = subst (λ (ts : List BackTask).
+            All (IsPlacedIn (map front_rules l.i.items) (map front_rules l.d.items)) ts)
+            (sym tasks) given.placed;
         offered = given.offered;
         served = record {
           i = given.served.i;

@@ -1,11 +1,13 @@
-use Rattle.std.proofs.Common.{◌++◌, ◌∷◌, [], List, map, ap, sym, subst, ◌∙◌}
+use Rattle.std.proofs.Common.{◌++◌, ◌∷◌, [], List, get_or, map, ap, sym, refl, subst, ◌∙◌, arith}
 use Rattle.std.specs.List.{All}
+use Rattle.std.proofs.lemmas.List.{get_or-map, length-map}
 use Rattle.std.proofs.lemmas.Result.{on_ok_weaker}
 use Rattle.stage_core.specs.declared.message.Side.TheVariants as side
-use Rattle.grid_run.specs.Backs.{FrontSent}
+use Rattle.grid_run.specs.Backs.{FrontSent, IsPlacedIn, back_task}
 use Rattle.grid_run.specs.Fronts.{front_rules}
 use Rattle.grid_run.specs.Lanes.{lane_task}
 use Rattle.grid_run.specs.declared.front.Front.{Front}
+use Rattle.grid_run.proofs.Behind.{asked-silent}
 use Rattle.grid_run.proofs.Placed.{placed-same, served-same}
 use Rattle.grid_run.proofs.lane.Lane.take_event.Goals as goal
 
@@ -62,3 +64,28 @@ returns-clause-served c =
           })
           (served-same es _ i d past.backs));
     }) c.ask_backs.ensures.asked
+
+pub returns-then-are_both_silent-clause-served : goal.returns-then-are_both_silent-clause-served
+unfolding lane_task
+returns-then-are_both_silent-clause-served c = λ es past.
+    let e = c.args.event in
+    let bs = c.args.self.now.backs.items in
+    let is = c.serve_fronts.new.fronts.items in
+    let ds = c.serve_fronts-2.new.fronts.items in
+    let i = c.serve_fronts.ensures.rules in
+    let d = c.serve_fronts-2.ensures.rules in
+    let placed = placed-same (map back_task bs) i d c.requires.placed in
+    record {
+      i = c.in_ok-serve_fronts.ensures.stands es past.i;
+      d = c.in_ok-serve_fronts-2.ensures.stands es past.d;
+      backs = λ k b lt. asked-silent is ds es e (get_or bs k b)
+          (subst (IsPlacedIn (map front_rules is) (map front_rules ds))
+          (get_or-map back_task bs k b (back_task b) lt)
+          (placed k (back_task b) (omega (arith, lt, length-map bs back_task))))
+          (record {
+            on_i = c.in_ok-serve_fronts.ensures.sent es past.i;
+            on_d = c.in_ok-serve_fronts-2.ensures.sent es past.d;
+          })
+          (c.if-are_both_silent.ensures.i refl) (c.if-are_both_silent.ensures.d refl)
+          (served-same es bs i d past.backs k b lt);
+    }
