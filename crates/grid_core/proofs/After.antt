@@ -16,8 +16,7 @@ use Rattle.cache_core.specs.Residents.{distinct, renewals}
 use Rattle.cache_core.specs.Dirty.{dirty_blocks}
 use Rattle.cache_core.specs.Kinds.{referenced_blocks, shadow_of}
 use Rattle.cache_core.specs.Counts.{counts_of, tally}
-use Rattle.cache_core.specs.declared.counts.PerClass.{PerClass}
-use Rattle.cache_core.specs.Counting.{with_flush, IsWithin}
+use Rattle.cache_core.specs.Counting.{with_flush}
 use Rattle.cache_core.proofs.CacheFacts.{AreWithin-with_flush}
 use Rattle.cache_core.proofs.Nothing.{renewals-flush}
 use Rattle.cache_core.proofs.Steps.{flush-counts}
@@ -36,11 +35,11 @@ use Rattle.grid_core.specs.Standing.{StandsFor}
 use Rattle.grid_core.specs.Shadows.{HoldsOrder, is_known}
 use Rattle.grid_core.specs.Cells.{KnowsPrior, IsCounted, IsDue, IsServed, AreFlushedBy, flushed_by}
 use Rattle.grid_core.specs.Cells.{HaveRoom, IsWithinCell, items_of, shape_in, shape_rules}
-use Rattle.grid_core.specs.Cells.{dirty_bytes_of}
+use Rattle.grid_core.specs.Cells.{dirty_bytes_of, own_counts}
 use Rattle.grid_core.specs.State.{IsAfter, IsRanked, IsFresh, base_rules}
 use Rattle.grid_core.specs.Written.{written_by}
 use Rattle.grid_core.proofs.Distances.{renews-all}
-use Rattle.grid_core.proofs.Owing.{written-owing, cell-more}
+use Rattle.grid_core.proofs.Owing.{written-owing, cell-more, within-more}
 use Rattle.grid_core.proofs.Placed.{shape-at}
 
 -- caches of one block size use the same blocks, in the same order
@@ -189,7 +188,8 @@ flushed-counted h lists old new same lens size flushed counted k d lt =
     let written : n ≡ length (dirty_blocks r h) =
     ap length (list-at h lists old same lens k d e lt') ∙ length-bytes h c.shape in
     subst (IsCounted (flush ∷ h)) (sym (flushed k d e lt')) (record {
-      counts = ap (with_flush n) (counted k d lt').counts ∙ flush-counts r h n written;
+      counts = ap (with_flush n) (counted k d lt').counts
+          ∙ ap own_counts (flush-counts r h n written);
       far = (counted k d lt').far ∙ far-flush r h;
     }))
 
@@ -253,14 +253,6 @@ room-of cells n lists few within paid k d e lt = (
   let p = paid k d e lt in omega arith,
   let f = (within k d lt).counts.flushes in omega arith,
 )
-
-within-more : (p : PerClass) (n m : ℕ) → n ≤ m → IsWithin p n → IsWithin p m
-within-more p n m le h =
-    let a = h.instr in
-    let b = h.read in
-    let c = h.write in
-    let d = h.misc in
-    record { instr = omega arith; read = omega arith; write = omega arith; misc = omega arith }
 
 -- the bound after a flush
 pub flushed-within : (n : ℕ) (lists : List (Vec ℕ)) (old new : List Cell)

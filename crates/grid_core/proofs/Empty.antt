@@ -1,9 +1,9 @@
 -- Before the first access.
 use Rattle.std.proofs.Common.{◌≡◌, ℕ, ◌+◌, ◌-◌, ◌*◌, ◌<◌, ◌≤◌, true, false, cond, List, [], ◌∷◌}
-use Rattle.std.proofs.Common.{◌++◌, length, take}
-use Rattle.std.proofs.Common.{map, replicate, get_or, refl, sym, ap, subst, ◌∙◌, arith}
+use Rattle.std.proofs.Common.{◌++◌, take}
+use Rattle.std.proofs.Common.{map, replicate, refl, sym, ap, ◌∙◌, arith}
 use Rattle.std.proofs.Math.Nat.{mul-le-mul_right}
-use Rattle.std.proofs.lemmas.List.{take-replicate, drop-replicate, length-map, get_or-map}
+use Rattle.std.proofs.lemmas.List.{take-replicate, drop-replicate}
 use Rattle.cache_core.specs.History.{Rules, History, flush}
 use Rattle.cache_core.specs.Residents.{renewals}
 use Rattle.cache_core.specs.Order.{ranked}
@@ -15,7 +15,7 @@ use Rattle.grid_core.specs.declared.cells.Shape.{Shape}
 use Rattle.grid_core.specs.Slots.{no_slot}
 use Rattle.grid_core.specs.Standing.{slot_at, slots_of}
 use Rattle.grid_core.specs.FullyAssociative.{shadow_misses}
-use Rattle.grid_core.specs.Cells.{shape_rules}
+use Rattle.grid_core.specs.Cells.{shape_rules, own_counts}
 
 module _ (r : Rules) where
   ranked-none : (s : ℕ) → ranked r s [] ≡ []
@@ -49,7 +49,7 @@ module _ (r : Rules) where
   rows-flushed h = rows-none (flush ∷ h) (renewals-flush r h)
 
 -- a cell that has counted nothing
-pub counted-none : (s : Shape) → (no_counts ≡ counts_of (shape_rules s) [])
+pub counted-none : (s : Shape) → (no_counts ≡ own_counts (counts_of (shape_rules s) []))
     × (none_by_class ≡ shadow_misses (shape_rules s) [])
 unfolding counts_of tally flushes_in flushed_back shadow_misses
 counted-none s = (refl, refl)

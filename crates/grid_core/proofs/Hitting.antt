@@ -1,14 +1,15 @@
 -- What a hit counts.
 use Rattle.std.proofs.Common.{◌≡◌, ℕ, ◌+◌, Bool, true, false, ◌&&◌}
 use Rattle.std.proofs.Common.{refl, sym, ap, ◌∙◌, arith}
-use Rattle.std.proofs.Common.{◌<◌, ltb}
-use Rattle.std.proofs.lemmas.Bool.{ltb-false, false≢true}
+use Rattle.std.proofs.Common.{◌<◌, ◌≤◌, ltb}
+use Rattle.std.proofs.lemmas.Bool.{ltb-false, ltb-true, false≢true}
 use Rattle.cache_core.specs.declared.access.Access.{Access}
 use Rattle.cache_core.specs.declared.counts.PerClass.{PerClass}
 use Rattle.cache_core.specs.declared.counts.Counts.{Counts}
 use Rattle.cache_core.specs.History.{is_instr, is_read, is_write, is_misc}
 use Rattle.cache_core.specs.Parts.{one_if}
 use Rattle.cache_core.specs.Counting.{with_one, with_access}
+use Rattle.grid_core.specs.Cells.{with_own}
 use Rattle.grid_core.specs.Hits.{hit_made}
 
 and-false : (t : Bool) → (t && false) ≡ false
@@ -58,7 +59,7 @@ counted f m a b d l w s n = record {
 }
 
 -- a hit adds to the fetches, and to the writes that are sent on
-pub hit-counts : (x : Access) (through : Bool) (c : Counts)
+hit-counts : (x : Access) (through : Bool) (c : Counts)
     → record c { fetches = with_one x true c.fetches; sent_on = one_if through + c.sent_on }
     ≡ with_access x (hit_made through) c
 hit-counts x through c =
@@ -80,10 +81,23 @@ hit-counts x through c =
     ∙ ap (λ n. counted f (with_one x false c.misses) (with_one x false c.compulsory)
     (with_one x false c.capacity) (with_one x false c.conflict) (0 + c.loaded) n s c.flushes) w
 
+-- so a cell, which counts neither, keeps its counts
+pub hit-own : (x : Access) (through : Bool) (c : Counts) → with_own x (hit_made through) c ≡ c
+hit-own x through c = sym (ap (λ (k : Counts). record k {
+  fetches = c.fetches;
+  sent_on = c.sent_on;
+}) (hit-counts x through c))
+
 -- where both are true, each is
 pub both-true : (a b : Bool) → (a && b) ≡ true → (a ≡ true) × (b ≡ true)
 both-true true b e = (refl, e)
 both-true false b e = absurd (false≢true e)
+
+pub as-false : (m n : ℕ) → n ≤ m → ltb m n ≡ false
+as-false m n le = (elim (ltb m n) as (λ t. ltb m n ≡ t → t ≡ false) [
+  | true ↦ λ e. let lt = ltb-true m n e in absurd (omega arith)
+  | false ↦ λ e. refl
+]) refl
 
 pub as-true : (m n : ℕ) → m < n → ltb m n ≡ true
 as-true m n lt = (elim (ltb m n) as (λ t. ltb m n ≡ t → t ≡ true) [

@@ -23,3 +23,4 @@ pub mod OtherWays
 pub mod Seats
 pub mod Kept
 pub mod Silence
+pub mod Sharing

@@ -7,10 +7,14 @@ use Rattle.cache_core.specs.Residents.{renewals}
 use Rattle.cache_core.specs.Dirty.{dirty_blocks}
 use Rattle.cache_core.specs.Parts.{outcome_of, one_if}
 use Rattle.cache_core.specs.Counts.{counts_of, tally, flushed_back}
-use Rattle.cache_core.specs.Counting.{IsWithin}
+use Rattle.cache_core.specs.Counting.{IsWithin, AreWithin}
+use Rattle.cache_core.specs.declared.access.Access.{Access}
+use Rattle.cache_core.specs.declared.access.Outcome.{Outcome}
+use Rattle.cache_core.specs.declared.counts.Counts.{Counts}
+use Rattle.cache_core.proofs.CacheFacts.{AreWithin-with_access}
 use Rattle.cache_core.proofs.Owed.{write_backs_charged, flushes_leave_none_dirty}
 use Rattle.grid_core.specs.declared.cells.Cell.{Cell}
-use Rattle.grid_core.specs.Cells.{IsWithinCell}
+use Rattle.grid_core.specs.Cells.{IsWithinCell, with_own}
 
 at-most-one : (t : Bool) → one_if t ≤ 1
 at-most-one true = omega arith
@@ -43,7 +47,8 @@ module _ (r : Rules) where
   unfolding counts_of
   written-owing h = owing h
 
-within-more : (p : PerClass) (n m : ℕ) → n ≤ m → IsWithin p n → IsWithin p m
+-- a larger bound holds too
+pub within-more : (p : PerClass) (n m : ℕ) → n ≤ m → IsWithin p n → IsWithin p m
 within-more p n m le h =
     let a = h.instr in
     let b = h.read in
@@ -51,7 +56,23 @@ within-more p n m le h =
     let d = h.misc in
     record { instr = omega arith; read = omega arith; write = omega arith; misc = omega arith }
 
--- a larger bound holds too
+-- nor is a count above the bound after an access
+pub own-within : (x : Access) (o : Outcome) (c : Counts) (n : ℕ) → AreWithin c n
+    → AreWithin (with_own x o c) (n + 1)
+own-within x o c n h =
+    let all = AreWithin-with_access x o c n h in
+    record {
+      fetches = within-more c.fetches n (n + 1) (omega arith) h.fetches;
+      misses = all.misses;
+      compulsory = all.compulsory;
+      capacity = all.capacity;
+      conflict = all.conflict;
+      loaded = all.loaded;
+      written_back = all.written_back;
+      sent_on = (let s = h.sent_on in omega arith);
+      flushes = all.flushes;
+    }
+
 pub cell-more : (n m : ℕ) → n ≤ m → (c : Cell) → IsWithinCell n c → IsWithinCell m c
 cell-more n m le c h =
     let w = h.counts in

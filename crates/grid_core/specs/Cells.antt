@@ -1,7 +1,7 @@
 -- The caches of one engine, and what each counts.
 use Rattle.std.specs.Prelude.{◌≡◌, ℕ, ◌+◌, ◌<◌, ◌≤◌, ◌^◌, not, ◌==◌, nat_lt, List, length}
 use Rattle.std.specs.Prelude.{get_or}
-use Rattle.std.specs.Prelude.{◌∷◌, ◌&&◌}
+use Rattle.std.specs.Prelude.{◌∷◌, ◌&&◌, Bool, false, if◌then◌else◌}
 use Rattle.std.specs.List.{list_any}
 use Rattle.std.specs.Global.{Vec}
 use Rattle.cache_core.specs.declared.access.Access.{Access}
@@ -10,7 +10,9 @@ use Rattle.cache_core.specs.History.{History, Rules, block_of, access, is_write}
 use Rattle.cache_core.specs.Residents.{hits, renewals}
 use Rattle.cache_core.specs.Kinds.{referenced_blocks, shadow_of}
 use Rattle.cache_core.specs.Parts.{outcome_of}
-use Rattle.cache_core.specs.Counts.{counts_of}
+use Rattle.cache_core.specs.declared.counts.Counts.{Counts}
+use Rattle.cache_core.specs.declared.counts.PerClass.{PerClass}
+use Rattle.cache_core.specs.Counts.{counts_of, none_by_class}
 use Rattle.cache_core.specs.Counting.{AreWithin, IsWithin, with_access, with_flush}
 use Rattle.grid_core.specs.declared.cells.Cell.{Cell}
 use Rattle.grid_core.specs.declared.cells.Shape.{Shape}
@@ -47,9 +49,29 @@ pub record KnowsPrior (s : Shape) (h : History) (x : Access) (p : Prior) : Type 
   pub far : not (nat_lt s.rank p.level)
       ≡ hits (shadow_of (shape_rules s)) (renewals (shadow_of (shape_rules s)) h) x
 
+-- the part of the counts that a cell keeps: all but the fetches and the writes that are sent on,
+-- which are the same for all cells
+abbrev pub own_counts : Counts → Counts
+own_counts k = record k { fetches = none_by_class; sent_on = 0 }
+
+-- this part after an access of this outcome
+abbrev pub with_own : Access → Outcome → Counts → Counts
+with_own x o k = record (with_access x o k) { fetches = k.fetches; sent_on = k.sent_on }
+
+-- how many writes are sent on, of n writes, where writes allocate
+abbrev pub sent_on_of : Bool → ℕ → ℕ
+sent_on_of wback n = if wback then 0 else n
+
+-- all counts of a cell, with the fetches of all cells
+abbrev pub whole_counts : PerClass → Cell → Counts
+whole_counts f c = record c.counts {
+  fetches = f;
+  sent_on = sent_on_of c.shape.wback f.write;
+}
+
 -- the cell has the counts of its cache, and knows how often the shadow missed
 pub record IsCounted (h : History) (c : Cell) : Type 0 where
-  pub counts : c.counts ≡ counts_of (shape_rules c.shape) h
+  pub counts : c.counts ≡ own_counts (counts_of (shape_rules c.shape) h)
   pub far : c.far ≡ shadow_misses (shape_rules c.shape) h
 
 -- the cell is counted, and it is known what the access asks for
@@ -57,10 +79,15 @@ pub record IsDue (h : History) (x : Access) (p : Prior) (c : Cell) : Type 0 wher
   pub prior : KnowsPrior c.shape h x p
   pub counted : IsCounted h c
 
--- the cell counted the access, and has its outcome
+-- if the access x misses after the history h, the cell has its outcome
+abbrev pub HasMissed : History → Access → Cell → Type 0
+HasMissed h x c = (outcome_of (shape_rules c.shape) h x).hit ≡ false →
+    c.answer ≡ outcome_of (shape_rules c.shape) h x
+
+-- the cell counted the access, and has its outcome if it missed
 pub record IsServed (h : History) (x : Access) (c : Cell) : Type 0 where
   pub counted : IsCounted (access x ∷ h) c
-  pub answer : c.answer ≡ outcome_of (shape_rules c.shape) h x
+  pub missed : HasMissed h x c
 
 -- the access x hits in the cache of a shape, after the history h
 abbrev pub HitsIn : History → Access → Shape → Type 0
@@ -73,7 +100,10 @@ pub record IsWithinCell (n : ℕ) (c : Cell) : Type 0 where
 
 -- the cell after an access of this outcome, but for the misses of its shadow
 abbrev pub after_outcome : Access → Outcome → Cell → Cell
-after_outcome x o c = record c { counts = with_access x o c.counts; answer = o }
+after_outcome x o c = record c {
+  counts = with_own x o c.counts;
+  answer = (if o.hit then c.answer else o);
+}
 
 -- what a flush writes back in the cache of a shape
 abbrev pub dirty_bytes_of : History → Shape → List ℕ

@@ -5,11 +5,12 @@ use Rattle.std.specs.Global.{Vec}
 use Rattle.cache_core.specs.declared.access.Access.{Access}
 use Rattle.cache_core.specs.declared.counts.Counts.{Counts}
 use Rattle.cache_core.specs.declared.counts.PerClass.{PerClass}
-use Rattle.cache_core.specs.History.{History, Rules}
+use Rattle.cache_core.specs.History.{History, Rules, is_write}
+use Rattle.cache_core.specs.Counts.{by_class}
 use Rattle.cache_core.specs.Parts.{outcome_of}
 use Rattle.grid_core.specs.declared.stacked.Stacked.{Stacked}
-use Rattle.grid_core.specs.Standing.{StandsFor}
-use Rattle.grid_core.specs.Cells.{shape_rules, shape_in, items_of, dirty_bytes_of}
+use Rattle.grid_core.specs.Standing.{StandsFor, HasFound}
+use Rattle.grid_core.specs.Cells.{shape_rules, shape_in, items_of, dirty_bytes_of, HasMissed}
 use Rattle.grid_core.specs.State.{IsAfter, kept_by}
 use Rattle.grid_core.specs.Written.{SendsNothing}
 
@@ -23,7 +24,7 @@ stacked_served e = e.served
 
 -- what the caches counted
 unfoldable pub stacked_kept : Stacked → List (Counts × PerClass)
-stacked_kept e = map kept_by e.cells.items
+stacked_kept e = map (kept_by e.fetches) e.cells.items
 
 -- whether an allocation failed
 unfoldable pub stacked_failed : Stacked → Bool
@@ -33,11 +34,14 @@ stacked_failed e = e.failed
 pub record StackedStandsFor (e : Stacked) (h : History) : Type 0 where
   pub working : stacked_failed e ≡ false
   pub served : stacked_served e ≡ length h
+  pub fetches : e.fetches ≡ by_class (λ g x. true) h
   pub state : IsAfter e.geometry e.stacks.items e.shadows e.cells.items h
 
 -- the last access was x, after the history h
 pub record StackedHasAnswered (e : Stacked) (h : History) (x : Access) : Type 0 where
-  pub answers : All (λ c. c.answer ≡ outcome_of (shape_rules c.shape) h x) e.cells.items
+  pub write : e.write ≡ is_write x
+  pub found : All (HasFound h x) e.stacks.items
+  pub missed : All (HasMissed h x) e.cells.items
   pub silent : e.silent ≡ true →
       All (λ c. SendsNothing (outcome_of (shape_rules c.shape) h x)) e.cells.items
 

@@ -48,10 +48,14 @@ pub record StandsFor (s : Stack) (h : History) : Type 0 where
 unfoldable pub found_in : Stack → ℕ
 found_in s = s.found
 
+-- the last look found the block of the access x where it stood after the history h
+abbrev pub HasFound : History → Access → Stack → Type 0
+HasFound h x s = found_in s ≡ stack_distance (rules_of s) h (block_of (rules_of s) x)
+
 -- the stack stands for the history, and has looked for the block of the access
 pub record HasLooked (s : Stack) (h : History) (x : Access) : Type 0 where
   pub stands : StandsFor s h
-  pub found : found_in s ≡ stack_distance (rules_of s) h (block_of (rules_of s) x)
+  pub found : HasFound h x s
 
 -- a cache of this geometry and write policy, of so many ways, has as many sets, and no more ways
 pub record Suits (r : Rules) (g : Geometry) (ways : ℕ) (wback : Bool) : Type 0 where

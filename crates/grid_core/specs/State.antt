@@ -14,7 +14,7 @@ use Rattle.grid_core.specs.declared.shadows.Shadows.{Shadows}
 use Rattle.grid_core.specs.declared.stack.Stack.{Stack}
 use Rattle.grid_core.specs.Standing.{StandsFor, stack_rules}
 use Rattle.grid_core.specs.Shadows.{HoldsOrder, is_known}
-use Rattle.grid_core.specs.Cells.{IsCounted, IsWithinCell}
+use Rattle.grid_core.specs.Cells.{IsCounted, IsWithinCell, whole_counts}
 use Rattle.grid_core.specs.Shapes.{IsSuitedShape}
 
 -- rules of the block size of a geometry, for what all caches of the block size share
@@ -51,6 +51,6 @@ pub record IsCellFor (sizes : List ℕ) (stacks : List Stack) (g : Geometry) (wb
   pub found : get_or sizes c.shape.rank 0 ≡ blocks_of g
   pub fresh : IsFresh c
 
--- what a cell keeps: its counts, and the misses of its shadow
-abbrev pub kept_by : Cell → Counts × PerClass
-kept_by c = (c.counts, c.far)
+-- what a cell keeps, where all cells have these fetches: its counts, and the misses of its shadow
+abbrev pub kept_by : PerClass → Cell → Counts × PerClass
+kept_by fetches c = (whole_counts fetches c, c.far)

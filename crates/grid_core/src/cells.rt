@@ -1,26 +1,23 @@
 //! The caches of one engine: what each counts, and what each did last.
 
-ghost use Rattle.std.specs.Prelude.{◌≡◌, ◌<◌, ◌≤◌, ◌^◌, ◌+◌, ℕ, not, ◌&&◌, nat_lt, map, []};
-ghost use Rattle.std.specs.Prelude.{if◌then◌else◌, Some, None, IfOk, length, true};
+ghost use Rattle.std.specs.Prelude.{◌≡◌, ◌<◌, ◌^◌, ◌+◌, ℕ, ◌&&◌, map, [], IfOk, length, true};
 ghost use Rattle.std.specs.List.{All};
-ghost use Rattle.cache_core.specs.declared.access.MissKind.TheVariants.{Compulsory, Capacity};
-ghost use Rattle.cache_core.specs.declared.access.MissKind.TheVariants.{Conflict};
-ghost use Rattle.cache_core.specs.History.{History};
+ghost use Rattle.cache_core.specs.History.{History, is_write};
 ghost use Rattle.cache_core.specs.Parts.{outcome_of};
 ghost use Rattle.cache_core.specs.Counts.{no_counts, none_by_class};
-ghost use Rattle.grid_core.specs.Ways.{with_ways};
-ghost use Rattle.grid_core.specs.Standing.{StandsFor, HasLooked, rules_of, found_in};
+ghost use Rattle.grid_core.specs.Standing.{StandsFor, HasLooked, HasFound, rules_of};
 ghost use Rattle.grid_core.specs.Cells.{IsPlacedOn, IsPlacedAmong, shape_rules, shape_in};
 ghost use Rattle.grid_core.specs.Cells.{KnowsPrior, IsDue, IsServed, IsCounted, IsWithinCell};
 ghost use Rattle.grid_core.specs.Cells.{HaveRoom, AreFlushedBy, flushed_by, dirty_bytes_of};
-ghost use Rattle.grid_core.specs.Cells.{items_of, after_outcome, HitsIn};
+ghost use Rattle.grid_core.specs.Cells.{items_of, after_outcome, HitsIn, HasMissed, whole_counts};
+ghost use Rattle.grid_core.specs.Cells.{sent_on_of};
 ghost use Rattle.cache_core.specs.Counting.{AreWithin};
-ghost use Rattle.grid_core.specs.Hits.{hit_made};
 
-use crate::counting::{count, count_hit, count_outcome};
+use crate::counting::{count, count_miss};
+use crate::outcome::{hit_outcome, no_outcome, outcome_in, sends_on};
 use crate::shadows::Prior;
-use crate::stack::{Stack, writes};
-use cache_core::{Access, Counts, Geometry, MissKind, Outcome, PerClass};
+use crate::stack::Stack;
+use cache_core::{Access, Counts, Geometry, Outcome, PerClass};
 use std::alloc::{AllocError, Global};
 
 /// Which cache a cell is: its geometry and write policy, the rows of its number of sets, its number
@@ -34,25 +31,15 @@ pub(crate) struct Shape {
     pub rank: usize,
 }
 
-/// One cache: its shape, its counts, how often its shadow missed, and the outcome of the last
-/// access.
+/// One cache: its shape, its counts, how often its shadow missed, and the outcome of its last miss.
+/// The fetches and the writes that are sent on are not counted here: they are the same for all
+/// cells.
 #[derive(Clone, Copy, Debug)]
 pub(crate) struct Cell {
     pub shape: Shape,
     pub counts: Counts,
     pub far: PerClass,
     pub answer: Outcome,
-}
-
-/// The outcome before any access.
-pub(crate) fn no_outcome() -> Outcome {
-    Outcome {
-        hit: false,
-        kind: None,
-        back: None,
-        fetch: false,
-        through: false,
-    }
 }
 
 /// Counts that are all zero.
@@ -63,7 +50,7 @@ fn zero_counts() -> Counts
 }
 
 /// Zero in each class.
-fn zero_per_class() -> PerClass
+pub(crate) fn zero_per_class() -> PerClass
     ensures { result ≡ none_by_class }
 {
     PerClass::default()
@@ -83,74 +70,8 @@ pub(crate) fn fresh_cell(shape: Shape) -> Cell
     }
 }
 
-/// Why an access misses, if it does, in the cache whose size has this rank.
-fn kind_in(hit: bool, prior: Prior, rank: usize) -> Option<MissKind>
-    ensures { result ≡ (if hit then None else Some (if prior.known
-        then (if not (nat_lt rank prior.level) then Conflict else Capacity) else Compulsory)) }
-{
-    if hit {
-        None
-    } else if !prior.known {
-        Some(MissKind::Compulsory)
-    } else if rank < prior.level {
-        Some(MissKind::Capacity)
-    } else {
-        Some(MissKind::Conflict)
-    }
-}
-
-/// The first byte of the block that the cache of `ways` ways writes back at this access, if any.
-fn back_in(stack: &Stack, access: Access, ways: usize, hit: bool) -> Option<u64>
-    requires some { 0 < ways }
-    requires fits { ways ≤ (rules_of stack.now).assoc }
-    ensures { (h : History) → HasLooked stack.now h access →
-        hit ≡ nat_lt (found_in stack.now) ways →
-        (outcome_of (with_ways ways (rules_of stack.now)) h access).back ≡ result }
-{
-    if hit {
-        return None;
-    }
-    stack.back(access, ways)
-}
-
-/// Whether a write is sent on, where writes allocate.
-pub(crate) fn sends_on(write: bool, wback: bool) -> bool
-    ensures { result ≡ (write && not wback) }
-{
-    write && !wback
-}
-
-/// The outcome of an access in the cache of this shape.
-fn outcome_in(stack: &Stack, shape: Shape, access: Access, prior: Prior) -> Outcome
-    requires { IsPlacedOn (rules_of stack.now) shape }
-    ensures { (h : History) → HasLooked stack.now h access → KnowsPrior shape h access prior →
-        result ≡ outcome_of (shape_rules shape) h access }
-{
-    let hit = stack.position() < shape.ways;
-    Outcome {
-        hit,
-        kind: kind_in(hit, prior, shape.rank),
-        back: back_in(stack, access, shape.ways, hit),
-        fetch: !hit,
-        through: sends_on(writes(access), stack.wback()),
-    }
-}
-
-/// The outcome of a hit.
-fn hit_outcome(through: bool) -> Outcome
-    ensures { result ≡ hit_made through }
-{
-    Outcome {
-        hit: true,
-        kind: None,
-        back: None,
-        fetch: false,
-        through,
-    }
-}
-
 /// Serves an access in the cache of one cell, but for its shadow, and answers whether it hits. A
-/// hit takes few steps.
+/// hit changes nothing.
 fn serve_ways(cell: &mut Cell, stack: &Stack, access: Access, prior: Prior) -> bool
     requires placed { IsPlacedOn (rules_of stack.now) cell.old.shape }
     requires within { AreWithin cell.old.counts (2 ^ 46) }
@@ -162,13 +83,10 @@ fn serve_ways(cell: &mut Cell, stack: &Stack, access: Access, prior: Prior) -> b
         HitsIn h access cell.old.shape }
 {
     if stack.position() < cell.shape.ways {
-        let through = sends_on(writes(access), stack.wback());
-        count_hit(&mut cell.counts, access, through);
-        cell.answer = hit_outcome(through);
         return true;
     }
     let outcome = outcome_in(stack, cell.shape, access, prior);
-    count_outcome(&mut cell.counts, access, outcome);
+    count_miss(&mut cell.counts, access, outcome);
     cell.answer = outcome;
     false
 }
@@ -239,6 +157,38 @@ pub(crate) fn serve_in(
         All (λ c. HitsIn h access c.shape) cells.new.items }
 {
     serve_all(cells, stacks, access, prior)
+}
+
+/// What the last access did in the cache of a cell, by whether it was a write.
+pub(crate) fn answer_in(cell: &Cell, stacks: &Vec<Stack>, write: bool) -> Outcome
+    requires { IsPlacedAmong (map rules_of stacks.now.items) cell.now.shape }
+    ensures { (h : History) (x : Access) → All (HasFound h x) stacks.now.items →
+        HasMissed h x cell.now → write ≡ is_write x →
+        result ≡ outcome_of (shape_rules cell.now.shape) h x }
+{
+    let stack = &stacks[cell.shape.stack];
+    if stack.position() < cell.shape.ways {
+        return hit_outcome(sends_on(write, cell.shape.wback));
+    }
+    cell.answer
+}
+
+/// How many writes are sent on, of so many.
+fn sent_of(writes: u64, wback: bool) -> u64
+    ensures { result ≡ sent_on_of wback writes }
+{
+    if wback { 0 } else { writes }
+}
+
+/// All counts of a cell, with the fetches of all cells.
+pub(crate) fn counts_in(cell: &Cell, fetches: PerClass) -> Counts
+    ensures { result ≡ whole_counts fetches cell.now }
+{
+    Counts {
+        fetches,
+        sent_on: sent_of(fetches.write, cell.shape.wback),
+        ..cell.counts
+    }
 }
 
 /// The dirty blocks of one cell, by their first bytes, in rising order.

@@ -1,9 +1,8 @@
 //! How one access is counted.
 
 ghost use Rattle.std.specs.Prelude.{◌≡◌, ◌^◌};
-ghost use Rattle.cache_core.specs.Counting.{with_one, with_kind, with_access, IsWithin, AreWithin};
-ghost use Rattle.cache_core.specs.Parts.{one_if};
-ghost use Rattle.grid_core.specs.Hits.{hit_made};
+ghost use Rattle.cache_core.specs.Counting.{with_one, with_kind, IsWithin, AreWithin};
+ghost use Rattle.grid_core.specs.Cells.{with_own};
 
 use cache_core::{Access, Class, Counts, MissKind, Outcome, PerClass};
 
@@ -37,31 +36,13 @@ fn count_kind(counts: &mut Counts, access: Access, kind: Option<MissKind>)
     }
 }
 
-/// One if the flag is true, else zero.
-fn one(flag: bool) -> u64
-    ensures { result ≡ one_if flag }
-{
-    flag as u64
-}
-
-/// Counts a hit.
-pub(crate) fn count_hit(counts: &mut Counts, access: Access, through: bool)
+/// Counts what an access of this outcome adds to the counts of a cell.
+pub(crate) fn count_miss(counts: &mut Counts, access: Access, outcome: Outcome)
     requires { AreWithin counts.old (2 ^ 46) }
-    ensures { counts.new ≡ with_access access (hit_made through) counts.old }
+    ensures { counts.new ≡ with_own access outcome counts.old }
 {
-    count(&mut counts.fetches, access, true);
-    counts.sent_on += one(through);
-}
-
-/// Counts an access, which had this outcome.
-pub(crate) fn count_outcome(counts: &mut Counts, access: Access, outcome: Outcome)
-    requires { AreWithin counts.old (2 ^ 46) }
-    ensures { counts.new ≡ with_access access outcome counts.old }
-{
-    count(&mut counts.fetches, access, true);
     count(&mut counts.misses, access, !outcome.hit);
     count_kind(counts, access, outcome.kind);
     counts.loaded += outcome.fetch as u64;
     counts.written_back += outcome.back.is_some() as u64;
-    counts.sent_on += outcome.through as u64;
 }

@@ -21,6 +21,8 @@ mod counting;
 mod engine;
 mod front;
 mod laws;
+mod outcome;
+mod parts;
 mod places;
 mod plan;
 mod shadows;

@@ -5,7 +5,7 @@ ghost use Rattle.cache_core.specs.Standing.{rules_of, rules_from};
 ghost use Rattle.grid_core.specs.Wholes.{IsWholeOf, IsLruOf};
 ghost use Rattle.grid_core.specs.Written.{SendsNothing};
 
-use crate::cells::no_outcome;
+use crate::outcome::no_outcome;
 use crate::shapes::is_lru;
 use cache_core::{Access, Cache, Counts, Geometry, Outcome, Policy};
 use std::alloc::{AllocError, Global};

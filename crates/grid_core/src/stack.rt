@@ -113,6 +113,7 @@ impl Stack {
     pub fn touch(&mut self, access: Access)
         ensures stands { (h : History) → StandsFor self.old h →
             StandsFor self.new (accessed access ∷ h) }
+        ensures found { found_in self.new ≡ found_in self.old }
         ensures rules { rules_of self.new ≡ rules_of self.old }
     {
         let write = writes(access);

@@ -1,21 +1,21 @@
 //! Caches that are served together by their stack order: LRU, with write allocation.
 
-ghost use Rattle.std.specs.Prelude.{◌≡◌, ◌≤◌, ◌^◌, ◌*◌, [], length, map, true, false, IfOk};
-ghost use Rattle.std.specs.Prelude.{OnOk, not, ◌&&◌};
+ghost use Rattle.std.specs.Prelude.{◌≡◌, ◌≤◌, ◌^◌, ◌*◌, length, map, false, not, ◌&&◌};
 ghost use Rattle.std.specs.List.{All};
 ghost use Rattle.cache_core.specs.History.{History};
 ghost use Rattle.cache_core.specs.Dirty.{rising};
 ghost use Rattle.grid_core.specs.Shadows.{shadow_sizes};
-ghost use Rattle.cache_core.specs.Geometry.{bsize_of, blocks_of};
-ghost use Rattle.grid_core.specs.Standing.{StandsFor, rules_of, stack_rules};
-ghost use Rattle.grid_core.specs.declared.cells.Shape.{Shape as Cut};
-ghost use Rattle.grid_core.specs.Shapes.{has_size, IsSuitedShape};
-ghost use Rattle.grid_core.specs.Cells.{IsPlacedAmong, IsWithinCell, shape_in, shape_rules};
-ghost use Rattle.grid_core.specs.State.{IsAfter, IsRanked, IsFresh, IsCellFor};
+ghost use Rattle.cache_core.specs.Counting.{IsWithin};
+ghost use Rattle.grid_core.specs.Standing.{rules_of};
+ghost use Rattle.grid_core.specs.Cells.{IsPlacedAmong, IsWithinCell, shape_in};
+ghost use Rattle.grid_core.specs.State.{IsAfter, IsRanked};
 
-use crate::cells::{Cell, Shape, dirty_lists, flush_in, fresh_cell, sends_on, serve_in};
+use crate::cells::{Cell, answer_in, counts_in, dirty_lists, flush_in, serve_in, zero_per_class};
+use crate::counting::count;
+use crate::outcome::sends_on;
+use crate::parts::parts_for;
 use crate::shadows::Shadows;
-use crate::shapes::{rank_of, rising_sizes, stack_for, ways_of};
+use crate::shapes::rising_sizes;
 use crate::stack::{Stack, writes};
 use crate::stacks::{clear_in, look_in, touch_in};
 use cache_core::{Access, Counts, Geometry, NoMemory, Outcome, PerClass};
@@ -33,8 +33,12 @@ pub(crate) struct Stacked {
     stacks: Vec<Stack>,
     shadows: Shadows,
     cells: Vec<Cell>,
+    /// The accesses by class. All caches see the same.
+    fetches: PerClass,
     served: u64,
     failed: bool,
+    /// Whether the last access was a write.
+    write: bool,
     /// Whether it is known that the last access sent nothing to the next level.
     silent: bool,
     ghost rises: { rising (shadow_sizes shadows) ≡ shadow_sizes shadows },
@@ -43,75 +47,12 @@ pub(crate) struct Stacked {
     ghost ranked: { All (IsRanked (shadow_sizes shadows) geometry) (map shape_in cells.items) },
     ghost one_policy: { All (λ s. s.wback ≡ wback) (map shape_in cells.items) },
     ghost bounded: { All (IsWithinCell (2 * served)) cells.items },
+    ghost fetched: { IsWithin fetches served },
     ghost few: { served ≤ 2 ^ 44 },
     // Unless it has failed, a history of as many events made it; so a flush has room for its
     // counts.
     ghost lived: { failed ≡ false → ∥ ((h : History)
         × IsAfter geometry stacks.items shadows cells.items h × (length h ≡ served)) ∥₁ },
-}
-
-/// The rows and the cells of some geometries.
-#[derive(Drop)]
-struct Parts {
-    stacks: Vec<Stack>,
-    cells: Vec<Cell>,
-}
-
-/// A cell that has counted nothing, for a geometry, and rows for it.
-fn cell_for(
-    alloc: Global,
-    stacks: &mut Vec<Stack>,
-    geometries: &[Geometry],
-    geometry: Geometry,
-    sizes: &[usize],
-    wback: bool,
-) -> Result<Cell, AllocError>
-    requires { has_size sizes.now (blocks_of geometry) ≡ true }
-    ensures own { IfOk result (λ cell. IsCellFor sizes.now stacks.new.items geometry wback cell) }
-    ensures kept { OnOk result ((s : Cut) → IsSuitedShape stacks.old.items s →
-        IsSuitedShape stacks.new.items s) }
-    ensures stands { OnOk result (All (λ s. StandsFor s []) stacks.old.items →
-        All (λ s. StandsFor s []) stacks.new.items) }
-{
-    let stack = stack_for(alloc, stacks, geometries, geometry, wback)?;
-    let shape = Shape {
-        geometry,
-        wback,
-        stack,
-        ways: ways_of(geometry),
-        rank: rank_of(sizes, geometry.blocks() as usize),
-    };
-    Ok(fresh_cell(shape))
-}
-
-/// Empty rows, and cells that have counted nothing, for these geometries.
-fn parts_for(
-    alloc: Global,
-    geometries: &[Geometry],
-    sizes: &[usize],
-    first: Geometry,
-    wback: bool,
-) -> Result<Parts, AllocError>
-    requires sizes { All (λ g. has_size sizes.now (blocks_of g) ≡ true) geometries.now }
-    requires one_size { All (λ g. bsize_of g ≡ bsize_of first) geometries.now }
-    ensures rules { IfOk result (λ parts. map shape_rules (map shape_in parts.cells.items)
-        ≡ map (λ g. stack_rules g wback) geometries.now) }
-    ensures ranked { IfOk result (λ parts.
-        All (IsRanked sizes.now first) (map shape_in parts.cells.items)) }
-    ensures placed { IfOk result (λ parts.
-        All (IsPlacedAmong (map rules_of parts.stacks.items)) (map shape_in parts.cells.items)) }
-    ensures one_policy { IfOk result (λ parts.
-        All (λ s. s.wback ≡ wback) (map shape_in parts.cells.items)) }
-    ensures stands { IfOk result (λ parts. All (λ s. StandsFor s []) parts.stacks.items) }
-    ensures fresh { IfOk result (λ parts. All IsFresh parts.cells.items) }
-{
-    let mut stacks = Vec::new(alloc);
-    let mut cells = Vec::new(alloc);
-    for geometry in geometries {
-        let cell = cell_for(alloc, &mut stacks, geometries, *geometry, sizes, wback)?;
-        cells.push(cell)?;
-    }
-    Ok(Parts { stacks, cells })
 }
 
 /// Whether an access sends nothing on, by whether it hits in all caches, and is a write that is
@@ -163,8 +104,10 @@ impl Stacked {
             stacks: parts.stacks,
             shadows,
             cells: parts.cells,
+            fetches: zero_per_class(),
             served: 0,
             failed: false,
+            write: false,
             silent: true,
         })
     }
@@ -196,7 +139,9 @@ impl Stacked {
         look_in(&mut self.stacks, access);
         let all_hit = serve_in(&mut self.cells, &self.stacks, access, prior);
         touch_in(&mut self.stacks, access);
-        let through = sends_on(writes(access), self.wback);
+        count(&mut self.fetches, access, true);
+        self.write = writes(access);
+        let through = sends_on(self.write, self.wback);
         self.silent = is_silent(all_hit, through);
         self.served += 1;
         Ok(())
@@ -247,7 +192,7 @@ impl Stacked {
         ensures counted { (h : History) → StackedStandsFor self.now h →
             result ≡ counts_of (rules_at (stacked_rules self.now) index) h }
     {
-        self.cells[index].counts
+        counts_in(&self.cells[index], self.fetches)
     }
 
     /// The fully associative misses of one cache.
@@ -275,6 +220,6 @@ impl Stacked {
         ensures { (h : History) (x : Access) → StackedHasAnswered self.now h x →
             result ≡ outcome_of (rules_at (stacked_rules self.now) index) h x }
     {
-        self.cells[index].answer
+        answer_in(&self.cells[index], &self.stacks, self.write)
     }
 }

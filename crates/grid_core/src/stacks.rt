@@ -3,7 +3,7 @@
 ghost use Rattle.std.specs.Prelude.{◌≡◌, ◌∷◌, map};
 ghost use Rattle.std.specs.List.{All};
 ghost use Rattle.cache_core.specs.History.{History, access as accessed, flush as flushed};
-ghost use Rattle.grid_core.specs.Standing.{StandsFor, HasLooked, rules_of};
+ghost use Rattle.grid_core.specs.Standing.{StandsFor, HasLooked, HasFound, rules_of};
 
 use crate::stack::Stack;
 use cache_core::Access;
@@ -28,10 +28,12 @@ pub(crate) fn look_in(stacks: &mut Vec<Stack>, access: Access)
     look_all(stacks, access);
 }
 
-/// Serves an access in all rows.
+/// Serves an access in all rows. Where the last look found its block stays known.
 fn touch_all(stacks: &mut [Stack], access: Access)
     ensures stands { (h : History) → All (λ s. StandsFor s h) stacks.old →
         All (λ s. StandsFor s (accessed access ∷ h)) stacks.new }
+    ensures found { (h : History) (x : Access) → All (HasFound h x) stacks.old →
+        All (HasFound h x) stacks.new }
     ensures rules { map rules_of stacks.new ≡ map rules_of stacks.old }
 {
     for stack in stacks.iter_mut() {
@@ -43,6 +45,8 @@ fn touch_all(stacks: &mut [Stack], access: Access)
 pub(crate) fn touch_in(stacks: &mut Vec<Stack>, access: Access)
     ensures stands { (h : History) → All (λ s. StandsFor s h) stacks.old.items →
         All (λ s. StandsFor s (accessed access ∷ h)) stacks.new.items }
+    ensures found { (h : History) (x : Access) → All (HasFound h x) stacks.old.items →
+        All (HasFound h x) stacks.new.items }
     ensures rules { map rules_of stacks.new.items ≡ map rules_of stacks.old.items }
 {
     touch_all(stacks, access);

@@ -1,22 +1,24 @@
-use Rattle.std.proofs.Common.{◌≡◌, ◌+◌, ltb, sym, ap, subst, ◌∙◌}
+use Rattle.std.proofs.Common.{◌≡◌, ◌+◌, ltb, if◌then◌else◌, sym, ap, subst, ◌∙◌}
 use Rattle.cache_core.specs.declared.access.Access.{Access}
 use Rattle.cache_core.specs.declared.access.Outcome.{Outcome}
 use Rattle.cache_core.specs.declared.counts.PerClass.{PerClass}
 use Rattle.cache_core.specs.Parts.{outcome_of}
-use Rattle.cache_core.specs.Counting.{with_access, with_one}
-use Rattle.cache_core.proofs.CacheFacts.{AreWithin-with_access, IsWithin-with_one}
+use Rattle.cache_core.specs.Counting.{with_one}
+use Rattle.cache_core.proofs.CacheFacts.{IsWithin-with_one}
 use Rattle.cache_core.proofs.Steps.{counts-step}
 use Rattle.grid_core.specs.declared.cells.Cell.{Cell}
 use Rattle.grid_core.specs.declared.shadows.Prior.{Prior}
-use Rattle.grid_core.specs.Cells.{shape_rules, after_outcome, IsServed, IsWithinCell}
+use Rattle.grid_core.specs.Cells.{shape_rules, after_outcome, own_counts, with_own, IsServed}
+use Rattle.grid_core.specs.Cells.{IsWithinCell}
+use Rattle.grid_core.proofs.Owing.{own-within}
 use Rattle.grid_core.proofs.Served.{far-step}
 use Rattle.grid_core.proofs.cells.serve_cell.Goals as goal
 
 -- a cell after an access
 abbrev counted : Access → Prior → Outcome → Cell → Cell
 counted x p o c = record c {
-  counts = with_access x o c.counts;
-  answer = o;
+  counts = with_own x o c.counts;
+  answer = (if o.hit then c.answer else o);
   far = with_one x (ltb c.shape.rank p.level) c.far;
 }
 
@@ -40,11 +42,13 @@ returns-clause-serves c = λ h looked due.
     subst (IsServed h x) (sym (two-steps x p o old c.serve_ways-hit.new.cell c.count.new.per_class
     c.serve_ways-hit.ensures.serves.1 c.count.ensures)) (record {
       counted = record {
-        counts = ap (λ o. with_access x o old.counts) is
-            ∙ ap (with_access x (outcome_of r h x)) due.counted.counts ∙ counts-step r h x;
+        counts = ap (λ o. with_own x o old.counts) is
+            ∙ ap (with_own x (outcome_of r h x)) due.counted.counts
+            ∙ ap own_counts (counts-step r h x);
         far = ap (with_one x (ltb s.rank p.level)) due.counted.far ∙ far-step s h x p due.prior;
       };
-      answer = is;
+      missed = λ miss. ap (λ t. if t then old.answer else o) (ap (λ (a : Outcome). a.hit) is ∙ miss)
+          ∙ is;
     })
 
 pub returns-clause-bounds : goal.returns-clause-bounds
@@ -55,6 +59,6 @@ returns-clause-bounds c = λ n within.
     let o = c.serve_ways-hit.ensures.serves.0 in
     subst (IsWithinCell (n + 1)) (sym (two-steps x p o old c.serve_ways-hit.new.cell
     c.count.new.per_class c.serve_ways-hit.ensures.serves.1 c.count.ensures)) (record {
-      counts = AreWithin-with_access x o old.counts n within.counts;
+      counts = own-within x o old.counts n within.counts;
       far = IsWithin-with_one x (ltb old.shape.rank p.level) old.far n within.far;
     })

@@ -1,4 +1,5 @@
-use Rattle.std.proofs.Common.{◌≡◌, ◌≤◌, ◌+◌, ◌*◌, ◌^◌, ◌||◌, ◌&&◌, ◌==◌, ℕ, not, List, map, sym, ap}
+use Rattle.std.proofs.Common.{◌≡◌, true, ◌≤◌, ◌+◌, ◌*◌, ◌^◌, ◌||◌, ◌&&◌, ◌==◌, ℕ, not}
+use Rattle.std.proofs.Common.{List, map, sym, ap}
 use Rattle.std.proofs.Common.{subst, ◌∙◌, arith}
 use Rattle.std.specs.List.{All}
 use Rattle.std.proofs.lemmas.Bool.{not-true}
@@ -8,11 +9,15 @@ use Rattle.cache_core.specs.History.{Rules, access as accessed}
 use Rattle.marked_list.specs.Recency.{level_of, brought_front}
 use Rattle.grid_core.specs.declared.cells.Shape.{Shape}
 use Rattle.grid_core.specs.Shadows.{HoldsOrder, is_known, shadow_sizes}
-use Rattle.grid_core.specs.Standing.{StandsFor, HasLooked, rules_of}
+use Rattle.grid_core.specs.Standing.{StandsFor, HasLooked, HasFound, rules_of}
 use Rattle.grid_core.specs.Cells.{IsPlacedAmong, shape_in}
 use Rattle.grid_core.specs.State.{IsRanked}
 use Rattle.grid_core.specs.StackedCells.{stacked_rules, stacked_served, stacked_failed}
 use Rattle.grid_core.proofs.After.{cells-due, after-access, lived-next, all-more, same-rules}
+use Rattle.cache_core.specs.Counting.{IsWithin, with_one}
+use Rattle.cache_core.proofs.CacheFacts.{IsWithin-with_one}
+use Rattle.grid_core.proofs.Owing.{within-more}
+use Rattle.grid_core.proofs.Sharing.{fetched-access}
 use Rattle.grid_core.proofs.Hitting.{both-true}
 use Rattle.grid_core.proofs.Silence.{hits-send-nothing}
 use Rattle.grid_core.proofs.Sizes.{rising-is}
@@ -23,6 +28,12 @@ serve_in-all_hit-requires-clause-within c =
     let old = c.args.self.now in
     let few = old.few in
     (2 * old.served, old.bounded, omega arith)
+
+pub count-requires : goal.count-requires
+count-requires c =
+    let old = c.args.self.now in
+    let few = old.few in
+    within-more old.fetches old.served (2 ^ 46) (omega arith) old.fetched
 
 pub invariant_of-self-2 : goal.invariant_of-self-2
 unfolding stacked_served
@@ -50,6 +61,8 @@ invariant_of-self-2 c =
           old.one_policy;
       bounded = all-more (2 * n + 1) (2 * (n + 1)) (omega arith) new
           (c.serve_in-all_hit.ensures.bounds (2 * n) old.bounded);
+      fetched = subst (λ p. IsWithin p (n + 1)) (sym c.count.ensures)
+          (IsWithin-with_one x true old.fetches n old.fetched);
       few = few;
       lived = λ _. lived-next g old.stacks.items c.touch_in.new.stacks.items old.shadows
           c.touch.new.self old.cells.items new n (accessed x) (old.lived c.if-self.false)
@@ -82,6 +95,7 @@ returns-clause-stands c = λ h e.
     record {
       working = e.working;
       served = (let n = e.served in omega arith);
+      fetches = c.count.ensures ∙ ap (with_one x true) e.fetches ∙ fetched-access h x;
       state = after-access g h x old.stacks.items c.touch_in.new.stacks.items old.shadows
           c.touch.new.self old.cells.items new st
           (c.touch_in.ensures.stands h (All-weaker (λ s. HasLooked s h x) (λ s. StandsFor s h)
@@ -106,12 +120,15 @@ returns-clause-answers c = λ h e.
     let block = c.block-block.ensures in
     let st = e.state in
     record {
-      answers = λ k d lt. (c.serve_in-all_hit.ensures.serves h (c.look_in.ensures.looked h st.rows)
+      write = c.writes-self.ensures;
+      found = c.touch_in.ensures.found h x (All-weaker (λ s. HasLooked s h x) (HasFound h x)
+          (λ s l. l.found) c.look_in.new.stacks.items (c.look_in.ensures.looked h st.rows));
+      missed = λ k d lt. (c.serve_in-all_hit.ensures.serves h (c.look_in.ensures.looked h st.rows)
           (cells-due g h x sizes (rising-is sizes old.rises) old.stacks.items old.shadows
           old.cells.items c.in-Ok.prior st
           (c.in-Ok.ensures.known ∙ ap (is_known old.shadows) block)
           (λ zs held. c.in-Ok.ensures.level zs held ∙ ap (level_of sizes zs) block)
-          old.ranked) k d lt).answer;
+          old.ranked) k d lt).missed;
       silent = λ none.
           let each = both-true c.serve_in-all_hit.result (not c.sends_on-through.result)
           (sym c.is_silent-self.ensures ∙ none) in
@@ -120,7 +137,7 @@ returns-clause-answers c = λ h e.
           (c.serve_in-all_hit.ensures.hits each.0 h (c.look_in.ensures.looked h st.rows))
           (subst (λ (l : List Shape). All (λ s. s.wback ≡ old.wback) l)
           (sym c.serve_in-all_hit.ensures.shapes) old.one_policy)
-          (c.sends_on-through.ensures ∙ ap (λ t. t && not old.wback) c.writes.ensures)
+          (c.sends_on-through.ensures ∙ ap (λ t. t && not old.wback) c.writes-self.ensures)
           (not-true c.sends_on-through.result each.1);
     }
 

@@ -11,6 +11,8 @@ use Rattle.grid_core.specs.State.{IsRanked}
 use Rattle.grid_core.specs.StackedCells.{stacked_rules, stacked_served, stacked_failed}
 use Rattle.grid_core.proofs.After.{after-flush, lived-next, paid-of, room-of, flushed-within}
 use Rattle.grid_core.proofs.After.{flushed-counted, flushed-shapes, same-rules, as-many}
+use Rattle.grid_core.proofs.Owing.{within-more}
+use Rattle.grid_core.proofs.Sharing.{fetched-flush}
 use Rattle.grid_core.proofs.stacked.Stacked.flush.Goals as goal
 
 pub flush_in-requires-clause-len : goal.flush_in-requires-clause-len
@@ -58,6 +60,7 @@ invariant_of-self c =
       bounded = flushed-within n lists cells new len size done
           (paid-of g old.stacks.items old.shadows cells n lists len lived c.requires.lists)
           old.bounded;
+      fetched = within-more old.fetches n (n + 1) (omega arith) old.fetched;
       few = few;
       lived = λ _. lived-next g old.stacks.items c.clear_in.new.stacks.items old.shadows
           c.clear.new.self cells new n flushed lived
@@ -79,6 +82,7 @@ returns-clause-stands c = λ h e.
     record {
       working = e.working;
       served = (let n = e.served in omega arith);
+      fetches = e.fetches ∙ fetched-flush h;
       state = after-flush old.geometry h old.stacks.items c.clear_in.new.stacks.items old.shadows
           c.clear.new.self cells new e.state (c.clear_in.ensures.stands h) c.clear.ensures.order
           c.clear.ensures.known

@@ -6,6 +6,9 @@ use Rattle.grid_core.specs.Cells.{shape_in}
 use Rattle.grid_core.specs.State.{IsRanked}
 use Rattle.grid_core.specs.StackedCells.{stacked_rules, stacked_served, stacked_failed}
 use Rattle.grid_core.proofs.After.{after-start, rules-shapes}
+use Rattle.cache_core.specs.Counting.{IsWithin}
+use Rattle.cache_core.proofs.CacheFacts.{AreWithin-none}
+use Rattle.grid_core.proofs.Sharing.{fetched-start}
 use Rattle.grid_core.proofs.stacked.Stacked.new.Goals as goal
 
 pub invariant_of-result : goal.invariant_of-result
@@ -24,6 +27,7 @@ invariant_of-result c =
           (sym (sizes ∙ sym c.deref-2.ensures.value)) c.in_ok-parts.ensures.ranked;
       one_policy = c.in_ok-parts.ensures.one_policy;
       bounded = λ k d lt. (fresh k d lt).within;
+      fetched = subst (λ p. IsWithin p 0) (sym c.zero_per_class.ensures) AreWithin-none.fetches;
       few = omega arith;
       lived = λ _. ∣ (
         [],
@@ -38,6 +42,7 @@ unfolding stacked_served stacked_failed
 returns-clause-stands c = record {
   working = refl;
   served = refl;
+  fetches = c.zero_per_class.ensures ∙ fetched-start;
   state = after-start c.args.first c.in_ok-parts.parts.stacks.items c.in_ok-shadows.shadows
       c.in_ok-parts.parts.cells.items c.in_ok-parts.ensures.stands c.in_ok-shadows.ensures.order
       c.in_ok-shadows.ensures.known c.in_ok-parts.ensures.fresh;

@@ -10,7 +10,7 @@ use Rattle.grid_core.specs.Shapes.{IsSuitedShape}
 use Rattle.grid_core.specs.Cells.{IsPlacedAmong, shape_in, shape_rules}
 use Rattle.grid_core.specs.State.{IsRanked, IsFresh}
 use Rattle.grid_core.proofs.Placed.{suited-placed}
-use Rattle.grid_core.proofs.stacked.parts_for.Goals as goal
+use Rattle.grid_core.proofs.parts.parts_for.Goals as goal
 
 pub loop-geometry-preserved : goal.loop-geometry-preserved
 loop-geometry-preserved c =

@@ -5,7 +5,7 @@ use Rattle.grid_core.specs.declared.cells.Shape.{Shape}
 use Rattle.grid_core.specs.Slots.{index_of}
 use Rattle.grid_core.specs.Shapes.{IsSuited, IsSuitedShape}
 use Rattle.grid_core.proofs.Sizes.{index-inside, index-found}
-use Rattle.grid_core.proofs.stacked.cell_for.Goals as goal
+use Rattle.grid_core.proofs.parts.cell_for.Goals as goal
 
 pub returns-clause-own : goal.returns-clause-own
 returns-clause-own c =

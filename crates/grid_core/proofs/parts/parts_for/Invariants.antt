@@ -4,7 +4,7 @@ use Rattle.grid_core.specs.Standing.{StandsFor, stack_rules}
 use Rattle.grid_core.specs.Shapes.{IsSuitedShape}
 use Rattle.grid_core.specs.Cells.{shape_in, shape_rules}
 use Rattle.grid_core.specs.State.{IsRanked, IsFresh}
-use Rattle.grid_core.proofs.stacked.parts_for.Given as goal
+use Rattle.grid_core.proofs.parts.parts_for.Given as goal
 
 -- there is a cell for each geometry that was passed
 abbrev pub invariant-loop-geometry : goal.invariant-loop-geometry

@@ -1,12 +1,12 @@
-use Rattle.std.proofs.Common.{◌≡◌, ℕ, not, ◌&&◌, ltb, sym, ap, ◌∙◌, refl}
+use Rattle.std.proofs.Common.{not, ◌&&◌, ltb, ap, ◌∙◌}
 use Rattle.cache_core.specs.History.{is_write}
 use Rattle.grid_core.specs.Standing.{rules_of}
 use Rattle.grid_core.proofs.Served.{outcome-is}
 use Rattle.grid_core.proofs.StackRules.{stacked}
-use Rattle.grid_core.proofs.cells.outcome_in.Goals as goal
+use Rattle.grid_core.proofs.outcome.outcome_in.Goals as goal
 
-pub returns : goal.returns
-returns c = λ h looked prior.
+pub returns-clause-is : goal.returns-clause-is
+returns-clause-is c = λ h looked prior.
     let s = c.args.stack.now in
     outcome-is (rules_of s) (stacked s) c.args.shape c.requires h c.args.access c.args.prior prior
     c.position.result (c.position.ensures ∙ looked.found)

@@ -6,7 +6,7 @@ use Rattle.grid_core.proofs.Distances.{hits-distance}
 use Rattle.grid_core.proofs.StackStep.{suc-pred}
 use Rattle.grid_core.proofs.Outcomes.{outcome-kept}
 use Rattle.grid_core.proofs.StackRules.{stacked}
-use Rattle.grid_core.proofs.cells.back_in.Goals as goal
+use Rattle.grid_core.proofs.outcome.back_in.Goals as goal
 
 pub returns-then-hit : goal.returns-then-hit
 returns-then-hit c = λ h looked is.

@@ -1,0 +1,80 @@
+//! The rows and the cells of some geometries.
+
+ghost use Rattle.std.specs.Prelude.{◌≡◌, [], map, true, IfOk, OnOk};
+ghost use Rattle.std.specs.List.{All};
+ghost use Rattle.cache_core.specs.Geometry.{bsize_of, blocks_of};
+ghost use Rattle.grid_core.specs.Standing.{StandsFor, rules_of, stack_rules};
+ghost use Rattle.grid_core.specs.declared.cells.Shape.{Shape as Cut};
+ghost use Rattle.grid_core.specs.Shapes.{has_size, IsSuitedShape};
+ghost use Rattle.grid_core.specs.Cells.{IsPlacedAmong, shape_in, shape_rules};
+ghost use Rattle.grid_core.specs.State.{IsRanked, IsFresh, IsCellFor};
+
+use crate::cells::{Cell, Shape, fresh_cell};
+use crate::shapes::{rank_of, stack_for, ways_of};
+use crate::stack::Stack;
+use cache_core::Geometry;
+use std::alloc::{AllocError, Global};
+
+/// The rows and the cells of some geometries.
+#[derive(Drop)]
+pub(crate) struct Parts {
+    pub stacks: Vec<Stack>,
+    pub cells: Vec<Cell>,
+}
+
+/// A cell that has counted nothing, for a geometry, and rows for it.
+fn cell_for(
+    alloc: Global,
+    stacks: &mut Vec<Stack>,
+    geometries: &[Geometry],
+    geometry: Geometry,
+    sizes: &[usize],
+    wback: bool,
+) -> Result<Cell, AllocError>
+    requires { has_size sizes.now (blocks_of geometry) ≡ true }
+    ensures own { IfOk result (λ cell. IsCellFor sizes.now stacks.new.items geometry wback cell) }
+    ensures kept { OnOk result ((s : Cut) → IsSuitedShape stacks.old.items s →
+        IsSuitedShape stacks.new.items s) }
+    ensures stands { OnOk result (All (λ s. StandsFor s []) stacks.old.items →
+        All (λ s. StandsFor s []) stacks.new.items) }
+{
+    let stack = stack_for(alloc, stacks, geometries, geometry, wback)?;
+    let shape = Shape {
+        geometry,
+        wback,
+        stack,
+        ways: ways_of(geometry),
+        rank: rank_of(sizes, geometry.blocks() as usize),
+    };
+    Ok(fresh_cell(shape))
+}
+
+/// Empty rows, and cells that have counted nothing, for these geometries.
+pub(crate) fn parts_for(
+    alloc: Global,
+    geometries: &[Geometry],
+    sizes: &[usize],
+    first: Geometry,
+    wback: bool,
+) -> Result<Parts, AllocError>
+    requires sizes { All (λ g. has_size sizes.now (blocks_of g) ≡ true) geometries.now }
+    requires one_size { All (λ g. bsize_of g ≡ bsize_of first) geometries.now }
+    ensures rules { IfOk result (λ parts. map shape_rules (map shape_in parts.cells.items)
+        ≡ map (λ g. stack_rules g wback) geometries.now) }
+    ensures ranked { IfOk result (λ parts.
+        All (IsRanked sizes.now first) (map shape_in parts.cells.items)) }
+    ensures placed { IfOk result (λ parts.
+        All (IsPlacedAmong (map rules_of parts.stacks.items)) (map shape_in parts.cells.items)) }
+    ensures one_policy { IfOk result (λ parts.
+        All (λ s. s.wback ≡ wback) (map shape_in parts.cells.items)) }
+    ensures stands { IfOk result (λ parts. All (λ s. StandsFor s []) parts.stacks.items) }
+    ensures fresh { IfOk result (λ parts. All IsFresh parts.cells.items) }
+{
+    let mut stacks = Vec::new(alloc);
+    let mut cells = Vec::new(alloc);
+    for geometry in geometries {
+        let cell = cell_for(alloc, &mut stacks, geometries, *geometry, sizes, wback)?;
+        cells.push(cell)?;
+    }
+    Ok(Parts { stacks, cells })
+}
