@@ -216,13 +216,18 @@ fn place_for(
 }
 
 /// The worker of a row, of so many, if `count` rows are shared out. Rows beside one another have
-/// more caches in common, so each worker has a run of them.
+/// more caches in common, so each worker has runs of them. It has two, one from each half of the
+/// grid: the small caches, which send most to their second levels, often stand at one end.
 fn worker_of(row: usize, count: usize, workers: usize) -> usize {
-    if workers == 0 {
+    if workers == 0 || count == 0 {
         return 0;
     }
-    let run = count.div_ceil(workers);
-    if run == 0 { 0 } else { row / run }
+    let part = row.saturating_mul(2).saturating_mul(workers) / count;
+    if part < workers {
+        part
+    } else {
+        (workers - 1).saturating_sub(part - workers)
+    }
 }
 
 /// The plan for the rows of a grid, whose lanes are shared out among so many workers.
