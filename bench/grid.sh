@@ -65,11 +65,4 @@ measure() {
     done
 }
 
-tame > "$folder/tame.din"
-measure 'tame' "$folder/tame.din"
-if command -v valgrind > /dev/null; then
-    "$top/bin/record" ls /usr/lib 2> /dev/null > "$folder/ls.din"
-    measure 'the references of ls' "$folder/ls.din"
-fi
-hard > "$folder/hard.din"
-measure 'hard' "$folder/hard.din"
+each_trace "$folder" measure

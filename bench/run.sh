@@ -6,9 +6,9 @@
 #
 #   bench/run.sh [REFERENCES [ROUNDS]]      3,000,000 references and 5 rounds, if none are given
 #
-# The trace is made with a fixed seed in a temporary folder. All runs of a table read the same file,
-# in turn, and their reports must be the same. The real program is ls; without valgrind that part is
-# left out.
+# The trace is the tame one of traces.sh, made in a temporary folder. All runs of a table read the
+# same file, in turn, and their reports must be the same. The real program is ls; without valgrind
+# that part is left out.
 set -euo pipefail
 references=${1:-3000000}
 rounds=${2:-5}
@@ -22,27 +22,14 @@ finish() {
     rm -rf "$folder"
 }
 trap finish EXIT
+. "$top/bench/traces.sh"
 trace=$folder/made.din
 
 (cd "$top/crates/plain_bench" && mapfile -t words < args && rt run -- "${words[@]}" < stdin) \
     > "$folder/build.log" 2>&1 || { cat "$folder/build.log" >&2; exit 1; }
 "$top/bin/dinero_pipe" --help > /dev/null
 
-# Six in ten references are fetches, which run on and sometimes jump to one of 64 loops. Of the data
-# references, three in ten are writes; most are to 16 KiB, some to 256 KiB, few to 16 MiB.
-awk -v references="$references" 'BEGIN {
-    srand(1)
-    for (i = 0; i < references; i++) {
-        if (rand() < 0.6) {
-            counter = rand() < 0.1 ? 4194304 + 1024 * int(64 * rand()) : counter + 4
-            printf "2 %x\n", counter
-        } else {
-            near = rand()
-            reach = near < 0.8 ? 16384 : near < 0.97 ? 262144 : 16777216
-            printf "%d %x\n", rand() < 0.3, 268435456 + 8 * int(reach / 8 * rand())
-        }
-    }
-}' > "$trace"
+tame > "$trace"
 
 # same NAME COMMAND..: a line for the runs in turn, once the report is seen to be that of the first.
 same() {

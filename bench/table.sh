@@ -17,17 +17,16 @@ folder=$(mktemp -d)
 trap 'rm -rf "$folder"' EXIT
 . "$top/bench/traces.sh"
 
-# The programs that the launchers run; a first call unpacks or builds them.
+# A call of a launcher puts the program in its place.
 for program in dinero_pipe dinero_grid; do
     "$top/bin/$program" --help > /dev/null
-    printf -v "$program" %q "$top/bin/$program"
 done
+printf -v grid %q "$top/crates/dinero_grid/out/dinero_grid"
 
-# Runs of dinero_pipe: each line on standard input has the options of one.
+# Runs of dinero_pipe over the file `trace`: each line of the file `each` has the options of one.
+export pipe=$top/crates/dinero_pipe/out/dinero_pipe trace each=$folder/each
 cat > "$folder/runs.sh" <<'END'
-trace=$1 program=$2
-export trace program
-xargs -P 4 -I {} sh -c '"$program" {} --ring 65536 < "$trace" > /dev/null'
+xargs -P 4 -I {} sh -c '"$pipe" {} --ring 65536 < "$trace" > /dev/null' < "$each"
 END
 
 # split LIST: its values, one on each line.
@@ -37,22 +36,22 @@ split() {
 
 # measure NAME TRACE CACHE SIZES WAYS OPTION..: the last are options that do not vary.
 measure() {
-    local name=$1 trace=$2 cache=$3 sizes=$4 ways=$5 size way threads
+    local name=$1 cache=$3 sizes=$4 ways=$5 size way threads
+    trace=$2
     shift 5
     for size in $(split "$sizes"); do
         for way in $(split "$ways"); do
             echo "$* --$cache""size $size --$cache""assoc $way"
         done
-    done > "$folder/each"
+    done > "$each"
     {
-        printf 'dinero_pipe\tsh -c "sh %q/runs.sh %q %s < %q/each"\n' \
-            "$folder" "$trace" "$dinero_pipe" "$folder"
+        printf 'dinero_pipe\tsh %q\n' "$folder/runs.sh"
         for threads in 1 2 4; do
             printf 'dinero_grid %s\t%s %s --%ssize %s --%sassoc %s --threads %s\n' "$threads" \
-                "$dinero_grid" "$*" "$cache" "$sizes" "$cache" "$ways" "$threads"
+                "$grid" "$*" "$cache" "$sizes" "$cache" "$ways" "$threads"
         done
     } > "$folder/commands"
-    echo "== $name, $(wc -l < "$folder/each") configurations"
+    echo "== $name, $(wc -l < "$each") configurations"
     "$top/bench/in_turn.py" "$rounds" "$trace" < "$folder/commands"
 }
 
@@ -72,11 +71,4 @@ grids() {
     measure "$1: FIFO data caches" "$2" l1-d "$seven" 1,2,4,8 "${all[@]}" --l1-drepl f
 }
 
-tame > "$folder/tame.din"
-grids 'tame' "$folder/tame.din"
-if command -v valgrind > /dev/null; then
-    "$top/bin/record" ls /usr/lib 2> /dev/null > "$folder/ls.din"
-    grids 'the references of ls' "$folder/ls.din"
-fi
-hard > "$folder/hard.din"
-grids 'hard' "$folder/hard.din"
+each_trace "$folder" grids

@@ -1,4 +1,5 @@
-# Traces that benchmarks make. Read by those that set `references`, how many a trace has.
+# Traces that benchmarks make, with a fixed seed. Read by those that set `references`, how many a
+# trace has, and `top`, the checkout.
 # shellcheck shell=bash disable=SC2154
 
 # make NEAR SHARE MIDDLE SHARE: six in ten references are fetches, which run on and sometimes jump
@@ -29,4 +30,19 @@ tame() {
 # hard: half of the data references are to 64 KiB, and the others to 1 and 16 MiB.
 hard() {
     make 65536 0.5 1048576 0.8
+}
+
+# each_trace FOLDER COMMAND..: makes each trace in the folder, and calls the command with its title
+# and its file. The second is recorded from ls; without valgrind it is left out.
+each_trace() {
+    local folder=$1
+    shift
+    tame > "$folder/tame.din"
+    "$@" 'tame' "$folder/tame.din"
+    if command -v valgrind > /dev/null; then
+        "$top/bin/record" ls /usr/lib 2> /dev/null > "$folder/ls.din"
+        "$@" 'the references of ls' "$folder/ls.din"
+    fi
+    hard > "$folder/hard.din"
+    "$@" 'hard' "$folder/hard.din"
 }

@@ -6,7 +6,7 @@
     read_run($0)
     name = (run[0] - 1) ".din"
     # As many runs are made at once as there are cores.
-    words = "./dinero_grid --threads 1"
+    words = "./dinero_grid --threads 1" (full ? " --full" : "")
     for (i = 1; i <= options; i++) words = words " --" option[i] " " list_of(option[i])
     tool = unpacker[run[0]]
     if (tool == "-") line = words " < " name

@@ -8,6 +8,7 @@
 #                            says more
 #   vary NAME VALUES         the first varies slowest
 #   with NAME OTHER          the first takes the value of the other in each row
+#   shown NAME VALUE TEXT    how a full table has a value; only a description of one has such lines
 #   trace SUM UNPACKER NAME  the sum tells one state of the file from another; a hyphen stands for
 #                            none
 #
@@ -32,6 +33,9 @@ BEGIN {
     } else if ($1 == "with") {
         tied[++ties] = $2
         lead[$2] = $3
+    } else if ($1 == "shown") {
+        full = 1
+        shown[$2, $3] = $4
     } else if ($1 == "trace") {
         read_trace()
     } else if ($1 == "rows") {

@@ -16,7 +16,7 @@ no_room() {
 # try OPTION VALUES: runs the simulator with these values, and the first one of each other option
 # that has several, on a trace without records. Its table is in the file `tried`.
 try() {
-    local i list words=("${fixed[@]}") status=0
+    local i list words=(${full:+"$full"} "${fixed[@]}") status=0
     for i in "${!varied[@]}"; do
         [ "${varied[i]}" = "$1" ] || words+=("${varied[i]}" "${values[i]%%,*}")
     done
@@ -44,23 +44,49 @@ find_list() {
     done
 }
 
-# check_values: one that the simulator can't read would spoil all rows of a run, so it is refused
-# before any. The first table has no column of an option.
-check_values() {
-    local i list value
+# find_counts: sets `counts` to the names of the columns behind those of options. With one value of
+# each option, only a full table has any of these.
+find_counts() {
     try '' ''
     counts=$(head -n 1 "$work/tried")
+    [ -z "$full" ] || counts=$(cut -f "$(($(wc -l <<<"$options") + 1))-" <<<"$counts")
+}
+
+# check_values: one that the simulator can't read would spoil all rows of a run, so it is refused
+# before any.
+check_values() {
+    local i list name value
+    find_counts
+    while read -r name value; do
+        find_value "--$name"
+        [ -z "$value" ] || note_shown "$name" "$value"
+    done <<<"$options"
     for i in "${!varied[@]}"; do
         for value in ${values[i]//,/ }; do
-            try "${varied[i]}" "$value"
+            try_value "${varied[i]}" "$value"
         done
     done
     for i in "${!tied[@]}"; do
         find_list "${leads[i]}"
         for value in ${list//,/ }; do
-            try "${tied[i]}" "$value"
+            try_value "${tied[i]}" "$value"
         done
     done
+}
+
+# try_value OPTION VALUE
+try_value() {
+    try "$1" "$2"
+    note_shown "${1#--}" "$2"
+}
+
+# note_shown NAME VALUE: keeps how a full table has it, from the one that was tried, as a line of
+# the grid's description.
+note_shown() {
+    [ -z "$full" ] || awk -F '\t' -v OFS='\t' -v "name=$1" -v "value=$2" '
+        NR == 1 { for (i = 1; i <= NF; i++) if ($i == name) at = i }
+        NR == 2 { print "shown", name, value, $at }' "$work/tried" 2>/dev/null >> "$work/shown" ||
+        no_room
 }
 
 # find_value OPTION: sets `value` to that of all rows, or to nothing if they have several.
@@ -86,6 +112,7 @@ describe_grid() {
     for i in "${!tied[@]}"; do
         printf 'with\t%s\t%s\n' "${tied[i]#--}" "${leads[i]#--}"
     done
+    [ -z "$full" ] || cat "$work/shown"
     for i in "${!traces[@]}"; do
         printf 'trace\t%s\t%s\t%s\n' "${sums[i]:--}" "${unpackers[i]}" "${traces[i]}"
     done

@@ -37,8 +37,7 @@ open_log() {
 # read_log: its rows are those of this simulator, and of the traces as they stand.
 read_log() {
     local what
-    head -n 1 < "$log" | cmp -s - "$work/names" ||
-        die 2 "$log is of another simulator; --restart begins anew"
+    has_names || say_other_names
     { tail -n +2 < "$log" | of_grid sweep_log.awk > "$work/read" &&
         head -n -1 "$work/read" > "$work/pending"; } 2>/dev/null || no_room
     what=$(tail -n 1 "$work/read")
@@ -47,6 +46,26 @@ read_log() {
     damaged) refuse "$log is no log of a sweep" ;;
     *) die 2 "${what#*$'\t'} has changed since $log was begun; --restart begins anew" ;;
     esac
+}
+
+# has_names: the log begins with the names of this sweep.
+has_names() {
+    head -n 1 < "$log" | cmp -s - "$work/names"
+}
+
+# say_other_names: the log is full where this sweep is not, or the other way about; or it is of
+# another simulator.
+say_other_names() {
+    local how=without
+    if [ -z "$full" ]; then
+        how=with full=--full
+    else
+        full=
+    fi
+    find_counts
+    log_names > "$work/names" || no_room
+    ! has_names || die 2 "$log was begun $how --full; --restart begins anew"
+    die 2 "$log is of another simulator; --restart begins anew"
 }
 
 # keep FILE: adds its lines to the log.

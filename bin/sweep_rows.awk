@@ -7,28 +7,25 @@
     read_run($0)
     has_run = 1
     head = ""
-    rows = 1
-    for (i = 1; i <= options; i++) {
-        n = split(list_of(option[i]), some, ",")
-        rows *= n
-        if (n < 2) continue
-        lists++
-        field_of[option[i]] = lists
-        head = head option[i] "\t"
-    }
+    for (i = 1; i <= options; i++)
+        if (has_column(option[i])) {
+            labels++
+            head = head option[i] "\t"
+        }
     next
 }
 
 /^unpacked [0-9]+$/ { unpacked = substr($0, 10) + 0; next }
 /^ended [0-9]+$/ { ended = substr($0, 7); next }
 !in_table && $0 == head heads { in_table = 1; next }
-in_table { line[++lines] = $0; if (NF != lists + head_count) is_cut = 1; next }
+in_table { line[++lines] = $0; if (NF != labels + head_count) is_cut = 1; next }
 said == "" { said = $0 }
 
 END {
     sub(/^dinero_grid: /, "", said)
     gsub(/\t/, " ", said)
     if (said == "" || ended == "") said = "no report"
+    make_rows(1)
     # A simulator that has refused the trace hears no more of it, and the unpacker is cut off.
     if (unpacked && (unpacked < 128 || is_table()))
         give_fault("again", unpacker[run[0]] " ended with status " unpacked)
@@ -36,47 +33,49 @@ END {
     else give_fault(ended == 1 || ended == 2 ? "whole" : "again", said)
 }
 
-function is_table() {
-    return (ended == "0" || ended == "5") && lines == rows && !is_cut
+# has_column(NAME): of an option, in what the run has printed.
+function has_column(name) {
+    return full || index(list_of(name), ",")
 }
 
-# front(): of a row, up to its counts; `now` has the value of each option with a list.
-function front(   text, i, name) {
-    text = trace[run[0]] "\t" sum_of[trace[run[0]]]
-    for (i = 1; i <= options; i++) {
-        name = option[i]
-        text = text "\t" (name in field_of ? now[name] : list_of(name))
-    }
-    return text
-}
-
-function give_table(   i, j, field, name, text) {
-    print "whole", "-"
-    for (i = 1; i <= lines; i++) {
-        split(line[i], field, "\t")
-        for (name in field_of) now[name] = field[field_of[name]]
-        text = front()
-        for (j = 1; j <= head_count; j++) text = text "\t" field[lists + j]
-        print text
-    }
-}
-
-function give_fault(how, fault) {
-    print how, fault
-    give_faults(1, fault)
-}
-
-# give_faults(I, FAULT): for all values of the options from the I-th on.
-function give_faults(i, fault,   n, some, j, text) {
+# make_rows(I): for all values of the options from the I-th on, in the order in which the run prints
+# them: `front` has a row up to its counts, and `label` what its line begins with.
+function make_rows(i,   n, some, j) {
     if (i > options) {
-        text = front()
-        for (j = 1; j < head_count; j++) text = text "\t-"
-        print text, fault
+        make_row()
         return
     }
     n = split(list_of(option[i]), some, ",")
     for (j = 1; j <= n; j++) {
         now[option[i]] = some[j]
-        give_faults(i + 1, fault)
+        make_rows(i + 1)
     }
+}
+
+function make_row(   i, name) {
+    rows++
+    front[rows] = trace[run[0]] "\t" sum_of[trace[run[0]]]
+    label[rows] = ""
+    for (i = 1; i <= options; i++) {
+        name = option[i]
+        front[rows] = front[rows] "\t" now[name]
+        if (!has_column(name)) continue
+        label[rows] = label[rows] (full ? shown[name, now[name]] : now[name]) "\t"
+    }
+    if (substr(line[rows], 1, length(label[rows])) != label[rows]) is_other = 1
+}
+
+function is_table() {
+    return (ended == "0" || ended == "5") && lines == rows && !is_cut && !is_other
+}
+
+function give_table(   i) {
+    print "whole", "-"
+    for (i = 1; i <= rows; i++) print front[i], substr(line[i], length(label[i]) + 1)
+}
+
+function give_fault(how, fault,   i, hyphens) {
+    print how, fault
+    for (i = 1; i < head_count; i++) hyphens = hyphens "-\t"
+    for (i = 1; i <= rows; i++) print front[i], hyphens fault
 }

@@ -23,20 +23,33 @@ END {
 
 function names(   text, i) {
     text = "trace"
-    for (i = 1; i <= dimensions; i++) text = text "\t" varied[i]
-    for (i = 1; i <= ties; i++) text = text "\t" tied[i]
+    if (full)
+        for (i = 1; i <= options; i++) text = text "\t" option[i]
+    else {
+        for (i = 1; i <= dimensions; i++) text = text "\t" varied[i]
+        for (i = 1; i <= ties; i++) text = text "\t" tied[i]
+    }
     return text "\t" heads
 }
 
-function label(n,   text, d, i) {
+function label(n,   text, i) {
     choose(n)
     text = trace[chosen[0]]
-    for (d = 1; d <= dimensions; d++) text = text "\t" value[d, chosen[d]]
-    for (i = 1; i <= ties; i++) {
-        d = dimension_of[lead[tied[i]]]
-        text = text "\t" value[d, chosen[d]]
+    if (full)
+        for (i = 1; i <= options; i++) text = text "\t" shown[option[i], chosen_of(option[i])]
+    else {
+        for (i = 1; i <= dimensions; i++) text = text "\t" chosen_of(varied[i])
+        for (i = 1; i <= ties; i++) text = text "\t" chosen_of(tied[i])
     }
     return text
+}
+
+# chosen_of(NAME): the value of an option in the row that was chosen.
+function chosen_of(name,   d) {
+    if (name in lead) name = lead[name]
+    if (!(name in dimension_of)) return value_of[name]
+    d = dimension_of[name]
+    return value[d, chosen[d]]
 }
 
 function counts(n,   text, field, i) {

@@ -68,7 +68,7 @@ tell_faults() {
 
 gather_table() {
     local file
-    [ -z "$log$restarts$hosts$jobs$task$into${fixed[*]}${varied[*]}${tied[*]}${traces[*]}" ] ||
+    [ -z "$log$restarts$full$hosts$jobs$task$into${fixed[*]}${varied[*]}${tied[*]}${traces[*]}" ] ||
         refuse '--gather takes no other words'
     choose_folder "$gather"
     described=$reports/grid

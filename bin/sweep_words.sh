@@ -11,6 +11,7 @@ unpackers=()
 jobs=
 log=
 restarts=
+full=
 hosts=
 task=
 tasks=
@@ -80,6 +81,7 @@ parse() {
             return
             ;;
         --restart) restarts=yes && shift && continue ;;
+        --full) full=--full && shift && continue ;;
         --*=*)
             set -- "${1%%=*}" "${1#*=}" "${@:2}"
             continue

@@ -4,7 +4,7 @@
 BEGIN { FS = "\t" }
 NR == 1 {
     for (i = 1; i <= NF; i++) {
-        if ($i ~ /-fully-associative-misses$/) is_left_out[i]
+        if ($i ~ /-fully-associative-misses/) is_left_out[i]
         if ($i ~ /-miss-rate$/) is_rate[i]
     }
     next

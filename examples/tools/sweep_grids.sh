@@ -92,6 +92,8 @@ sweep: 8 of 8 configurations have a fault" ] && [ "$(wc -l <failed.log)" -eq 1 ]
 check 'a simulator that has no memory' \
     fails_with '{ echo "dinero_grid: no memory" >&2; exit 3; }' 'no memory'
 check 'a simulator that says nothing' fails_with '{ exit 4; }' 'no report'
+check 'a simulator whose lines stand in another order' fails_with \
+    "{ '$simulator' \"\$@\" | { IFS= read -r names; echo \"\$names\"; tac; }; exit 0; }" 'no report'
 simulator=$work/failing
 noted --task 1/2 --into none "${grid[@]}" -- kinds.din
 simulator=$top/crates/dinero_grid/out/dinero_grid

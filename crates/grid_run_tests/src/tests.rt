@@ -6,6 +6,7 @@ mod grids;
 mod lines;
 mod memory;
 mod narrow;
+mod writers;
 
 ghost use Rattle.std.specs.Prelude.{OnOk};
 ghost use Rattle.std.specs.List.{All};
