@@ -55,17 +55,27 @@ next_step() {
     fi
 }
 
-# print_linear_tics: named marks at equal distances, so many as have room. The axis begins at 0 if
-# that leaves the points at least half of it.
+# names_have_room: sets `places` to the marks at equal distances of `step`, each of which has room
+# for the longest of their names.
+names_have_room() {
+    local place
+    places=()
+    for ((place = (least + step - 1) / step * step; place <= most; place += step)); do
+        places+=("$place")
+    done
+    widest_name "${places[@]}"
+    [ $((span * (widest + 2))) -le $((columns * step)) ]
+}
+
+# print_linear_tics: named marks at equal distances, so many as have room, and at most eleven. The
+# axis begins at 0 if that leaves the points at least half of it.
 print_linear_tics() {
-    local least=$least span step=$unit place steps marks=()
+    local least=$least span step=$unit place places marks=()
     [ $((least * 2)) -gt "$most" ] || least=0
     span=$((most - least))
-    widest_name "$least" "$most"
     in_columns "$plot_width"
-    steps=$((columns / (widest + 2)))
-    while [ $((span / step)) -gt $((steps < 10 ? steps : 10)) ]; do next_step; done
-    for ((place = (least + step - 1) / step * step; place <= most; place += step)); do
+    while [ $((span / step)) -gt 10 ] || ! names_have_room; do next_step; done
+    for place in "${places[@]}"; do
         name_place "$place"
         marks+=("'$name' $place")
     done

@@ -97,6 +97,10 @@ test_axes() {
 ('0' 0,'2' 2048,'4' 4096,'6' 6144,'8' 8192,'10' 10240,'12' 12288,'14' 14336,'16' 16384)"
     ! grep -q logscale "$work/kept/script"
     verdict 'and it is not logarithmic' $?
+    head -n 16 sizes.tsv >to_1m.tsv
+    keeps rates to_1m.tsv points.svg --size 336x250 --linear
+    tells 'a linear axis with longer names between its ends' \
+        "set xtics scale 1,0.6 ('0' 0,'256k' 262144,'512k' 524288,'768k' 786432,'1M' 1048576)"
     sed 's/\t32\tl$/\t0\tl/' points.tsv >zero.tsv
     ends 'plot of nothing on a logarithmic axis' 1 \
         'plot: zero.tsv: 0 has no place on a logarithmic axis: take --linear' \
