@@ -36,7 +36,11 @@ pub(crate) struct Front {
 fn last_of(access: Access, sent_nothing: bool) -> Last
     ensures { result ≡ (if sent_nothing then last.Silence else last.Access access) }
 {
-    if sent_nothing { Last::Silence } else { Last::Access(access) }
+    if sent_nothing {
+        Last::Silence
+    } else {
+        Last::Access(access)
+    }
 }
 
 impl Front {

@@ -12,8 +12,13 @@ serve_each-requires c =
       room = record {
         past = asked.served;
         stands = asked.stands;
-        short = omega (arith, c.requires.room.2, ap length asked.all,
-          length-append asked.served waiting, ap length c.deref.ensures.value);
+        short = omega (
+          arith,
+          c.requires.room.2,
+          ap length asked.all,
+          length-append asked.served waiting,
+          ap length c.deref.ensures.value,
+        );
       };
     }
 
