@@ -11,7 +11,8 @@ use Rattle.std.proofs.Math.Logic.{∥∥₁_elim, ∥∥₁_map}
 use Rattle.std.proofs.lemmas.List.{length-map, get_or-map}
 use Rattle.cache_core.specs.declared.geometry.Geometry.{Geometry}
 use Rattle.cache_core.specs.declared.access.Access.{Access}
-use Rattle.cache_core.specs.History.{History, Rules, Event, block_of, access, flush}
+use Rattle.cache_core.specs.Geometry.{bsize_of}
+use Rattle.cache_core.specs.History.{History, Rules, Event, block_of, access, flush, is_write}
 use Rattle.cache_core.specs.Residents.{distinct, renewals}
 use Rattle.cache_core.specs.Dirty.{dirty_blocks}
 use Rattle.cache_core.specs.Kinds.{referenced_blocks, shadow_of}
@@ -32,7 +33,8 @@ use Rattle.grid_core.specs.declared.stack.Stack.{Stack}
 use Rattle.grid_core.specs.FullyAssociative.{shadow_misses}
 use Rattle.grid_core.specs.Ways.{IsStacked}
 use Rattle.grid_core.specs.Standing.{StandsFor}
-use Rattle.grid_core.specs.Shadows.{HoldsOrder, is_known}
+use Rattle.grid_core.specs.Recent.{IsRecent, after_use, none_recent}
+use Rattle.grid_core.specs.Shadows.{HoldsOrder, is_known, recent_in}
 use Rattle.grid_core.specs.Cells.{KnowsPrior, IsCounted, IsDue, IsServed, AreFlushedBy, flushed_by}
 use Rattle.grid_core.specs.Cells.{HaveRoom, IsWithinCell, items_of, shape_in, shape_rules}
 use Rattle.grid_core.specs.Cells.{dirty_bytes_of, own_counts}
@@ -41,6 +43,7 @@ use Rattle.grid_core.specs.Written.{written_by}
 use Rattle.grid_core.proofs.Distances.{renews-all}
 use Rattle.grid_core.proofs.Owing.{written-owing, cell-more, within-more}
 use Rattle.grid_core.proofs.Placed.{shape-at}
+use Rattle.grid_core.proofs.Repeats.{recent-access, recent-none}
 
 -- caches of one block size use the same blocks, in the same order
 module _ (q r : Rules) (sq : IsStacked q) (sr : IsStacked r) (same : q.bsize ≡ r.bsize) where
@@ -96,7 +99,7 @@ module _ (g : Geometry) (h : History) (x : Access) where
             ∙ sym (shadow-holds q ms (block_of q x));
       }
 
-  referenced-next : (c : ℕ) → (b == c || list_any (λ t. t == c) (referenced_blocks r h))
+  pub referenced-next : (c : ℕ) → (b == c || list_any (λ t. t == c) (referenced_blocks r h))
       ≡ list_any (λ t. t == c) (referenced_blocks r (access x ∷ h))
   unfolding referenced_blocks
   referenced-next c = refl
@@ -118,12 +121,15 @@ module _ (g : Geometry) (h : History) (x : Access) where
       → All (λ s. StandsFor s (access x ∷ h)) stacks'
       → ((zs : List ℕ) → HoldsOrder shadows zs → HoldsOrder shadows' (brought_front b zs))
       → ((c : ℕ) → is_known shadows' c ≡ (b == c || is_known shadows c))
+      → recent_in shadows' ≡ after_use b (is_write x) (recent_in shadows)
       → All (IsServed h x) cells' → IsAfter g stacks' shadows' cells' (access x ∷ h)
-  after-access stacks stacks' shadows shadows' cells cells' st rows order adds served = record {
+  after-access stacks rows' shadows shadows' cells cells' st rows order adds at served = record {
     rows = rows;
     order = subst (HoldsOrder shadows') (sym (front-brought r refl h x)) (order ys st.order);
     known = λ c. adds c ∙ ap (λ t. b == c || t) (st.known c) ∙ referenced-next c;
     counted = λ k d lt. (served k d lt).counted;
+    recent = subst (λ p. IsRecent (bsize_of g) p (access x ∷ h)) (sym at)
+        (recent-access (bsize_of g) (recent_in shadows) h x st.recent);
   }
 
 -- a flush
@@ -141,13 +147,16 @@ module _ (g : Geometry) (h : History) where
       (cells cells' : List Cell) → IsAfter g stacks shadows cells h
       → All (λ s. StandsFor s (flush ∷ h)) stacks' → HoldsOrder shadows' []
       → ((c : ℕ) → is_known shadows' c ≡ is_known shadows c)
+      → recent_in shadows' ≡ none_recent
       → All (IsCounted (flush ∷ h)) cells' → IsAfter g stacks' shadows' cells' (flush ∷ h)
-  after-flush stacks stacks' shadows shadows' cells cells' st rows order same counted = record {
+  after-flush stacks rows' shadows shadows' cells cells' st rows order same none counted = record {
     rows = rows;
     order = subst (HoldsOrder shadows')
         (sym (ap distinct (renewals-flush (shadow_of (base_rules g)) h))) order;
     known = λ c. same c ∙ st.known c ∙ referenced-flush c;
     counted = counted;
+    recent = subst (λ p. IsRecent (bsize_of g) p (flush ∷ h)) (sym none)
+        (recent-none (bsize_of g) (flush ∷ h));
   }
 
 -- the list of a cell
@@ -280,14 +289,16 @@ all-more n m le cells all k d lt = cell-more n m le (get_or cells k d) (all k d 
 -- before the first event
 pub after-start : (g : Geometry) (stacks : List Stack) (shadows : Shadows) (cells : List Cell)
     → All (λ s. StandsFor s []) stacks → HoldsOrder shadows []
-    → ((c : ℕ) → is_known shadows c ≡ false) → All IsFresh cells
+    → ((c : ℕ) → is_known shadows c ≡ false) → recent_in shadows ≡ none_recent
+    → All IsFresh cells
     → IsAfter g stacks shadows cells []
 unfolding renewals referenced_blocks
-after-start g stacks shadows cells rows order known fresh = record {
+after-start g stacks shadows cells rows order known none fresh = record {
   rows = rows;
   order = order;
   known = known;
   counted = λ k d lt. (fresh k d lt).counted;
+  recent = subst (λ p. IsRecent (bsize_of g) p []) (sym none) (recent-none (bsize_of g) []);
 }
 
 -- the rules of cells are those of their shapes

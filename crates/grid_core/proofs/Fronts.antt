@@ -82,7 +82,7 @@ slot-is b s e =
     ap (λ z. record { block = z; valid = true; level = s.level }) (sym (eqb-true s.block b parts.1))
     ∙ ap (λ v. record { block = s.block; valid = v; level = s.level }) (sym parts.0)
 
-low-level : (l : ℕ) → level_after false l 0 ≡ l
+pub low-level : (l : ℕ) → level_after false l 0 ≡ l
 low-level l = (elim (ltb l 0) as (λ t. ltb l 0 ≡ t → cond t 0 l ≡ l) [
   | true ↦ λ e. let lt = ltb-true l 0 e in absurd (omega arith)
   | false ↦ λ e. refl

@@ -22,7 +22,7 @@ none-more t n =
     ap (λ u. one_if u + n) (and-false t) ∙ z
 
 -- nothing is added where nothing is counted
-with-none : (x : Access) (p : PerClass) → with_one x false p ≡ p
+pub with-none : (x : Access) (p : PerClass) → with_one x false p ≡ p
 with-none x p =
     ap (λ n. record {
       instr = n;

@@ -18,7 +18,9 @@ pub mod Geometries
 pub mod Sizes
 pub mod Served
 pub mod Placed
+pub mod Repeats
 pub mod After
+pub mod Again
 pub mod OtherWays
 pub mod Seats
 pub mod Kept

@@ -127,7 +127,7 @@ module _ (r : Rules) (st : IsStacked r) (h : History) where
         ∙ sym (ap (level_after false (dirty_level r h b)) (far e)))
 
     -- the level that the code finds leads to the level after the access
-    seen-level : (w : Bool) → level_after w
+    pub seen-level : (w : Bool) → level_after w
         (option_map_or level_of (find (holds b) (slots_of r h (b % r.sets)))
         (length (slots_of r h (b % r.sets)))) (index_of (holds b) (slots_of r h (b % r.sets)))
         ≡ level_after w (dirty_level r h b) (stack_distance r h b)

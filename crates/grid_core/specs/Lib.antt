@@ -5,6 +5,7 @@ pub mod Slots
 pub mod Pushed
 pub mod Hits
 pub mod Standing
+pub mod Recent
 pub mod Shadows
 pub mod Shapes
 pub mod Cells

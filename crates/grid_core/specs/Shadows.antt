@@ -3,6 +3,7 @@ use Rattle.std.specs.Prelude.{◌≡◌, ℕ, ◌==◌, Bool, true, nat_eq, is_s
 use Rattle.std.specs.List.{list_any}
 use Rattle.std.specs.HashMap.{get}
 use Rattle.marked_list.specs.Marked.{order_of, marked_sizes}
+use Rattle.grid_core.specs.declared.recent.Recent.{Recent}
 use Rattle.grid_core.specs.declared.shadows.Shadows.{Shadows}
 
 -- whether a block was accessed
@@ -12,6 +13,10 @@ is_known s b = is_some (get nat_eq s.numbers b)
 -- the number of a block that was accessed
 abbrev pub number_in : Shadows → ℕ → ℕ
 number_in s b = unwrap_or (get nat_eq s.numbers b) 0
+
+-- what is known of the block that was used last
+abbrev pub recent_in : Shadows → Recent
+recent_in s = s.recent
 
 -- the sizes of the shadows in blocks
 abbrev pub shadow_sizes : Shadows → List ℕ

@@ -1,6 +1,6 @@
 -- From geometries to rows.
-use Rattle.std.specs.Prelude.{◌≡◌, ℕ, ◌<◌, ◌≤◌, ◌==◌, Bool, List, length, get_or}
-use Rattle.std.specs.List.{list_any}
+use Rattle.std.specs.Prelude.{◌≡◌, ℕ, ◌<◌, ◌≤◌, ◌==◌, Bool, List, length, get_or, map}
+use Rattle.std.specs.List.{list_any, All}
 use Rattle.cache_core.specs.declared.geometry.Geometry.{Geometry}
 use Rattle.cache_core.specs.Geometry.{bsize_of, sets_of, assoc_of}
 use Rattle.grid_core.specs.declared.cells.Shape.{Shape}
@@ -18,6 +18,10 @@ pub record IsSuited (stacks : List Stack) (g : Geometry) (ways : ℕ) (wback : B
     : Type 0 where
   pub inside : index < length stacks
   pub suits : (d : Stack) → Suits (rules_of (get_or stacks index d)) g ways wback
+
+-- all rows have blocks of n bytes
+abbrev pub HaveBsize : ℕ → List Stack → Type 0
+HaveBsize n stacks = All (λ r. r.bsize ≡ n) (map rules_of stacks)
 
 -- the size is among the sizes
 abbrev pub has_size : List ℕ → ℕ → Bool

@@ -11,6 +11,7 @@ use Rattle.cache_core.specs.Parts.{outcome_of}
 use Rattle.grid_core.specs.declared.stacked.Stacked.{Stacked}
 use Rattle.grid_core.specs.Standing.{StandsFor, HasFound}
 use Rattle.grid_core.specs.Cells.{shape_rules, shape_in, items_of, dirty_bytes_of, HasMissed}
+use Rattle.grid_core.specs.Cells.{HitsIn}
 use Rattle.grid_core.specs.State.{IsAfter, kept_by}
 use Rattle.grid_core.specs.Written.{SendsNothing}
 
@@ -40,8 +41,9 @@ pub record StackedStandsFor (e : Stacked) (h : History) : Type 0 where
 -- the last access was x, after the history h
 pub record StackedHasAnswered (e : Stacked) (h : History) (x : Access) : Type 0 where
   pub write : e.write ≡ is_write x
-  pub found : All (HasFound h x) e.stacks.items
-  pub missed : All (HasMissed h x) e.cells.items
+  pub again : e.again ≡ true → All (λ c. HitsIn h x c.shape) e.cells.items
+  pub found : e.again ≡ false → All (HasFound h x) e.stacks.items
+  pub missed : e.again ≡ false → All (HasMissed h x) e.cells.items
   pub silent : e.silent ≡ true →
       All (λ c. SendsNothing (outcome_of (shape_rules c.shape) h x)) e.cells.items
 

@@ -13,7 +13,8 @@ use Rattle.grid_core.specs.declared.cells.Shape.{Shape}
 use Rattle.grid_core.specs.declared.shadows.Shadows.{Shadows}
 use Rattle.grid_core.specs.declared.stack.Stack.{Stack}
 use Rattle.grid_core.specs.Standing.{StandsFor, stack_rules}
-use Rattle.grid_core.specs.Shadows.{HoldsOrder, is_known}
+use Rattle.grid_core.specs.Recent.{IsRecent}
+use Rattle.grid_core.specs.Shadows.{HoldsOrder, is_known, recent_in}
 use Rattle.grid_core.specs.Cells.{IsCounted, IsWithinCell, whole_counts}
 use Rattle.grid_core.specs.Shapes.{IsSuitedShape}
 
@@ -29,6 +30,7 @@ pub record IsAfter (g : Geometry) (stacks : List Stack) (shadows : Shadows) (cel
   pub known : (b : ℕ) → is_known shadows b
       ≡ list_any (λ t. t == b) (referenced_blocks (base_rules g) h)
   pub counted : All (IsCounted h) cells
+  pub recent : IsRecent (bsize_of g) (recent_in shadows) h
 
 -- the rank of a shape is that of its number of blocks, and it has the block size of g
 pub record IsRanked (sizes : List ℕ) (g : Geometry) (s : Shape) : Type 0 where

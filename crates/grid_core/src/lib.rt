@@ -25,6 +25,7 @@ mod outcome;
 mod parts;
 mod places;
 mod plan;
+mod recent;
 mod shadows;
 mod shapes;
 mod single;

@@ -1,11 +1,11 @@
 //! The rows and the cells of some geometries.
 
-ghost use Rattle.std.specs.Prelude.{◌≡◌, [], map, true, IfOk, OnOk};
+ghost use Rattle.std.specs.Prelude.{◌≡◌, ℕ, [], map, true, IfOk, OnOk};
 ghost use Rattle.std.specs.List.{All};
 ghost use Rattle.cache_core.specs.Geometry.{bsize_of, blocks_of};
 ghost use Rattle.grid_core.specs.Standing.{StandsFor, rules_of, stack_rules};
 ghost use Rattle.grid_core.specs.declared.cells.Shape.{Shape as Cut};
-ghost use Rattle.grid_core.specs.Shapes.{has_size, IsSuitedShape};
+ghost use Rattle.grid_core.specs.Shapes.{has_size, HaveBsize, IsSuitedShape};
 ghost use Rattle.grid_core.specs.Cells.{IsPlacedAmong, shape_in, shape_rules};
 ghost use Rattle.grid_core.specs.State.{IsRanked, IsFresh, IsCellFor};
 
@@ -37,6 +37,8 @@ fn cell_for(
         IsSuitedShape stacks.new.items s) }
     ensures stands { OnOk result (All (λ s. StandsFor s []) stacks.old.items →
         All (λ s. StandsFor s []) stacks.new.items) }
+    ensures sizes { OnOk result ((n : ℕ) → bsize_of geometry ≡ n →
+        HaveBsize n stacks.old.items → HaveBsize n stacks.new.items) }
 {
     let stack = stack_for(alloc, stacks, geometries, geometry, wback)?;
     let shape = Shape {
@@ -65,6 +67,7 @@ pub(crate) fn parts_for(
         All (IsRanked sizes.now first) (map shape_in parts.cells.items)) }
     ensures placed { IfOk result (λ parts.
         All (IsPlacedAmong (map rules_of parts.stacks.items)) (map shape_in parts.cells.items)) }
+    ensures one_size { IfOk result (λ parts. HaveBsize (bsize_of first) parts.stacks.items) }
     ensures one_policy { IfOk result (λ parts.
         All (λ s. s.wback ≡ wback) (map shape_in parts.cells.items)) }
     ensures stands { IfOk result (λ parts. All (λ s. StandsFor s []) parts.stacks.items) }

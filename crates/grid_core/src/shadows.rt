@@ -1,10 +1,11 @@
-//! What all caches of one block size share: the blocks that were ever accessed, and the shadows of
-//! all sizes.
+//! What all caches of one block size share: the blocks that were ever accessed, the shadows of all
+//! sizes, and the block that was used last.
 
 ghost use Rattle.std.specs.Prelude.{◌≡◌, ◌<◌, ◌==◌, ℕ, Some, is_some, nat_eq, unwrap_or};
 ghost use Rattle.std.specs.Prelude.{if◌then◌else◌, IfOk, OnErr, ◌+◌};
 ghost use Rattle.std.specs.HashMap.{get};
 
+use crate::recent::{Recent, is_again, nothing_recent, used_now};
 use marked_list::Marked;
 use std::alloc::{AllocError, Global};
 use std::collections::HashMap;
@@ -31,6 +32,7 @@ pub(crate) struct Shadows {
     numbers: HashMap<u64, usize>,
     used: usize,
     order: Marked,
+    recent: Recent,
     ghost low: { (a n : ℕ) → get nat_eq numbers a ≡ Some n → n < used },
     ghost apart: { (a b n : ℕ) → get nat_eq numbers a ≡ Some n → get nat_eq numbers b ≡ Some n →
         a ≡ b },
@@ -75,10 +77,11 @@ fn used_with(used: usize, known: bool) -> usize
 
 impl Shadows {
     ghost use Rattle.std.specs.Prelude.{◌≡◌, ◌<◌, ◌==◌, ◌||◌, ℕ, List, [], IfOk, OnOk, OnErr};
-    ghost use Rattle.std.specs.Prelude.{false};
+    ghost use Rattle.std.specs.Prelude.{true, false};
     ghost use Rattle.std.specs.List.{All};
     ghost use Rattle.marked_list.specs.Recency.{level_of, brought_front};
-    ghost use Rattle.grid_core.specs.Shadows.{HoldsOrder, is_known, shadow_sizes};
+    ghost use Rattle.grid_core.specs.Recent.{IsAgain, after_use, none_recent};
+    ghost use Rattle.grid_core.specs.Shadows.{HoldsOrder, is_known, recent_in, shadow_sizes};
 
     /// Empty shadows of these sizes in blocks. No block is known.
     pub fn new(alloc: Global, sizes: &[usize]) -> Result<Shadows, AllocError>
@@ -86,17 +89,19 @@ impl Shadows {
         ensures order { IfOk result (λ shadows. HoldsOrder shadows []) }
         ensures known { IfOk result (λ shadows. (q : ℕ) → is_known shadows q ≡ false) }
         ensures sizes { IfOk result (λ shadows. shadow_sizes shadows ≡ sizes.now) }
+        ensures recent { IfOk result (λ shadows. recent_in shadows ≡ none_recent) }
     {
         let order = Marked::new(alloc, sizes)?;
         Ok(Shadows {
             numbers: HashMap::new(alloc),
             used: 0,
             order,
+            recent: nothing_recent(),
         })
     }
 
     /// Uses a block in all shadows, and answers what was known of it before.
-    pub fn touch(&mut self, block: u64) -> Result<Prior, AllocError>
+    pub fn touch(&mut self, block: u64, write: bool) -> Result<Prior, AllocError>
         ensures known { IfOk result (λ prior. prior.known ≡ is_known self.old block) }
         ensures level { IfOk result (λ prior. (ys : List ℕ) → HoldsOrder self.old ys →
             prior.level ≡ level_of (shadow_sizes self.old) ys block) }
@@ -104,6 +109,8 @@ impl Shadows {
             HoldsOrder self.new (brought_front block ys)) }
         ensures adds { OnOk result ((q : ℕ) →
             is_known self.new q ≡ (block == q || is_known self.old q)) }
+        ensures recent { OnOk result (
+            recent_in self.new ≡ after_use block write (recent_in self.old)) }
         ensures sizes { shadow_sizes self.new ≡ shadow_sizes self.old }
     {
         if self.used == usize::MAX {
@@ -116,18 +123,29 @@ impl Shadows {
         let Ok(level) = self.order.touch(found.number) else {
             return Err(AllocError);
         };
+        self.recent = used_now(self.recent, block, write);
         Ok(Prior {
             known: found.known,
             level,
         })
     }
 
+    /// Whether a use of a block is one more of the block that was used last, and makes it dirty
+    /// nowhere.
+    pub fn is_again(&self, block: u64, write: bool) -> bool
+        ensures { result ≡ true → IsAgain block write (recent_in self.now) }
+    {
+        is_again(self.recent, block, write)
+    }
+
     /// Empties all shadows. Known blocks stay known.
     pub fn clear(&mut self)
         ensures order { HoldsOrder self.new [] }
         ensures known { (q : ℕ) → is_known self.new q ≡ is_known self.old q }
+        ensures recent { recent_in self.new ≡ none_recent }
         ensures sizes { shadow_sizes self.new ≡ shadow_sizes self.old }
     {
         self.order.clear();
+        self.recent = nothing_recent();
     }
 }

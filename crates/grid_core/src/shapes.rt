@@ -8,7 +8,7 @@ ghost use Rattle.grid_core.specs.Slots.{index_of};
 ghost use Rattle.cache_core.specs.Dirty.{rising};
 ghost use Rattle.cache_core.specs.Policy.{is_fifo};
 ghost use Rattle.grid_core.specs.Standing.{StandsFor};
-ghost use Rattle.grid_core.specs.Shapes.{IsWider, IsSuited, has_size};
+ghost use Rattle.grid_core.specs.Shapes.{IsWider, IsSuited, HaveBsize, has_size};
 
 use crate::stack::Stack;
 use cache_core::{Geometry, Policy, Repl};
@@ -135,6 +135,8 @@ pub(crate) fn stack_for(
         IsSuited stacks.old.items g ways w index → IsSuited stacks.new.items g ways w index) }
     ensures stands { OnOk result (All (λ s. StandsFor s []) stacks.old.items →
         All (λ s. StandsFor s []) stacks.new.items) }
+    ensures sizes { OnOk result ((n : ℕ) → bsize_of geometry ≡ n →
+        HaveBsize n stacks.old.items → HaveBsize n stacks.new.items) }
 {
     let ways = ways_of(geometry);
     if let Some(index) = find_stack(stacks, geometry, ways, wback) {

@@ -5,14 +5,16 @@ ghost use Rattle.std.specs.List.{All};
 ghost use Rattle.cache_core.specs.History.{History};
 ghost use Rattle.cache_core.specs.Dirty.{rising};
 ghost use Rattle.grid_core.specs.Shadows.{shadow_sizes};
+ghost use Rattle.cache_core.specs.Geometry.{bsize_of};
 ghost use Rattle.cache_core.specs.Counting.{IsWithin};
+ghost use Rattle.grid_core.specs.Shapes.{HaveBsize};
 ghost use Rattle.grid_core.specs.Standing.{rules_of};
 ghost use Rattle.grid_core.specs.Cells.{IsPlacedAmong, IsWithinCell, shape_in};
 ghost use Rattle.grid_core.specs.State.{IsAfter, IsRanked};
 
 use crate::cells::{Cell, answer_in, counts_in, dirty_lists, flush_in, serve_in, zero_per_class};
 use crate::counting::count;
-use crate::outcome::sends_on;
+use crate::outcome::{hit_outcome, sends_on};
 use crate::parts::parts_for;
 use crate::shadows::Shadows;
 use crate::shapes::rising_sizes;
@@ -39,12 +41,15 @@ pub(crate) struct Stacked {
     failed: bool,
     /// Whether the last access was a write.
     write: bool,
+    /// Whether it used the block that was used last, and changed nothing but the fetches.
+    again: bool,
     /// Whether it is known that the last access sent nothing to the next level.
     silent: bool,
     ghost rises: { rising (shadow_sizes shadows) ≡ shadow_sizes shadows },
     ghost placed: { All (λ s. IsPlacedAmong (map rules_of stacks.items) s)
         (map shape_in cells.items) },
     ghost ranked: { All (IsRanked (shadow_sizes shadows) geometry) (map shape_in cells.items) },
+    ghost one_size: { HaveBsize (bsize_of geometry) stacks.items },
     ghost one_policy: { All (λ s. s.wback ≡ wback) (map shape_in cells.items) },
     ghost bounded: { All (IsWithinCell (2 * served)) cells.items },
     ghost fetched: { IsWithin fetches served },
@@ -65,11 +70,14 @@ fn is_silent(all_hit: bool, through: bool) -> bool
 
 #[tactic(auto, unfolding(crate::specs::StackedCells::stacked_rules, crate::specs::StackedCells::stacked_served, crate::specs::StackedCells::stacked_kept, crate::specs::StackedCells::stacked_failed))]
 impl Stacked {
-    ghost use Rattle.std.specs.Prelude.{◌≡◌, ◌<◌, ◌≤◌, ◌+◌, ◌*◌, ◌^◌, ◌∷◌, [], map, true, false};
+    ghost use Rattle.std.specs.Prelude.{◌≡◌, ◌<◌, ◌≤◌, ◌+◌, ◌/◌, ◌^◌, ◌∷◌, [], map, true, false};
     ghost use Rattle.std.specs.Prelude.{OnOk, OnErr, IfOk, IsErr, get_or, length, ℕ};
     ghost use Rattle.std.specs.List.{All};
     ghost use Rattle.cache_core.specs.Geometry.{bsize_of};
     ghost use Rattle.cache_core.specs.History.{History, access as accessed, flush as flushed};
+    ghost use Rattle.cache_core.specs.History.{is_write};
+    ghost use Rattle.grid_core.specs.Recent.{IsAgain};
+    ghost use Rattle.grid_core.specs.Shadows.{recent_in};
     ghost use Rattle.cache_core.specs.Parts.{outcome_of};
     ghost use Rattle.cache_core.specs.Counts.{counts_of};
     ghost use Rattle.grid_core.specs.FullyAssociative.{shadow_misses};
@@ -108,8 +116,64 @@ impl Stacked {
             served: 0,
             failed: false,
             write: false,
+            again: false,
             silent: true,
         })
+    }
+
+    /// Serves an access to the block that was used last, and that it makes dirty nowhere. It hits
+    /// in all caches and shadows, and changes none.
+    fn repeat(&mut self, access: Access)
+        requires few { stacked_served self.old < 2 ^ 44 }
+        requires works { stacked_failed self.old ≡ false }
+        requires again { IsAgain (access.addr / bsize_of self.old.geometry) (is_write access)
+            (recent_in self.old.shadows) }
+        ensures stands { (h : History) → StackedStandsFor self.old h →
+            StackedStandsFor self.new (accessed access ∷ h) }
+        ensures answers { (h : History) → StackedStandsFor self.old h →
+            StackedHasAnswered self.new h access }
+        ensures served { stacked_served self.new ≡ stacked_served self.old + 1 }
+        ensures works { stacked_failed self.new ≡ false }
+        ensures rules { stacked_rules self.new ≡ stacked_rules self.old }
+    {
+        count(&mut self.fetches, access, true);
+        self.write = writes(access);
+        self.again = true;
+        self.silent = is_silent(true, sends_on(self.write, self.wback));
+        self.served += 1;
+    }
+
+    /// Serves one access to this block in all caches.
+    fn serve(&mut self, access: Access, block: u64) -> Result<(), NoMemory>
+        requires few { stacked_served self.old < 2 ^ 44 }
+        requires works { stacked_failed self.old ≡ false }
+        requires block { block ≡ access.addr / bsize_of self.old.geometry }
+        ensures stands { OnOk result ((h : History) → StackedStandsFor self.old h →
+            StackedStandsFor self.new (accessed access ∷ h)) }
+        ensures answers { OnOk result ((h : History) → StackedStandsFor self.old h →
+            StackedHasAnswered self.new h access) }
+        ensures served { OnOk result (stacked_served self.new ≡ stacked_served self.old + 1) }
+        ensures works { OnOk result (stacked_failed self.new ≡ false) }
+
+        ensures fails { OnErr result (stacked_failed self.new ≡ true) }
+        ensures keeps { OnErr result ((stacked_kept self.new ≡ stacked_kept self.old)
+            × (stacked_served self.new ≡ stacked_served self.old)) }
+        ensures rules { stacked_rules self.new ≡ stacked_rules self.old }
+    {
+        let write = writes(access);
+        let Ok(prior) = self.shadows.touch(block, write) else {
+            self.failed = true;
+            return Err(NoMemory);
+        };
+        look_in(&mut self.stacks, access);
+        let all_hit = serve_in(&mut self.cells, &self.stacks, access, prior);
+        touch_in(&mut self.stacks, access);
+        count(&mut self.fetches, access, true);
+        self.write = write;
+        self.again = false;
+        self.silent = is_silent(all_hit, sends_on(write, self.wback));
+        self.served += 1;
+        Ok(())
     }
 
     /// Serves one access in all caches.
@@ -132,19 +196,11 @@ impl Stacked {
             return Err(NoMemory);
         }
         let block = self.geometry.block(access.addr);
-        let Ok(prior) = self.shadows.touch(block) else {
-            self.failed = true;
-            return Err(NoMemory);
-        };
-        look_in(&mut self.stacks, access);
-        let all_hit = serve_in(&mut self.cells, &self.stacks, access, prior);
-        touch_in(&mut self.stacks, access);
-        count(&mut self.fetches, access, true);
-        self.write = writes(access);
-        let through = sends_on(self.write, self.wback);
-        self.silent = is_silent(all_hit, through);
-        self.served += 1;
-        Ok(())
+        if self.shadows.is_again(block, writes(access)) {
+            self.repeat(access);
+            return Ok(());
+        }
+        self.serve(access, block)
     }
 
     /// What a flush writes back in each cache: the first bytes of its dirty blocks, in rising
@@ -220,6 +276,10 @@ impl Stacked {
         ensures { (h : History) (x : Access) → StackedHasAnswered self.now h x →
             result ≡ outcome_of (rules_at (stacked_rules self.now) index) h x }
     {
-        answer_in(&self.cells[index], &self.stacks, self.write)
+        let cell = &self.cells[index];
+        if self.again {
+            return hit_outcome(sends_on(self.write, cell.shape.wback));
+        }
+        answer_in(cell, &self.stacks, self.write)
     }
 }

@@ -54,6 +54,36 @@ fn writes_alike(rt: &impl Abort, engine: &mut Engine, through: bool) {
 }
 
 #[test]
+fn a_block_that_is_used_again_is_counted(rt: HostRuntime) -> Result<(), Fail> {
+    let mut engine = made(&rt, rt.alloc(), Repl::Lru, true);
+    expect_sent(&rt, &mut engine, Class::Read, 0, true);
+    expect_sent(&rt, &mut engine, Class::Misc, 1, false);
+    expect_sent(&rt, &mut engine, Class::Write, 2, false);
+    expect_sent(&rt, &mut engine, Class::Write, 3, false);
+    expect_sent(&rt, &mut engine, Class::Read, 0, false);
+    assert!(&rt; engine.served() < MAX_EVENTS);
+    let lists = engine.flush()?;
+    for list in lists.iter() {
+        assert_eq!(&rt; list.len(), 1);
+    }
+    expect_sent(&rt, &mut engine, Class::Write, 0, true);
+    assert!(&rt; 1 < engine.cells());
+    for index in 0..2 {
+        let counts = engine.counts(index);
+        let fetches = [
+            counts.fetches.read,
+            counts.fetches.write,
+            counts.fetches.misc,
+        ];
+        assert_eq!(&rt; fetches, [2, 3, 1]);
+        assert_eq!(&rt; counts.misses.total(), 2);
+        assert_eq!(&rt; counts.written_back, 1);
+        assert_eq!(&rt; engine.shadow_misses(index).total(), 2);
+    }
+    Ok(())
+}
+
+#[test]
 fn stacked_caches_tell_what_they_send(rt: HostRuntime) -> Result<(), Fail> {
     let mut back = made(&rt, rt.alloc(), Repl::Lru, true);
     reads_alike(&rt, &mut back);

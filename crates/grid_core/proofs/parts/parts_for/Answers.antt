@@ -55,6 +55,9 @@ loop-geometry-preserved c =
       one_policy = subst (All (λ s. s.wback ≡ wback)) (sym shapes)
           (All-push (λ s. s.wback ≡ wback) (map shape_in old) v.shape
           c.loop-geometry.invariant.one_policy own.same_wback);
+      one_size = c.in_ok-cell.ensures.sizes (bsize_of first)
+          (ap bsize_of c.geometry-item.is ∙ c.requires.one_size i e inside)
+          c.loop-geometry.invariant.one_size;
       stands = c.in_ok-cell.ensures.stands c.loop-geometry.invariant.stands;
       fresh = subst (All IsFresh) (sym is)
           (All-push IsFresh old v c.loop-geometry.invariant.fresh own.fresh);

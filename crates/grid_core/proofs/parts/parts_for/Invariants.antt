@@ -1,7 +1,8 @@
 use Rattle.std.proofs.Common.{◌≡◌, [], map, take}
 use Rattle.std.specs.List.{All}
 use Rattle.grid_core.specs.Standing.{StandsFor, stack_rules}
-use Rattle.grid_core.specs.Shapes.{IsSuitedShape}
+use Rattle.cache_core.specs.Geometry.{bsize_of}
+use Rattle.grid_core.specs.Shapes.{HaveBsize, IsSuitedShape}
 use Rattle.grid_core.specs.Cells.{shape_in, shape_rules}
 use Rattle.grid_core.specs.State.{IsRanked, IsFresh}
 use Rattle.grid_core.proofs.parts.parts_for.Given as goal
@@ -14,6 +15,7 @@ invariant-loop-geometry l = record {
   ranked : All (IsRanked l.sizes l.fn.first) (map shape_in l.cells.items);
   suited : All (IsSuitedShape l.stacks.items) (map shape_in l.cells.items);
   one_policy : All (λ s. s.wback ≡ l.wback) (map shape_in l.cells.items);
+  one_size : HaveBsize (bsize_of l.fn.first) l.stacks.items;
   stands : All (λ s. StandsFor s []) l.stacks.items;
   fresh : All IsFresh l.cells.items;
 }

@@ -17,10 +17,10 @@ answer_in-requires c =
     let old = c.args.self.now in
     let xs = old.cells.items in
     let i = c.args.index in
-    let v = c.index.result.now in
+    let v = c.index-cell.result.now in
     let lt : i < length xs = let all = c.requires in omega (arith, as-many xs) in
     let P = IsPlacedAmong (map rules_of old.stacks.items) in
-    subst (λ (cell : Cell). P cell.shape) (sym c.index.ensures)
+    subst (λ (cell : Cell). P cell.shape) (sym c.index-cell.ensures)
     (shape-at P xs xs refl old.placed i v lt)
 
 pub returns : goal.returns
@@ -29,10 +29,11 @@ returns c = λ h x answered.
     let old = c.args.self.now in
     let xs = old.cells.items in
     let i = c.args.index in
-    let v = c.index.result.now in
+    let v = c.index-cell.result.now in
     let lt : i < length xs = let all = c.requires in omega (arith, as-many xs) in
     let rules : Cell → Rules = λ cell. shape_rules cell.shape in
-    c.answer_in.ensures h x answered.found
-    (subst (HasMissed h x) (sym c.index.ensures) (answered.missed i v lt)) answered.write
-    ∙ ap (λ cell. outcome_of (rules cell) h x) c.index.ensures
+    c.answer_in.ensures h x (answered.found c.if-self.false)
+    (subst (HasMissed h x) (sym c.index-cell.ensures) (answered.missed c.if-self.false i v lt))
+    answered.write
+    ∙ ap (λ cell. outcome_of (rules cell) h x) c.index-cell.ensures
     ∙ ap (λ r. outcome_of r h x) (sym (get_or-map rules xs i v no_rules lt))

@@ -1,6 +1,7 @@
 use Rattle.std.proofs.Common.{◌≡◌, ◌≤◌, ◌+◌, ◌^◌, ℕ, List, map, sym, ap, subst, ◌∙◌}
 use Rattle.std.proofs.Common.{arith}
 use Rattle.std.specs.List.{All}
+use Rattle.cache_core.specs.Geometry.{bsize_of}
 use Rattle.cache_core.specs.Dirty.{rising}
 use Rattle.cache_core.specs.History.{Rules, flush as flushed}
 use Rattle.grid_core.specs.declared.cells.Shape.{Shape}
@@ -55,6 +56,8 @@ invariant_of-self c =
       ranked = subst (λ (z : List ℕ). All (IsRanked z g) (map shape_in new)) (sym same)
           (subst (λ (l : List Shape). All (IsRanked (shadow_sizes old.shadows) g) l)
           (sym shapes) old.ranked);
+      one_size = subst (λ (rs : List Rules). All (λ r. r.bsize ≡ bsize_of g) rs)
+          (sym c.clear_in.ensures.rules) old.one_size;
       one_policy = subst (λ (l : List Shape). All (λ s. s.wback ≡ old.wback) l) (sym shapes)
           old.one_policy;
       bounded = flushed-within n lists cells new len size done
@@ -66,7 +69,7 @@ invariant_of-self c =
           c.clear.new.self cells new n flushed lived
           (λ h st. after-flush g h old.stacks.items c.clear_in.new.stacks.items old.shadows
           c.clear.new.self cells new st (c.clear_in.ensures.stands h) c.clear.ensures.order
-          c.clear.ensures.known
+          c.clear.ensures.known c.clear.ensures.recent
           (flushed-counted h lists cells new (c.requires.lists h st.rows) len size done
           st.counted));
     }
@@ -85,7 +88,7 @@ returns-clause-stands c = λ h e.
       fetches = e.fetches ∙ fetched-flush h;
       state = after-flush old.geometry h old.stacks.items c.clear_in.new.stacks.items old.shadows
           c.clear.new.self cells new e.state (c.clear_in.ensures.stands h) c.clear.ensures.order
-          c.clear.ensures.known
+          c.clear.ensures.known c.clear.ensures.recent
           (flushed-counted h lists cells new (c.requires.lists h e.state.rows)
           len c.flush_in.ensures.len c.flush_in.ensures.flushed e.state.counted);
     }

@@ -25,6 +25,7 @@ invariant_of-result c =
       placed = c.in_ok-parts.ensures.placed;
       ranked = subst (λ (l : List ℕ). All (IsRanked l first) (map shape_in cells))
           (sym (sizes ∙ sym c.deref-2.ensures.value)) c.in_ok-parts.ensures.ranked;
+      one_size = c.in_ok-parts.ensures.one_size;
       one_policy = c.in_ok-parts.ensures.one_policy;
       bounded = λ k d lt. (fresh k d lt).within;
       fetched = subst (λ p. IsWithin p 0) (sym c.zero_per_class.ensures) AreWithin-none.fetches;
@@ -32,7 +33,8 @@ invariant_of-result c =
       lived = λ _. ∣ (
         [],
         after-start first stacks shadows cells c.in_ok-parts.ensures.stands
-            c.in_ok-shadows.ensures.order c.in_ok-shadows.ensures.known fresh,
+            c.in_ok-shadows.ensures.order c.in_ok-shadows.ensures.known
+            c.in_ok-shadows.ensures.recent fresh,
         refl,
       ) ∣₁;
     }
@@ -45,7 +47,7 @@ returns-clause-stands c = record {
   fetches = c.zero_per_class.ensures ∙ fetched-start;
   state = after-start c.args.first c.in_ok-parts.parts.stacks.items c.in_ok-shadows.shadows
       c.in_ok-parts.parts.cells.items c.in_ok-parts.ensures.stands c.in_ok-shadows.ensures.order
-      c.in_ok-shadows.ensures.known c.in_ok-parts.ensures.fresh;
+      c.in_ok-shadows.ensures.known c.in_ok-shadows.ensures.recent c.in_ok-parts.ensures.fresh;
 }
 
 pub returns-clause-rules : goal.returns-clause-rules

@@ -1,0 +1,182 @@
+-- The state of the caches after one more use of the block that was used last: it is as before.
+use Rattle.std.proofs.Common.{◌≡◌, ℕ, ◌%◌, ◌/◌, ◌<◌, Bool, true, false, not, ◌&&◌, ◌||◌, ◌==◌, ltb}
+use Rattle.std.proofs.Common.{List, [], ◌∷◌, length, get_or, map, refl, sym, ap, subst, ◌∙◌, arith}
+use Rattle.std.specs.List.{All, list_any}
+use Rattle.std.proofs.Math.Nat.{mod-lt}
+use Rattle.std.proofs.lemmas.Bool.{eqb-true, lt-ltb, false≢true}
+use Rattle.std.proofs.lemmas.List.{length-map, get_or-map}
+use Rattle.cache_core.specs.declared.geometry.Geometry.{Geometry}
+use Rattle.cache_core.specs.declared.access.Access.{Access}
+use Rattle.cache_core.specs.Counting.{with_one}
+use Rattle.cache_core.specs.Counts.{counts_of}
+use Rattle.cache_core.specs.Geometry.{bsize_of}
+use Rattle.cache_core.specs.History.{History, Rules, access, flush, block_of, is_write}
+use Rattle.cache_core.specs.Kinds.{referenced_blocks, shadow_of}
+use Rattle.cache_core.specs.Parts.{outcome_of}
+use Rattle.cache_core.specs.Residents.{distinct, hits, renewals}
+use Rattle.cache_core.proofs.Lawful.{sane_of}
+use Rattle.cache_core.proofs.Steps.{counts-step}
+use Rattle.marked_list.specs.Recency.{brought_front}
+use Rattle.marked_list.proofs.LevelLaws.{front-brought}
+use Rattle.grid_core.specs.declared.cells.Cell.{Cell}
+use Rattle.grid_core.specs.declared.cells.Shape.{Shape}
+use Rattle.grid_core.specs.declared.shadows.Shadows.{Shadows}
+use Rattle.grid_core.specs.declared.slots.Slot.{Slot}
+use Rattle.grid_core.specs.declared.stack.Stack.{Stack}
+use Rattle.grid_core.specs.FullyAssociative.{shadow_misses}
+use Rattle.grid_core.specs.Cells.{HitsIn, IsCounted, IsPlacedAmong, IsPlacedOn, own_counts}
+use Rattle.grid_core.specs.Cells.{shape_in, shape_rules, with_own}
+use Rattle.grid_core.specs.Hits.{hit_made}
+use Rattle.grid_core.specs.Recent.{IsAgain, used_last, written_last}
+use Rattle.grid_core.specs.Shadows.{HoldsOrder, is_known, recent_in}
+use Rattle.grid_core.specs.Shapes.{HaveBsize}
+use Rattle.grid_core.specs.Slots.{next_slots}
+use Rattle.grid_core.specs.Standing.{StandsFor, rules_of}
+use Rattle.grid_core.specs.State.{IsAfter, IsRanked, base_rules}
+use Rattle.grid_core.specs.Ways.{IsStacked, stack_distance}
+use Rattle.grid_core.specs.Written.{no_rules}
+use Rattle.grid_core.proofs.After.{referenced-next}
+use Rattle.grid_core.proofs.Hitting.{hit-own, with-none}
+use Rattle.grid_core.proofs.Placed.{shape-at}
+use Rattle.grid_core.proofs.Repeats.{distance-last, front-again, recent-again, renewed-last}
+use Rattle.grid_core.proofs.Repeats.{resident-last, row-again}
+use Rattle.grid_core.proofs.Served.{hit-is}
+use Rattle.grid_core.proofs.StackRules.{some-sets, some-ways, stacked}
+use Rattle.grid_core.proofs.StackStep.{rows-next}
+
+-- a cell that hits, as its shadow does, keeps its counts
+counted-again : (h : History) (x : Access) (c : Cell) → HitsIn h x c.shape
+    → hits (shadow_of (shape_rules c.shape)) (renewals (shadow_of (shape_rules c.shape)) h) x ≡ true
+    → IsCounted h c → IsCounted (access x ∷ h) c
+unfolding shadow_misses outcome_of
+counted-again h x c hit shadow own =
+    let r = shape_rules c.shape in
+    let w = shadow_of r in
+    let k = own_counts (counts_of r h) in
+    record {
+      counts = own.counts ∙ sym (hit-own x (is_write x && not c.shape.wback) k)
+          ∙ ap (λ o. with_own x o k) (sym hit) ∙ ap own_counts (counts-step r h x);
+      far = own.far ∙ sym (with-none x (counts_of w h).misses)
+          ∙ ap (λ t. with_one x (not t) (counts_of w h).misses) (sym shadow)
+          ∙ ap (λ n. n.misses) (counts-step w h x);
+    }
+
+-- a block that was used last is known
+known-again : (n b : ℕ) (r : Rules) (h : History) → r.bsize ≡ n → used_last n b h ≡ true → (c : ℕ)
+    → list_any (λ t. t == c) (referenced_blocks r h)
+    ≡ (b == c || list_any (λ t. t == c) (referenced_blocks r h))
+unfolding used_last referenced_blocks
+known-again n b r [] same e c = absurd (false≢true e)
+known-again n b r (flush ∷ h) same e c = absurd (false≢true e)
+known-again n b r (access y ∷ h) same e c =
+    let is : block_of r y ≡ b = ap (λ m. y.addr / m) same ∙ eqb-true (y.addr / n) b e in
+    twice (block_of r y == c) (list_any (λ t. t == c) (referenced_blocks r h))
+    ∙ ap (λ d. d == c || (block_of r y == c || list_any (λ t. t == c) (referenced_blocks r h))) is
+  where
+    twice : (s t : Bool) → (s || t) ≡ (s || (s || t))
+    twice true t = refl
+    twice false t = refl
+
+-- the block size of the rows at an index
+size-at : (n : ℕ) (stacks : List Stack) → HaveBsize n stacks → (k : ℕ) (d : Stack)
+    → k < length stacks → (rules_of (get_or stacks k d)).bsize ≡ n
+size-at n stacks all k d lt =
+    let long : k < length (map rules_of stacks) = omega (arith, length-map stacks rules_of) in
+    ap (λ (r : Rules). r.bsize) (sym (get_or-map rules_of stacks k d (rules_of d) lt))
+    ∙ all k (rules_of d) long
+
+module _ (n : ℕ) (h : History) (x : Access) (last : used_last n (x.addr / n) h ≡ true) where
+  -- in the words of the rules of a cache of the block size
+  last-in : (r : Rules) → r.bsize ≡ n → used_last r.bsize (block_of r x) h ≡ true
+  last-in r same = subst (λ m. used_last m (x.addr / m) h ≡ true) (sym same) last
+
+  -- each cache hits
+  pub hits-again : (r : Rules) (s : Shape) → IsPlacedOn r s → bsize_of s.geometry ≡ n
+      → HitsIn h x s
+  hits-again r s on size =
+      let st : IsStacked r = record {
+        lru = ap (λ (w : Rules). w.fifo) on.same;
+        allocates = ap (λ (w : Rules). w.walloc) on.same;
+      } in
+      let same : r.bsize ≡ n = ap (λ (w : Rules). w.bsize) on.same ∙ size in
+      let some = on.some in
+      let fits = on.fits in
+      hit-is r st s on h x
+      (ap (λ d. ltb d s.ways) (distance-last r st (block_of r x) (omega arith) h (last-in r same))
+      ∙ lt-ltb 0 s.ways on.some)
+
+  -- and so does its shadow
+  shadow-again : (s : Shape) → bsize_of s.geometry ≡ n
+      → hits (shadow_of (shape_rules s)) (renewals (shadow_of (shape_rules s)) h) x ≡ true
+  shadow-again s size =
+      let w = shadow_of (shape_rules s) in
+      resident-last w (record { lru = refl; allocates = refl }) (block_of w x)
+      (sane_of s.geometry).blocks_pos h (last-in w size)
+
+  -- rows stay as they are
+  stands-again : (is_write x ≡ true → written_last n (x.addr / n) h ≡ true) → (s : Stack)
+      → (rules_of s).bsize ≡ n → StandsFor s h → StandsFor s (access x ∷ h)
+  stands-again written s same st =
+      let r = rules_of s in
+      let b = block_of r x in
+      let xs = s.slots.items in
+      let inside : b % r.sets < r.sets = mod-lt b (some-sets s) in
+      let stays = row-again r (stacked s) b (some-ways s) h (is_write x) (last-in r same)
+      (λ w. subst (λ m. written_last m (x.addr / m) h ≡ true) (sym same) (written w)) in
+      record {
+        rows = rows-next r (stacked s) h x xs st.rows inside xs
+            (st.rows (b % r.sets) inside ∙ stays
+            ∙ ap (next_slots b (is_write x)) (sym (st.rows (b % r.sets) inside)))
+            (λ t apart. refl);
+      }
+
+-- each cell hits
+pub all-again : (g : Geometry) (h : History) (x : Access) (sizes : List ℕ) (stacks : List Stack)
+    (cells : List Cell) → used_last (bsize_of g) (x.addr / bsize_of g) h ≡ true
+    → All (λ s. IsPlacedAmong (map rules_of stacks) s) (map shape_in cells)
+    → All (IsRanked sizes g) (map shape_in cells) → All (λ c. HitsIn h x c.shape) cells
+all-again g h x sizes stacks cells last placed ranked k d lt =
+    let s = (get_or cells k d).shape in
+    let rs = map rules_of stacks in
+    let on = shape-at (IsPlacedAmong rs) cells cells refl placed k d lt in
+    let rank = shape-at (IsRanked sizes g) cells cells refl ranked k d lt in
+    hits-again (bsize_of g) h x last (get_or rs s.stack no_rules) s (on.placed no_rules) rank.same
+
+-- what is known of the block that was used last
+pub last-of : (g : Geometry) (h : History) (stacks : List Stack) (shadows : Shadows)
+    (cells : List Cell) (b : ℕ) (write : Bool) → IsAfter g stacks shadows cells h
+    → IsAgain b write (recent_in shadows) → used_last (bsize_of g) b h ≡ true
+last-of g h stacks shadows cells b write st again =
+    subst (λ c. used_last (bsize_of g) c h ≡ true) again.block (st.recent.used again.used)
+
+-- nothing changes
+pub after-again : (g : Geometry) (h : History) (x : Access) (sizes : List ℕ) (stacks : List Stack)
+    (shadows : Shadows) (cells : List Cell) → HaveBsize (bsize_of g) stacks
+    → All (λ s. IsPlacedAmong (map rules_of stacks) s) (map shape_in cells)
+    → All (IsRanked sizes g) (map shape_in cells)
+    → IsAgain (x.addr / bsize_of g) (is_write x) (recent_in shadows)
+    → IsAfter g stacks shadows cells h → IsAfter g stacks shadows cells (access x ∷ h)
+after-again g h x sizes stacks shadows cells same placed ranked again st =
+    let n = bsize_of g in
+    let b = x.addr / n in
+    let r = base_rules g in
+    let w = shadow_of r in
+    let last = last-of g h stacks shadows cells b (is_write x) st again in
+    let written : is_write x ≡ true → written_last n b h ≡ true = λ e.
+    subst (λ c. written_last n c h ≡ true) again.block (st.recent.written (again.written e)) in
+    let front = renewed-last w (record { lru = refl; allocates = refl }) b h last in
+    let order : distinct (renewals w h) ≡ distinct (renewals w (access x ∷ h)) =
+    ap distinct front.1 ∙ sym (front-again b (distinct front.0))
+    ∙ ap (brought_front b) (sym (ap distinct front.1)) ∙ sym (front-brought r refl h x) in
+    record {
+      rows = λ k d lt. stands-again n h x last written (get_or stacks k d)
+          (size-at n stacks same k d lt) (st.rows k d lt);
+      order = subst (HoldsOrder shadows) order st.order;
+      known = λ c. st.known c ∙ known-again n b r h refl last c ∙ referenced-next g h x c;
+      counted = λ k d lt.
+          let c = get_or cells k d in
+          let rank = shape-at (IsRanked sizes g) cells cells refl ranked k d lt in
+          counted-again h x c (all-again g h x sizes stacks cells last placed ranked k d lt)
+          (shadow-again n h x last c.shape rank.same) (st.counted k d lt);
+      recent = recent-again n (recent_in shadows) h x again st.recent;
+    }

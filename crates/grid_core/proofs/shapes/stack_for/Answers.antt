@@ -1,0 +1,18 @@
+use Rattle.std.proofs.Common.{◌≡◌, ◌∷◌, [], map, sym, ap, subst, ◌∙◌}
+use Rattle.std.specs.List.{All}
+use Rattle.std.proofs.lemmas.List.{map-append}
+use Rattle.std.proofs.lemmas.List.Elements.{All-push}
+use Rattle.cache_core.specs.History.{Rules}
+use Rattle.grid_core.specs.Standing.{rules_of}
+use Rattle.grid_core.proofs.shapes.stack_for.Goals as goal
+
+pub returns-clause-sizes : goal.returns-clause-sizes
+returns-clause-sizes c = λ n same all.
+    let old = c.args.stacks.now.items in
+    let v = c.in_ok-stack.stack in
+    let P : Rules → Type 0 = λ r. r.bsize ≡ n in
+    subst (All P) (sym (ap (map rules_of) c.in_ok-push.ensures.items
+    ∙ map-append rules_of old (v ∷ [])))
+    (All-push P (map rules_of old) (rules_of v) all
+    (ap (λ (r : Rules). r.bsize) c.in_ok-stack.ensures.rules
+    ∙ c.widest-wide.ensures.same_bsize ∙ same))
