@@ -18,3 +18,4 @@ pub mod Places
 pub mod Plans
 pub mod Caches
 pub mod Engines
+pub mod AtHand

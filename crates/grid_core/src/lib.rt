@@ -15,6 +15,7 @@
 //! every later access or flush answers `NoMemory`.
 #![tactic(auto)]
 
+mod at_hand;
 mod caches;
 mod cells;
 mod counting;

@@ -4,7 +4,9 @@
 ghost use Rattle.std.specs.Prelude.{◌≡◌, ◌<◌, ◌==◌, ℕ, Some, is_some, nat_eq, unwrap_or};
 ghost use Rattle.std.specs.Prelude.{if◌then◌else◌, IfOk, OnErr, ◌+◌};
 ghost use Rattle.std.specs.HashMap.{get};
+ghost use Rattle.grid_core.specs.AtHand.{AreRight};
 
+use crate::at_hand::{Entry, at_hand, keep_at_hand, none_at_hand};
 use crate::recent::{Recent, is_again, nothing_recent, used_now};
 use marked_list::Marked;
 use std::alloc::{AllocError, Global};
@@ -30,12 +32,15 @@ struct Numbered {
 #[derive(Drop)]
 pub(crate) struct Shadows {
     numbers: HashMap<u64, usize>,
+    /// Some of these numbers, where they are found at once.
+    entries: Vec<Entry>,
     used: usize,
     order: Marked,
     recent: Recent,
     ghost low: { (a n : ℕ) → get nat_eq numbers a ≡ Some n → n < used },
     ghost apart: { (a b n : ℕ) → get nat_eq numbers a ≡ Some n → get nat_eq numbers b ≡ Some n →
         a ≡ b },
+    ghost right: { AreRight (get nat_eq numbers) entries.items },
 }
 
 /// The number of a block. A block that has none gets `next`.
@@ -67,6 +72,33 @@ fn number_block(
     })
 }
 
+/// The same, from the entries if the block is among them. Else it is kept there.
+fn find_number(
+    entries: &mut Vec<Entry>,
+    numbers: &mut HashMap<u64, usize>,
+    next: usize,
+    block: u64,
+) -> Result<Numbered, AllocError>
+    requires right { AreRight (get nat_eq numbers.old) entries.old.items }
+    ensures known { IfOk result (λ found. found.known ≡ is_some (get nat_eq numbers.old block)) }
+    ensures number { IfOk result (λ found.
+        found.number ≡ unwrap_or (get nat_eq numbers.old block) next) }
+    ensures adds { IfOk result (λ found. (q : ℕ) → get nat_eq numbers.new q
+        ≡ (if block == q then Some found.number else get nat_eq numbers.old q)) }
+    ensures right { AreRight (get nat_eq numbers.new) entries.new.items }
+    ensures keeps { OnErr result (numbers.new.entries ≡ numbers.old.entries) }
+{
+    if let Some(number) = at_hand(entries, block) {
+        return Ok(Numbered {
+            known: true,
+            number,
+        });
+    }
+    let found = number_block(numbers, next, block)?;
+    keep_at_hand(entries, block, found.number);
+    Ok(found)
+}
+
 /// How many numbers are used, after a block got its number.
 fn used_with(used: usize, known: bool) -> usize
     requires { used < usize.MAX }
@@ -94,6 +126,7 @@ impl Shadows {
         let order = Marked::new(alloc, sizes)?;
         Ok(Shadows {
             numbers: HashMap::new(alloc),
+            entries: none_at_hand(alloc)?,
             used: 0,
             order,
             recent: nothing_recent(),
@@ -116,7 +149,7 @@ impl Shadows {
         if self.used == usize::MAX {
             return Err(AllocError);
         }
-        let Ok(found) = number_block(&mut self.numbers, self.used, block) else {
+        let Ok(found) = find_number(&mut self.entries, &mut self.numbers, self.used, block) else {
             return Err(AllocError);
         };
         self.used = used_with(self.used, found.known);

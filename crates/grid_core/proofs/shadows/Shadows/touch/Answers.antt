@@ -32,7 +32,7 @@ returns-clause-order c = λ ys held.
     let agree : (y : ℕ) → has ys y ≡ true
     → eqb (number_in s y) n ≡ eqb y b = λ y h. ap (eqb (number_in s y)) is
     ∙ tells (get nat_eq s.numbers) s.used s.low s.apart b y (held.known y h) in
-    let next = λ (y : ℕ). unwrap_or (get nat_eq c.number_block.new.numbers y) 0 in
+    let next = λ (y : ℕ). unwrap_or (get nat_eq c.find_number.new.numbers y) 0 in
     let here : next b ≡ n = ap (λ o. unwrap_or o 0) (c.in-Ok.ensures.adds b
     ∙ ap (λ t. cond t (Some n) (get nat_eq s.numbers b)) (eq-eqb b b refl)) in
     let others = λ (y : ℕ) (e : eqb y b ≡ false). ap (λ o. unwrap_or o 0) (c.in-Ok.ensures.adds y
