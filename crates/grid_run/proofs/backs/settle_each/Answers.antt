@@ -1,4 +1,4 @@
-use Rattle.std.proofs.Common.{◌≢◌, ◌<◌, length, map, sym, subst, ◌∙◌, arith, get_or-set_other}
+use Rattle.std.proofs.Common.{◌≢◌, ◌<◌, length, sym, subst, ◌∙◌, arith, get_or-set_other}
 use Rattle.std.proofs.Math.Seq.{map-set_same}
 use Rattle.std.proofs.lemmas.List.Elements.{AllWithin-more_set}
 use Rattle.grid_run.specs.Backs.{BackAsked, NothingWaits, back_task}

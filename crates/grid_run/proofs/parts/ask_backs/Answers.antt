@@ -1,4 +1,4 @@
-use Rattle.std.proofs.Common.{◌++◌, List, get_or, map, take, option_to_list, ap, subst, ◌∙◌}
+use Rattle.std.proofs.Common.{◌++◌, List, map, take, option_to_list, ap, subst, ◌∙◌}
 use Rattle.std.proofs.Common.{append_assoc}
 use Rattle.std.proofs.lemmas.List.{take_all}
 use Rattle.std.proofs.lemmas.Result.{on_ok_weaker}

@@ -1,4 +1,4 @@
-use Rattle.std.proofs.Common.{◌++◌, Option, List, option_to_list, subst, sym, append-nil}
+use Rattle.std.proofs.Common.{◌++◌, Option, option_to_list, subst, sym}
 use Rattle.std.proofs.lemmas.Result.{on_ok_weaker}
 use Rattle.stage_core.specs.declared.message.What.{What}
 use Rattle.grid_run.specs.Sending.{SecondAsked}

@@ -1,5 +1,5 @@
-use Rattle.std.proofs.Common.{◌≡◌, ◌+◌, ◌∷◌, ◌++◌, [], List, get_or, drop, take}
-use Rattle.std.proofs.Common.{ap, sym, subst, ◌∙◌, append_assoc}
+use Rattle.std.proofs.Common.{◌+◌, ◌∷◌, ◌++◌, [], List, get_or, drop, take}
+use Rattle.std.proofs.Common.{subst, ◌∙◌}
 use Rattle.std.proofs.lemmas.List.{take_all}
 use Rattle.stage_core.specs.declared.message.What.{What}
 use Rattle.stage_core.specs.declared.message.What.TheVariants as what

@@ -1,4 +1,4 @@
-use Rattle.std.proofs.Common.{length, arith}
+use Rattle.std.proofs.Common.{arith}
 use Rattle.std.proofs.lemmas.Result.{on_ok_weaker}
 use Rattle.stage_core.specs.SecondLevel.{parts_in, second_level_requests}
 use Rattle.stage_core.proofs.Worked.{length-second_history}

@@ -1,4 +1,5 @@
-use Rattle.std.proofs.Common.{◌++◌, List, append-nil, ap, sym, subst, ◌∙◌}
+use Rattle.std.proofs.Common.{◌++◌, List, length, append-nil, length-append, ap, sym, subst, ◌∙◌}
+use Rattle.std.proofs.Common.{arith}
 use Rattle.std.specs.List.{All}
 use Rattle.din_trace.specs.declared.record.DinRecord.{DinRecord}
 use Rattle.grid_run.specs.Workers.{MayHaveTaken, Took, WereGiven}
@@ -7,6 +8,21 @@ use Rattle.grid_run.proofs.Crews.{may-have-taken}
 use Rattle.grid_run.proofs.crew.Crew.work.Goals as goal
 use Rattle.grid_run.proofs.crew.Crew.work.Goals.{Else-has_failed}
 use Rattle.grid_run.proofs.crew.Crew.work.Given.{Over}
+
+pub take_in-requires-clause-room : goal.take_in-requires-clause-room
+take_in-requires-clause-room g c κs within =
+    let given = c.requires.room.1 in
+    let waiting = c.args.self.now.waiting.items in (
+      given.taken,
+      given.served,
+      omega (
+        arith,
+        c.requires.room.2,
+        ap length given.all,
+        length-append given.taken waiting,
+        ap length c.deref.ensures.value,
+      ),
+    )
 
 -- all workers have taken all that were given
 all-took : (g : Over) (c : Else-has_failed g) (past : List DinRecord)

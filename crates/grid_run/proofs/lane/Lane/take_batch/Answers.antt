@@ -1,4 +1,4 @@
-use Rattle.std.proofs.Common.{◌++◌, List, map, take, length, ap, subst, sym, refl, ◌∙◌, arith}
+use Rattle.std.proofs.Common.{◌++◌, List, map, take, ap, subst, sym, refl, ◌∙◌, arith}
 use Rattle.std.proofs.Common.{append_assoc, append-nil, length-append, length-take}
 use Rattle.std.specs.List.{All}
 use Rattle.std.proofs.lemmas.List.{take_all, take_more}

@@ -1,4 +1,4 @@
-use Rattle.std.proofs.Common.{◌≡◌, ◌++◌, [], List, length, ap, sym, subst, ◌∙◌, append-nil, arith}
+use Rattle.std.proofs.Common.{◌++◌, List, length, ap, sym, subst, ◌∙◌, append-nil, arith}
 use Rattle.std.proofs.Common.{length-append}
 use Rattle.stage_core.specs.declared.message.What.{What}
 use Rattle.grid_run.specs.Sending.{SecondServed}
