@@ -38,7 +38,8 @@ pub record StackedStandsFor (e : Stacked) (h : History) : Type 0 where
   pub fetches : e.fetches ≡ by_class (λ g x. true) h
   pub state : IsAfter e.geometry e.stacks.items e.shadows e.cells.items h
 
--- the last access was x, after the history h
+-- the last access was x, after the history h: it used the block that was used last and so hit in
+-- each cache, or it is known where it stood in the rows and what it did where it missed
 pub record StackedHasAnswered (e : Stacked) (h : History) (x : Access) : Type 0 where
   pub write : e.write ≡ is_write x
   pub again : e.again ≡ true → All (λ c. HitsIn h x c.shape) e.cells.items

@@ -1,6 +1,6 @@
 //! The caches of one engine: what each counts, and what each did last.
 
-ghost use Rattle.std.specs.Prelude.{◌≡◌, ◌<◌, ◌^◌, ◌+◌, ℕ, ◌&&◌, map, [], IfOk, length, true};
+ghost use Rattle.std.specs.Prelude.{◌≡◌, ◌<◌, ◌^◌, ◌+◌, ℕ, map, [], IfOk, length, true};
 ghost use Rattle.std.specs.List.{All};
 ghost use Rattle.cache_core.specs.History.{History, is_write};
 ghost use Rattle.cache_core.specs.Parts.{outcome_of};
@@ -70,20 +70,20 @@ pub(crate) fn fresh_cell(shape: Shape) -> Cell
     }
 }
 
-/// Serves an access in the cache of one cell, but for its shadow, and answers whether it hits. A
-/// hit changes nothing.
-fn serve_ways(cell: &mut Cell, stack: &Stack, access: Access, prior: Prior) -> bool
+/// Serves an access in the cache of one cell, but for its shadow. A hit changes nothing. Answers
+/// whether it hits, in this cache as in those before.
+fn serve_ways(cell: &mut Cell, stack: &Stack, access: Access, prior: Prior, before: bool) -> bool
     requires placed { IsPlacedOn (rules_of stack.now) cell.old.shape }
     requires within { AreWithin cell.old.counts (2 ^ 46) }
     ensures serves { (o : Outcome) × (cell.new ≡ after_outcome access o cell.old)
         × ((h : History) → HasLooked stack.now h access →
         KnowsPrior cell.old.shape h access prior →
         o ≡ outcome_of (shape_rules cell.old.shape) h access) }
-    ensures hits { result ≡ true → (h : History) → HasLooked stack.now h access →
-        HitsIn h access cell.old.shape }
+    ensures hits { result ≡ true → (before ≡ true) × ((h : History) →
+        HasLooked stack.now h access → HitsIn h access cell.old.shape) }
 {
     if stack.position() < cell.shape.ways {
-        return true;
+        return before;
     }
     let outcome = outcome_in(stack, cell.shape, access, prior);
     count_miss(&mut cell.counts, access, outcome);
@@ -91,28 +91,22 @@ fn serve_ways(cell: &mut Cell, stack: &Stack, access: Access, prior: Prior) -> b
     false
 }
 
-/// Serves an access in the cache of one cell, and answers whether it hits.
-fn serve_cell(cell: &mut Cell, stack: &Stack, access: Access, prior: Prior) -> bool
+/// Serves an access in the cache of one cell, and answers whether it hits, in this cache as in
+/// those before.
+fn serve_cell(cell: &mut Cell, stack: &Stack, access: Access, prior: Prior, before: bool) -> bool
     requires placed { IsPlacedOn (rules_of stack.now) cell.old.shape }
     requires within { (n : ℕ) × IsWithinCell n cell.old × (n < 2 ^ 46) }
     ensures shape { cell.new.shape ≡ cell.old.shape }
     ensures serves { (h : History) → HasLooked stack.now h access →
         IsDue h access prior cell.old → IsServed h access cell.new }
     ensures bounds { (n : ℕ) → IsWithinCell n cell.old → IsWithinCell (n + 1) cell.new }
-    ensures hits { result ≡ true → (h : History) → HasLooked stack.now h access →
-        HitsIn h access cell.old.shape }
+    ensures hits { result ≡ true → (before ≡ true) × ((h : History) →
+        HasLooked stack.now h access → HitsIn h access cell.old.shape) }
 {
-    let hit = serve_ways(cell, stack, access, prior);
+    let hits = serve_ways(cell, stack, access, prior, before);
     let far = cell.shape.rank < prior.level;
     count(&mut cell.far, access, far);
-    hit
-}
-
-/// Whether both are true.
-fn both(first: bool, second: bool) -> bool
-    ensures { result ≡ (first && second) }
-{
-    first && second
+    hits
 }
 
 /// Serves an access in the caches of all cells, and answers whether it hits in each.
@@ -131,8 +125,7 @@ fn serve_all(cells: &mut [Cell], stacks: &[Stack], access: Access, prior: Prior)
     let mut all_hit = true;
     for cell in cells.iter_mut() {
         let stack = &stacks[cell.shape.stack];
-        let hit = serve_cell(cell, stack, access, prior);
-        all_hit = both(all_hit, hit);
+        all_hit = serve_cell(cell, stack, access, prior, all_hit);
     }
     all_hit
 }

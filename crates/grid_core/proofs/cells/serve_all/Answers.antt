@@ -7,7 +7,6 @@ use Rattle.std.proofs.lemmas.List.Elements.{AllWithin-more_set}
 use Rattle.cache_core.specs.History.{History}
 use Rattle.grid_core.specs.Standing.{HasLooked, rules_of}
 use Rattle.grid_core.specs.Cells.{IsPlacedAmong, IsDue, IsServed, IsWithinCell, HitsIn, shape_in}
-use Rattle.grid_core.proofs.Hitting.{both-true}
 use Rattle.grid_core.proofs.Placed.{shape-at, rules-at, names-rows}
 use Rattle.grid_core.proofs.cells.serve_all.Goals as goal
 
@@ -31,8 +30,8 @@ offset_bounds-stacks-cell c =
     c.args.cells.now xs c.loop-cell.invariant.shapes c.requires.placed i e (omega arith)) in
     search rules
 
-pub serve_cell-hit-requires-clause-placed : goal.serve_cell-hit-requires-clause-placed
-serve_cell-hit-requires-clause-placed c =
+pub serve_cell-all_hit-requires-clause-placed : goal.serve_cell-all_hit-requires-clause-placed
+serve_cell-all_hit-requires-clause-placed c =
     let xs = c.loop-cell.cells in
     let i = c.loop-cell.cell-index in
     let e = c.cell-item.result in
@@ -46,7 +45,7 @@ pub loop-cell-preserved : goal.loop-cell-preserved
 loop-cell-preserved c =
     let i = c.loop-cell.cell-index in
     let xs = c.loop-cell.cells in
-    let v = c.serve_cell-hit.new.cell in
+    let v = c.serve_cell-all_hit.new.cell in
     let e = c.cell-item.result in
     let first = c.args.cells.now in
     let x = c.args.access in
@@ -64,23 +63,22 @@ loop-cell-preserved c =
     subst (λ s. HasLooked s h x) (sym c.index-stacks-cell.is)
     (looked (get_or xs i e).shape.stack c.index-stacks-cell.result names) in
     record {
-      shapes = map-set_same shape_in xs i v e c.serve_cell-hit.ensures.shape
+      shapes = map-set_same shape_in xs i v e c.serve_cell-all_hit.ensures.shape
           ∙ c.loop-cell.invariant.shapes;
       serves = λ h looked due. AllWithin-more_set xs i v inside (IsServed h x)
           (c.loop-cell.invariant.serves h looked due)
-          (c.serve_cell-hit.ensures.serves h
+          (c.serve_cell-all_hit.ensures.serves h
           (at-rows h looked)
           (subst (IsDue h x p) same (due i e inside')));
       bounds = λ n all. AllWithin-more_set xs i v inside (IsWithinCell (n + 1))
           (c.loop-cell.invariant.bounds n all)
-          (c.serve_cell-hit.ensures.bounds n (subst (IsWithinCell n) same (all i e inside')));
+          (c.serve_cell-all_hit.ensures.bounds n (subst (IsWithinCell n) same (all i e inside')));
       hits = λ all h looked.
-          let each = both-true c.loop-cell.all_hit c.serve_cell-hit.result
-          (sym c.both-all_hit.ensures ∙ all) in
+          let each = c.serve_cell-all_hit.ensures.hits all in
           AllWithin-more_set xs i v inside (λ c. HitsIn h x c.shape)
           (c.loop-cell.invariant.hits each.0 h looked)
-          (subst (HitsIn h x) (sym c.serve_cell-hit.ensures.shape)
-          (c.serve_cell-hit.ensures.hits each.1 h (at-rows h looked)));
+          (subst (HitsIn h x) (sym c.serve_cell-all_hit.ensures.shape)
+          (each.1 h (at-rows h looked)));
       left = λ k d lt. let ne : k ≢ i = omega arith in get_or-set_other xs i k v d ne
           ∙ c.loop-cell.invariant.left k d (omega arith);
     }

@@ -37,10 +37,10 @@ returns-clause-serves c = λ h looked due.
     let p = c.args.prior in
     let r = shape_rules s in
     let old = c.args.cell.now in
-    let o = c.serve_ways-hit.ensures.serves.0 in
-    let is = c.serve_ways-hit.ensures.serves.2 h looked due.prior in
-    subst (IsServed h x) (sym (two-steps x p o old c.serve_ways-hit.new.cell c.count.new.per_class
-    c.serve_ways-hit.ensures.serves.1 c.count.ensures)) (record {
+    let o = c.serve_ways-hits.ensures.serves.0 in
+    let is = c.serve_ways-hits.ensures.serves.2 h looked due.prior in
+    subst (IsServed h x) (sym (two-steps x p o old c.serve_ways-hits.new.cell c.count.new.per_class
+    c.serve_ways-hits.ensures.serves.1 c.count.ensures)) (record {
       counted = record {
         counts = ap (λ o. with_own x o old.counts) is
             ∙ ap (with_own x (outcome_of r h x)) due.counted.counts
@@ -56,9 +56,9 @@ returns-clause-bounds c = λ n within.
     let old = c.args.cell.now in
     let x = c.args.access in
     let p = c.args.prior in
-    let o = c.serve_ways-hit.ensures.serves.0 in
-    subst (IsWithinCell (n + 1)) (sym (two-steps x p o old c.serve_ways-hit.new.cell
-    c.count.new.per_class c.serve_ways-hit.ensures.serves.1 c.count.ensures)) (record {
+    let o = c.serve_ways-hits.ensures.serves.0 in
+    subst (IsWithinCell (n + 1)) (sym (two-steps x p o old c.serve_ways-hits.new.cell
+    c.count.new.per_class c.serve_ways-hits.ensures.serves.1 c.count.ensures)) (record {
       counts = own-within x o old.counts n within.counts;
       far = IsWithin-with_one x (ltb old.shape.rank p.level) old.far n within.far;
     })

@@ -29,7 +29,7 @@ returns-then-position-cell c =
         ap (λ (k : Counts). record old { counts = k }) (sym (hit-own x t old.counts)),
         λ h looked prior. sym (is h looked),
       );
-      hits = λ _ h looked. is h looked;
+      hits = λ before. (before, λ h looked. is h looked);
     }
 
 pub returns-clause-serves : goal.returns-clause-serves
