@@ -192,7 +192,7 @@ impl Uses {
     /// this test, all calls of `shorten` together take a few steps for each use.
     pub(crate) fn is_long(&self, used: usize) -> bool {
         let uses = self.log.len();
-        uses >= 4096 && uses / 4 > used
+        uses >= 4096 && uses / 2 > used
     }
 
     /// The place of the last use of a block, if it has one.
