@@ -18,7 +18,7 @@ use std::thread::Threads;
 
 /// How many records are taken together. A thread takes some tens of microseconds to start; a batch
 /// gives it milliseconds of work.
-const BATCH: usize = 16_384;
+const BATCH: usize = 65_536;
 
 /// The workers of all lanes, and the records that wait for them.
 #[derive(Drop)]

@@ -41,6 +41,7 @@ mod requests;
 mod run;
 mod seat;
 mod second;
+mod sharing;
 mod shelf;
 mod simulation;
 mod table;

@@ -15,6 +15,7 @@ ghost use Rattle.grid_run.specs.Seats.{Table};
 
 use crate::grid::{Row, Setup};
 use crate::seat::{Seat, seat_for};
+use crate::sharing::{count_groups, group_after, worker_of};
 use crate::shelf::Shelf;
 use cache_core::{Geometry, NoMemory, Policy};
 use stage_core::{Config, Selection};
@@ -215,21 +216,6 @@ fn place_for(
     Ok(Some(place))
 }
 
-/// The worker of a row, of so many, if `count` rows are shared out. Rows beside one another have
-/// more caches in common, so each worker has runs of them. It has two, one from each half of the
-/// grid: the small caches, which send most to their second levels, often stand at one end.
-fn worker_of(row: usize, count: usize, workers: usize) -> usize {
-    if workers == 0 || count == 0 {
-        return 0;
-    }
-    let part = row.saturating_mul(2).saturating_mul(workers) / count;
-    if part < workers {
-        part
-    } else {
-        (workers - 1).saturating_sub(part - workers)
-    }
-}
-
 /// The plan for the rows of a grid, whose lanes are shared out among so many workers.
 pub(crate) fn plan_for(alloc: Global, rows: &[Row], workers: usize) -> Result<Plan, NoMemory>
     requires { All IsBoundedRow rows.now }
@@ -239,8 +225,11 @@ pub(crate) fn plan_for(alloc: Global, rows: &[Row], workers: usize) -> Result<Pl
 {
     let mut lanes = Vec::new(alloc);
     let mut places = Vec::new(alloc);
+    let groups = count_groups(rows);
+    let mut group = 0;
     for (index, row) in rows.iter().enumerate() {
-        let worker = worker_of(index, rows.len(), workers);
+        group = group_after(rows, index, group);
+        let worker = worker_of(group, groups, workers);
         let place = place_for(alloc, &mut lanes, &row.setup, worker)?;
         if places.push(place).is_err() {
             return Err(NoMemory);
