@@ -142,14 +142,14 @@ call 'the table of a lesson' 0 "$lesson.tsv" '' "$lesson.din" "${words[@]}"
 
 # A trace of three batches: the table is the same on any number of threads.
 awk 'BEGIN {
-    for (i = 0; i < 40000; i++) {
+    for (i = 0; i < 140000; i++) {
         n = (n * 1103515245 + 12345) % 2147483648
         print int(n / 65536) % 4, int(n / 262144) % 97
     }
 }' >"$work/long.din"
 several=("${caches[@]}" --l1-dsize 4,8,16,32 --l1-dassoc 1,2 --flushcount 0,1000)
 "$program" "${several[@]}" --threads 1 <"$work/long.din" >"$work/long"
-call 'a faulty line behind two batches' 1 "$nothing" 'dinero_grid: line 40001: label
+call 'a faulty line behind two batches' 1 "$nothing" 'dinero_grid: line 140001: label
 ' <(cat "$work/long.din" && echo 5 0) "${several[@]}"
 for threads in {0..8}; do
     call "a table on $threads threads" 5 "$work/long" '' "$work/long.din" "${several[@]}" \
