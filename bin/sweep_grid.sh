@@ -13,10 +13,11 @@ no_room() {
     die 4 "no room for temporary files in ${TMPDIR:-/tmp}"
 }
 
-# try OPTION VALUES: runs the simulator with these values, and the first one of each other option
-# that has several, on a trace without records. Its table is in the file `tried`.
-try() {
-    local i list words=(${full:+"$full"} "${fixed[@]}") status=0
+# run_trial OPTION VALUES: runs the simulator with these values, and the first one of each other
+# option that has several, on a trace without records, and sets `status`. Its table, with a line for
+# each value, is in the file `tried`.
+run_trial() {
+    local i list words=(${full:+"$full"} "${fixed[@]}")
     for i in "${!varied[@]}"; do
         [ "${varied[i]}" = "$1" ] || words+=("${varied[i]}" "${values[i]%%,*}")
     done
@@ -25,7 +26,14 @@ try() {
         [ "${tied[i]}" = "$1" ] || words+=("${tied[i]}" "${list%%,*}")
     done
     [ -z "$1" ] || words+=("$1" "$2")
+    status=0
     "$program" "${words[@]}" < /dev/null > "$work/tried" 2> "$work/told" || status=$?
+}
+
+# try OPTION VALUES: the same, and refuses what the simulator does.
+try() {
+    local status
+    run_trial "$@"
     case $status in
     0 | 5) ;;
     2) refuse "$(sed 's/^dinero_grid: //' "$work/told")" ;;
@@ -62,31 +70,39 @@ check_values() {
         [ -z "$value" ] || note_shown "$name" "$value"
     done <<<"$options"
     for i in "${!varied[@]}"; do
-        for value in ${values[i]//,/ }; do
-            try_value "${varied[i]}" "$value"
-        done
+        try_values "${varied[i]}" "${values[i]}"
     done
     for i in "${!tied[@]}"; do
         find_list "${leads[i]}"
-        for value in ${list//,/ }; do
-            try_value "${tied[i]}" "$value"
-        done
+        try_values "${tied[i]}" "$list"
     done
 }
 
-# try_value OPTION VALUE
-try_value() {
-    try "$1" "$2"
-    note_shown "${1#--}" "$2"
+# try_values OPTION LIST: all at once where the simulator takes them, and else one by one: some
+# options take no list, and a grid has a greatest size.
+try_values() {
+    local status value
+    run_trial "$1" "$2"
+    if [ "$status" -eq 0 ] || [ "$status" -eq 5 ]; then
+        note_shown "${1#--}" "$2"
+        return
+    fi
+    for value in ${2//,/ }; do
+        try "$1" "$value"
+        note_shown "${1#--}" "$value"
+    done
 }
 
-# note_shown NAME VALUE: keeps how a full table has it, from the one that was tried, as a line of
-# the grid's description.
+# note_shown NAME LIST: keeps how a full table has each of these values, from the one that was
+# tried, as lines of the grid's description.
 note_shown() {
-    [ -z "$full" ] || awk -F '\t' -v OFS='\t' -v "name=$1" -v "value=$2" '
-        NR == 1 { for (i = 1; i <= NF; i++) if ($i == name) at = i }
-        NR == 2 { print "shown", name, value, $at }' "$work/tried" 2>/dev/null >> "$work/shown" ||
-        no_room
+    [ -z "$full" ] || awk -F '\t' -v OFS='\t' -v "name=$1" -v "list=$2" '
+        NR == 1 {
+            split(list, value, ",")
+            for (i = 1; i <= NF; i++) if ($i == name) at = i
+        }
+        NR > 1 { print "shown", name, value[NR - 1], $at }' "$work/tried" 2>/dev/null \
+        >> "$work/shown" || no_room
 }
 
 # find_value OPTION: sets `value` to that of all rows, or to nothing if they have several.

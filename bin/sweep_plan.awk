@@ -111,24 +111,39 @@ function size_of(line,   word, some, d, n) {
     return n
 }
 
-# cut(LINE, PARTS): adds runs of nearly one size, so many or more. The first option that has several
-# values in the box is cut in two, since its values share least.
+# cut(LINE, PARTS): adds runs of nearly one size, so many or more, by cutting the box in two.
 function cut(line, parts,   word, one, d, n, half, share) {
     split(line, word, "\t")
-    for (d = 1; d <= dimensions; d++) {
-        n = split(word[d + 1], one, ",")
-        if (n > 1) break
-    }
-    if (d > dimensions || parts <= 1 && size_of(line) <= most) {
+    d = dimension_to_cut(word)
+    if (!d || parts <= 1 && size_of(line) <= most) {
         found[++runs] = line
         return
     }
+    n = split(word[d + 1], one, ",")
     half = int((n + 1) / 2)
     share = int(parts * half / n + 0.5)
     if (share < 1) share = 1
     if (share > parts - 1) share = parts - 1
     cut(with_values(word, one, d, 1, half), share)
     cut(with_values(word, one, d, half + 1, n), parts - share)
+}
+
+# dimension_to_cut(WORD): the first option that has several values in the box, since its values
+# share least; but of the options of the same cache one whose values make equal halves, if there is
+# any. Which option: 0 if none has several values.
+function dimension_to_cut(word,   d, n, one, first) {
+    for (d = 1; d <= dimensions; d++) {
+        n = split(word[d + 1], one, ",")
+        if (n == 1) continue
+        if (!first) first = d
+        if (n % 2 == 0 && cache_of(d) == cache_of(first)) return d
+    }
+    return first + 0
+}
+
+# cache_of(D): the cache that the option belongs to, by the beginning of its name: `l1-d`.
+function cache_of(d) {
+    return substr(varied[d], 1, 4)
 }
 
 # with_values(WORD, ONE, D, FIRST, LAST): a line in which the option D has some of its values.

@@ -75,13 +75,16 @@ has_parallel() {
     parallel --version 2>/dev/null | grep -q '^GNU parallel'
 }
 
+# choose_engine: parallel takes longer to start than xargs, but knows of other machines, and shows
+# the progress.
 choose_engine() {
+    engine=run_with_xargs
+    [ -n "$hosts" ] || [ -t 2 ] || return 0
     if has_parallel; then
         engine=run_with_parallel
-        return
+    elif [ -n "$hosts" ]; then
+        die 69 '--hosts needs GNU parallel: install the package parallel'
     fi
-    engine=run_with_xargs
-    [ -z "$hosts" ] || die 69 '--hosts needs GNU parallel: install the package parallel'
 }
 
 # make_runs: here or on other machines, and takes in what each has to say, as soon as it has ended;

@@ -43,6 +43,15 @@ noted --jobs 9 "${grid[@]}" -- kinds.din fifo.din
 is_table_of_rows && [ "$(calls_of --l1-dsize)" = '16 16 16 16 8 8 8 8 ' ] &&
     [ "$(calls_of --l1-dassoc)" = '1 1 1 1 2 2 2 2 ' ]
 verdict 'and then along the next one' $?
+odd=(--vary --l1-dsize 8,16,32)
+noted --jobs 2 "${odd[@]}" --vary --l1-dassoc 1,2 "${rest[@]}" -- kinds.din
+[ "$status" -eq 0 ] && [ "$(calls_of --l1-dsize)" = '8,16,32 8,16,32 ' ] &&
+    [ "$(calls_of --l1-dassoc)" = '1 2 ' ]
+verdict 'or along an option of the same cache whose values make equal halves' $?
+noted --jobs 2 "${odd[@]}" --vary --flushcount 2,3 "${rest[@]}" -- kinds.din
+[ "$status" -eq 0 ] && [ "$(calls_of --l1-dsize)" = '32 8,16 ' ] &&
+    [ "$(calls_of --flushcount)" = '2,3 2,3 ' ]
+verdict 'but not along one of another' $?
 if has parallel; then
     echo 3/: >machines
     noted --hosts machines "${grid[@]}" -- kinds.din
