@@ -29,8 +29,8 @@ sum_of() {
     sha256sum < "$1" | cut -d ' ' -f 1
 }
 
-# kept_word NAME WHAT: what the sums of the kept program NAME say of its sources, of the toolchain
-# or of the program itself.
+# kept_word NAME WHAT: what the sums of the kept program NAME say of its sources, of the program
+# itself, or of each toolchain that built this very program from these sources.
 kept_word() {
     sed -n "s/^$2 //p" "$top/release/$1.sums" 2>/dev/null
 }
@@ -45,8 +45,7 @@ list_sources() {
     (cd "$top" && find "${parts[@]}" -type f -print0 | LC_ALL=C sort -z | xargs -0 sha256sum)
 }
 
-# sum_of_sources NAME TOOLCHAIN: of each crate that the program is built from, of HANDLES, and of
-# the toolchain's name.
+# sum_of_sources NAME: of each crate that the program is built from, and of HANDLES.
 sum_of_sources() {
     local name
     {
@@ -54,8 +53,12 @@ sum_of_sources() {
             list_sources "$name"
         done
         cat "$top/HANDLES"
-        echo "$2"
     } | sha256sum | cut -d ' ' -f 1
+}
+
+# is_by_toolchain NAME TOOLCHAIN: it is one of those that built the kept program.
+is_by_toolchain() {
+    kept_word "$1" toolchain | grep -Fqx -- "$2"
 }
 
 place_of() {
@@ -64,7 +67,7 @@ place_of() {
 
 # standing NAME: the sum of a program's sources, and its own.
 standing() {
-    echo "$(sum_of_sources "$1" "$(kept_word "$1" toolchain)") $(sum_of "$(place_of "$1")")"
+    echo "$(sum_of_sources "$1") $(sum_of "$(place_of "$1")")"
 }
 
 # note_standing NAME: writes it beside the program, as of a second before it was looked at. The file
@@ -82,8 +85,8 @@ note_standing() {
 is_untouched() {
     local place
     place=$(place_of "$1")
-    [ -z "$(find "$place" "$top/release/$1.sums" "$top/HANDLES" "$top/crates.txt" \
-        "$top"/crates/*/{src,specs,proofs} -cnewer "$place.from" -print -quit 2>&1)" ]
+    [ -z "$(find "$place" "$top/HANDLES" "$top/crates.txt" "$top"/crates/*/{src,specs,proofs} \
+        -cnewer "$place.from" -print -quit 2>&1)" ]
 }
 
 # is_current NAME: the program that stands there was built from what the checkout holds.
@@ -103,27 +106,28 @@ unpack_kept() {
 }
 
 # compare_kept NAME FILE: ends the command unless this is the kept program, and of these sources.
+# Other toolchains may have built the same bits before; what is compared is what was built here.
 compare_kept() {
-    local kept sources
+    local kept
     kept=$(mktemp) || die 4 'no room for temporary files'
     leftovers+=("$kept")
     unpack_kept "$1" "$kept" || die 1 "release/$1.gz is missing or damaged"
     cmp -s "$kept" "$2" || die 1 "the kept program $1 is not the one that was built"
-    sources=$(sum_of_sources "$1" "$(rt version)")
-    [ "$sources" = "$(kept_word "$1" sources)" ] || die 1 "release/$1.sums is of other sources"
+    [ "$(sum_of_sources "$1")" = "$(kept_word "$1" sources)" ] ||
+        die 1 "release/$1.sums is of other sources"
     echo "release/$1.gz is, bit for bit, the program that was built"
+    is_by_toolchain "$1" "$(rt version)" ||
+        echo "release/$1.sums does not name the toolchain that built it here; bin/release adds it"
 }
 
-# take_kept NAME: puts the kept program in its place, if it is of these sources and of the toolchain
-# that is installed, if any is, and if it runs here.
+# take_kept NAME: puts the kept program in its place, if it is of these sources, if the toolchain
+# that is installed, if any is, is one that built it, and if it runs here.
 take_kept() {
-    local place part toolchain
+    local place part
     place=$(place_of "$1")
     part=$place.part$$
-    toolchain=$(kept_word "$1" toolchain)
-    [ -n "$toolchain" ] &&
-        [ "$(sum_of_sources "$1" "$toolchain")" = "$(kept_word "$1" sources)" ] || return 1
-    ! command -v rt >/dev/null || [ "$(rt version)" = "$toolchain" ] || return 1
+    [ "$(sum_of_sources "$1")" = "$(kept_word "$1" sources)" ] || return 1
+    ! command -v rt >/dev/null || is_by_toolchain "$1" "$(rt version)" || return 1
     mkdir -p "$(dirname "$place")" 2>/dev/null || return 1
     if unpack_kept "$1" "$part" && chmod +x "$part" && "$part" --help >/dev/null 2>&1 &&
         mv -fT "$part" "$place"; then
@@ -167,7 +171,7 @@ may_write() {
 build() {
     local began=$SECONDS log total sources
     may_write "$1"
-    sources=$(sum_of_sources "$1" '')
+    sources=$(sum_of_sources "$1")
     need rt 'the Rattle toolchain'
     total=$(all_below "$1" | wc -l)
     complain "proving and building $1 from $total crates, once; this takes about 15 minutes on 4 cores"
@@ -181,7 +185,7 @@ build() {
     rm -rf "$log"
     # What is noted is the sources as they stand now, and so they must be those that were read.
     note_standing "$1"
-    [ "$(sum_of_sources "$1" '')" = "$sources" ] || {
+    [ "$(sum_of_sources "$1")" = "$sources" ] || {
         rm -f -- "$(place_of "$1").from"
         die 70 'a source was changed while the program was built: call the command again'
     }

@@ -4,7 +4,7 @@
 
 # A checkout without what was built, and a toolchain of the kept program's name that proves nothing.
 fresh=$work/fresh
-toolchain=$(sed -n 's/^toolchain //p' "$top/release/dinero_pipe.sums")
+toolchain=$(sed -n 's/^toolchain //p' "$top/release/dinero_pipe.sums" | head -n 1)
 new_checkout() {
     rm -rf "$fresh"
     mkdir "$fresh"
@@ -99,6 +99,12 @@ new_checkout
 sed -i '/^toolchain /s/13/14/' "$fresh/release/dinero_pipe.sums"
 launch
 check "another name for the kept program's toolchain builds the program" is_built
+new_checkout
+echo 'toolchain one more' >>"$fresh/release/dinero_pipe.sums"
+launch one
+check "a part of a toolchain's name builds the program" is_built
+launch 'one more'
+check 'each toolchain that built the kept program takes it' is_kept
 
 # What is kept, with one bit of the program changed, or with a program that does not run.
 damaged() {
@@ -135,8 +141,9 @@ cat >"$work/builds/rt" <<'END'
 case $1 in
 version) echo "$TOOLCHAIN" ;;
 run)
-    mkdir -p out && gzip -dc ../../release/dinero_pipe.gz >out/dinero_pipe
-    chmod +x out/dinero_pipe
+    name=${PWD##*/}
+    mkdir -p out && gzip -dc "../../release/$name.gz" >"out/$name"
+    chmod +x "out/$name"
     [ ! -e "$TOP/changes" ] || echo >>src/main.rt
     ;;
 esac
@@ -164,6 +171,30 @@ rm "$fresh/changes"
 TOP=$fresh launch
 is_report && grep -q 'proved and built' "$err"
 verdict 'the next call builds it again' $?
+
+# as_other COMMAND..: the same by a toolchain of another name.
+as_other() {
+    run env TOP="$fresh" TOOLCHAIN='one more' PATH="$tools:$PATH" "$@"
+}
+# toolchains: the names of those that built the kept program.
+toolchains() {
+    sed -n 's/^toolchain //p' "$1/release/dinero_pipe.sums"
+}
+new_checkout
+as_other "$fresh/bin/prove"
+[ "$status" -eq 0 ] && grep -q 'does not name the toolchain that built it here' "$out"
+verdict 'prove says that the toolchain is another' $?
+as_other "$fresh/.ci/kept_programs"
+[ "$status" -eq 0 ] && grep -q 'does not name the toolchain that built it here' "$out"
+verdict 'and so does the gate, which takes the same bits' $?
+as_other "$fresh/bin/release"
+[ "$status" -eq 0 ] && [ "$(toolchains "$fresh")" = "$(
+    { toolchains "$top"; echo 'one more'; } | LC_ALL=C sort)" ]
+verdict 'release adds a toolchain that builds the same program' $?
+echo >>"$fresh/crates/sim_run/src/lib.rt"
+as_other "$fresh/bin/release"
+[ "$status" -eq 0 ] && [ "$(toolchains "$fresh")" = 'one more' ]
+verdict 'and names it alone for other sources' $?
 tools=$work/fake
 
 # can_not_write CRATE: it says so in one line, and does not begin to prove.
