@@ -18,10 +18,23 @@ uses() {
     done
 }
 
-# all_below CRATE: the crates that it is built from, itself last.
+# all_below CRATE: the crates that it is built from, each behind those that it uses, itself last.
 all_below() {
-    local name
-    { for name in $(uses "$1"); do all_below "$name"; done; echo "$1"; } | awk '!seen[$0]++'
+    awk -v "crate=$1" '
+        /^[a-z]/ {
+            colon = index($0, ":")
+            name = substr($0, 1, colon - 1)
+            sub(/ .*/, "", name)
+            uses[name] = substr($0, colon + 1)
+        }
+        function tell(name,   i, count, used) {
+            if (name in told || !(name in uses)) return
+            told[name]
+            count = split(uses[name], used, " ")
+            for (i = 1; i <= count; i++) tell(used[i])
+            print name
+        }
+        END { tell(crate) }' "$top/crates.txt"
 }
 
 # sum_of FILE
