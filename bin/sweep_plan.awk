@@ -114,7 +114,7 @@ function size_of(line,   word, some, d, n) {
 # cut(LINE, PARTS): adds runs of nearly one size, so many or more, by cutting the box in two.
 function cut(line, parts,   word, one, d, n, half, share) {
     split(line, word, "\t")
-    d = dimension_to_cut(word)
+    d = dimension_to_cut(word, parts)
     if (!d || parts <= 1 && size_of(line) <= most) {
         found[++runs] = line
         return
@@ -128,15 +128,15 @@ function cut(line, parts,   word, one, d, n, half, share) {
     cut(with_values(word, one, d, half + 1, n), parts - share)
 }
 
-# dimension_to_cut(WORD): the first option that has several values in the box, since its values
-# share least; but of the options of the same cache one whose values make equal halves, if there is
-# any. Which option: 0 if none has several values.
-function dimension_to_cut(word,   d, n, one, first) {
+# dimension_to_cut(WORD, PARTS): the first option that has several values in the box, since its
+# values share least; but of the options of the same cache one whose values make so many equal
+# parts, if there is any. It is 0 if no option has several values.
+function dimension_to_cut(word, parts,   d, n, one, first) {
     for (d = 1; d <= dimensions; d++) {
         n = split(word[d + 1], one, ",")
         if (n == 1) continue
         if (!first) first = d
-        if (n % 2 == 0 && cache_of(d) == cache_of(first)) return d
+        if (parts > 1 && n % parts == 0 && cache_of(d) == cache_of(first)) return d
     }
     return first + 0
 }

@@ -47,7 +47,7 @@ odd=(--vary --l1-dsize 8,16,32)
 noted --jobs 2 "${odd[@]}" --vary --l1-dassoc 1,2 "${rest[@]}" -- kinds.din
 [ "$status" -eq 0 ] && [ "$(calls_of --l1-dsize)" = '8,16,32 8,16,32 ' ] &&
     [ "$(calls_of --l1-dassoc)" = '1 2 ' ]
-verdict 'or along an option of the same cache whose values make equal halves' $?
+verdict 'or along an option of the same cache whose values make equal parts' $?
 noted --jobs 2 "${odd[@]}" --vary --flushcount 2,3 "${rest[@]}" -- kinds.din
 [ "$status" -eq 0 ] && [ "$(calls_of --l1-dsize)" = '32 8,16 ' ] &&
     [ "$(calls_of --flushcount)" = '2,3 2,3 ' ]

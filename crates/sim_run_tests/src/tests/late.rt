@@ -1,6 +1,8 @@
 //! Runs whose readers give the rest of a trace late: what they gave before has to be served while
 //! they wait.
 
+ghost use Rattle.std.specs.Prelude.{true};
+
 use super::gates::Sign;
 use super::{first_misses, instrs, run_in_threads};
 use sim_run::{Gate, Who};
@@ -8,8 +10,10 @@ use std::alloc::Global;
 use std::io::{self, Read};
 use std::process::Abort;
 use std::sync::Wait;
+use std::sync::atomic::{AtomicU64, Ordering};
 use std::test::Fail;
-use std::thread::Threads;
+use std::thread::{self, Threads};
+use std::time::{Clock, Duration};
 
 /// A gate that shows a sign when the awaited message comes. It holds no thread; `open` is what its
 /// `is_open` answers.
@@ -105,4 +109,93 @@ fn all_before_blank_lines_is_merged_while_the_reader_waits(rt: HostRuntime) -> R
 #[test]
 fn all_before_half_a_line_is_merged_while_the_reader_waits(rt: HostRuntime) -> Result<(), Fail> {
     run_late(&rt, rt.alloc(), b"2 0\n \n2 ", b"4\n", FETCHED, true)
+}
+
+/// A gate that holds no thread, and keeps how many messages have come to the merge.
+#[derive(Drop)]
+struct Merged {
+    messages: AtomicU64,
+    missed: AtomicU64,
+}
+
+impl Merged {
+    fn new() -> Merged {
+        Merged {
+            messages: AtomicU64::new(0),
+            missed: AtomicU64::new(0),
+        }
+    }
+
+    /// Waits until so many have come. It gives up after many looks, and notes it.
+    fn wait_for(&self, messages: u64) {
+        for _ in 0..10_000_000u32 {
+            if self.messages.load(Ordering::SeqCst) >= messages {
+                return;
+            }
+            thread::yield_now();
+        }
+        self.missed.store(1, Ordering::SeqCst);
+    }
+
+    fn was_missed(&self) -> bool {
+        self.missed.load(Ordering::SeqCst) == 1
+    }
+}
+
+impl Gate for Merged {
+    ghost open = { λ _. true };
+
+    fn arrive<H: Wait>(&self, _rt: &H, who: Who, nth: u64) {
+        if who == Who::Merge {
+            self.messages.store(nth, Ordering::SeqCst);
+        }
+    }
+
+    fn is_open(&self) -> bool {
+        true
+    }
+}
+
+/// Gives a line at each call, once all that came before it is merged, and after a pause in which
+/// all threads fall asleep without a time limit.
+#[derive(Drop)]
+struct Pausing<'a, C> {
+    rt: &'a C,
+    lines: &'a [&'a [u8]],
+    given: usize,
+    merged: &'a Merged,
+}
+
+impl<C: Clock> Read for Pausing<'_, C> {
+    fn read(&mut self, buffer: &mut [u8]) -> io::Result<usize> {
+        // For each of these lines the merge receives a turn, a part and the end of the parts.
+        self.merged.wait_for((self.given as u64).saturating_mul(3));
+        let Some(line) = self.lines.get(self.given) else {
+            return Ok(0);
+        };
+        thread::sleep(self.rt, Duration::from_millis(200));
+        self.given = self.given.saturating_add(1);
+        let mut given: &[u8] = line;
+        given.read(buffer)
+    }
+}
+
+/// Fetches and reads of blocks that were never accessed.
+static MISSES: [&[u8]; 6] = [
+    b"2 0\n", b"0 10\n", b"2 20\n", b"2 30\n", b"0 40\n", b"0 50\n",
+];
+
+#[test]
+fn threads_that_sleep_without_a_limit_are_woken(rt: HostRuntime) -> Result<(), Fail> {
+    let merged = Merged::new();
+    let reader = Pausing {
+        rt: &rt,
+        lines: &MISSES,
+        given: 0,
+        merged: &merged,
+    };
+    let totals = run_in_threads(&rt, rt.alloc(), reader, &merged, Vec::new(rt.alloc()))??;
+    assert_eq!(rt; totals.i, first_misses(instrs(3), instrs(3), 3));
+    assert!(rt; !merged.was_missed());
+    Ok(())
 }
