@@ -94,8 +94,10 @@ def link(source, target):
 
 
 class Rooms:
-    """`shop` is a copy of the crates as they stood at the start, with their controls. There each is
-    proved once. Every check with something planted begins with that work, in a room of its own."""
+    """`shop` is a copy of the crates as they stood at the start, with their controls. Each is proved
+    once, in a room of its own, its home: a check locks the crates below, so checks in one folder
+    would wait for one another. Every check with something planted begins with that work, in a room
+    of its own too."""
 
     def __init__(self, top, work, jobs):
         self.work, self.shop = work, work / "shop"
@@ -107,6 +109,7 @@ class Rooms:
         self.ended = False
         self.begun = {it: threading.Lock() for it in self.crates}
         self.seeded = {}
+        self.homes = {}
         self.number = 0
         self.furnish(self.shop, top, self.crates)
 
@@ -155,8 +158,20 @@ class Rooms:
         for path, text in planted([body], folder).items():
             (folder / path).write_text(text, encoding="utf-8")
 
+    def open_room(self, crate):
+        """A room with the crate and those below it, whose libraries are made."""
+        with self.alone:
+            self.number += 1
+            room = self.work / f"room{self.number}"
+        below = all_below(self.crates, crate)
+        self.furnish(room, self.shop, [*below, crate])
+        for name in below:
+            path = Path("crates", name, "out/rlib")
+            link(self.homes[name] / path, room / path)
+        return room
+
     def seed(self, crate):
-        """Proves the crate in the shop, and makes the library that those above it use."""
+        """Proves the crate, and makes the library that those above it use."""
         for name in all_below(self.crates, crate):
             self.seed(name)
         with self.begun[crate]:
@@ -165,21 +180,17 @@ class Rooms:
                 verb = "lib" if is_library else "check"
                 # The longest chain of crates decides how long all takes, so it goes first.
                 rank = -self.above[crate]
-                status, said = self.rt([verb, "--jobs", "1"], self.shop, crate, rank)
+                self.homes[crate] = self.open_room(crate)
+                status, said = self.rt([verb, "--jobs", "1"], self.homes[crate], crate, rank)
                 self.seeded[crate] = None if status == 0 else "\n".join(said[-20:])
         if self.seeded[crate]:
             raise NotProved(crate, self.seeded[crate])
 
     def check(self, crate, bodies):
         """Checks the crate with these bodies planted: the status, and the lines that were said."""
-        folder = Path("crates", crate)
-        with self.alone:
-            self.number += 1
-            room = self.work / f"room{self.number}"
-        below = all_below(self.crates, crate)
-        self.furnish(room, self.shop, [*below, crate])
-        for path in [*(Path("crates", it, "out/rlib") for it in below), folder / "out/incremental"]:
-            link(self.shop / path, room / path)
+        room, folder = self.open_room(crate), Path("crates", crate)
+        path = folder / "out/incremental"
+        link(self.homes[crate] / path, room / path)
         for path, text in planted(bodies, self.shop / folder).items():
             (room / folder / path).write_text(text, encoding="utf-8")
         told = self.rt(["check", "--jobs", "1"], room, crate, 1)
