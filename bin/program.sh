@@ -194,7 +194,7 @@ build() {
         cat "$log"/* >&2
         die 70 'the build failed'
     fi
-    complain "$1: proved and built ($(((SECONDS - began + 59) / 60)) min)"
+    complain "proved and built $1 ($(((SECONDS - began + 59) / 60)) min)"
     rm -rf "$log"
     # What is noted is the sources as they stand now, and so they must be those that were read.
     note_standing "$1"

@@ -2,9 +2,14 @@
 # by tools.sh.
 # shellcheck shell=bash disable=SC2154  # names that tools.sh and its other files set
 
+# toolchains CHECKOUT: the names of those that built its kept program.
+toolchains() {
+    sed -n 's/^toolchain //p' "$1/release/dinero_pipe.sums"
+}
+
 # A checkout without what was built, and a toolchain of the kept program's name that proves nothing.
 fresh=$work/fresh
-toolchain=$(sed -n 's/^toolchain //p' "$top/release/dinero_pipe.sums" | head -n 1)
+toolchain=$(toolchains "$top" | head -n 1)
 new_checkout() {
     rm -rf "$fresh"
     mkdir "$fresh"
@@ -158,7 +163,7 @@ launch_new() {
     TOP=$fresh launch
 }
 launch_new
-is_report && grep -q 'dinero_pipe: proved and built (' "$err"
+is_report && grep -q 'dinero_pipe: proved and built dinero_pipe (' "$err"
 verdict 'a program that was built is run' $?
 launch
 is_report && [ ! -s "$err" ]
@@ -175,10 +180,6 @@ verdict 'the next call builds it again' $?
 # as_other COMMAND..: the same by a toolchain of another name.
 as_other() {
     run env TOP="$fresh" TOOLCHAIN='one more' PATH="$tools:$PATH" "$@"
-}
-# toolchains: the names of those that built the kept program.
-toolchains() {
-    sed -n 's/^toolchain //p' "$1/release/dinero_pipe.sums"
 }
 new_checkout
 as_other "$fresh/bin/prove"
