@@ -3,6 +3,7 @@
 
 mod block;
 mod cache;
+mod grid;
 mod list;
 mod ring;
 mod run;
@@ -29,6 +30,10 @@ fn main(rt: HostRuntime) -> anyhow::Result<()> {
         bail!("no list");
     };
     println!(rt; "marked_list: {hits:?}")?;
+    let Ok(Some(misses)) = grid::misses_of_ways(alloc) else {
+        bail!("no grid");
+    };
+    println!(rt; "grid_core: {misses:?}")?;
     let Ok(ends) = ring::two_ends(alloc) else {
         bail!("no ring");
     };
