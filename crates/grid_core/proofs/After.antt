@@ -35,7 +35,7 @@ use Rattle.grid_core.specs.Ways.{IsStacked}
 use Rattle.grid_core.specs.Standing.{StandsFor}
 use Rattle.grid_core.specs.Recent.{IsRecent, after_use, none_recent}
 use Rattle.grid_core.specs.Shadows.{HoldsOrder, is_known, recent_in}
-use Rattle.grid_core.specs.Cells.{KnowsPrior, IsCounted, IsDue, IsServed, AreFlushedBy, flushed_by}
+use Rattle.grid_core.specs.Cells.{KnowsPrior, IsCounted, IsDue, AreFlushedBy, flushed_by}
 use Rattle.grid_core.specs.Cells.{HaveRoom, IsWithinCell, items_of, shape_in, shape_rules}
 use Rattle.grid_core.specs.Cells.{dirty_bytes_of, own_counts}
 use Rattle.grid_core.specs.State.{IsAfter, IsRanked, IsFresh, base_rules}
@@ -122,12 +122,12 @@ module _ (g : Geometry) (h : History) (x : Access) where
       → ((zs : List ℕ) → HoldsOrder shadows zs → HoldsOrder shadows' (brought_front b zs))
       → ((c : ℕ) → is_known shadows' c ≡ (b == c || is_known shadows c))
       → recent_in shadows' ≡ after_use b (is_write x) (recent_in shadows)
-      → All (IsServed h x) cells' → IsAfter g stacks' shadows' cells' (access x ∷ h)
-  after-access stacks rows' shadows shadows' cells cells' st rows order adds at served = record {
+      → All (IsCounted (access x ∷ h)) cells' → IsAfter g stacks' shadows' cells' (access x ∷ h)
+  after-access stacks rows' shadows shadows' cells cells' st rows order adds at counted = record {
     rows = rows;
     order = subst (HoldsOrder shadows') (sym (front-brought r refl h x)) (order ys st.order);
     known = λ c. adds c ∙ ap (λ t. b == c || t) (st.known c) ∙ referenced-next c;
-    counted = λ k d lt. (served k d lt).counted;
+    counted = counted;
     recent = subst (λ p. IsRecent (bsize_of g) p (access x ∷ h)) (sym at)
         (recent-access (bsize_of g) (recent_in shadows) h x st.recent);
   }

@@ -21,19 +21,17 @@ use Rattle.marked_list.proofs.LevelLaws.{front-brought}
 use Rattle.grid_core.specs.declared.cells.Cell.{Cell}
 use Rattle.grid_core.specs.declared.cells.Shape.{Shape}
 use Rattle.grid_core.specs.declared.shadows.Shadows.{Shadows}
-use Rattle.grid_core.specs.declared.slots.Slot.{Slot}
 use Rattle.grid_core.specs.declared.stack.Stack.{Stack}
 use Rattle.grid_core.specs.FullyAssociative.{shadow_misses}
 use Rattle.grid_core.specs.Cells.{HitsIn, IsCounted, IsPlacedAmong, IsPlacedOn, own_counts}
 use Rattle.grid_core.specs.Cells.{shape_in, shape_rules, with_own}
-use Rattle.grid_core.specs.Hits.{hit_made}
 use Rattle.grid_core.specs.Recent.{IsAgain, used_last, written_last}
-use Rattle.grid_core.specs.Shadows.{HoldsOrder, is_known, recent_in}
+use Rattle.grid_core.specs.Shadows.{HoldsOrder, recent_in}
 use Rattle.grid_core.specs.Shapes.{HaveBsize}
 use Rattle.grid_core.specs.Slots.{next_slots}
 use Rattle.grid_core.specs.Standing.{StandsFor, rules_of}
 use Rattle.grid_core.specs.State.{IsAfter, IsRanked, base_rules}
-use Rattle.grid_core.specs.Ways.{IsStacked, stack_distance}
+use Rattle.grid_core.specs.Ways.{IsStacked}
 use Rattle.grid_core.specs.Written.{no_rules}
 use Rattle.grid_core.proofs.After.{referenced-next}
 use Rattle.grid_core.proofs.Hitting.{hit-own, with-none}

@@ -1,12 +1,12 @@
 -- The caches of one engine, and what each counts.
 use Rattle.std.specs.Prelude.{◌≡◌, ℕ, ◌+◌, ◌<◌, ◌≤◌, ◌^◌, not, ◌==◌, nat_lt, List, length}
 use Rattle.std.specs.Prelude.{get_or}
-use Rattle.std.specs.Prelude.{◌∷◌, ◌&&◌, Bool, false, if◌then◌else◌}
+use Rattle.std.specs.Prelude.{◌&&◌, Bool, if◌then◌else◌}
 use Rattle.std.specs.List.{list_any}
 use Rattle.std.specs.Global.{Vec}
 use Rattle.cache_core.specs.declared.access.Access.{Access}
 use Rattle.cache_core.specs.declared.access.Outcome.{Outcome}
-use Rattle.cache_core.specs.History.{History, Rules, block_of, access, is_write}
+use Rattle.cache_core.specs.History.{History, Rules, block_of, is_write}
 use Rattle.cache_core.specs.Residents.{hits, renewals}
 use Rattle.cache_core.specs.Kinds.{referenced_blocks, shadow_of}
 use Rattle.cache_core.specs.Parts.{outcome_of}
@@ -79,16 +79,6 @@ pub record IsDue (h : History) (x : Access) (p : Prior) (c : Cell) : Type 0 wher
   pub prior : KnowsPrior c.shape h x p
   pub counted : IsCounted h c
 
--- if the access x misses after the history h, the cell has its outcome
-abbrev pub HasMissed : History → Access → Cell → Type 0
-HasMissed h x c = (outcome_of (shape_rules c.shape) h x).hit ≡ false →
-    c.answer ≡ outcome_of (shape_rules c.shape) h x
-
--- the cell counted the access, and has its outcome if it missed
-pub record IsServed (h : History) (x : Access) (c : Cell) : Type 0 where
-  pub counted : IsCounted (access x ∷ h) c
-  pub missed : HasMissed h x c
-
 -- the access x hits in the cache of a shape, after the history h
 abbrev pub HitsIn : History → Access → Shape → Type 0
 HitsIn h x s = outcome_of (shape_rules s) h x ≡ hit_made (is_write x && not s.wback)
@@ -100,10 +90,7 @@ pub record IsWithinCell (n : ℕ) (c : Cell) : Type 0 where
 
 -- the cell after an access of this outcome, but for the misses of its shadow
 abbrev pub after_outcome : Access → Outcome → Cell → Cell
-after_outcome x o c = record c {
-  counts = with_own x o c.counts;
-  answer = (if o.hit then c.answer else o);
-}
+after_outcome x o c = record c { counts = with_own x o c.counts }
 
 -- what a flush writes back in the cache of a shape
 abbrev pub dirty_bytes_of : History → Shape → List ℕ

@@ -12,14 +12,16 @@ ghost use Rattle.grid_core.specs.Standing.{rules_of};
 ghost use Rattle.grid_core.specs.Cells.{IsPlacedAmong, IsWithinCell, shape_in};
 ghost use Rattle.grid_core.specs.State.{IsAfter, IsRanked};
 
-use crate::cells::{Cell, answer_in, counts_in, dirty_lists, flush_in, serve_in, zero_per_class};
+use crate::cells::{
+    Cell, answer_in, counts_in, dirty_lists, flush_in, serve_cells, zero_per_class,
+};
 use crate::counting::count;
 use crate::outcome::{hit_outcome, sends_on};
 use crate::parts::parts_for;
-use crate::shadows::Shadows;
+use crate::shadows::{Prior, Shadows};
 use crate::shapes::rising_sizes;
 use crate::stack::{Stack, writes};
-use crate::stacks::{clear_in, look_in, touch_in};
+use crate::stacks::{clear_in, serve_rows};
 use cache_core::{Access, Counts, Geometry, NoMemory, Outcome, PerClass};
 use std::alloc::{AllocError, Global};
 
@@ -43,6 +45,8 @@ pub(crate) struct Stacked {
     write: bool,
     /// Whether it used the block that was used last, and changed nothing but the fetches.
     again: bool,
+    /// If not, what was known of its block before.
+    prior: Prior,
     /// Whether it is known that the last access sent nothing to the next level.
     silent: bool,
     ghost rises: { rising (shadow_sizes shadows) ≡ shadow_sizes shadows },
@@ -117,6 +121,10 @@ impl Stacked {
             failed: false,
             write: false,
             again: false,
+            prior: Prior {
+                known: false,
+                level: 0,
+            },
             silent: true,
         })
     }
@@ -165,12 +173,12 @@ impl Stacked {
             self.failed = true;
             return Err(NoMemory);
         };
-        look_in(&mut self.stacks, access);
-        let all_hit = serve_in(&mut self.cells, &self.stacks, access, prior);
-        touch_in(&mut self.stacks, access);
+        serve_rows(&mut self.stacks, access);
+        let all_hit = serve_cells(&mut self.cells, &self.stacks, access, prior);
         count(&mut self.fetches, access, true);
         self.write = write;
         self.again = false;
+        self.prior = prior;
         self.silent = is_silent(all_hit, sends_on(write, self.wback));
         self.served += 1;
         Ok(())
@@ -280,6 +288,6 @@ impl Stacked {
         if self.again {
             return hit_outcome(sends_on(self.write, cell.shape.wback));
         }
-        answer_in(cell, &self.stacks, self.write)
+        answer_in(cell, &self.stacks, self.write, self.prior)
     }
 }

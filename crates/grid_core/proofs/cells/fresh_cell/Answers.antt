@@ -1,4 +1,4 @@
-use Rattle.std.proofs.Common.{◌≡◌, sym, subst, ◌∙◌}
+use Rattle.std.proofs.Common.{sym, subst, ◌∙◌}
 use Rattle.cache_core.specs.Counting.{AreWithin, IsWithin}
 use Rattle.cache_core.proofs.CacheFacts.{AreWithin-none}
 use Rattle.grid_core.proofs.Empty.{counted-none}

@@ -1,14 +1,12 @@
-use Rattle.std.proofs.Common.{◌≡◌, ◌&&◌, Bool, true, false, not, if◌then◌else◌, ltb, sym, ap, ◌∙◌}
-use Rattle.cache_core.specs.declared.access.Outcome.{Outcome}
+use Rattle.std.proofs.Common.{◌≡◌, ◌&&◌, Bool, true, not, ltb, sym, ap, ◌∙◌}
 use Rattle.cache_core.specs.declared.counts.Counts.{Counts}
 use Rattle.cache_core.specs.History.{History, is_write}
-use Rattle.grid_core.specs.declared.cells.Cell.{Cell}
-use Rattle.grid_core.specs.Cells.{HitsIn, with_own}
-use Rattle.grid_core.specs.Standing.{rules_of, HasLooked}
+use Rattle.grid_core.specs.Cells.{HitsIn}
+use Rattle.grid_core.specs.Standing.{rules_of, HasMoved}
 use Rattle.grid_core.specs.Hits.{hit_made}
 use Rattle.grid_core.proofs.Served.{hit-is}
 use Rattle.grid_core.proofs.StackRules.{stacked}
-use Rattle.grid_core.proofs.Hitting.{as-true, as-false, hit-own}
+use Rattle.grid_core.proofs.Hitting.{as-true, hit-own}
 use Rattle.grid_core.proofs.cells.serve_ways.Goals as goal
 
 pub returns-then-position-cell : goal.returns-then-position-cell
@@ -20,29 +18,22 @@ returns-then-position-cell c =
     let t : Bool = is_write x && not shape.wback in
     let hit : ltb c.position.result shape.ways ≡ true =
     as-true c.position.result shape.ways c.if-position-cell.true in
-    let is : (h : History) → HasLooked s h x → HitsIn h x shape = λ h looked.
+    let is : (h : History) → HasMoved h x s → HitsIn h x shape = λ h moved.
     hit-is (rules_of s) (stacked s) shape c.requires.placed h x
-    (ap (λ d. ltb d shape.ways) (sym (c.position.ensures ∙ looked.found)) ∙ hit) in
+    (ap (λ d. ltb d shape.ways) (sym (c.position.ensures ∙ moved.found)) ∙ hit) in
     record {
       serves = (
         hit_made t,
         ap (λ (k : Counts). record old { counts = k }) (sym (hit-own x t old.counts)),
-        λ h looked prior. sym (is h looked),
+        λ h moved prior. sym (is h moved),
       );
-      hits = λ before. (before, λ h looked. is h looked);
+      hits = λ before. (before, λ h moved. is h moved);
     }
 
 pub returns-clause-serves : goal.returns-clause-serves
 returns-clause-serves c =
-    let old = c.args.cell.now in
-    let o = c.outcome_in-outcome.result in
-    let miss : o.hit ≡ false = c.outcome_in-outcome.ensures.hit
-    ∙ ap (λ d. ltb d old.shape.ways) (sym c.position.ensures)
-    ∙ as-false c.position.result old.shape.ways c.if-position-cell.false in
-    let filled : Counts → Outcome → Cell = λ k a. record old { counts = k; answer = a } in (
-      o,
-      ap (λ k. filled k o) c.count_miss.ensures
-          ∙ ap (λ t. filled (with_own c.args.access o old.counts) (if t then old.answer else o))
-          (sym miss),
-      λ h looked prior. c.outcome_in-outcome.ensures.is h looked prior,
+    let old = c.args.cell.now in (
+      c.outcome_in-outcome.result,
+      ap (λ (k : Counts). record old { counts = k }) c.count_miss.ensures,
+      λ h moved prior. c.outcome_in-outcome.ensures.is h c.args.access moved c.writes.ensures prior,
     )

@@ -1,12 +1,12 @@
 use Rattle.std.proofs.Common.{◌≡◌, ℕ, Some, false, true, eqb, cond, is_some, nat_eq, unwrap_or}
 use Rattle.std.proofs.Common.{◌||◌}
-use Rattle.std.proofs.Common.{refl, sym, ap, ◌∙◌, Bool, Option, arith}
+use Rattle.std.proofs.Common.{refl, ap, ◌∙◌, Bool, Option, arith}
 use Rattle.std.specs.HashMap.{get}
 use Rattle.std.proofs.lemmas.Bool.{eq-eqb}
 use Rattle.std.proofs.lemmas.Bool.Decides.{nat_tests}
 use Rattle.cache_core.proofs.Reuse.{has}
 use Rattle.marked_list.specs.Recency.{level_of, brought_front}
-use Rattle.grid_core.specs.Shadows.{HoldsOrder, is_known, number_in, shadow_sizes}
+use Rattle.grid_core.specs.Shadows.{is_known, number_in, shadow_sizes}
 use Rattle.grid_core.proofs.Numbering.{tells, level-map, front-map, known-front}
 use Rattle.grid_core.proofs.shadows.Shadows.touch.Goals as goal
 

@@ -73,8 +73,8 @@ returns-clause-answers c = λ h e.
     record {
       write = c.writes-self.ensures;
       again = λ _. hit;
-      found = λ e. absurd (false≢true (sym e));
-      missed = λ e. absurd (false≢true (sym e));
+      moved = λ e. absurd (false≢true (sym e));
+      prior = λ e. absurd (false≢true (sym e));
       silent = λ none. hits-send-nothing h x old.wback c.sends_on.result cells hit old.one_policy
           (c.sends_on.ensures ∙ ap (λ t. t && not old.wback) c.writes-self.ensures)
           (not-true c.sends_on.result (sym c.is_silent-self.ensures ∙ none));
