@@ -74,23 +74,19 @@ own-within x o c n h =
     }
 
 pub cell-more : (n m : ℕ) → n ≤ m → (c : Cell) → IsWithinCell n c → IsWithinCell m c
-cell-more n m le c h =
-    let w = h.counts in
+cell-more n m le c w =
     let a = w.loaded in
     let b = w.written_back in
     let d = w.sent_on in
     let e = w.flushes in
     record {
-      counts = record {
-        fetches = within-more c.counts.fetches n m le w.fetches;
-        misses = within-more c.counts.misses n m le w.misses;
-        compulsory = within-more c.counts.compulsory n m le w.compulsory;
-        capacity = within-more c.counts.capacity n m le w.capacity;
-        conflict = within-more c.counts.conflict n m le w.conflict;
-        loaded = omega arith;
-        written_back = omega arith;
-        sent_on = omega arith;
-        flushes = omega arith;
-      };
-      far = within-more c.far n m le h.far;
+      fetches = within-more c.counts.fetches n m le w.fetches;
+      misses = within-more c.counts.misses n m le w.misses;
+      compulsory = within-more c.counts.compulsory n m le w.compulsory;
+      capacity = within-more c.counts.capacity n m le w.capacity;
+      conflict = within-more c.counts.conflict n m le w.conflict;
+      loaded = omega arith;
+      written_back = omega arith;
+      sent_on = omega arith;
+      flushes = omega arith;
     }

@@ -80,5 +80,5 @@ whole-is h f c is own =
     let put : PerClass → Counts → ℕ → Counts = λ g k n. record k { fetches = g; sent_on = n } in
     let st : IsStacked r = record { lru = refl; allocates = refl } in
     ap (λ (g : PerClass). put g c.counts (sent_on_of c.shape.wback g.write)) is
-    ∙ ap (λ k. put (fetched h) k (sent_on_of c.shape.wback (fetched h).write)) own.counts
+    ∙ ap (λ k. put (fetched h) k (sent_on_of c.shape.wback (fetched h).write)) own
     ∙ ap (put (fetched h) (own_counts (counts_of r h))) (sent-is r st h)

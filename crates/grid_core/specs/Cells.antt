@@ -13,13 +13,12 @@ use Rattle.cache_core.specs.Parts.{outcome_of}
 use Rattle.cache_core.specs.declared.counts.Counts.{Counts}
 use Rattle.cache_core.specs.declared.counts.PerClass.{PerClass}
 use Rattle.cache_core.specs.Counts.{counts_of, none_by_class}
-use Rattle.cache_core.specs.Counting.{AreWithin, IsWithin, with_access, with_flush}
+use Rattle.cache_core.specs.Counting.{AreWithin, with_access, with_flush}
 use Rattle.grid_core.specs.declared.cells.Cell.{Cell}
 use Rattle.grid_core.specs.declared.cells.Shape.{Shape}
 use Rattle.grid_core.specs.declared.shadows.Prior.{Prior}
 use Rattle.grid_core.specs.Ways.{with_ways}
 use Rattle.grid_core.specs.Standing.{stack_rules}
-use Rattle.grid_core.specs.FullyAssociative.{shadow_misses}
 use Rattle.grid_core.specs.Hits.{hit_made}
 use Rattle.grid_core.specs.Written.{written_by}
 
@@ -69,10 +68,9 @@ whole_counts f c = record c.counts {
   sent_on = sent_on_of c.shape.wback f.write;
 }
 
--- the cell has the counts of its cache, and knows how often the shadow missed
-pub record IsCounted (h : History) (c : Cell) : Type 0 where
-  pub counts : c.counts ≡ own_counts (counts_of (shape_rules c.shape) h)
-  pub far : c.far ≡ shadow_misses (shape_rules c.shape) h
+-- the cell has the counts of its cache
+abbrev pub IsCounted : History → Cell → Type 0
+IsCounted h c = c.counts ≡ own_counts (counts_of (shape_rules c.shape) h)
 
 -- the cell is counted, and it is known what the access asks for
 pub record IsDue (h : History) (x : Access) (p : Prior) (c : Cell) : Type 0 where
@@ -84,13 +82,8 @@ abbrev pub HitsIn : History → Access → Shape → Type 0
 HitsIn h x s = outcome_of (shape_rules s) h x ≡ hit_made (is_write x && not s.wback)
 
 -- no count of the cell is above n
-pub record IsWithinCell (n : ℕ) (c : Cell) : Type 0 where
-  pub counts : AreWithin c.counts n
-  pub far : IsWithin c.far n
-
--- the cell after an access of this outcome, but for the misses of its shadow
-abbrev pub after_outcome : Access → Outcome → Cell → Cell
-after_outcome x o c = record c { counts = with_own x o c.counts }
+abbrev pub IsWithinCell : ℕ → Cell → Type 0
+IsWithinCell n c = AreWithin c.counts n
 
 -- what a flush writes back in the cache of a shape
 abbrev pub dirty_bytes_of : History → Shape → List ℕ

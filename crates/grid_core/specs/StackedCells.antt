@@ -25,7 +25,7 @@ stacked_served e = e.served
 
 -- what the caches counted
 unfoldable pub stacked_kept : Stacked → List (Counts × PerClass)
-stacked_kept e = map (kept_by e.fetches) e.cells.items
+stacked_kept e = map (kept_by e.fetches e.shadows) e.cells.items
 
 -- whether an allocation failed
 unfoldable pub stacked_failed : Stacked → Bool

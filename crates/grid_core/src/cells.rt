@@ -4,16 +4,15 @@ ghost use Rattle.std.specs.Prelude.{◌≡◌, ◌<◌, ◌^◌, ◌+◌, ◌∷
 ghost use Rattle.std.specs.List.{All};
 ghost use Rattle.cache_core.specs.History.{History, is_write, access as accessed};
 ghost use Rattle.cache_core.specs.Parts.{outcome_of};
-ghost use Rattle.cache_core.specs.Counts.{no_counts, none_by_class};
+ghost use Rattle.cache_core.specs.Counts.{no_counts};
 ghost use Rattle.grid_core.specs.Standing.{StandsFor, HasMoved, rules_of};
 ghost use Rattle.grid_core.specs.Cells.{IsPlacedOn, IsPlacedAmong, shape_rules, shape_in};
 ghost use Rattle.grid_core.specs.Cells.{KnowsPrior, IsDue, IsCounted, IsWithinCell};
 ghost use Rattle.grid_core.specs.Cells.{HaveRoom, AreFlushedBy, flushed_by, dirty_bytes_of};
-ghost use Rattle.grid_core.specs.Cells.{items_of, after_outcome, HitsIn, whole_counts};
+ghost use Rattle.grid_core.specs.Cells.{items_of, HitsIn, whole_counts};
 ghost use Rattle.grid_core.specs.Cells.{sent_on_of};
-ghost use Rattle.cache_core.specs.Counting.{AreWithin};
 
-use crate::counting::{count, count_miss};
+use crate::counting::count_miss;
 use crate::outcome::outcome_in;
 use crate::shadows::Prior;
 use crate::stack::{Stack, writes};
@@ -31,13 +30,12 @@ pub(crate) struct Shape {
     pub rank: usize,
 }
 
-/// One cache: its shape, its counts, and how often its shadow missed. The fetches and the writes
-/// that are sent on are not counted here: they are the same for all cells.
+/// One cache: its shape, and its counts. The fetches and the writes that are sent on are not
+/// counted here: they are the same for all cells.
 #[derive(Clone, Copy, Debug)]
 pub(crate) struct Cell {
     pub shape: Shape,
     pub counts: Counts,
-    pub far: PerClass,
 }
 
 /// Counts that are all zero.
@@ -45,13 +43,6 @@ fn zero_counts() -> Counts
     ensures { result ≡ no_counts }
 {
     Counts::default()
-}
-
-/// Zero in each class.
-pub(crate) fn zero_per_class() -> PerClass
-    ensures { result ≡ none_by_class }
-{
-    PerClass::default()
 }
 
 /// A cell that has counted nothing.
@@ -63,32 +54,11 @@ pub(crate) fn fresh_cell(shape: Shape) -> Cell
     Cell {
         shape,
         counts: zero_counts(),
-        far: zero_per_class(),
     }
 }
 
-/// Serves an access in the cache of one cell, but for its shadow. A hit changes nothing. Answers
-/// whether it hits, in this cache as in those before.
-fn serve_ways(cell: &mut Cell, stack: &Stack, access: Access, prior: Prior, before: bool) -> bool
-    requires placed { IsPlacedOn (rules_of stack.now) cell.old.shape }
-    requires within { AreWithin cell.old.counts (2 ^ 46) }
-    ensures serves { (o : Outcome) × (cell.new ≡ after_outcome access o cell.old)
-        × ((h : History) → HasMoved h access stack.now →
-        KnowsPrior cell.old.shape h access prior →
-        o ≡ outcome_of (shape_rules cell.old.shape) h access) }
-    ensures hits { result ≡ true → (before ≡ true) × ((h : History) →
-        HasMoved h access stack.now → HitsIn h access cell.old.shape) }
-{
-    if stack.position() < cell.shape.ways {
-        return before;
-    }
-    let outcome = outcome_in(stack, cell.shape, writes(access), prior);
-    count_miss(&mut cell.counts, access, outcome);
-    false
-}
-
-/// Serves an access in the cache of one cell, and answers whether it hits, in this cache as in
-/// those before.
+/// Serves an access in the cache of one cell. A hit changes nothing. Answers whether it hits, in
+/// this cache as in those before.
 fn serve_cell(cell: &mut Cell, stack: &Stack, access: Access, prior: Prior, before: bool) -> bool
     requires placed { IsPlacedOn (rules_of stack.now) cell.old.shape }
     requires within { (n : ℕ) × IsWithinCell n cell.old × (n < 2 ^ 46) }
@@ -99,10 +69,12 @@ fn serve_cell(cell: &mut Cell, stack: &Stack, access: Access, prior: Prior, befo
     ensures hits { result ≡ true → (before ≡ true) × ((h : History) →
         HasMoved h access stack.now → HitsIn h access cell.old.shape) }
 {
-    let hits = serve_ways(cell, stack, access, prior, before);
-    let far = cell.shape.rank < prior.level;
-    count(&mut cell.far, access, far);
-    hits
+    if stack.position() < cell.shape.ways {
+        return before;
+    }
+    let outcome = outcome_in(stack, cell.shape, writes(access), prior);
+    count_miss(&mut cell.counts, access, outcome);
+    false
 }
 
 /// Serves an access in the caches of all cells, and answers whether it hits in each.

@@ -1,10 +1,18 @@
 //! How one access is counted.
 
 ghost use Rattle.std.specs.Prelude.{◌≡◌, ◌^◌};
+ghost use Rattle.cache_core.specs.Counts.{none_by_class};
 ghost use Rattle.cache_core.specs.Counting.{with_one, with_kind, IsWithin, AreWithin};
 ghost use Rattle.grid_core.specs.Cells.{with_own};
 
 use cache_core::{Access, Class, Counts, MissKind, Outcome, PerClass};
+
+/// Zero in each class.
+pub(crate) fn zero_per_class() -> PerClass
+    ensures { result ≡ none_by_class }
+{
+    PerClass::default()
+}
 
 /// Adds one in the class of the access, if `counted`.
 pub(crate) fn count(per_class: &mut PerClass, access: Access, counted: bool)

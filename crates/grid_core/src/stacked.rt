@@ -4,7 +4,8 @@ ghost use Rattle.std.specs.Prelude.{◌≡◌, ◌≤◌, ◌^◌, ◌*◌, leng
 ghost use Rattle.std.specs.List.{All};
 ghost use Rattle.cache_core.specs.History.{History};
 ghost use Rattle.cache_core.specs.Dirty.{rising};
-ghost use Rattle.grid_core.specs.Shadows.{shadow_sizes};
+ghost use Rattle.grid_core.specs.Shadows.{shadow_sizes, levels_in};
+ghost use Rattle.grid_core.specs.Totals.{total};
 ghost use Rattle.cache_core.specs.Geometry.{bsize_of};
 ghost use Rattle.cache_core.specs.Counting.{IsWithin};
 ghost use Rattle.grid_core.specs.Shapes.{HaveBsize};
@@ -12,10 +13,8 @@ ghost use Rattle.grid_core.specs.Standing.{rules_of};
 ghost use Rattle.grid_core.specs.Cells.{IsPlacedAmong, IsWithinCell, shape_in};
 ghost use Rattle.grid_core.specs.State.{IsAfter, IsRanked};
 
-use crate::cells::{
-    Cell, answer_in, counts_in, dirty_lists, flush_in, serve_cells, zero_per_class,
-};
-use crate::counting::count;
+use crate::cells::{Cell, answer_in, counts_in, dirty_lists, flush_in, serve_cells};
+use crate::counting::{count, zero_per_class};
 use crate::outcome::{hit_outcome, sends_on};
 use crate::parts::parts_for;
 use crate::shadows::{Prior, Shadows};
@@ -57,6 +56,7 @@ pub(crate) struct Stacked {
     ghost one_policy: { All (λ s. s.wback ≡ wback) (map shape_in cells.items) },
     ghost bounded: { All (IsWithinCell (2 * served)) cells.items },
     ghost fetched: { IsWithin fetches served },
+    ghost leveled: { IsWithin (total (levels_in shadows)) served },
     ghost few: { served ≤ 2 ^ 44 },
     // Unless it has failed, a history of as many events made it; so a flush has room for its
     // counts.
@@ -169,7 +169,7 @@ impl Stacked {
         ensures rules { stacked_rules self.new ≡ stacked_rules self.old }
     {
         let write = writes(access);
-        let Ok(prior) = self.shadows.touch(block, write) else {
+        let Ok(prior) = self.shadows.touch(block, access) else {
             self.failed = true;
             return Err(NoMemory);
         };
@@ -266,7 +266,7 @@ impl Stacked {
         ensures counted { (h : History) → StackedStandsFor self.now h →
             result ≡ shadow_misses (rules_at (stacked_rules self.now) index) h }
     {
-        self.cells[index].far
+        self.shadows.misses(self.cells[index].shape.rank)
     }
 
     /// Whether the last access sent nothing to the next level in any cache, as far as is known.

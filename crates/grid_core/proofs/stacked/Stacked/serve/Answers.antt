@@ -1,24 +1,23 @@
-use Rattle.std.proofs.Common.{◌≡◌, ◌/◌, true, ◌≤◌, ◌+◌, ◌*◌, ◌^◌, ◌||◌, ◌&&◌, ◌==◌, ℕ, Bool, not}
-use Rattle.std.proofs.Common.{List, get_or, map, sym, ap}
+use Rattle.std.proofs.Common.{◌≡◌, true, ◌≤◌, ◌+◌, ◌*◌, ◌^◌, ◌||◌, ◌&&◌, ◌==◌, ℕ, not}
+use Rattle.std.proofs.Common.{List, map, sym, ap}
 use Rattle.std.proofs.Common.{subst, ◌∙◌, arith}
 use Rattle.std.specs.List.{All}
 use Rattle.std.proofs.lemmas.Bool.{not-true, false≢true}
 use Rattle.cache_core.specs.Dirty.{rising}
-use Rattle.cache_core.specs.Kinds.{shadow_of}
-use Rattle.cache_core.specs.Residents.{distinct, renewals}
 use Rattle.cache_core.specs.History.{Rules, access as accessed, is_write}
 use Rattle.marked_list.specs.Recency.{level_of, brought_front}
 use Rattle.grid_core.specs.declared.cells.Shape.{Shape}
 use Rattle.cache_core.specs.Geometry.{bsize_of}
-use Rattle.grid_core.specs.declared.recent.Recent.{Recent}
 use Rattle.grid_core.specs.Recent.{after_use}
-use Rattle.grid_core.specs.Shadows.{HoldsOrder, is_known, recent_in, shadow_sizes}
+use Rattle.grid_core.specs.Shadows.{HoldsOrder, is_known, levels_in, recent_in}
+use Rattle.grid_core.specs.Shadows.{shadow_sizes}
+use Rattle.grid_core.specs.Totals.{total}
 use Rattle.grid_core.specs.Standing.{rules_of}
-use Rattle.grid_core.specs.Cells.{IsPlacedAmong, shape_in}
-use Rattle.grid_core.specs.State.{IsRanked, base_rules}
+use Rattle.grid_core.specs.Cells.{IsPlacedAmong, KnowsPrior, shape_in}
+use Rattle.grid_core.specs.State.{IsRanked}
 use Rattle.grid_core.specs.StackedCells.{stacked_rules, stacked_served, stacked_failed}
 use Rattle.grid_core.proofs.After.{cells-due, after-access, lived-next, all-more, same-rules}
-use Rattle.grid_core.proofs.After.{prior-known}
+use Rattle.grid_core.proofs.After.{shapes-prior}
 use Rattle.cache_core.specs.Counting.{IsWithin, with_one}
 use Rattle.cache_core.proofs.CacheFacts.{IsWithin-with_one}
 use Rattle.grid_core.proofs.Owing.{within-more}
@@ -35,17 +34,17 @@ serve_cells-all_hit-requires-clause-within c =
     let few = old.few in
     (2 * old.served, old.bounded, omega arith)
 
+pub touch-requires : goal.touch-requires
+touch-requires c =
+    let old = c.args.self.now in
+    let few = old.few in
+    within-more (total (levels_in old.shadows)) old.served (2 ^ 46) (omega arith) old.leveled
+
 pub count-requires : goal.count-requires
 count-requires c =
     let old = c.args.self.now in
     let few = old.few in
     within-more old.fetches old.served (2 ^ 46) (omega arith) old.fetched
-
--- what is known after a use of a block, in other words for the block and the write
-used-now : (b c : ℕ) (w v : Bool) (p q : Recent) → b ≡ c → w ≡ v → q ≡ after_use b w p
-    → q ≡ after_use c v p
-used-now b c w v p q block write is =
-    is ∙ ap (λ d. after_use d w p) block ∙ ap (λ t. after_use c t p) write
 
 pub invariant_of-self-2 : goal.invariant_of-self-2
 unfolding stacked_served stacked_failed
@@ -76,24 +75,29 @@ invariant_of-self-2 c =
           (c.serve_cells-all_hit.ensures.bounds (2 * n) old.bounded);
       fetched = subst (λ p. IsWithin p (n + 1)) (sym c.count.ensures)
           (IsWithin-with_one x true old.fetches n old.fetched);
+      leveled = subst (λ p. IsWithin p (n + 1)) (sym c.in-Ok.ensures.levels)
+          (IsWithin-with_one x true (total (levels_in old.shadows)) n old.leveled);
       few = few;
       lived = λ _. lived-next g old.stacks.items c.serve_rows.new.stacks.items old.shadows
           c.touch.new.self old.cells.items new n (accessed x) (old.lived c.requires.works)
-          (λ h st. after-access g h x old.stacks.items c.serve_rows.new.stacks.items old.shadows
-          c.touch.new.self old.cells.items new st
+          (λ h st.
+          let prior = shapes-prior g h x sizes (rising-is sizes old.rises) old.stacks.items
+          old.shadows old.cells.items c.in-Ok.prior st
+          (c.in-Ok.ensures.known ∙ ap (is_known old.shadows) block)
+          (λ zs held. c.in-Ok.ensures.level zs held ∙ ap (level_of sizes zs) block)
+          (map shape_in old.cells.items) old.ranked in
+          after-access g h x old.stacks.items c.serve_rows.new.stacks.items old.shadows
+          c.touch.new.self old.cells.items new c.in-Ok.prior st
+          prior
           (c.serve_rows.ensures.stands h st.rows)
           (λ zs held. subst (λ b. HoldsOrder c.touch.new.self (brought_front b zs)) block
           (c.in-Ok.ensures.order zs held))
           (λ q. c.in-Ok.ensures.adds q ∙ ap (λ b. b == q || is_known old.shadows q) block)
-          (used-now c.args.block (x.addr / bsize_of g) c.writes-write.result (is_write x)
-          (recent_in old.shadows) (recent_in c.touch.new.self) block c.writes-write.ensures
-          c.in-Ok.ensures.recent)
+          (c.in-Ok.ensures.recent
+          ∙ ap (λ d. after_use d (is_write x) (recent_in old.shadows)) block)
+          c.in-Ok.ensures.far c.serve_cells-all_hit.ensures.shapes
           (c.serve_cells-all_hit.ensures.serves h (c.serve_rows.ensures.moved h st.rows)
-          (cells-due g h x sizes (rising-is sizes old.rises) old.stacks.items old.shadows
-          old.cells.items c.in-Ok.prior st
-          (c.in-Ok.ensures.known ∙ ap (is_known old.shadows) block)
-          (λ zs held. c.in-Ok.ensures.level zs held ∙ ap (level_of sizes zs) block)
-          old.ranked)));
+          (cells-due g h x old.cells.items c.in-Ok.prior prior st.counted)));
     }
 
 pub returns-clause-stands : goal.returns-clause-stands
@@ -106,25 +110,27 @@ returns-clause-stands c = λ h e.
     let new = c.serve_cells-all_hit.new.cells.items in
     let block = c.requires.block in
     let st = e.state in
+    let prior = shapes-prior g h x sizes (rising-is sizes old.rises) old.stacks.items
+    old.shadows old.cells.items c.in-Ok.prior st
+    (c.in-Ok.ensures.known ∙ ap (is_known old.shadows) block)
+    (λ zs held. c.in-Ok.ensures.level zs held ∙ ap (level_of sizes zs) block)
+    (map shape_in old.cells.items) old.ranked in
     record {
       working = e.working;
       served = (let n = e.served in omega arith);
       fetches = c.count.ensures ∙ ap (with_one x true) e.fetches ∙ fetched-access h x;
       state = after-access g h x old.stacks.items c.serve_rows.new.stacks.items old.shadows
-          c.touch.new.self old.cells.items new st
+          c.touch.new.self old.cells.items new c.in-Ok.prior st
+          prior
           (c.serve_rows.ensures.stands h st.rows)
           (λ zs held. subst (λ b. HoldsOrder c.touch.new.self (brought_front b zs)) block
           (c.in-Ok.ensures.order zs held))
           (λ q. c.in-Ok.ensures.adds q ∙ ap (λ b. b == q || is_known old.shadows q) block)
-          (used-now c.args.block (x.addr / bsize_of g) c.writes-write.result (is_write x)
-          (recent_in old.shadows) (recent_in c.touch.new.self) block c.writes-write.ensures
-          c.in-Ok.ensures.recent)
+          (c.in-Ok.ensures.recent
+          ∙ ap (λ d. after_use d (is_write x) (recent_in old.shadows)) block)
+          c.in-Ok.ensures.far c.serve_cells-all_hit.ensures.shapes
           (c.serve_cells-all_hit.ensures.serves h (c.serve_rows.ensures.moved h st.rows)
-          (cells-due g h x sizes (rising-is sizes old.rises) old.stacks.items old.shadows
-          old.cells.items c.in-Ok.prior st
-          (c.in-Ok.ensures.known ∙ ap (is_known old.shadows) block)
-          (λ zs held. c.in-Ok.ensures.level zs held ∙ ap (level_of sizes zs) block)
-          old.ranked));
+          (cells-due g h x old.cells.items c.in-Ok.prior prior st.counted));
     }
 
 pub returns-clause-answers : goal.returns-clause-answers
@@ -135,19 +141,19 @@ returns-clause-answers c = λ h e.
     let sizes = shadow_sizes old.shadows in
     let block = c.requires.block in
     let st = e.state in
+    let prior = shapes-prior g h x sizes (rising-is sizes old.rises) old.stacks.items
+    old.shadows old.cells.items c.in-Ok.prior st
+    (c.in-Ok.ensures.known ∙ ap (is_known old.shadows) block)
+    (λ zs held. c.in-Ok.ensures.level zs held ∙ ap (level_of sizes zs) block)
+    (map shape_in old.cells.items) old.ranked in
     let new = c.serve_cells-all_hit.new.cells.items in
-    let ys = distinct (renewals (shadow_of (base_rules g)) h) in
     record {
       write = c.writes-write.ensures;
       again = λ e. absurd (false≢true e);
       moved = λ _. c.serve_rows.ensures.moved h st.rows;
-      prior = λ _ k d lt. prior-known g h x sizes (rising-is sizes old.rises)
-          (is_known old.shadows) c.in-Ok.prior
-          (c.in-Ok.ensures.known ∙ ap (is_known old.shadows) block)
-          (c.in-Ok.ensures.level ys st.order ∙ ap (level_of sizes ys) block) st.known
-          (get_or new k d).shape
-          (shape-at (IsRanked sizes g) old.cells.items new c.serve_cells-all_hit.ensures.shapes
-          old.ranked k d lt);
+      prior = λ _ k d lt. shape-at (λ s. KnowsPrior s h x c.in-Ok.prior) old.cells.items new
+          c.serve_cells-all_hit.ensures.shapes
+          prior k d lt;
       silent = λ none.
           let each = both-true c.serve_cells-all_hit.result (not c.sends_on.result)
           (sym c.is_silent-self.ensures ∙ none) in
