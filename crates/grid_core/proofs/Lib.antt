@@ -27,3 +27,4 @@ pub mod Kept
 pub mod Silence
 pub mod Sharing
 pub mod Totals
+pub mod MissParts

@@ -63,11 +63,11 @@ own-within x o c n h =
     let all = AreWithin-with_access x o c n h in
     record {
       fetches = within-more c.fetches n (n + 1) (omega arith) h.fetches;
-      misses = all.misses;
+      misses = within-more c.misses n (n + 1) (omega arith) h.misses;
       compulsory = all.compulsory;
       capacity = all.capacity;
       conflict = all.conflict;
-      loaded = all.loaded;
+      loaded = (let l = h.loaded in omega arith);
       written_back = all.written_back;
       sent_on = (let s = h.sent_on in omega arith);
       flushes = all.flushes;

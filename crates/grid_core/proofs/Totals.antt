@@ -15,7 +15,7 @@ use Rattle.grid_core.proofs.Hitting.{with-none}
 abbrev classes : ℕ → ℕ → ℕ → ℕ → PerClass
 classes a b c d = record { instr = a; read = b; write = c; misc = d }
 
-same-classes : (p q : PerClass) → p.instr ≡ q.instr → p.read ≡ q.read → p.write ≡ q.write
+pub same-classes : (p q : PerClass) → p.instr ≡ q.instr → p.read ≡ q.read → p.write ≡ q.write
     → p.misc ≡ q.misc → p ≡ q
 same-classes p q a b c d =
     ap (λ n. classes n p.read p.write p.misc) a ∙ ap (λ n. classes q.instr n p.write p.misc) b

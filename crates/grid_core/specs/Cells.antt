@@ -12,7 +12,7 @@ use Rattle.cache_core.specs.Kinds.{referenced_blocks, shadow_of}
 use Rattle.cache_core.specs.Parts.{outcome_of}
 use Rattle.cache_core.specs.declared.counts.Counts.{Counts}
 use Rattle.cache_core.specs.declared.counts.PerClass.{PerClass}
-use Rattle.cache_core.specs.Counts.{counts_of, none_by_class}
+use Rattle.cache_core.specs.Counts.{counts_of, none_by_class, total_of}
 use Rattle.cache_core.specs.Counting.{AreWithin, with_access, with_flush}
 use Rattle.grid_core.specs.declared.cells.Cell.{Cell}
 use Rattle.grid_core.specs.declared.cells.Shape.{Shape}
@@ -20,6 +20,7 @@ use Rattle.grid_core.specs.declared.shadows.Prior.{Prior}
 use Rattle.grid_core.specs.Ways.{with_ways}
 use Rattle.grid_core.specs.Standing.{stack_rules}
 use Rattle.grid_core.specs.Hits.{hit_made}
+use Rattle.grid_core.specs.Totals.{missed_in}
 use Rattle.grid_core.specs.Written.{written_by}
 
 -- the rules of the cache of a shape
@@ -49,13 +50,23 @@ pub record KnowsPrior (s : Shape) (h : History) (x : Access) (p : Prior) : Type 
       ≡ hits (shadow_of (shape_rules s)) (renewals (shadow_of (shape_rules s)) h) x
 
 -- the part of the counts that a cell keeps: all but the fetches and the writes that are sent on,
--- which are the same for all cells
+-- which are the same for all cells, and the misses and the loads, which follow from their kinds
 abbrev pub own_counts : Counts → Counts
-own_counts k = record k { fetches = none_by_class; sent_on = 0 }
+own_counts k = record k {
+  fetches = none_by_class;
+  misses = none_by_class;
+  loaded = 0;
+  sent_on = 0;
+}
 
 -- this part after an access of this outcome
 abbrev pub with_own : Access → Outcome → Counts → Counts
-with_own x o k = record (with_access x o k) { fetches = k.fetches; sent_on = k.sent_on }
+with_own x o k = record (with_access x o k) {
+  fetches = k.fetches;
+  misses = k.misses;
+  loaded = k.loaded;
+  sent_on = k.sent_on;
+}
 
 -- how many writes are sent on, of n writes, where writes allocate
 abbrev pub sent_on_of : Bool → ℕ → ℕ
@@ -65,6 +76,8 @@ sent_on_of wback n = if wback then 0 else n
 abbrev pub whole_counts : PerClass → Cell → Counts
 whole_counts f c = record c.counts {
   fetches = f;
+  misses = missed_in c.counts;
+  loaded = total_of (missed_in c.counts);
   sent_on = sent_on_of c.shape.wback f.write;
 }
 

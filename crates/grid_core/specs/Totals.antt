@@ -1,5 +1,6 @@
 -- Counts by class, added.
 use Rattle.std.specs.Prelude.{◌+◌, List, [], ◌∷◌}
+use Rattle.cache_core.specs.declared.counts.Counts.{Counts}
 use Rattle.cache_core.specs.declared.counts.PerClass.{PerClass}
 use Rattle.cache_core.specs.Counts.{none_by_class}
 
@@ -11,6 +12,10 @@ added p q = record {
   write = p.write + q.write;
   misc = p.misc + q.misc;
 }
+
+-- the misses of all kinds
+abbrev pub missed_in : Counts → PerClass
+missed_in c = added (added c.compulsory c.capacity) c.conflict
 
 -- all counts of a list, added
 abbrev pub total : List PerClass → PerClass

@@ -13,6 +13,7 @@ ghost use Rattle.grid_core.specs.Cells.{items_of, HitsIn, whole_counts};
 ghost use Rattle.grid_core.specs.Cells.{sent_on_of};
 
 use crate::counting::count_miss;
+use crate::misses::missed;
 use crate::outcome::outcome_in;
 use crate::shadows::Prior;
 use crate::stack::{Stack, writes};
@@ -31,7 +32,8 @@ pub(crate) struct Shape {
 }
 
 /// One cache: its shape, and its counts. The fetches and the writes that are sent on are not
-/// counted here: they are the same for all cells.
+/// counted here, since they are the same for all cells; nor are the misses and the loads, which
+/// follow from the kinds of the misses.
 #[derive(Clone, Copy, Debug)]
 pub(crate) struct Cell {
     pub shape: Shape,
@@ -139,12 +141,16 @@ fn sent_of(writes: u64, wback: bool) -> u64
     if wback { 0 } else { writes }
 }
 
-/// All counts of a cell, with the fetches of all cells.
+/// All counts of a cell, with the fetches of all cells. Each miss loads its block.
 pub(crate) fn counts_in(cell: &Cell, fetches: PerClass) -> Counts
+    requires { IsWithinCell (2 ^ 46) cell.now }
     ensures { result ≡ whole_counts fetches cell.now }
 {
+    let misses = missed(&cell.counts);
     Counts {
         fetches,
+        misses,
+        loaded: misses.total() as u64,
         sent_on: sent_of(fetches.write, cell.shape.wback),
         ..cell.counts
     }

@@ -49,8 +49,6 @@ pub(crate) fn count_miss(counts: &mut Counts, access: Access, outcome: Outcome)
     requires { AreWithin counts.old (2 ^ 46) }
     ensures { counts.new ≡ with_own access outcome counts.old }
 {
-    count(&mut counts.misses, access, !outcome.hit);
     count_kind(counts, access, outcome.kind);
-    counts.loaded += outcome.fetch as u64;
     counts.written_back += outcome.back.is_some() as u64;
 }

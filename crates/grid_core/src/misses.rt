@@ -2,16 +2,16 @@
 
 ghost use Rattle.std.specs.Prelude.{◌≡◌, ◌<◌, ◌^◌, length, get_or, set, true, replicate, IfOk};
 ghost use Rattle.cache_core.specs.Counts.{none_by_class};
-ghost use Rattle.cache_core.specs.Counting.{with_one, IsWithin};
-ghost use Rattle.grid_core.specs.Totals.{added, total};
+ghost use Rattle.cache_core.specs.Counting.{with_one, AreWithin, IsWithin};
+ghost use Rattle.grid_core.specs.Totals.{added, missed_in, total};
 
 use crate::counting::{count, zero_per_class};
-use cache_core::{Access, PerClass};
+use cache_core::{Access, Counts, PerClass};
 use std::alloc::{AllocError, Global};
 
 /// Two counts, added class by class.
 fn plus(first: PerClass, second: PerClass) -> PerClass
-    requires { IsWithin (added first second) (2 ^ 46) }
+    requires { IsWithin (added first second) (2 ^ 48) }
     ensures { result ≡ added first second }
 {
     PerClass {
@@ -20,6 +20,15 @@ fn plus(first: PerClass, second: PerClass) -> PerClass
         write: first.write + second.write,
         misc: first.misc + second.misc,
     }
+}
+
+/// The misses of all kinds.
+pub(crate) fn missed(counts: &Counts) -> PerClass
+    requires { AreWithin counts.now (2 ^ 46) }
+    ensures is { result ≡ missed_in counts.now }
+    ensures within { IsWithin result (2 ^ 48) }
+{
+    plus(plus(counts.compulsory, counts.capacity), counts.conflict)
 }
 
 /// So many counts, all zero.
