@@ -1,7 +1,8 @@
 -- The state of the caches that are served together after one more event.
 use Rattle.std.proofs.Common.{◌≡◌, ℕ, suc, ◌+◌, ◌*◌, ◌^◌, ◌/◌, ◌<◌, ◌≤◌, Bool, false}
 use Rattle.std.proofs.Common.{not, ◌||◌}
-use Rattle.std.proofs.Common.{◌==◌, ltb, List, [], ◌∷◌, length, get_or, map, refl, sym, ap, subst}
+use Rattle.std.proofs.Common.{◌==◌, ltb, List, [], ◌∷◌, drop, length, get_or, map, refl, sym, ap}
+use Rattle.std.proofs.Common.{subst}
 use Rattle.std.proofs.Common.{◌∙◌}
 use Rattle.std.proofs.Common.{arith}
 use Rattle.std.specs.List.{All, list_any}
@@ -16,8 +17,8 @@ use Rattle.cache_core.specs.History.{History, Rules, Event, block_of, access, fl
 use Rattle.cache_core.specs.Residents.{distinct, renewals}
 use Rattle.cache_core.specs.Dirty.{dirty_blocks}
 use Rattle.cache_core.specs.Kinds.{referenced_blocks, shadow_of}
-use Rattle.cache_core.specs.Counts.{counts_of, tally}
-use Rattle.cache_core.specs.Counting.{with_flush}
+use Rattle.cache_core.specs.Counts.{counts_of, none_by_class, tally}
+use Rattle.cache_core.specs.Counting.{with_flush, with_one}
 use Rattle.cache_core.proofs.CacheFacts.{AreWithin-with_flush}
 use Rattle.cache_core.proofs.Nothing.{renewals-flush}
 use Rattle.cache_core.proofs.Steps.{flush-counts}
@@ -34,16 +35,23 @@ use Rattle.grid_core.specs.FullyAssociative.{shadow_misses}
 use Rattle.grid_core.specs.Ways.{IsStacked}
 use Rattle.grid_core.specs.Standing.{StandsFor}
 use Rattle.grid_core.specs.Recent.{IsRecent, after_use, none_recent}
-use Rattle.grid_core.specs.Shadows.{HoldsOrder, is_known, recent_in}
-use Rattle.grid_core.specs.Cells.{KnowsPrior, IsCounted, IsDue, IsServed, AreFlushedBy, flushed_by}
+use Rattle.grid_core.specs.Shadows.{HoldsOrder, far_in, is_known, levels_in, recent_in}
+use Rattle.grid_core.specs.Cells.{KnowsPrior, IsCounted, IsDue, AreFlushedBy, flushed_by}
 use Rattle.grid_core.specs.Cells.{HaveRoom, IsWithinCell, items_of, shape_in, shape_rules}
 use Rattle.grid_core.specs.Cells.{dirty_bytes_of, own_counts}
 use Rattle.grid_core.specs.State.{IsAfter, IsRanked, IsFresh, base_rules}
+use Rattle.grid_core.specs.Totals.{total}
 use Rattle.grid_core.specs.Written.{written_by}
 use Rattle.grid_core.proofs.Distances.{renews-all}
-use Rattle.grid_core.proofs.Owing.{written-owing, cell-more, within-more}
+use Rattle.grid_core.proofs.Owing.{written-owing, cell-more}
+use Rattle.grid_core.proofs.Empty.{counted-none}
 use Rattle.grid_core.proofs.Placed.{shape-at}
+use Rattle.grid_core.proofs.Served.{far-step}
 use Rattle.grid_core.proofs.Repeats.{recent-access, recent-none}
+
+-- the shadow of each shape has missed as often as its cache's shadow does
+abbrev HaveFar : Shadows → History → List Shape → Type 0
+HaveFar shadows h shapes = All (λ s. far_in shadows s.rank ≡ shadow_misses (shape_rules s) h) shapes
 
 -- caches of one block size use the same blocks, in the same order
 module _ (q r : Rules) (sq : IsStacked q) (sr : IsStacked r) (same : q.bsize ≡ r.bsize) where
@@ -104,35 +112,54 @@ module _ (g : Geometry) (h : History) (x : Access) where
   unfolding referenced_blocks
   referenced-next c = refl
 
-  -- each cell is due for the access
-  pub cells-due : (sizes : List ℕ) → IsRising sizes → (stacks : List Stack) (shadows : Shadows)
+  -- so it is known for each shape
+  pub shapes-prior : (sizes : List ℕ) → IsRising sizes → (stacks : List Stack) (shadows : Shadows)
       (cells : List Cell) (p : Prior) → IsAfter g stacks shadows cells h
       → p.known ≡ is_known shadows b → ((zs : List ℕ) → HoldsOrder shadows zs
-      → p.level ≡ level_of sizes zs b)
-      → All (IsRanked sizes g) (map shape_in cells) → All (IsDue h x p) cells
-  cells-due sizes rising stacks shadows cells p st was level ranked k d lt = record {
-    prior = prior-known sizes rising (is_known shadows) p was (level ys st.order) st.known
-        (get_or cells k d).shape (shape-at (IsRanked sizes g) cells cells refl ranked k d lt);
-    counted = st.counted k d lt;
+      → p.level ≡ level_of sizes zs b) → (shapes : List Shape) → All (IsRanked sizes g) shapes
+      → All (λ s. KnowsPrior s h x p) shapes
+  shapes-prior sizes rising stacks shadows cells p st was level shapes ranked k d lt =
+      prior-known sizes rising (is_known shadows) p was (level ys st.order) st.known
+      (get_or shapes k d) (ranked k d lt)
+
+  -- each cell is due for the access
+  pub cells-due : (cells : List Cell) (p : Prior)
+      → All (λ s. KnowsPrior s h x p) (map shape_in cells)
+      → All (IsCounted h) cells → All (IsDue h x p) cells
+  cells-due cells p prior counted k d lt = record {
+    prior = shape-at (λ s. KnowsPrior s h x p) cells cells refl prior k d lt;
+    counted = counted k d lt;
   }
 
   pub after-access : (stacks stacks' : List Stack) (shadows shadows' : Shadows)
-      (cells cells' : List Cell) → IsAfter g stacks shadows cells h
+      (cells cells' : List Cell) (p : Prior) → IsAfter g stacks shadows cells h
+      → All (λ s. KnowsPrior s h x p) (map shape_in cells)
       → All (λ s. StandsFor s (access x ∷ h)) stacks'
       → ((zs : List ℕ) → HoldsOrder shadows zs → HoldsOrder shadows' (brought_front b zs))
       → ((c : ℕ) → is_known shadows' c ≡ (b == c || is_known shadows c))
       → recent_in shadows' ≡ after_use b (is_write x) (recent_in shadows)
-      → All (IsServed h x) cells' → IsAfter g stacks' shadows' cells' (access x ∷ h)
-  after-access stacks rows' shadows shadows' cells cells' st rows order adds at served = record {
-    rows = rows;
-    order = subst (HoldsOrder shadows') (sym (front-brought r refl h x)) (order ys st.order);
-    known = λ c. adds c ∙ ap (λ t. b == c || t) (st.known c) ∙ referenced-next c;
-    counted = λ k d lt. (served k d lt).counted;
-    recent = subst (λ p. IsRecent (bsize_of g) p (access x ∷ h)) (sym at)
-        (recent-access (bsize_of g) (recent_in shadows) h x st.recent);
-  }
+      → ((k : ℕ) → far_in shadows' k ≡ with_one x (ltb k p.level) (far_in shadows k))
+      → map shape_in cells' ≡ map shape_in cells
+      → All (IsCounted (access x ∷ h)) cells' → IsAfter g stacks' shadows' cells' (access x ∷ h)
+  after-access stacks rows' shadows shadows' cells cells' p st prior rows order adds at far same
+      counted = record {
+        rows = rows;
+        order = subst (HoldsOrder shadows') (sym (front-brought r refl h x)) (order ys st.order);
+        known = λ c. adds c ∙ ap (λ t. b == c || t) (st.known c) ∙ referenced-next c;
+        counted = counted;
+        far = subst (HaveFar shadows' (access x ∷ h)) (sym same) (λ k d lt.
+            let s = get_or (map shape_in cells) k d in
+            far s.rank ∙ ap (with_one x (ltb s.rank p.level)) (st.far k d lt)
+            ∙ far-step s h x p (prior k d lt));
+        recent = subst (λ p. IsRecent (bsize_of g) p (access x ∷ h)) (sym at)
+            (recent-access (bsize_of g) (recent_in shadows) h x st.recent);
+      }
 
 -- a flush
+
+far-flush : (r : Rules) (h : History) → shadow_misses r h ≡ shadow_misses r (flush ∷ h)
+unfolding shadow_misses counts_of tally
+far-flush r h = refl
 
 len_of : Vec ℕ → ℕ
 len_of v = length (items_of v)
@@ -147,17 +174,23 @@ module _ (g : Geometry) (h : History) where
       (cells cells' : List Cell) → IsAfter g stacks shadows cells h
       → All (λ s. StandsFor s (flush ∷ h)) stacks' → HoldsOrder shadows' []
       → ((c : ℕ) → is_known shadows' c ≡ is_known shadows c)
-      → recent_in shadows' ≡ none_recent
+      → recent_in shadows' ≡ none_recent → levels_in shadows' ≡ levels_in shadows
+      → map shape_in cells' ≡ map shape_in cells
       → All (IsCounted (flush ∷ h)) cells' → IsAfter g stacks' shadows' cells' (flush ∷ h)
-  after-flush stacks rows' shadows shadows' cells cells' st rows order same none counted = record {
-    rows = rows;
-    order = subst (HoldsOrder shadows')
-        (sym (ap distinct (renewals-flush (shadow_of (base_rules g)) h))) order;
-    known = λ c. same c ∙ st.known c ∙ referenced-flush c;
-    counted = counted;
-    recent = subst (λ p. IsRecent (bsize_of g) p (flush ∷ h)) (sym none)
-        (recent-none (bsize_of g) (flush ∷ h));
-  }
+  after-flush stacks rows' shadows shadows' cells cells' st rows order same none levels shapes
+      counted = record {
+        rows = rows;
+        order = subst (HoldsOrder shadows')
+            (sym (ap distinct (renewals-flush (shadow_of (base_rules g)) h))) order;
+        known = λ c. same c ∙ st.known c ∙ referenced-flush c;
+        counted = counted;
+        far = subst (HaveFar shadows' (flush ∷ h)) (sym shapes) (λ k d lt.
+            let s = get_or (map shape_in cells) k d in
+            ap (λ l. total (drop (suc s.rank) l)) levels ∙ st.far k d lt
+            ∙ far-flush (shape_rules s) h);
+        recent = subst (λ p. IsRecent (bsize_of g) p (flush ∷ h)) (sym none)
+            (recent-none (bsize_of g) (flush ∷ h));
+      }
 
 -- the list of a cell
 list-at : (h : History) (lists : List (Vec ℕ)) (cells : List Cell)
@@ -173,10 +206,6 @@ list-at h lists cells same lens k d e lt =
 length-bytes : (h : History) (s : Shape)
     → length (dirty_bytes_of h s) ≡ length (dirty_blocks (shape_rules s) h)
 length-bytes h s = length-map (dirty_blocks (shape_rules s) h) (λ b. b * (shape_rules s).bsize)
-
-far-flush : (r : Rules) (h : History) → shadow_misses r h ≡ shadow_misses r (flush ∷ h)
-unfolding shadow_misses counts_of tally
-far-flush r h = refl
 
 -- some vector at an index gives what holds of each
 some-at : {P : Type 0} (lists : List (Vec ℕ)) (k : ℕ) → k < length lists → (Vec ℕ → P) → P
@@ -196,11 +225,8 @@ flushed-counted h lists old new same lens size flushed counted k d lt =
     let r = shape_rules c.shape in
     let written : n ≡ length (dirty_blocks r h) =
     ap length (list-at h lists old same lens k d e lt') ∙ length-bytes h c.shape in
-    subst (IsCounted (flush ∷ h)) (sym (flushed k d e lt')) (record {
-      counts = ap (with_flush n) (counted k d lt').counts
-          ∙ ap own_counts (flush-counts r h n written);
-      far = (counted k d lt').far ∙ far-flush r h;
-    }))
+    subst (IsCounted (flush ∷ h)) (sym (flushed k d e lt')) (ap (with_flush n) (counted k d lt')
+    ∙ ap own_counts (flush-counts r h n written)))
 
 -- the cells keep their shapes
 pub flushed-shapes : (lists : List (Vec ℕ)) (old new : List Cell) → length lists ≡ length old
@@ -245,7 +271,7 @@ paid-of g stacks shadows cells n lists lens lived is k d e lt = ∥∥₁_elim l
     let r = shape_rules c.shape in
     let all = written-owing r w.0 in
     let wrote : c.counts.written_back ≡ (counts_of r w.0).written_back =
-    ap (λ z. z.written_back) (w.1.counted k d lt).counts in
+    ap (λ z. z.written_back) (w.1.counted k d lt) in
     let size : length (get_or lists k e).items ≡ length (dirty_blocks r w.0) =
     ap length (list-at w.0 lists cells (is w.0 w.1.rows) lens k d e lt)
     ∙ length-bytes w.0 c.shape in
@@ -260,7 +286,7 @@ pub room-of : (cells : List Cell) (n : ℕ) (lists : List (Vec ℕ)) → n ≤ 2
     → HaveRoom cells lists
 room-of cells n lists few within paid k d e lt = (
   let p = paid k d e lt in omega arith,
-  let f = (within k d lt).counts.flushes in omega arith,
+  let f = (within k d lt).flushes in omega arith,
 )
 
 -- the bound after a flush
@@ -276,10 +302,8 @@ flushed-within n lists old new lens size flushed paid within k d lt =
     let m = length (get_or lists k e).items in
     let old-in = within k d lt' in
     subst (IsWithinCell (2 * (n + 1))) (sym (flushed k d e lt'))
-    (cell-more (2 * n + 1) (2 * (n + 1)) (omega arith) (flushed_by c m) (record {
-      counts = AreWithin-with_flush m c.counts (2 * n) (paid k d e lt') old-in.counts;
-      far = within-more c.far (2 * n) (2 * n + 1) (omega arith) old-in.far;
-    })))
+    (cell-more (2 * n + 1) (2 * (n + 1)) (omega arith) (flushed_by c m)
+    (AreWithin-with_flush m c.counts (2 * n) (paid k d e lt') old-in)))
 
 -- the bound after an access
 pub all-more : (n m : ℕ) → n ≤ m → (cells : List Cell) → All (IsWithinCell n) cells
@@ -290,14 +314,17 @@ all-more n m le cells all k d lt = cell-more n m le (get_or cells k d) (all k d 
 pub after-start : (g : Geometry) (stacks : List Stack) (shadows : Shadows) (cells : List Cell)
     → All (λ s. StandsFor s []) stacks → HoldsOrder shadows []
     → ((c : ℕ) → is_known shadows c ≡ false) → recent_in shadows ≡ none_recent
-    → All IsFresh cells
+    → ((k : ℕ) → far_in shadows k ≡ none_by_class) → All IsFresh cells
     → IsAfter g stacks shadows cells []
 unfolding renewals referenced_blocks
-after-start g stacks shadows cells rows order known none fresh = record {
+after-start g stacks shadows cells rows order known none far fresh = record {
   rows = rows;
   order = order;
   known = known;
   counted = λ k d lt. (fresh k d lt).counted;
+  far = λ k d lt.
+      let s = get_or (map shape_in cells) k d in
+      far s.rank ∙ (counted-none s).1;
   recent = subst (λ p. IsRecent (bsize_of g) p []) (sym none) (recent-none (bsize_of g) []);
 }
 

@@ -21,19 +21,17 @@ use Rattle.marked_list.proofs.LevelLaws.{front-brought}
 use Rattle.grid_core.specs.declared.cells.Cell.{Cell}
 use Rattle.grid_core.specs.declared.cells.Shape.{Shape}
 use Rattle.grid_core.specs.declared.shadows.Shadows.{Shadows}
-use Rattle.grid_core.specs.declared.slots.Slot.{Slot}
 use Rattle.grid_core.specs.declared.stack.Stack.{Stack}
 use Rattle.grid_core.specs.FullyAssociative.{shadow_misses}
 use Rattle.grid_core.specs.Cells.{HitsIn, IsCounted, IsPlacedAmong, IsPlacedOn, own_counts}
 use Rattle.grid_core.specs.Cells.{shape_in, shape_rules, with_own}
-use Rattle.grid_core.specs.Hits.{hit_made}
 use Rattle.grid_core.specs.Recent.{IsAgain, used_last, written_last}
-use Rattle.grid_core.specs.Shadows.{HoldsOrder, is_known, recent_in}
+use Rattle.grid_core.specs.Shadows.{HoldsOrder, recent_in}
 use Rattle.grid_core.specs.Shapes.{HaveBsize}
 use Rattle.grid_core.specs.Slots.{next_slots}
 use Rattle.grid_core.specs.Standing.{StandsFor, rules_of}
 use Rattle.grid_core.specs.State.{IsAfter, IsRanked, base_rules}
-use Rattle.grid_core.specs.Ways.{IsStacked, stack_distance}
+use Rattle.grid_core.specs.Ways.{IsStacked}
 use Rattle.grid_core.specs.Written.{no_rules}
 use Rattle.grid_core.proofs.After.{referenced-next}
 use Rattle.grid_core.proofs.Hitting.{hit-own, with-none}
@@ -44,22 +42,25 @@ use Rattle.grid_core.proofs.Served.{hit-is}
 use Rattle.grid_core.proofs.StackRules.{some-sets, some-ways, stacked}
 use Rattle.grid_core.proofs.StackStep.{rows-next}
 
--- a cell that hits, as its shadow does, keeps its counts
-counted-again : (h : History) (x : Access) (c : Cell) → HitsIn h x c.shape
-    → hits (shadow_of (shape_rules c.shape)) (renewals (shadow_of (shape_rules c.shape)) h) x ≡ true
-    → IsCounted h c → IsCounted (access x ∷ h) c
-unfolding shadow_misses outcome_of
-counted-again h x c hit shadow own =
+-- a cell that hits keeps its counts
+counted-again : (h : History) (x : Access) (c : Cell) → HitsIn h x c.shape → IsCounted h c
+    → IsCounted (access x ∷ h) c
+counted-again h x c hit own =
     let r = shape_rules c.shape in
-    let w = shadow_of r in
     let k = own_counts (counts_of r h) in
-    record {
-      counts = own.counts ∙ sym (hit-own x (is_write x && not c.shape.wback) k)
-          ∙ ap (λ o. with_own x o k) (sym hit) ∙ ap own_counts (counts-step r h x);
-      far = own.far ∙ sym (with-none x (counts_of w h).misses)
-          ∙ ap (λ t. with_one x (not t) (counts_of w h).misses) (sym shadow)
-          ∙ ap (λ n. n.misses) (counts-step w h x);
-    }
+    own ∙ sym (hit-own x (is_write x && not c.shape.wback) k)
+    ∙ ap (λ o. with_own x o k) (sym hit) ∙ ap own_counts (counts-step r h x)
+
+-- a shadow that hits has missed as often as before
+far-again : (r : Rules) (h : History) (x : Access)
+    → hits (shadow_of r) (renewals (shadow_of r) h) x ≡ true
+    → shadow_misses r h ≡ shadow_misses r (access x ∷ h)
+unfolding shadow_misses outcome_of
+far-again r h x shadow =
+    let w = shadow_of r in
+    sym (with-none x (counts_of w h).misses)
+    ∙ ap (λ t. with_one x (not t) (counts_of w h).misses) (sym shadow)
+    ∙ ap (λ n. n.misses) (counts-step w h x)
 
 -- a block that was used last is known
 known-again : (n b : ℕ) (r : Rules) (h : History) → r.bsize ≡ n → used_last n b h ≡ true → (c : ℕ)
@@ -173,10 +174,11 @@ after-again g h x sizes stacks shadows cells same placed ranked again st =
           (size-at n stacks same k d lt) (st.rows k d lt);
       order = subst (HoldsOrder shadows) order st.order;
       known = λ c. st.known c ∙ known-again n b r h refl last c ∙ referenced-next g h x c;
-      counted = λ k d lt.
-          let c = get_or cells k d in
-          let rank = shape-at (IsRanked sizes g) cells cells refl ranked k d lt in
-          counted-again h x c (all-again g h x sizes stacks cells last placed ranked k d lt)
-          (shadow-again n h x last c.shape rank.same) (st.counted k d lt);
+      counted = λ k d lt. counted-again h x (get_or cells k d)
+          (all-again g h x sizes stacks cells last placed ranked k d lt) (st.counted k d lt);
+      far = λ k d lt.
+          let s = get_or (map shape_in cells) k d in
+          st.far k d lt ∙ far-again (shape_rules s) h x
+          (shadow-again n h x last s (ranked k d lt).same);
       recent = recent-again n (recent_in shadows) h x again st.recent;
     }

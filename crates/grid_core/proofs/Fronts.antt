@@ -1,20 +1,18 @@
 -- How a row of slots changes where the position of the block is known.
 use Rattle.std.proofs.Common.{◌≡◌, ◌⊎◌, ℕ, zero, suc, ◌+◌, ◌-◌, ◌*◌, ◌^◌}
-use Rattle.std.proofs.Common.{◌<◌, ◌≤◌, replicate, Bool, true, false, cond, eqb, ltb}
+use Rattle.std.proofs.Common.{◌<◌, ◌≤◌, Bool, true, false, cond, eqb, ltb}
 use Rattle.std.proofs.Common.{List, [], ◌∷◌, ◌++◌, length, get_or, set}
 use Rattle.std.proofs.Common.{take, drop, refl, sym, ap, subst, ◌∙◌}
-use Rattle.std.proofs.Common.{inl, inr, Some, None, arith}
+use Rattle.std.proofs.Common.{inl, inr, Some, arith}
 use Rattle.std.specs.List.{find, copy_within}
 use Rattle.std.specs.Option.{option_map_or}
-use Rattle.std.proofs.lemmas.Bool.{eqb-true, eq-eqb, ltb-true, ltb-false, and_parts}
-use Rattle.std.proofs.Math.Nat.{zero-mod, mul_comm, le-mul_of_pos_right}
+use Rattle.std.proofs.lemmas.Bool.{eqb-true, ltb-true, ltb-false, and_parts}
+use Rattle.std.proofs.Math.Nat.{mul_comm, le-mul_of_pos_right}
 use Rattle.cache_core.specs.declared.geometry.Geometry.{Geometry}
 use Rattle.cache_core.specs.Geometry.{bsize_of, assoc_of}
 use Rattle.cache_core.proofs.Lawful.{sane_of}
-use Rattle.cache_core.specs.Row.{shifted, row}
+use Rattle.cache_core.specs.Row.{shifted}
 use Rattle.grid_core.specs.declared.slots.Slot.{Slot}
-use Rattle.grid_core.specs.declared.slots.Place.{Place}
-use Rattle.grid_core.specs.Slots.{IsPlaceIn, no_slot}
 use Rattle.grid_core.specs.Slots.{holds, used_slot, level_of, level_after, index_of, next_slots}
 
 -- no index is above the length
@@ -114,13 +112,6 @@ write-first b s xs e = (elim (holds b s) as (λ t. holds b s ≡ t
       | false ↦ λ h e. absurd (omega arith)
     ]) refl e
 
--- after an access its block is first
-pub front-first : (b l : ℕ) (xs : List Slot)
-    → index_of (holds b) (shifted (holds b) (used_slot b l) xs) ≡ 0
-front-first b l [] = refl
-front-first b l (s ∷ xs) = ap (λ t. cond t 0 (suc (index_of (holds b)
-    (cond (holds b s) xs (shifted (holds b) s xs))))) (eq-eqb b b refl)
-
 -- in an empty row there is nothing to change
 pub write-empty : (b : ℕ) (write : Bool) (xs : List Slot) → length xs ≤ 0
     → next_slots b write xs ≡ xs
@@ -156,34 +147,17 @@ copied-first (x ∷ xs) ys last c lt e = ap (λ l. set l 0 c) (e ∙ paste-one)
         ap (λ n. x ∷ (take n (x ∷ xs) ++ drop (1 + n) (x ∷ xs))) n
         ∙ ap (λ k. x ∷ (take last (x ∷ xs) ++ drop k (x ∷ xs))) k
 
--- in empty rows no block has a place
-index-empty : (n j : ℕ) → n ≤ j → index_of (holds 0) (take n (replicate j no_slot)) ≡ n
-index-empty zero j le = refl
-index-empty (suc n) zero le = absurd (omega arith)
-index-empty (suc n) (suc j) le = ap suc (index-empty n j (omega arith))
-
-pub place-empty : (sets ways n : ℕ) → ways ≤ n
-    → IsPlaceIn sets ways (replicate n no_slot) (record { block = 0; set = 0; position = ways })
-place-empty sets ways n le =
-    let start : 0 * ways ≡ 0 = omega arith in
-    record {
-      set = sym (zero-mod sets);
-      position = sym (ap (λ k. index_of (holds 0) (take ways (drop k (replicate n no_slot)))) start
-          ∙ index-empty ways n le);
-    }
-
--- after an access the place of its block is the first of its row
-pub place-next : (sets ways : ℕ) (write : Bool) (xs ys : List Slot) (p : Place)
-    → IsPlaceIn sets ways xs p
-    → row ways p.set ys ≡ next_slots p.block write (row ways p.set xs)
-    → IsPlaceIn sets ways ys (record p { position = 0 })
-place-next sets ways write xs ys p before now = record {
-  set = before.set;
-  position = sym (ap (index_of (holds p.block)) now ∙ front-first p.block (level_after write
-      (option_map_or level_of (find (holds p.block) (row ways p.set xs))
-      (length (row ways p.set xs))) (index_of (holds p.block) (row ways p.set xs)))
-      (row ways p.set xs));
-}
+-- each slot before the first that passes moves back by one
+pub moved-back : {X : Type 0} (p : X → Bool) (c : X) (xs : List X) (n : ℕ) (d : X) → n < length xs
+    → n ≤ index_of p xs → get_or (shifted p c xs) n d ≡ get_or (c ∷ xs) n d
+moved-back p c [] n d lt le = absurd (omega arith)
+moved-back p c (x ∷ xs) zero d lt le = refl
+moved-back p c (x ∷ xs) (suc n) d lt le = (elim (p x) as (λ t. suc n
+    ≤ cond t 0 (suc (index_of p xs)) → get_or (cond t xs (shifted p x xs)) n d
+    ≡ get_or (x ∷ xs) n d) [
+      | true ↦ λ le. absurd (omega arith)
+      | false ↦ λ le. moved-back p x xs n d (omega arith) (omega arith)
+    ]) le
 
 -- a set has few ways
 pub few-ways : (g : Geometry) → assoc_of g < 2 ^ 32

@@ -85,6 +85,8 @@ hit-counts x through c =
 pub hit-own : (x : Access) (through : Bool) (c : Counts) → with_own x (hit_made through) c ≡ c
 hit-own x through c = sym (ap (λ (k : Counts). record k {
   fetches = c.fetches;
+  misses = c.misses;
+  loaded = c.loaded;
   sent_on = c.sent_on;
 }) (hit-counts x through c))
 

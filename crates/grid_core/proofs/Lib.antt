@@ -26,3 +26,5 @@ pub mod Seats
 pub mod Kept
 pub mod Silence
 pub mod Sharing
+pub mod Totals
+pub mod MissParts

@@ -1,14 +1,13 @@
 -- Blocks by number: a list of blocks, and the list of their numbers.
 use Rattle.std.proofs.Common.{◌≡◌, ℕ, zero, suc, ◌<◌, Bool, true, false, cond, not, ◌||◌, eqb}
 use Rattle.std.proofs.Common.{is_some}
-use Rattle.std.proofs.Common.{List, [], ◌∷◌, map, take, filter, Option, Some, None, unwrap_or}
-use Rattle.std.proofs.Common.{refl, sym, ap, subst, ◌∙◌, inl, inr, arith}
-use Rattle.std.specs.List.{list_any}
-use Rattle.std.proofs.lemmas.Bool.{eqb-true, eq-eqb, eqb-false, ne_eqb, or_cases, or_left, or_right}
+use Rattle.std.proofs.Common.{List, [], ◌∷◌, map, filter, Option, Some, None, unwrap_or}
+use Rattle.std.proofs.Common.{refl, sym, ap, ◌∙◌, inl, inr, arith}
+use Rattle.std.proofs.lemmas.Bool.{eqb-true, eq-eqb, ne_eqb, or_cases, or_left, or_right}
 use Rattle.cache_core.proofs.Ascending.{same_test}
 use Rattle.cache_core.proofs.Reuse.{has}
 use Rattle.cache_core.proofs.Cases.{by_cases}
-use Rattle.marked_list.specs.Recency.{index_of, is_among, level_of, brought_front}
+use Rattle.marked_list.specs.Recency.{is_among, level_of, brought_front}
 
 some-is : (o : Option ℕ) → is_some o ≡ true → o ≡ Some (unwrap_or o 0)
 some-is None h = cc

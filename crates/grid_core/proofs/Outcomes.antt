@@ -1,12 +1,12 @@
 -- The outcome of one access in the cache of n ways, by the distances of its block.
-use Rattle.std.proofs.Common.{◌≡◌, ℕ, suc, ◌*◌, ◌≤◌, Bool, true, false, cond, not, ◌&&◌, ◌||◌, ◌==◌}
-use Rattle.std.proofs.Common.{ltb, [], ◌∷◌, Option, Some, None, is_some, refl, ap, ◌∙◌, arith}
+use Rattle.std.proofs.Common.{◌≡◌, ℕ, suc, ◌≤◌, Bool, true, cond, not, ◌&&◌, ◌||◌, ◌==◌}
+use Rattle.std.proofs.Common.{ltb, Option, Some, None, ap, ◌∙◌}
 use Rattle.std.specs.List.{list_any}
 use Rattle.std.proofs.Math.Bool.{or-false}
 use Rattle.cache_core.specs.declared.access.Access.{Access}
 use Rattle.cache_core.specs.declared.access.MissKind.{MissKind}
 use Rattle.cache_core.specs.declared.access.MissKind.TheVariants.{Compulsory, Capacity, Conflict}
-use Rattle.cache_core.specs.History.{Rules, History, access, flush, block_of, is_write}
+use Rattle.cache_core.specs.History.{Rules, History, block_of, is_write}
 use Rattle.cache_core.specs.Residents.{hits, renewals}
 use Rattle.cache_core.specs.Kinds.{shadow_of, referenced_blocks, kind_of_miss}
 use Rattle.cache_core.specs.Parts.{outcome_of, dirty_victim}

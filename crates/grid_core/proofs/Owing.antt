@@ -63,34 +63,30 @@ own-within x o c n h =
     let all = AreWithin-with_access x o c n h in
     record {
       fetches = within-more c.fetches n (n + 1) (omega arith) h.fetches;
-      misses = all.misses;
+      misses = within-more c.misses n (n + 1) (omega arith) h.misses;
       compulsory = all.compulsory;
       capacity = all.capacity;
       conflict = all.conflict;
-      loaded = all.loaded;
+      loaded = (let l = h.loaded in omega arith);
       written_back = all.written_back;
       sent_on = (let s = h.sent_on in omega arith);
       flushes = all.flushes;
     }
 
 pub cell-more : (n m : ℕ) → n ≤ m → (c : Cell) → IsWithinCell n c → IsWithinCell m c
-cell-more n m le c h =
-    let w = h.counts in
+cell-more n m le c w =
     let a = w.loaded in
     let b = w.written_back in
     let d = w.sent_on in
     let e = w.flushes in
     record {
-      counts = record {
-        fetches = within-more c.counts.fetches n m le w.fetches;
-        misses = within-more c.counts.misses n m le w.misses;
-        compulsory = within-more c.counts.compulsory n m le w.compulsory;
-        capacity = within-more c.counts.capacity n m le w.capacity;
-        conflict = within-more c.counts.conflict n m le w.conflict;
-        loaded = omega arith;
-        written_back = omega arith;
-        sent_on = omega arith;
-        flushes = omega arith;
-      };
-      far = within-more c.far n m le h.far;
+      fetches = within-more c.counts.fetches n m le w.fetches;
+      misses = within-more c.counts.misses n m le w.misses;
+      compulsory = within-more c.counts.compulsory n m le w.compulsory;
+      capacity = within-more c.counts.capacity n m le w.capacity;
+      conflict = within-more c.counts.conflict n m le w.conflict;
+      loaded = omega arith;
+      written_back = omega arith;
+      sent_on = omega arith;
+      flushes = omega arith;
     }

@@ -1,7 +1,7 @@
 -- The shapes of cells, and the rows that they name.
-use Rattle.std.proofs.Common.{◌≡◌, ℕ, zero, suc, ◌*◌, ◌<◌, ◌≤◌, Bool, false, true, List, [], ◌∷◌}
+use Rattle.std.proofs.Common.{◌≡◌, ℕ, zero, suc, ◌*◌, ◌<◌, Bool, false, List, [], ◌∷◌}
 use Rattle.std.proofs.Common.{length, get_or, map}
-use Rattle.std.proofs.Common.{refl, sym, ap, subst, ◌∙◌, arith}
+use Rattle.std.proofs.Common.{sym, ap, subst, ◌∙◌, arith}
 use Rattle.std.specs.List.{All}
 use Rattle.std.proofs.lemmas.List.{length-map, get_or-map}
 use Rattle.cache_core.specs.declared.geometry.Geometry.{Geometry}
@@ -12,7 +12,7 @@ use Rattle.grid_core.specs.declared.cells.Shape.{Shape}
 use Rattle.grid_core.specs.declared.stack.Stack.{Stack}
 use Rattle.grid_core.specs.Ways.{with_ways, IsStacked}
 use Rattle.grid_core.specs.Standing.{Suits, rules_of, stack_rules}
-use Rattle.grid_core.specs.Cells.{IsPlacedOn, IsPlacedAmong, shape_in, shape_rules}
+use Rattle.grid_core.specs.Cells.{IsPlacedOn, IsPlacedAmong, shape_in}
 use Rattle.grid_core.specs.Shapes.{IsSuitedShape}
 use Rattle.grid_core.proofs.Geometries.{sets-blocks}
 use Rattle.grid_core.proofs.StackRules.{stacked}

@@ -1,13 +1,12 @@
 -- One more use of the block that was used last.
 use Rattle.std.proofs.Common.{◌≡◌, ℕ, ◌%◌, ◌/◌, ◌<◌, Bool, true, false, cond, not, ◌&&◌, ◌||◌, ◌==◌}
-use Rattle.std.proofs.Common.{List, [], ◌∷◌, length, eqb, ltb, refl, sym, ap, ◌∙◌, arith}
+use Rattle.std.proofs.Common.{List, [], ◌∷◌, length, eqb, ltb, refl, sym, ap, ◌∙◌}
 use Rattle.std.specs.List.{filter, list_any}
 use Rattle.std.proofs.lemmas.Bool.{eqb-true, eq-eqb, lt-ltb, false≢true}
 use Rattle.cache_core.specs.declared.access.Access.{Access}
-use Rattle.cache_core.specs.History.{History, Rules, access, flush, block_of, is_write}
+use Rattle.cache_core.specs.History.{History, Rules, access, flush, is_write}
 use Rattle.cache_core.specs.Residents.{before, distinct, in_set, is_resident, renewals}
 use Rattle.cache_core.specs.Residents.{reuse_distance}
-use Rattle.cache_core.specs.Kinds.{referenced_blocks}
 use Rattle.cache_core.specs.Row.{shifted}
 use Rattle.cache_core.proofs.Turns.{renewals-yes}
 use Rattle.marked_list.specs.Recency.{brought_front}

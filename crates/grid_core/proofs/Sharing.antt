@@ -8,12 +8,14 @@ use Rattle.cache_core.specs.declared.counts.PerClass.{PerClass}
 use Rattle.cache_core.specs.History.{History, Rules, access, flush, is_write}
 use Rattle.cache_core.specs.Residents.{renewals}
 use Rattle.cache_core.specs.Counting.{with_one}
-use Rattle.cache_core.specs.Counts.{by_class, counts_of, none_by_class, tally}
+use Rattle.cache_core.specs.Counts.{by_class, counts_of, none_by_class, tally, total_of}
 use Rattle.cache_core.specs.Parts.{one_if, outcome_of}
 use Rattle.grid_core.specs.declared.cells.Cell.{Cell}
 use Rattle.grid_core.specs.Cells.{IsCounted, own_counts, sent_on_of, shape_rules, whole_counts}
+use Rattle.grid_core.specs.Totals.{missed_in}
 use Rattle.grid_core.specs.Ways.{IsStacked}
 use Rattle.grid_core.proofs.Distances.{uses-all}
+use Rattle.grid_core.proofs.MissParts.{loads-are, misses-are}
 
 -- every access is fetched
 abbrev pub fetched : History → PerClass
@@ -77,8 +79,21 @@ pub whole-is : (h : History) (f : PerClass) (c : Cell) → f ≡ fetched h → I
 unfolding counts_of
 whole-is h f c is own =
     let r = shape_rules c.shape in
-    let put : PerClass → Counts → ℕ → Counts = λ g k n. record k { fetches = g; sent_on = n } in
+    let k = counts_of r h in
+    let sent = sent_on_of c.shape.wback in
+    let put : PerClass → PerClass → ℕ → ℕ → Counts → Counts = λ g m l n z. record z {
+      fetches = g;
+      misses = m;
+      loaded = l;
+      sent_on = n;
+    } in
     let st : IsStacked r = record { lru = refl; allocates = refl } in
-    ap (λ (g : PerClass). put g c.counts (sent_on_of c.shape.wback g.write)) is
-    ∙ ap (λ k. put (fetched h) k (sent_on_of c.shape.wback (fetched h).write)) own.counts
-    ∙ ap (put (fetched h) (own_counts (counts_of r h))) (sent-is r st h)
+    ap (λ (g : PerClass). put g (missed_in c.counts) (total_of (missed_in c.counts)) (sent g.write)
+    c.counts) is
+    ∙ ap (λ (z : Counts). put (fetched h) (missed_in z) (total_of (missed_in z))
+    (sent (fetched h).write) z) own
+    ∙ ap (λ (m : PerClass). put (fetched h) m (total_of m) (sent (fetched h).write) (own_counts k))
+    (misses-are r h)
+    ∙ ap (λ (l : ℕ). put (fetched h) k.misses l (sent (fetched h).write) (own_counts k))
+    (loads-are r st h)
+    ∙ ap (λ (n : ℕ). put (fetched h) k.misses k.loaded n (own_counts k)) (sent-is r st h)

@@ -1,12 +1,13 @@
 -- One access to all rows.
-use Rattle.std.proofs.Common.{◌≡◌, ◌≢◌, ℕ, suc, ◌+◌, ◌-◌, ◌*◌, ◌%◌, ◌<◌, ◌≤◌, false, ltb, eqb, List}
-use Rattle.std.proofs.Common.{◌∷◌}
+use Rattle.std.proofs.Common.{◌≡◌, ◌≢◌, ℕ, suc, ◌+◌, ◌-◌, ◌*◌, ◌%◌, ◌<◌, ◌≤◌, Bool, true, false}
+use Rattle.std.proofs.Common.{ltb, eqb, List, ◌∷◌, if◌then◌else◌, refl}
 use Rattle.std.proofs.Common.{get_or, drop, length, sym, ap, subst, ◌∙◌, arith}
-use Rattle.std.specs.Option.{option_map}
-use Rattle.std.proofs.lemmas.Bool.{eqb-true, eqb-false}
+use Rattle.std.specs.List.{find}
+use Rattle.std.specs.Option.{option_map, option_map_or}
+use Rattle.std.proofs.lemmas.Bool.{eqb-true, eqb-false, ltb-true, ltb-false}
+use Rattle.std.proofs.lemmas.List.{length-take-le, length-drop}
 use Rattle.std.proofs.Math.Nat.{mul-le-mul_right}
 use Rattle.std.proofs.Math.Seq.{get_or-take, get_or-drop}
-use Rattle.std.proofs.lemmas.List.{get_or_default}
 use Rattle.cache_core.specs.declared.access.Access.{Access}
 use Rattle.cache_core.specs.History.{Rules, History, access, block_of, is_write}
 use Rattle.cache_core.specs.Residents.{hits, renewals}
@@ -14,12 +15,13 @@ use Rattle.cache_core.specs.Parts.{outcome_of}
 use Rattle.cache_core.specs.Row.{row}
 use Rattle.cache_core.proofs.Cases.{by_cases}
 use Rattle.grid_core.specs.declared.slots.Slot.{Slot}
-use Rattle.grid_core.specs.declared.slots.Place.{Place}
 use Rattle.grid_core.specs.Ways.{with_ways, IsStacked, stack_distance}
-use Rattle.grid_core.specs.Slots.{holds, index_of, next_slots, no_slot, IsPlaceIn}
+use Rattle.grid_core.specs.Slots.{holds, index_of, next_slots, no_slot, used_slot, level_of}
+use Rattle.grid_core.specs.Slots.{level_after}
 use Rattle.grid_core.specs.Pushed.{dirty_in}
 use Rattle.grid_core.specs.Standing.{slots_of}
 use Rattle.grid_core.proofs.Distances.{hits-distance}
+use Rattle.grid_core.proofs.Fronts.{moved-back}
 use Rattle.grid_core.proofs.SlotTurns.{index-slots, slots-here, slots-other}
 use Rattle.grid_core.proofs.Victims.{back-is}
 
@@ -50,15 +52,9 @@ module _ (r : Rules) (st : IsStacked r) (h : History) (x : Access) (xs : List Sl
       ∙ ap (λ d. ltb d n)
       (sym (is ∙ ap (index_of (holds b)) (rows s inside) ∙ index-slots r st h b))
 
-  -- so does the place of the block
-  pub place-now : (ways : ℕ) → ways ≡ r.assoc → (p : Place) → p.block ≡ b
-      → IsPlaceIn r.sets ways xs p → p.position ≡ stack_distance r h b
-  place-now ways wide p same place =
-      let set : p.set ≡ s = place.set ∙ ap (λ z. z % r.sets) same in
-      place.position ∙ ap (λ z. index_of (holds z) (row ways p.set xs)) same
-      ∙ ap (λ t. index_of (holds b) (row ways t xs)) set
-      ∙ ap (λ n. index_of (holds b) (row n s xs)) wide
-      ∙ ap (index_of (holds b)) (rows s inside) ∙ index-slots r st h b
+  -- so does the distance of the block
+  pub position-now : (p : ℕ) → p ≡ index_of (holds b) (row r.assoc s xs) → p ≡ stack_distance r h b
+  position-now p is = is ∙ ap (index_of (holds b)) (rows s inside) ∙ index-slots r st h b
 
   -- the rows are those after the access
   pub rows-next : (ys : List Slot) → row r.assoc s ys ≡ next_slots b (is_write x) (row r.assoc s xs)
@@ -72,17 +68,44 @@ module _ (r : Rules) (st : IsStacked r) (h : History) (x : Access) (xs : List Sl
 
   -- what the cache of n ways writes back
   pub back-now : (n m : ℕ) → n ≡ suc m → n ≤ r.assoc → (v : Slot)
-      → v ≡ get_or xs (s * r.assoc + m) v
-      → s * r.assoc + m < length xs
+      → v ≡ get_or (row r.assoc s xs) m no_slot
       → hits (with_ways n r) (renewals (with_ways n r) h) x ≡ false
       → (outcome_of (with_ways n r) h x).back ≡ option_map (λ z. z * r.bsize) (dirty_in r.wback n v)
-  back-now n m size le v is long miss = back-is r st n m size le h x miss
-      ∙ ap (λ t. option_map (λ z. z * r.bsize) (dirty_in r.wback n t)) (sym same)
-    where
-      here : get_or xs (s * r.assoc + m) no_slot ≡ get_or (slots_of r h s) m no_slot
-      here = sym (get_or-drop (s * r.assoc) xs m no_slot)
-          ∙ sym (get_or-take r.assoc (drop (s * r.assoc) xs) m no_slot (omega arith))
-          ∙ ap (λ l. get_or l m no_slot) (rows s inside)
+  back-now n m size le v is miss = back-is r st n m size le h x miss
+      ∙ ap (λ t. option_map (λ z. z * r.bsize) (dirty_in r.wback n t))
+      (sym (is ∙ ap (λ l. get_or l m no_slot) (rows s inside)))
 
-      same : v ≡ get_or (slots_of r h s) m no_slot
-      same = is ∙ get_or_default xs (s * r.assoc + m) v no_slot long ∙ here
+-- a row is as long as it has ways
+pub row-long : (ways s : ℕ) (xs : List Slot) → s * ways + ways ≤ length xs
+    → length (row ways s xs) ≡ ways
+row-long ways s xs inside =
+    let rest = length-drop (s * ways) xs in
+    length-take-le ways (drop (s * ways) xs) (omega arith)
+
+-- behind the first n of a row stands the slot that was the last of them, where the block of the
+-- access did not stand among them
+pub behind-is : (ways s b : ℕ) (write : Bool) (xs ys : List Slot) (last : Slot) (n m : ℕ)
+    → n ≡ suc m → n ≤ ways → length (row ways s xs) ≡ ways
+    → n ≤ index_of (holds b) (row ways s xs)
+    → row ways s ys ≡ next_slots b write (row ways s xs)
+    → last ≡ get_or (row ways s xs) (ways - 1) no_slot
+    → (if ltb n ways then get_or ys (s * ways + n) no_slot else last)
+    ≡ get_or (row ways s xs) m no_slot
+behind-is ways s b write xs ys last n m size le long far now lost = (elim (ltb n ways) as (λ t.
+    ltb n ways ≡ t → (if t then get_or ys (s * ways + n) no_slot else last)
+    ≡ get_or (row ways s xs) m no_slot) [
+      | true ↦ λ e.
+          let lt = ltb-true n ways e in
+          let old = row ways s xs in
+          let front = used_slot b (level_after write (option_map_or level_of (find (holds b) old)
+          (length old)) (index_of (holds b) old)) in
+          sym (get_or-drop (s * ways) ys n no_slot)
+          ∙ sym (get_or-take ways (drop (s * ways) ys) n no_slot lt)
+          ∙ ap (λ l. get_or l n no_slot) now
+          ∙ moved-back (holds b) front old n no_slot (omega arith) far
+          ∙ ap (λ k. get_or (front ∷ old) k no_slot) size
+      | false ↦ λ e.
+          let ge = ltb-false n ways e in
+          let at : ways - 1 ≡ m = omega arith in
+          lost ∙ ap (λ k. get_or (row ways s xs) k no_slot) at
+    ]) refl

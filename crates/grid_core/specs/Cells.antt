@@ -1,26 +1,26 @@
 -- The caches of one engine, and what each counts.
 use Rattle.std.specs.Prelude.{◌≡◌, ℕ, ◌+◌, ◌<◌, ◌≤◌, ◌^◌, not, ◌==◌, nat_lt, List, length}
 use Rattle.std.specs.Prelude.{get_or}
-use Rattle.std.specs.Prelude.{◌∷◌, ◌&&◌, Bool, false, if◌then◌else◌}
+use Rattle.std.specs.Prelude.{◌&&◌, Bool, if◌then◌else◌}
 use Rattle.std.specs.List.{list_any}
 use Rattle.std.specs.Global.{Vec}
 use Rattle.cache_core.specs.declared.access.Access.{Access}
 use Rattle.cache_core.specs.declared.access.Outcome.{Outcome}
-use Rattle.cache_core.specs.History.{History, Rules, block_of, access, is_write}
+use Rattle.cache_core.specs.History.{History, Rules, block_of, is_write}
 use Rattle.cache_core.specs.Residents.{hits, renewals}
 use Rattle.cache_core.specs.Kinds.{referenced_blocks, shadow_of}
 use Rattle.cache_core.specs.Parts.{outcome_of}
 use Rattle.cache_core.specs.declared.counts.Counts.{Counts}
 use Rattle.cache_core.specs.declared.counts.PerClass.{PerClass}
-use Rattle.cache_core.specs.Counts.{counts_of, none_by_class}
-use Rattle.cache_core.specs.Counting.{AreWithin, IsWithin, with_access, with_flush}
+use Rattle.cache_core.specs.Counts.{counts_of, none_by_class, total_of}
+use Rattle.cache_core.specs.Counting.{AreWithin, with_access, with_flush}
 use Rattle.grid_core.specs.declared.cells.Cell.{Cell}
 use Rattle.grid_core.specs.declared.cells.Shape.{Shape}
 use Rattle.grid_core.specs.declared.shadows.Prior.{Prior}
 use Rattle.grid_core.specs.Ways.{with_ways}
 use Rattle.grid_core.specs.Standing.{stack_rules}
-use Rattle.grid_core.specs.FullyAssociative.{shadow_misses}
 use Rattle.grid_core.specs.Hits.{hit_made}
+use Rattle.grid_core.specs.Totals.{missed_in}
 use Rattle.grid_core.specs.Written.{written_by}
 
 -- the rules of the cache of a shape
@@ -50,13 +50,23 @@ pub record KnowsPrior (s : Shape) (h : History) (x : Access) (p : Prior) : Type 
       ≡ hits (shadow_of (shape_rules s)) (renewals (shadow_of (shape_rules s)) h) x
 
 -- the part of the counts that a cell keeps: all but the fetches and the writes that are sent on,
--- which are the same for all cells
+-- which are the same for all cells, and the misses and the loads, which follow from their kinds
 abbrev pub own_counts : Counts → Counts
-own_counts k = record k { fetches = none_by_class; sent_on = 0 }
+own_counts k = record k {
+  fetches = none_by_class;
+  misses = none_by_class;
+  loaded = 0;
+  sent_on = 0;
+}
 
 -- this part after an access of this outcome
 abbrev pub with_own : Access → Outcome → Counts → Counts
-with_own x o k = record (with_access x o k) { fetches = k.fetches; sent_on = k.sent_on }
+with_own x o k = record (with_access x o k) {
+  fetches = k.fetches;
+  misses = k.misses;
+  loaded = k.loaded;
+  sent_on = k.sent_on;
+}
 
 -- how many writes are sent on, of n writes, where writes allocate
 abbrev pub sent_on_of : Bool → ℕ → ℕ
@@ -66,44 +76,27 @@ sent_on_of wback n = if wback then 0 else n
 abbrev pub whole_counts : PerClass → Cell → Counts
 whole_counts f c = record c.counts {
   fetches = f;
+  misses = missed_in c.counts;
+  loaded = total_of (missed_in c.counts);
   sent_on = sent_on_of c.shape.wback f.write;
 }
 
--- the cell has the counts of its cache, and knows how often the shadow missed
-pub record IsCounted (h : History) (c : Cell) : Type 0 where
-  pub counts : c.counts ≡ own_counts (counts_of (shape_rules c.shape) h)
-  pub far : c.far ≡ shadow_misses (shape_rules c.shape) h
+-- the cell has the counts of its cache
+abbrev pub IsCounted : History → Cell → Type 0
+IsCounted h c = c.counts ≡ own_counts (counts_of (shape_rules c.shape) h)
 
 -- the cell is counted, and it is known what the access asks for
 pub record IsDue (h : History) (x : Access) (p : Prior) (c : Cell) : Type 0 where
   pub prior : KnowsPrior c.shape h x p
   pub counted : IsCounted h c
 
--- if the access x misses after the history h, the cell has its outcome
-abbrev pub HasMissed : History → Access → Cell → Type 0
-HasMissed h x c = (outcome_of (shape_rules c.shape) h x).hit ≡ false →
-    c.answer ≡ outcome_of (shape_rules c.shape) h x
-
--- the cell counted the access, and has its outcome if it missed
-pub record IsServed (h : History) (x : Access) (c : Cell) : Type 0 where
-  pub counted : IsCounted (access x ∷ h) c
-  pub missed : HasMissed h x c
-
 -- the access x hits in the cache of a shape, after the history h
 abbrev pub HitsIn : History → Access → Shape → Type 0
 HitsIn h x s = outcome_of (shape_rules s) h x ≡ hit_made (is_write x && not s.wback)
 
 -- no count of the cell is above n
-pub record IsWithinCell (n : ℕ) (c : Cell) : Type 0 where
-  pub counts : AreWithin c.counts n
-  pub far : IsWithin c.far n
-
--- the cell after an access of this outcome, but for the misses of its shadow
-abbrev pub after_outcome : Access → Outcome → Cell → Cell
-after_outcome x o c = record c {
-  counts = with_own x o c.counts;
-  answer = (if o.hit then c.answer else o);
-}
+abbrev pub IsWithinCell : ℕ → Cell → Type 0
+IsWithinCell n c = AreWithin c.counts n
 
 -- what a flush writes back in the cache of a shape
 abbrev pub dirty_bytes_of : History → Shape → List ℕ

@@ -19,3 +19,4 @@ pub mod Plans
 pub mod Caches
 pub mod Engines
 pub mod AtHand
+pub mod Totals

@@ -1,10 +1,13 @@
 -- What a contract sees of the blocks that were accessed, and of their order.
 use Rattle.std.specs.Prelude.{◌≡◌, ℕ, ◌==◌, Bool, true, nat_eq, is_some, unwrap_or, List, map}
+use Rattle.std.specs.Prelude.{suc, drop}
 use Rattle.std.specs.List.{list_any}
 use Rattle.std.specs.HashMap.{get}
+use Rattle.cache_core.specs.declared.counts.PerClass.{PerClass}
 use Rattle.marked_list.specs.Marked.{order_of, marked_sizes}
 use Rattle.grid_core.specs.declared.recent.Recent.{Recent}
 use Rattle.grid_core.specs.declared.shadows.Shadows.{Shadows}
+use Rattle.grid_core.specs.Totals.{total}
 
 -- whether a block was accessed
 abbrev pub is_known : Shadows → ℕ → Bool
@@ -21,6 +24,14 @@ recent_in s = s.recent
 -- the sizes of the shadows in blocks
 abbrev pub shadow_sizes : Shadows → List ℕ
 shadow_sizes s = marked_sizes s.order
+
+-- the accesses by class, for each level that their blocks had before
+abbrev pub levels_in : Shadows → List PerClass
+levels_in s = s.levels.items
+
+-- those that missed in the shadow of the size of rank k
+abbrev pub far_in : Shadows → ℕ → PerClass
+far_in s k = total (drop (suc k) (levels_in s))
 
 -- the blocks of the list, each of which was accessed, are in the order of the shadows
 pub record HoldsOrder (s : Shadows) (ys : List ℕ) : Type 0 where

@@ -1,12 +1,11 @@
 -- Inside the crate: a row of slots, and what one access does to it.
-use Rattle.std.specs.Prelude.{◌≡◌, ℕ, zero, suc, ◌*◌, ◌%◌, ◌^◌}
+use Rattle.std.specs.Prelude.{ℕ, zero, suc, ◌*◌, ◌^◌}
 use Rattle.std.specs.Prelude.{◌<◌, Bool, true, false, ◌&&◌, ◌==◌, cond}
 use Rattle.std.specs.Prelude.{nat_lt, if◌then◌else◌, List, [], ◌∷◌, ◌++◌, length, take, drop}
 use Rattle.std.specs.List.{find, All}
 use Rattle.std.specs.Option.{option_map_or}
 use Rattle.cache_core.specs.Row.{shifted, row}
 use Rattle.grid_core.specs.declared.slots.Slot.{Slot}
-use Rattle.grid_core.specs.declared.slots.Place.{Place}
 
 -- the slot holds block b
 abbrev pub holds : ℕ → Slot → Bool
@@ -38,11 +37,6 @@ level_after write level distance =
 abbrev pub next_slots : ℕ → Bool → List Slot → List Slot
 next_slots b write row = shifted (holds b) (used_slot b (level_after write
     (option_map_or level_of (find (holds b) row) (length row)) (index_of (holds b) row))) row
-
--- the place tells the set of its block, and the position of the block in the row of that set
-pub record IsPlaceIn (sets ways : ℕ) (slots : List Slot) (p : Place) : Type 0 where
-  pub set : p.set ≡ p.block % sets
-  pub position : p.position ≡ index_of (holds p.block) (row ways p.set slots)
 
 -- each block of a row has a first byte, where blocks have n bytes
 abbrev pub HaveBytes : ℕ → List Slot → Type 0

@@ -9,9 +9,9 @@ use Rattle.cache_core.specs.History.{History, Rules, is_write}
 use Rattle.cache_core.specs.Counts.{by_class}
 use Rattle.cache_core.specs.Parts.{outcome_of}
 use Rattle.grid_core.specs.declared.stacked.Stacked.{Stacked}
-use Rattle.grid_core.specs.Standing.{StandsFor, HasFound}
-use Rattle.grid_core.specs.Cells.{shape_rules, shape_in, items_of, dirty_bytes_of, HasMissed}
-use Rattle.grid_core.specs.Cells.{HitsIn}
+use Rattle.grid_core.specs.Standing.{StandsFor, HasMoved}
+use Rattle.grid_core.specs.Cells.{shape_rules, shape_in, items_of, dirty_bytes_of}
+use Rattle.grid_core.specs.Cells.{HitsIn, KnowsPrior}
 use Rattle.grid_core.specs.State.{IsAfter, kept_by}
 use Rattle.grid_core.specs.Written.{SendsNothing}
 
@@ -25,7 +25,7 @@ stacked_served e = e.served
 
 -- what the caches counted
 unfoldable pub stacked_kept : Stacked → List (Counts × PerClass)
-stacked_kept e = map (kept_by e.fetches) e.cells.items
+stacked_kept e = map (kept_by e.fetches e.shadows) e.cells.items
 
 -- whether an allocation failed
 unfoldable pub stacked_failed : Stacked → Bool
@@ -39,12 +39,12 @@ pub record StackedStandsFor (e : Stacked) (h : History) : Type 0 where
   pub state : IsAfter e.geometry e.stacks.items e.shadows e.cells.items h
 
 -- the last access was x, after the history h: it used the block that was used last and so hit in
--- each cache, or it is known where it stood in the rows and what it did where it missed
+-- each cache, or it is known where it stood in the rows and what was known of its block
 pub record StackedHasAnswered (e : Stacked) (h : History) (x : Access) : Type 0 where
   pub write : e.write ≡ is_write x
   pub again : e.again ≡ true → All (λ c. HitsIn h x c.shape) e.cells.items
-  pub found : e.again ≡ false → All (HasFound h x) e.stacks.items
-  pub missed : e.again ≡ false → All (HasMissed h x) e.cells.items
+  pub moved : e.again ≡ false → All (HasMoved h x) e.stacks.items
+  pub prior : e.again ≡ false → All (λ c. KnowsPrior c.shape h x e.prior) e.cells.items
   pub silent : e.silent ≡ true →
       All (λ c. SendsNothing (outcome_of (shape_rules c.shape) h x)) e.cells.items
 

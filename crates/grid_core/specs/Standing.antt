@@ -1,16 +1,20 @@
 -- How the rows of slots relate to the history.
-use Rattle.std.specs.Prelude.{◌≡◌, ℕ, ◌<◌, ◌≤◌, ◌++◌, List, map, take, replicate, true, false, Bool}
+use Rattle.std.specs.Prelude.{◌≡◌, ℕ, ◌<◌, ◌≤◌, ◌+◌, ◌*◌, ◌++◌, List, map, take, replicate, true}
+use Rattle.std.specs.Prelude.{false, Bool, Option, get_or, nat_lt, if◌then◌else◌}
+use Rattle.std.specs.Option.{option_map}
 use Rattle.cache_core.specs.declared.geometry.Geometry.{Geometry}
 use Rattle.cache_core.specs.declared.access.Access.{Access}
 use Rattle.cache_core.specs.History.{History, Rules, block_of}
-use Rattle.cache_core.specs.Residents.{renewals}
+use Rattle.cache_core.specs.Residents.{hits, renewals}
+use Rattle.cache_core.specs.Parts.{outcome_of}
 use Rattle.cache_core.specs.Order.{ranked}
 use Rattle.cache_core.specs.Row.{row}
 use Rattle.cache_core.specs.Geometry.{bsize_of, assoc_of, sets_of, blocks_of}
 use Rattle.grid_core.specs.declared.slots.Slot.{Slot}
 use Rattle.grid_core.specs.declared.stack.Stack.{Stack}
 use Rattle.grid_core.specs.Slots.{used_slot, no_slot}
-use Rattle.grid_core.specs.Ways.{stack_distance}
+use Rattle.grid_core.specs.Pushed.{dirty_in}
+use Rattle.grid_core.specs.Ways.{with_ways, stack_distance}
 use Rattle.grid_core.specs.Levels.{dirty_level}
 
 -- the rules of an LRU cache of this shape that allocates at writes
@@ -44,18 +48,26 @@ pub record StandsFor (s : Stack) (h : History) : Type 0 where
   pub rows : (t : ℕ) → t < (rules_of s).sets →
       row (rules_of s).assoc t s.slots.items ≡ slots_of (rules_of s) h t
 
--- where the last look found the block of its access
+-- where the block of the last access stood before
 unfoldable pub found_in : Stack → ℕ
 found_in s = s.found
 
--- the last look found the block of the access x where it stood after the history h
-abbrev pub HasFound : History → Access → Stack → Type 0
-HasFound h x s = found_in s ≡ stack_distance (rules_of s) h (block_of (rules_of s) x)
+-- the slot behind the first n of the row of the last access, or the one that the row lost
+abbrev pub behind_in : Stack → ℕ → Slot
+behind_in s n =
+    if nat_lt n s.ways then get_or s.slots.items (s.set * s.ways + n) no_slot else s.last
 
--- the stack stands for the history, and has looked for the block of the access
-pub record HasLooked (s : Stack) (h : History) (x : Access) : Type 0 where
-  pub stands : StandsFor s h
-  pub found : HasFound h x s
+-- the first byte of the block that a cache of n ways wrote back at the last access, if it missed
+abbrev pub back_at : Stack → ℕ → Option ℕ
+back_at s n = option_map (λ b. b * bsize_of s.geometry) (dirty_in s.wback n (behind_in s n))
+
+-- the last access was x, after the history h: it is known where its block stood, and what each
+-- cache that missed wrote back
+pub record HasMoved (h : History) (x : Access) (s : Stack) : Type 0 where
+  pub found : found_in s ≡ stack_distance (rules_of s) h (block_of (rules_of s) x)
+  pub backs : (n : ℕ) → 0 < n → n ≤ (rules_of s).assoc
+      → hits (with_ways n (rules_of s)) (renewals (with_ways n (rules_of s)) h) x ≡ false
+      → (outcome_of (with_ways n (rules_of s)) h x).back ≡ back_at s n
 
 -- a cache of this geometry and write policy, of so many ways, has as many sets, and no more ways
 pub record Suits (r : Rules) (g : Geometry) (ways : ℕ) (wback : Bool) : Type 0 where

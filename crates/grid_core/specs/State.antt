@@ -1,5 +1,5 @@
 -- The state of the caches that are served together, after a history.
-use Rattle.std.specs.Prelude.{◌≡◌, ℕ, ◌<◌, ◌==◌, Bool, true, List, [], length, get_or}
+use Rattle.std.specs.Prelude.{◌≡◌, ℕ, ◌<◌, ◌==◌, Bool, true, List, [], length, get_or, map}
 use Rattle.std.specs.List.{All, list_any}
 use Rattle.cache_core.specs.declared.geometry.Geometry.{Geometry}
 use Rattle.cache_core.specs.declared.counts.Counts.{Counts}
@@ -14,8 +14,9 @@ use Rattle.grid_core.specs.declared.shadows.Shadows.{Shadows}
 use Rattle.grid_core.specs.declared.stack.Stack.{Stack}
 use Rattle.grid_core.specs.Standing.{StandsFor, stack_rules}
 use Rattle.grid_core.specs.Recent.{IsRecent}
-use Rattle.grid_core.specs.Shadows.{HoldsOrder, is_known, recent_in}
-use Rattle.grid_core.specs.Cells.{IsCounted, IsWithinCell, whole_counts}
+use Rattle.grid_core.specs.Shadows.{HoldsOrder, far_in, is_known, recent_in}
+use Rattle.grid_core.specs.Cells.{IsCounted, IsWithinCell, shape_in, shape_rules, whole_counts}
+use Rattle.grid_core.specs.FullyAssociative.{shadow_misses}
 use Rattle.grid_core.specs.Shapes.{IsSuitedShape}
 
 -- rules of the block size of a geometry, for what all caches of the block size share
@@ -30,6 +31,7 @@ pub record IsAfter (g : Geometry) (stacks : List Stack) (shadows : Shadows) (cel
   pub known : (b : ℕ) → is_known shadows b
       ≡ list_any (λ t. t == b) (referenced_blocks (base_rules g) h)
   pub counted : All (IsCounted h) cells
+  pub far : All (λ s. far_in shadows s.rank ≡ shadow_misses (shape_rules s) h) (map shape_in cells)
   pub recent : IsRecent (bsize_of g) (recent_in shadows) h
 
 -- the rank of a shape is that of its number of blocks, and it has the block size of g
@@ -53,6 +55,7 @@ pub record IsCellFor (sizes : List ℕ) (stacks : List Stack) (g : Geometry) (wb
   pub found : get_or sizes c.shape.rank 0 ≡ blocks_of g
   pub fresh : IsFresh c
 
--- what a cell keeps, where all cells have these fetches: its counts, and the misses of its shadow
-abbrev pub kept_by : PerClass → Cell → Counts × PerClass
-kept_by fetches c = (whole_counts fetches c, c.far)
+-- what is kept for a cell, where all cells have these fetches and shadows: its counts, and the
+-- misses of its shadow
+abbrev pub kept_by : PerClass → Shadows → Cell → Counts × PerClass
+kept_by fetches shadows c = (whole_counts fetches c, far_in shadows c.shape.rank)

@@ -1,22 +1,22 @@
 //! The caches of one engine: what each counts, and what each did last.
 
-ghost use Rattle.std.specs.Prelude.{◌≡◌, ◌<◌, ◌^◌, ◌+◌, ℕ, map, [], IfOk, length, true};
+ghost use Rattle.std.specs.Prelude.{◌≡◌, ◌<◌, ◌^◌, ◌+◌, ◌∷◌, ℕ, map, [], IfOk, length, true};
 ghost use Rattle.std.specs.List.{All};
-ghost use Rattle.cache_core.specs.History.{History, is_write};
+ghost use Rattle.cache_core.specs.History.{History, is_write, access as accessed};
 ghost use Rattle.cache_core.specs.Parts.{outcome_of};
-ghost use Rattle.cache_core.specs.Counts.{no_counts, none_by_class};
-ghost use Rattle.grid_core.specs.Standing.{StandsFor, HasLooked, HasFound, rules_of};
+ghost use Rattle.cache_core.specs.Counts.{no_counts};
+ghost use Rattle.grid_core.specs.Standing.{StandsFor, HasMoved, rules_of};
 ghost use Rattle.grid_core.specs.Cells.{IsPlacedOn, IsPlacedAmong, shape_rules, shape_in};
-ghost use Rattle.grid_core.specs.Cells.{KnowsPrior, IsDue, IsServed, IsCounted, IsWithinCell};
+ghost use Rattle.grid_core.specs.Cells.{KnowsPrior, IsDue, IsCounted, IsWithinCell};
 ghost use Rattle.grid_core.specs.Cells.{HaveRoom, AreFlushedBy, flushed_by, dirty_bytes_of};
-ghost use Rattle.grid_core.specs.Cells.{items_of, after_outcome, HitsIn, HasMissed, whole_counts};
+ghost use Rattle.grid_core.specs.Cells.{items_of, HitsIn, whole_counts};
 ghost use Rattle.grid_core.specs.Cells.{sent_on_of};
-ghost use Rattle.cache_core.specs.Counting.{AreWithin};
 
-use crate::counting::{count, count_miss};
-use crate::outcome::{hit_outcome, no_outcome, outcome_in, sends_on};
+use crate::counting::count_miss;
+use crate::misses::missed;
+use crate::outcome::outcome_in;
 use crate::shadows::Prior;
-use crate::stack::Stack;
+use crate::stack::{Stack, writes};
 use cache_core::{Access, Counts, Geometry, Outcome, PerClass};
 use std::alloc::{AllocError, Global};
 
@@ -31,15 +31,13 @@ pub(crate) struct Shape {
     pub rank: usize,
 }
 
-/// One cache: its shape, its counts, how often its shadow missed, and the outcome of its last miss.
-/// The fetches and the writes that are sent on are not counted here: they are the same for all
-/// cells.
+/// One cache: its shape, and its counts. The fetches and the writes that are sent on are not
+/// counted here, since they are the same for all cells; nor are the misses and the loads, which
+/// follow from the kinds of the misses.
 #[derive(Clone, Copy, Debug)]
 pub(crate) struct Cell {
     pub shape: Shape,
     pub counts: Counts,
-    pub far: PerClass,
-    pub answer: Outcome,
 }
 
 /// Counts that are all zero.
@@ -47,13 +45,6 @@ fn zero_counts() -> Counts
     ensures { result ≡ no_counts }
 {
     Counts::default()
-}
-
-/// Zero in each class.
-pub(crate) fn zero_per_class() -> PerClass
-    ensures { result ≡ none_by_class }
-{
-    PerClass::default()
 }
 
 /// A cell that has counted nothing.
@@ -65,48 +56,27 @@ pub(crate) fn fresh_cell(shape: Shape) -> Cell
     Cell {
         shape,
         counts: zero_counts(),
-        far: zero_per_class(),
-        answer: no_outcome(),
     }
 }
 
-/// Serves an access in the cache of one cell, but for its shadow. A hit changes nothing. Answers
-/// whether it hits, in this cache as in those before.
-fn serve_ways(cell: &mut Cell, stack: &Stack, access: Access, prior: Prior, before: bool) -> bool
-    requires placed { IsPlacedOn (rules_of stack.now) cell.old.shape }
-    requires within { AreWithin cell.old.counts (2 ^ 46) }
-    ensures serves { (o : Outcome) × (cell.new ≡ after_outcome access o cell.old)
-        × ((h : History) → HasLooked stack.now h access →
-        KnowsPrior cell.old.shape h access prior →
-        o ≡ outcome_of (shape_rules cell.old.shape) h access) }
-    ensures hits { result ≡ true → (before ≡ true) × ((h : History) →
-        HasLooked stack.now h access → HitsIn h access cell.old.shape) }
-{
-    if stack.position() < cell.shape.ways {
-        return before;
-    }
-    let outcome = outcome_in(stack, cell.shape, access, prior);
-    count_miss(&mut cell.counts, access, outcome);
-    cell.answer = outcome;
-    false
-}
-
-/// Serves an access in the cache of one cell, and answers whether it hits, in this cache as in
-/// those before.
+/// Serves an access in the cache of one cell. A hit changes nothing. Answers whether it hits, in
+/// this cache as in those before.
 fn serve_cell(cell: &mut Cell, stack: &Stack, access: Access, prior: Prior, before: bool) -> bool
     requires placed { IsPlacedOn (rules_of stack.now) cell.old.shape }
     requires within { (n : ℕ) × IsWithinCell n cell.old × (n < 2 ^ 46) }
     ensures shape { cell.new.shape ≡ cell.old.shape }
-    ensures serves { (h : History) → HasLooked stack.now h access →
-        IsDue h access prior cell.old → IsServed h access cell.new }
+    ensures serves { (h : History) → HasMoved h access stack.now →
+        IsDue h access prior cell.old → IsCounted (accessed access ∷ h) cell.new }
     ensures bounds { (n : ℕ) → IsWithinCell n cell.old → IsWithinCell (n + 1) cell.new }
     ensures hits { result ≡ true → (before ≡ true) × ((h : History) →
-        HasLooked stack.now h access → HitsIn h access cell.old.shape) }
+        HasMoved h access stack.now → HitsIn h access cell.old.shape) }
 {
-    let hits = serve_ways(cell, stack, access, prior, before);
-    let far = cell.shape.rank < prior.level;
-    count(&mut cell.far, access, far);
-    hits
+    if stack.position() < cell.shape.ways {
+        return before;
+    }
+    let outcome = outcome_in(stack, cell.shape, writes(access), prior);
+    count_miss(&mut cell.counts, access, outcome);
+    false
 }
 
 /// Serves an access in the caches of all cells, and answers whether it hits in each.
@@ -115,11 +85,11 @@ fn serve_all(cells: &mut [Cell], stacks: &[Stack], access: Access, prior: Prior)
         (map shape_in cells.old) }
     requires within { (n : ℕ) × All (IsWithinCell n) cells.old × (n < 2 ^ 46) }
     ensures shapes { map shape_in cells.new ≡ map shape_in cells.old }
-    ensures serves { (h : History) → All (λ s. HasLooked s h access) stacks.now →
-        All (IsDue h access prior) cells.old → All (IsServed h access) cells.new }
+    ensures serves { (h : History) → All (HasMoved h access) stacks.now →
+        All (IsDue h access prior) cells.old → All (IsCounted (accessed access ∷ h)) cells.new }
     ensures bounds { (n : ℕ) → All (IsWithinCell n) cells.old →
         All (IsWithinCell (n + 1)) cells.new }
-    ensures hits { result ≡ true → (h : History) → All (λ s. HasLooked s h access) stacks.now →
+    ensures hits { result ≡ true → (h : History) → All (HasMoved h access) stacks.now →
         All (λ c. HitsIn h access c.shape) cells.new }
 {
     let mut all_hit = true;
@@ -131,7 +101,7 @@ fn serve_all(cells: &mut [Cell], stacks: &[Stack], access: Access, prior: Prior)
 }
 
 /// The same for the cells of a vector.
-pub(crate) fn serve_in(
+pub(crate) fn serve_cells(
     cells: &mut Vec<Cell>,
     stacks: &Vec<Stack>,
     access: Access,
@@ -141,29 +111,27 @@ pub(crate) fn serve_in(
         (map shape_in cells.old.items) }
     requires within { (n : ℕ) × All (IsWithinCell n) cells.old.items × (n < 2 ^ 46) }
     ensures shapes { map shape_in cells.new.items ≡ map shape_in cells.old.items }
-    ensures serves { (h : History) → All (λ s. HasLooked s h access) stacks.now.items →
-        All (IsDue h access prior) cells.old.items → All (IsServed h access) cells.new.items }
+    ensures serves { (h : History) → All (HasMoved h access) stacks.now.items →
+        All (IsDue h access prior) cells.old.items →
+        All (IsCounted (accessed access ∷ h)) cells.new.items }
     ensures bounds { (n : ℕ) → All (IsWithinCell n) cells.old.items →
         All (IsWithinCell (n + 1)) cells.new.items }
     ensures hits { result ≡ true → (h : History) →
-        All (λ s. HasLooked s h access) stacks.now.items →
+        All (HasMoved h access) stacks.now.items →
         All (λ c. HitsIn h access c.shape) cells.new.items }
 {
     serve_all(cells, stacks, access, prior)
 }
 
-/// What the last access did in the cache of a cell, by whether it was a write.
-pub(crate) fn answer_in(cell: &Cell, stacks: &Vec<Stack>, write: bool) -> Outcome
+/// What the last access did in the cache of a cell, by whether it was a write, and what was known
+/// of its block.
+pub(crate) fn answer_in(cell: &Cell, stacks: &Vec<Stack>, write: bool, prior: Prior) -> Outcome
     requires { IsPlacedAmong (map rules_of stacks.now.items) cell.now.shape }
-    ensures { (h : History) (x : Access) → All (HasFound h x) stacks.now.items →
-        HasMissed h x cell.now → write ≡ is_write x →
+    ensures { (h : History) (x : Access) → All (HasMoved h x) stacks.now.items →
+        KnowsPrior cell.now.shape h x prior → write ≡ is_write x →
         result ≡ outcome_of (shape_rules cell.now.shape) h x }
 {
-    let stack = &stacks[cell.shape.stack];
-    if stack.position() < cell.shape.ways {
-        return hit_outcome(sends_on(write, cell.shape.wback));
-    }
-    cell.answer
+    outcome_in(&stacks[cell.shape.stack], cell.shape, write, prior)
 }
 
 /// How many writes are sent on, of so many.
@@ -173,12 +141,16 @@ fn sent_of(writes: u64, wback: bool) -> u64
     if wback { 0 } else { writes }
 }
 
-/// All counts of a cell, with the fetches of all cells.
+/// All counts of a cell, with the fetches of all cells. Each miss loads its block.
 pub(crate) fn counts_in(cell: &Cell, fetches: PerClass) -> Counts
+    requires { IsWithinCell (2 ^ 46) cell.now }
     ensures { result ≡ whole_counts fetches cell.now }
 {
+    let misses = missed(&cell.counts);
     Counts {
         fetches,
+        misses,
+        loaded: misses.total() as u64,
         sent_on: sent_of(fetches.write, cell.shape.wback),
         ..cell.counts
     }

@@ -1,10 +1,18 @@
 //! How one access is counted.
 
 ghost use Rattle.std.specs.Prelude.{◌≡◌, ◌^◌};
+ghost use Rattle.cache_core.specs.Counts.{none_by_class};
 ghost use Rattle.cache_core.specs.Counting.{with_one, with_kind, IsWithin, AreWithin};
 ghost use Rattle.grid_core.specs.Cells.{with_own};
 
 use cache_core::{Access, Class, Counts, MissKind, Outcome, PerClass};
+
+/// Zero in each class.
+pub(crate) fn zero_per_class() -> PerClass
+    ensures { result ≡ none_by_class }
+{
+    PerClass::default()
+}
 
 /// Adds one in the class of the access, if `counted`.
 pub(crate) fn count(per_class: &mut PerClass, access: Access, counted: bool)
@@ -41,8 +49,6 @@ pub(crate) fn count_miss(counts: &mut Counts, access: Access, outcome: Outcome)
     requires { AreWithin counts.old (2 ^ 46) }
     ensures { counts.new ≡ with_own access outcome counts.old }
 {
-    count(&mut counts.misses, access, !outcome.hit);
     count_kind(counts, access, outcome.kind);
-    counts.loaded += outcome.fetch as u64;
     counts.written_back += outcome.back.is_some() as u64;
 }

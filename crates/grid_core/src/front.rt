@@ -6,9 +6,11 @@ ghost use Rattle.std.specs.Prelude.{nat_lt, if◌then◌else◌};
 ghost use Rattle.std.specs.List.{find};
 ghost use Rattle.std.specs.Option.{option_map_or};
 ghost use Rattle.cache_core.specs.Row.{shifted, row};
+ghost use Rattle.std.specs.Prelude.{get_or};
 ghost use Rattle.grid_core.specs.Slots.{holds, level_of, index_of, level_after, next_slots};
+ghost use Rattle.grid_core.specs.Slots.{no_slot};
 
-use crate::slots::{Seen, Slot};
+use crate::slots::{Seen, Slot, empty_slot, look};
 
 /// Where the slot stands that leaves a row of this length.
 fn last_moved(position: usize, len: usize) -> usize
@@ -96,44 +98,69 @@ fn touch_row(row: &mut [Slot], position: usize, block: u64, write: bool)
     }
 }
 
-/// Serves one access to the row of its set, in which its block has this position.
-pub(crate) fn touch(
-    slots: &mut [Slot],
-    set: usize,
-    ways: usize,
-    position: usize,
-    block: u64,
-    write: bool,
-)
+/// Where the block of an access stood in its row, or the length of the row if it was not there, and
+/// the slot that was the last.
+#[derive(Clone, Copy, Debug)]
+pub(crate) struct Turned {
+    pub position: usize,
+    pub last: Slot,
+}
+
+/// The last slot of a row.
+fn last_of(row: &[Slot]) -> Slot
+    ensures { result ≡ get_or row.now (length row.now - 1) no_slot }
+{
+    if row.len() == 0 {
+        return empty_slot();
+    }
+    row[row.len() - 1]
+}
+
+/// Serves one access to a row.
+fn turn_row(row: &mut [Slot], block: u64, write: bool) -> Turned
+    requires { length row.old < 2 ^ 32 }
+    ensures row { row.new ≡ next_slots block write row.old }
+    ensures position { result.position ≡ index_of (holds block) row.old }
+    ensures last { result.last ≡ get_or row.old (length row.old - 1) no_slot }
+{
+    let position = look(row, block).position;
+    let last = last_of(row);
+    touch_row(row, position, block, write);
+    Turned { position, last }
+}
+
+/// Serves one access to the row of its set.
+fn turn(slots: &mut [Slot], set: usize, ways: usize, block: u64, write: bool) -> Turned
     requires room { (set + 1) * ways ≤ length slots.old }
     requires small { ways < 2 ^ 32 }
-    requires position { position ≡ index_of (holds block) (row ways set slots.old) }
     ensures slots { row ways set slots.new ≡ next_slots block write (row ways set slots.old) }
     ensures others { (s : ℕ) → s ≢ set → row ways s slots.new ≡ row ways s slots.old }
     ensures len { length slots.new ≡ length slots.old }
+    ensures position { result.position ≡ index_of (holds block) (row ways set slots.old) }
+    ensures last { result.last ≡ get_or (row ways set slots.old) (ways - 1) no_slot }
 {
     let start = set * ways;
     let end = start + ways;
-    touch_row(&mut slots[start..end], position, block, write);
+    turn_row(&mut slots[start..end], block, write)
 }
 
 /// The same for the rows of a vector.
-pub(crate) fn touch_in(
+pub(crate) fn turn_in(
     slots: &mut Vec<Slot>,
     set: usize,
     ways: usize,
-    position: usize,
     block: u64,
     write: bool,
-)
+) -> Turned
     requires room { (set + 1) * ways ≤ vec_len slots.old }
     requires small { ways < 2 ^ 32 }
-    requires position { position ≡ index_of (holds block) (row ways set slots.old.items) }
     ensures slots { row ways set slots.new.items
         ≡ next_slots block write (row ways set slots.old.items) }
     ensures others { (s : ℕ) → s ≢ set →
         row ways s slots.new.items ≡ row ways s slots.old.items }
     ensures len { vec_len slots.new ≡ vec_len slots.old }
+    ensures position { result.position ≡ index_of (holds block) (row ways set slots.old.items) }
+    ensures last { result.last ≡ get_or (row ways set slots.old.items) (ways - 1) no_slot }
 {
-    touch(slots, set, ways, position, block, write);
+    turn(slots, set, ways, block, write)
 }

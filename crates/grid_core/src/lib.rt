@@ -22,6 +22,7 @@ mod counting;
 mod engine;
 mod front;
 mod laws;
+mod misses;
 mod outcome;
 mod parts;
 mod places;

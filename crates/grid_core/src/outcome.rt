@@ -4,17 +4,18 @@ ghost use Rattle.std.specs.Prelude.{◌≡◌, ◌<◌, ◌≤◌, not, ◌&&◌
 ghost use Rattle.std.specs.Prelude.{Some, None};
 ghost use Rattle.cache_core.specs.declared.access.MissKind.TheVariants.{Compulsory, Capacity};
 ghost use Rattle.cache_core.specs.declared.access.MissKind.TheVariants.{Conflict};
-ghost use Rattle.cache_core.specs.History.{History};
+ghost use Rattle.cache_core.specs.History.{History, is_write};
+ghost use Rattle.cache_core.specs.declared.access.Access.{Access};
 ghost use Rattle.cache_core.specs.Parts.{outcome_of};
 ghost use Rattle.grid_core.specs.Ways.{with_ways};
-ghost use Rattle.grid_core.specs.Standing.{HasLooked, rules_of, found_in};
+ghost use Rattle.grid_core.specs.Standing.{HasMoved, rules_of, found_in};
 ghost use Rattle.grid_core.specs.Cells.{IsPlacedOn, KnowsPrior, shape_rules};
 ghost use Rattle.grid_core.specs.Hits.{hit_made};
 
 use crate::cells::Shape;
 use crate::shadows::Prior;
-use crate::stack::{Stack, writes};
-use cache_core::{Access, MissKind, Outcome};
+use crate::stack::Stack;
+use cache_core::{MissKind, Outcome};
 
 /// The outcome before any access.
 pub(crate) fn no_outcome() -> Outcome {
@@ -43,18 +44,18 @@ fn kind_in(hit: bool, prior: Prior, rank: usize) -> Option<MissKind>
     }
 }
 
-/// The first byte of the block that the cache of `ways` ways writes back at this access, if any.
-fn back_in(stack: &Stack, access: Access, ways: usize, hit: bool) -> Option<u64>
+/// The first byte of the block that the cache of `ways` ways wrote back at the last access, if any.
+fn back_in(stack: &Stack, ways: usize, hit: bool) -> Option<u64>
     requires some { 0 < ways }
     requires fits { ways ≤ (rules_of stack.now).assoc }
-    ensures { (h : History) → HasLooked stack.now h access →
+    ensures { (h : History) (x : Access) → HasMoved h x stack.now →
         hit ≡ nat_lt (found_in stack.now) ways →
-        (outcome_of (with_ways ways (rules_of stack.now)) h access).back ≡ result }
+        (outcome_of (with_ways ways (rules_of stack.now)) h x).back ≡ result }
 {
     if hit {
         return None;
     }
-    stack.back(access, ways)
+    stack.back(ways)
 }
 
 /// Whether a write is sent on, where writes allocate.
@@ -64,20 +65,21 @@ pub(crate) fn sends_on(write: bool, wback: bool) -> bool
     write && !wback
 }
 
-/// The outcome of an access in the cache of this shape.
-pub(crate) fn outcome_in(stack: &Stack, shape: Shape, access: Access, prior: Prior) -> Outcome
+/// The outcome of the last access in the cache of this shape, by whether it was a write, and what
+/// was known of its block.
+pub(crate) fn outcome_in(stack: &Stack, shape: Shape, write: bool, prior: Prior) -> Outcome
     requires { IsPlacedOn (rules_of stack.now) shape }
     ensures hit { result.hit ≡ nat_lt (found_in stack.now) shape.ways }
-    ensures is { (h : History) → HasLooked stack.now h access →
-        KnowsPrior shape h access prior → result ≡ outcome_of (shape_rules shape) h access }
+    ensures is { (h : History) (x : Access) → HasMoved h x stack.now → write ≡ is_write x →
+        KnowsPrior shape h x prior → result ≡ outcome_of (shape_rules shape) h x }
 {
     let hit = stack.position() < shape.ways;
     Outcome {
         hit,
         kind: kind_in(hit, prior, shape.rank),
-        back: back_in(stack, access, shape.ways, hit),
+        back: back_in(stack, shape.ways, hit),
         fetch: !hit,
-        through: sends_on(writes(access), stack.wback()),
+        through: sends_on(write, stack.wback()),
     }
 }
 

@@ -4,10 +4,15 @@
 ghost use Rattle.std.specs.Prelude.{◌≡◌, ◌<◌, ◌==◌, ℕ, Some, is_some, nat_eq, unwrap_or};
 ghost use Rattle.std.specs.Prelude.{if◌then◌else◌, IfOk, OnErr, ◌+◌};
 ghost use Rattle.std.specs.HashMap.{get};
+ghost use Rattle.std.specs.Prelude.{length};
+ghost use Rattle.marked_list.specs.Marked.{marked_sizes};
 ghost use Rattle.grid_core.specs.AtHand.{AreRight};
 
 use crate::at_hand::{Entry, at_hand, keep_at_hand, none_at_hand};
+use crate::misses::{count_at, sum_of, zeros};
 use crate::recent::{Recent, is_again, nothing_recent, used_now};
+use crate::stack::writes;
+use cache_core::{Access, PerClass};
 use marked_list::Marked;
 use std::alloc::{AllocError, Global};
 use std::collections::HashMap;
@@ -36,11 +41,14 @@ pub(crate) struct Shadows {
     entries: Vec<Entry>,
     used: usize,
     order: Marked,
+    /// The accesses by class, for each level that their blocks had before.
+    levels: Vec<PerClass>,
     recent: Recent,
     ghost low: { (a n : ℕ) → get nat_eq numbers a ≡ Some n → n < used },
     ghost apart: { (a b n : ℕ) → get nat_eq numbers a ≡ Some n → get nat_eq numbers b ≡ Some n →
         a ≡ b },
     ghost right: { AreRight (get nat_eq numbers) entries.items },
+    ghost leveled: { length levels.items ≡ length (marked_sizes order) + 1 },
 }
 
 /// The number of a block. A block that has none gets `next`.
@@ -109,11 +117,16 @@ fn used_with(used: usize, known: bool) -> usize
 
 impl Shadows {
     ghost use Rattle.std.specs.Prelude.{◌≡◌, ◌<◌, ◌==◌, ◌||◌, ℕ, List, [], IfOk, OnOk, OnErr};
-    ghost use Rattle.std.specs.Prelude.{true, false};
+    ghost use Rattle.std.specs.Prelude.{true, false, ◌^◌, length, nat_lt};
     ghost use Rattle.std.specs.List.{All};
     ghost use Rattle.marked_list.specs.Recency.{level_of, brought_front};
     ghost use Rattle.grid_core.specs.Recent.{IsAgain, after_use, none_recent};
     ghost use Rattle.grid_core.specs.Shadows.{HoldsOrder, is_known, recent_in, shadow_sizes};
+    ghost use Rattle.grid_core.specs.Shadows.{levels_in, far_in};
+    ghost use Rattle.grid_core.specs.Totals.{total};
+    ghost use Rattle.cache_core.specs.Counts.{none_by_class};
+    ghost use Rattle.cache_core.specs.Counting.{IsWithin, with_one};
+    ghost use Rattle.cache_core.specs.History.{is_write};
 
     /// Empty shadows of these sizes in blocks. No block is known.
     pub fn new(alloc: Global, sizes: &[usize]) -> Result<Shadows, AllocError>
@@ -122,19 +135,24 @@ impl Shadows {
         ensures known { IfOk result (λ shadows. (q : ℕ) → is_known shadows q ≡ false) }
         ensures sizes { IfOk result (λ shadows. shadow_sizes shadows ≡ sizes.now) }
         ensures recent { IfOk result (λ shadows. recent_in shadows ≡ none_recent) }
+        ensures levels { IfOk result (λ shadows. total (levels_in shadows) ≡ none_by_class) }
+        ensures far { IfOk result (λ shadows. (k : ℕ) → far_in shadows k ≡ none_by_class) }
     {
         let order = Marked::new(alloc, sizes)?;
+        let levels = zeros(alloc, sizes.len() + 1)?;
         Ok(Shadows {
             numbers: HashMap::new(alloc),
             entries: none_at_hand(alloc)?,
             used: 0,
             order,
+            levels,
             recent: nothing_recent(),
         })
     }
 
-    /// Uses a block in all shadows, and answers what was known of it before.
-    pub fn touch(&mut self, block: u64, write: bool) -> Result<Prior, AllocError>
+    /// Serves an access to a block in all shadows, and answers what was known of the block before.
+    pub fn touch(&mut self, block: u64, access: Access) -> Result<Prior, AllocError>
+        requires { IsWithin (total (levels_in self.old)) (2 ^ 46) }
         ensures known { IfOk result (λ prior. prior.known ≡ is_known self.old block) }
         ensures level { IfOk result (λ prior. (ys : List ℕ) → HoldsOrder self.old ys →
             prior.level ≡ level_of (shadow_sizes self.old) ys block) }
@@ -143,7 +161,12 @@ impl Shadows {
         ensures adds { OnOk result ((q : ℕ) →
             is_known self.new q ≡ (block == q || is_known self.old q)) }
         ensures recent { OnOk result (
-            recent_in self.new ≡ after_use block write (recent_in self.old)) }
+            recent_in self.new ≡ after_use block (is_write access) (recent_in self.old)) }
+        ensures levels { OnOk result (
+            total (levels_in self.new) ≡ with_one access true (total (levels_in self.old))) }
+        ensures far { IfOk result (λ prior. (k : ℕ) →
+            far_in self.new k ≡ with_one access (nat_lt k prior.level) (far_in self.old k)) }
+        ensures keeps { OnErr result (levels_in self.new ≡ levels_in self.old) }
         ensures sizes { shadow_sizes self.new ≡ shadow_sizes self.old }
     {
         if self.used == usize::MAX {
@@ -156,11 +179,21 @@ impl Shadows {
         let Ok(level) = self.order.touch(found.number) else {
             return Err(AllocError);
         };
-        self.recent = used_now(self.recent, block, write);
+        count_at(&mut self.levels, level, access);
+        self.recent = used_now(self.recent, block, writes(access));
         Ok(Prior {
             known: found.known,
             level,
         })
+    }
+
+    /// How often the shadow of the size of this rank missed, by class.
+    pub fn misses(&self, rank: usize) -> PerClass
+        requires inside { rank < length (shadow_sizes self.now) }
+        requires within { IsWithin (total (levels_in self.now)) (2 ^ 46) }
+        ensures { result ≡ far_in self.now rank }
+    {
+        sum_of(&self.levels[rank + 1..])
     }
 
     /// Whether a use of a block is one more of the block that was used last, and makes it dirty
@@ -176,6 +209,7 @@ impl Shadows {
         ensures order { HoldsOrder self.new [] }
         ensures known { (q : ℕ) → is_known self.new q ≡ is_known self.old q }
         ensures recent { recent_in self.new ≡ none_recent }
+        ensures levels { levels_in self.new ≡ levels_in self.old }
         ensures sizes { shadow_sizes self.new ≡ shadow_sizes self.old }
     {
         self.order.clear();

@@ -31,28 +31,8 @@ pub(crate) struct Seen {
     pub level: usize,
 }
 
-/// A block, its set, and its position in the row of that set, which is the length of the row if it
-/// is not there.
-#[derive(Clone, Copy, Debug)]
-pub(crate) struct Place {
-    pub block: u64,
-    pub set: usize,
-    pub position: usize,
-}
-
-/// The place of a block in empty rows.
-pub(crate) fn no_place(ways: usize) -> Place
-    ensures { result ≡ record { block = 0; set = 0; position = ways } }
-{
-    Place {
-        block: 0,
-        set: 0,
-        position: ways,
-    }
-}
-
 /// An empty slot.
-fn empty_slot() -> Slot
+pub(crate) fn empty_slot() -> Slot
     ensures { result ≡ no_slot }
 {
     Slot {
@@ -114,16 +94,6 @@ pub(crate) fn look(row: &[Slot], block: u64) -> Seen
         position: row.len(),
         level: row.len(),
     }
-}
-
-/// Where a block stands in the row of its set.
-pub(crate) fn find_in(slots: &Vec<Slot>, set: usize, ways: usize, block: u64) -> usize
-    requires { (set + 1) * ways ≤ vec_len slots.now }
-    ensures { result ≡ index_of (holds block) (row ways set slots.now.items) }
-{
-    let start = set * ways;
-    let end = start + ways;
-    look(&slots[start..end], block).position
 }
 
 /// Appends the first bytes of the blocks of a row that are dirty in a cache of `ways` ways.

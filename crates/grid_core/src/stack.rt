@@ -1,13 +1,13 @@
 //! The sets of one number, for caches of every number of ways up to the widest.
 
-ghost use Rattle.std.specs.Prelude.{◌≡◌, ◌<◌, ◌*◌, ℕ, vec_len};
+ghost use Rattle.std.specs.Prelude.{◌≡◌, ◌<◌, ◌+◌, ◌*◌, ◌^◌, ℕ, vec_len};
 ghost use Rattle.cache_core.specs.History.{is_write};
 ghost use Rattle.cache_core.specs.Geometry.{bsize_of, sets_of, assoc_of};
 ghost use Rattle.cache_core.specs.Row.{row};
-ghost use Rattle.grid_core.specs.Slots.{HaveBytes, IsPlaceIn};
+ghost use Rattle.grid_core.specs.Slots.{HaveBytes};
 
-use crate::front::touch_in;
-use crate::slots::{Place, Slot, clear_in, dirty_rising, empty_slots, find_in, no_place, pushed};
+use crate::front::turn_in;
+use crate::slots::{Slot, clear_in, dirty_rising, empty_slot, empty_slots, pushed};
 use cache_core::{Access, Class, Geometry};
 use std::alloc::{AllocError, Global};
 
@@ -16,17 +16,22 @@ use std::alloc::{AllocError, Global};
 pub struct Stack {
     geometry: Geometry,
     ways: usize,
+    /// The number of the last set.
+    last_set: u64,
     wback: bool,
     slots: Vec<Slot>,
-    /// Where `look` found the block of its access.
+    /// The set of the last access, and where its block stood there before.
+    set: usize,
     found: usize,
-    /// Where the block of the last access is now.
-    place: Place,
+    /// The slot that was the last of that set before.
+    last: Slot,
     ghost width: { ways ≡ assoc_of geometry },
+    ghost numbered: { last_set + 1 ≡ sets_of geometry },
     ghost room: { vec_len slots ≡ sets_of geometry * ways },
     ghost bytes: { (t : ℕ) → t < sets_of geometry →
         HaveBytes (bsize_of geometry) (row ways t slots.items) },
-    ghost placed: { IsPlaceIn (sets_of geometry) ways slots.items place },
+    ghost inside: { set < sets_of geometry },
+    ghost fits: { last.block * bsize_of geometry < 2 ^ 64 },
 }
 
 /// Whether an access writes.
@@ -48,16 +53,14 @@ fn address(access: Access) -> u64
 
 #[tactic(auto, unfolding(crate::specs::Standing::rules_of, crate::specs::Standing::found_in))]
 impl Stack {
-    ghost use Rattle.std.specs.Prelude.{◌≡◌, ◌<◌, ◌≤◌, ◌*◌, ◌%◌, ◌∷◌, ℕ, true, false, [], IfOk};
+    ghost use Rattle.std.specs.Prelude.{◌≡◌, ◌<◌, ◌≤◌, ◌*◌, ◌%◌, ◌∷◌, ℕ, true, [], IfOk};
     ghost use Rattle.std.specs.Prelude.{map};
-    ghost use Rattle.cache_core.specs.History.{History, block_of, access as accessed};
+    ghost use Rattle.cache_core.specs.History.{History, access as accessed};
     ghost use Rattle.cache_core.specs.History.{flush as flushed};
     ghost use Rattle.cache_core.specs.Dirty.{dirty_blocks};
-    ghost use Rattle.cache_core.specs.Residents.{hits, renewals};
-    ghost use Rattle.grid_core.specs.Ways.{with_ways, stack_distance};
+    ghost use Rattle.grid_core.specs.Ways.{with_ways};
     ghost use Rattle.grid_core.specs.Standing.{StandsFor, rules_of, stack_rules};
-    ghost use Rattle.cache_core.specs.Parts.{outcome_of};
-    ghost use Rattle.grid_core.specs.Standing.{HasLooked, found_in, Suits};
+    ghost use Rattle.grid_core.specs.Standing.{HasMoved, found_in, behind_in, back_at, Suits};
 
     /// Empty rows, of as many sets as the geometry has, and of its number of ways.
     pub fn new(
@@ -70,14 +73,17 @@ impl Stack {
         ensures stands { IfOk result (λ stack. StandsFor stack []) }
         ensures rules { IfOk result (λ stack. rules_of stack ≡ stack_rules geometry wback) }
     {
-        let slots = empty_slots(alloc, geometry.sets() as usize * ways)?;
+        let sets = geometry.sets();
+        let slots = empty_slots(alloc, sets as usize * ways)?;
         Ok(Stack {
             geometry,
             ways,
+            last_set: sets - 1,
             wback,
             slots,
+            set: 0,
             found: 0,
-            place: no_place(ways),
+            last: empty_slot(),
         })
     }
 
@@ -85,66 +91,29 @@ impl Stack {
     fn set_of(&self, block: u64) -> usize
         ensures { result ≡ block % sets_of self.now.geometry }
     {
-        if self.place.block == block {
-            return self.place.set;
-        }
-        self.geometry.set(block) as usize
+        (block & self.last_set) as usize
     }
 
-    /// Where a block is.
-    fn place_of(&self, block: u64) -> Place
-        ensures block { result.block ≡ block }
-        ensures place { IsPlaceIn (sets_of self.now.geometry) self.now.ways self.now.slots.items
-            result }
-    {
-        if self.place.block == block {
-            return self.place;
-        }
-        let set = self.geometry.set(block) as usize;
-        let position = find_in(&self.slots, set, self.ways, block);
-        Place {
-            block,
-            set,
-            position,
-        }
-    }
-
-    /// Serves one access: its block is then the one used last in its set.
-    pub fn touch(&mut self, access: Access)
+    /// Serves one access: its block is then the one used last in its set. Where it stood before
+    /// stays known, and so does what was pushed out.
+    pub fn serve(&mut self, access: Access)
         ensures stands { (h : History) → StandsFor self.old h →
             StandsFor self.new (accessed access ∷ h) }
-        ensures found { found_in self.new ≡ found_in self.old }
+        ensures moved { (h : History) → StandsFor self.old h → HasMoved h access self.new }
         ensures rules { rules_of self.new ≡ rules_of self.old }
     {
         let write = writes(access);
         let addr = address(access);
         let block = self.geometry.block(addr);
-        let place = self.place_of(block);
-        touch_in(
-            &mut self.slots,
-            place.set,
-            self.ways,
-            place.position,
-            block,
-            write,
-        );
-        self.place = Place {
-            position: 0,
-            ..place
-        };
+        let set = self.set_of(block);
+        let turned = turn_in(&mut self.slots, set, self.ways, block, write);
+        self.set = set;
+        self.found = turned.position;
+        self.last = turned.last;
     }
 
-    /// Looks for the block of an access in its set, and keeps its position.
-    pub fn look(&mut self, access: Access)
-        ensures looked { (h : History) → StandsFor self.old h → HasLooked self.new h access }
-        ensures rules { rules_of self.new ≡ rules_of self.old }
-    {
-        let block = self.geometry.block(access.addr);
-        self.place = self.place_of(block);
-        self.found = self.place.position;
-    }
-
-    /// The position that `look` found.
+    /// Where the block of the last access stood in its row before, or the most ways if it was not
+    /// there.
     pub fn position(&self) -> usize
         ensures { result ≡ found_in self.now }
     {
@@ -162,22 +131,6 @@ impl Stack {
             && ways <= self.ways
     }
 
-    /// The number of the block of an access.
-    pub fn block(&self, access: Access) -> u64
-        ensures { result ≡ block_of (rules_of self.now) access }
-    {
-        self.geometry.block(access.addr)
-    }
-
-    /// The position of the block of an access in its set, or the most ways if it is in none.
-    pub fn find(&self, access: Access) -> usize
-        ensures { (h : History) → StandsFor self.now h →
-            result ≡ stack_distance (rules_of self.now) h (block_of (rules_of self.now) access) }
-    {
-        let block = self.geometry.block(access.addr);
-        self.place_of(block).position
-    }
-
     /// How many sets there are.
     pub fn sets(&self) -> u64
         ensures { result ≡ (rules_of self.now).sets }
@@ -192,19 +145,24 @@ impl Stack {
         self.wback
     }
 
-    /// The first byte of the block that the cache of `ways` ways writes back if it misses here.
-    pub fn back(&self, access: Access, ways: usize) -> Option<u64>
-        requires some { 0 < ways }
-        requires fits { ways ≤ (rules_of self.now).assoc }
-        ensures { (h : History) → StandsFor self.now h →
-            hits (with_ways ways (rules_of self.now)) (renewals (with_ways ways
-            (rules_of self.now)) h)
-            access ≡ false →
-            (outcome_of (with_ways ways (rules_of self.now)) h access).back ≡ result }
+    /// The slot behind the first `ways` of the row of the last access, or the one that the row
+    /// lost.
+    fn slot_behind(&self, ways: usize) -> Slot
+        ensures is { result ≡ behind_in self.now ways }
+        ensures fits { result.block * bsize_of self.now.geometry < 2 ^ 64 }
     {
-        let block = self.geometry.block(access.addr);
-        let set = self.set_of(block);
-        let slot = self.slots[set * self.ways + (ways - 1)];
+        if ways < self.ways {
+            return self.slots[self.set * self.ways + ways];
+        }
+        self.last
+    }
+
+    /// The first byte of the block that the cache of `ways` ways wrote back at the last access, if
+    /// it missed.
+    pub fn back(&self, ways: usize) -> Option<u64>
+        ensures { result ≡ back_at self.now ways }
+    {
+        let slot = self.slot_behind(ways);
         let bsize = self.geometry.bsize();
         pushed(slot, self.wback, ways, bsize)
     }
@@ -231,6 +189,5 @@ impl Stack {
         ensures rules { rules_of self.new ≡ rules_of self.old }
     {
         clear_in(&mut self.slots);
-        self.place = no_place(self.ways);
     }
 }

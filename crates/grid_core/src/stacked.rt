@@ -4,7 +4,8 @@ ghost use Rattle.std.specs.Prelude.{◌≡◌, ◌≤◌, ◌^◌, ◌*◌, leng
 ghost use Rattle.std.specs.List.{All};
 ghost use Rattle.cache_core.specs.History.{History};
 ghost use Rattle.cache_core.specs.Dirty.{rising};
-ghost use Rattle.grid_core.specs.Shadows.{shadow_sizes};
+ghost use Rattle.grid_core.specs.Shadows.{shadow_sizes, levels_in};
+ghost use Rattle.grid_core.specs.Totals.{total};
 ghost use Rattle.cache_core.specs.Geometry.{bsize_of};
 ghost use Rattle.cache_core.specs.Counting.{IsWithin};
 ghost use Rattle.grid_core.specs.Shapes.{HaveBsize};
@@ -12,14 +13,14 @@ ghost use Rattle.grid_core.specs.Standing.{rules_of};
 ghost use Rattle.grid_core.specs.Cells.{IsPlacedAmong, IsWithinCell, shape_in};
 ghost use Rattle.grid_core.specs.State.{IsAfter, IsRanked};
 
-use crate::cells::{Cell, answer_in, counts_in, dirty_lists, flush_in, serve_in, zero_per_class};
-use crate::counting::count;
+use crate::cells::{Cell, answer_in, counts_in, dirty_lists, flush_in, serve_cells};
+use crate::counting::{count, zero_per_class};
 use crate::outcome::{hit_outcome, sends_on};
 use crate::parts::parts_for;
-use crate::shadows::Shadows;
+use crate::shadows::{Prior, Shadows};
 use crate::shapes::rising_sizes;
 use crate::stack::{Stack, writes};
-use crate::stacks::{clear_in, look_in, touch_in};
+use crate::stacks::{clear_in, serve_rows};
 use cache_core::{Access, Counts, Geometry, NoMemory, Outcome, PerClass};
 use std::alloc::{AllocError, Global};
 
@@ -43,6 +44,8 @@ pub(crate) struct Stacked {
     write: bool,
     /// Whether it used the block that was used last, and changed nothing but the fetches.
     again: bool,
+    /// If not, what was known of its block before.
+    prior: Prior,
     /// Whether it is known that the last access sent nothing to the next level.
     silent: bool,
     ghost rises: { rising (shadow_sizes shadows) ≡ shadow_sizes shadows },
@@ -53,6 +56,7 @@ pub(crate) struct Stacked {
     ghost one_policy: { All (λ s. s.wback ≡ wback) (map shape_in cells.items) },
     ghost bounded: { All (IsWithinCell (2 * served)) cells.items },
     ghost fetched: { IsWithin fetches served },
+    ghost leveled: { IsWithin (total (levels_in shadows)) served },
     ghost few: { served ≤ 2 ^ 44 },
     // Unless it has failed, a history of as many events made it; so a flush has room for its
     // counts.
@@ -117,6 +121,10 @@ impl Stacked {
             failed: false,
             write: false,
             again: false,
+            prior: Prior {
+                known: false,
+                level: 0,
+            },
             silent: true,
         })
     }
@@ -161,16 +169,16 @@ impl Stacked {
         ensures rules { stacked_rules self.new ≡ stacked_rules self.old }
     {
         let write = writes(access);
-        let Ok(prior) = self.shadows.touch(block, write) else {
+        let Ok(prior) = self.shadows.touch(block, access) else {
             self.failed = true;
             return Err(NoMemory);
         };
-        look_in(&mut self.stacks, access);
-        let all_hit = serve_in(&mut self.cells, &self.stacks, access, prior);
-        touch_in(&mut self.stacks, access);
+        serve_rows(&mut self.stacks, access);
+        let all_hit = serve_cells(&mut self.cells, &self.stacks, access, prior);
         count(&mut self.fetches, access, true);
         self.write = write;
         self.again = false;
+        self.prior = prior;
         self.silent = is_silent(all_hit, sends_on(write, self.wback));
         self.served += 1;
         Ok(())
@@ -258,7 +266,7 @@ impl Stacked {
         ensures counted { (h : History) → StackedStandsFor self.now h →
             result ≡ shadow_misses (rules_at (stacked_rules self.now) index) h }
     {
-        self.cells[index].far
+        self.shadows.misses(self.cells[index].shape.rank)
     }
 
     /// Whether the last access sent nothing to the next level in any cache, as far as is known.
@@ -280,6 +288,6 @@ impl Stacked {
         if self.again {
             return hit_outcome(sends_on(self.write, cell.shape.wback));
         }
-        answer_in(cell, &self.stacks, self.write)
+        answer_in(cell, &self.stacks, self.write, self.prior)
     }
 }

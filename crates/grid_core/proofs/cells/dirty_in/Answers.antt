@@ -1,8 +1,8 @@
-use Rattle.std.proofs.Common.{◌≡◌, ◌<◌, ap, ◌∙◌, arith, sym, subst, length}
+use Rattle.std.proofs.Common.{◌<◌, ap, ◌∙◌, arith, sym, subst, length}
 use Rattle.std.proofs.lemmas.List.{length-map}
 use Rattle.grid_core.specs.Standing.{StandsFor, rules_of}
 use Rattle.grid_core.specs.Written.{written_by}
-use Rattle.grid_core.proofs.Placed.{rules-at, names-rows}
+use Rattle.grid_core.proofs.Placed.{rules-at}
 use Rattle.grid_core.proofs.cells.dirty_in.Goals as goal
 
 pub dirty-requires-clause-some : goal.dirty-requires-clause-some

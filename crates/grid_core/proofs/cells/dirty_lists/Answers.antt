@@ -1,4 +1,4 @@
-use Rattle.std.proofs.Common.{◌≡◌, ◌<◌, List, length, get_or, map, refl, sym, subst, ◌∙◌, ap, arith}
+use Rattle.std.proofs.Common.{List, get_or, map, refl, sym, subst, ◌∙◌, ap, arith}
 use Rattle.grid_core.specs.declared.cells.Cell.{Cell}
 use Rattle.grid_core.specs.Standing.{rules_of}
 use Rattle.grid_core.specs.Cells.{IsPlacedAmong}

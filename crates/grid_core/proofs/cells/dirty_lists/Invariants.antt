@@ -1,4 +1,4 @@
-use Rattle.std.proofs.Common.{◌≡◌, ℕ, take, length, map}
+use Rattle.std.proofs.Common.{◌≡◌, take, length, map}
 use Rattle.std.specs.List.{All}
 use Rattle.cache_core.specs.History.{History}
 use Rattle.grid_core.specs.Standing.{StandsFor}

@@ -1,17 +1,11 @@
-use Rattle.std.proofs.Common.{◌≡◌, sym, subst, ◌∙◌}
-use Rattle.cache_core.specs.Counting.{AreWithin, IsWithin}
+use Rattle.std.proofs.Common.{sym, subst, ◌∙◌}
+use Rattle.cache_core.specs.Counting.{AreWithin}
 use Rattle.cache_core.proofs.CacheFacts.{AreWithin-none}
 use Rattle.grid_core.proofs.Empty.{counted-none}
 use Rattle.grid_core.proofs.cells.fresh_cell.Goals as goal
 
 pub returns-clause-counted : goal.returns-clause-counted
-returns-clause-counted c = record {
-  counts = c.zero_counts.ensures ∙ (counted-none c.args.shape).0;
-  far = c.zero_per_class.ensures ∙ (counted-none c.args.shape).1;
-}
+returns-clause-counted c = c.zero_counts.ensures ∙ (counted-none c.args.shape).0
 
 pub returns-clause-within : goal.returns-clause-within
-returns-clause-within c = record {
-  counts = subst (λ k. AreWithin k 0) (sym c.zero_counts.ensures) AreWithin-none;
-  far = subst (λ k. IsWithin k 0) (sym c.zero_per_class.ensures) AreWithin-none.fetches;
-}
+returns-clause-within c = subst (λ k. AreWithin k 0) (sym c.zero_counts.ensures) AreWithin-none

@@ -1,64 +1,60 @@
-use Rattle.std.proofs.Common.{◌≡◌, ◌+◌, ltb, if◌then◌else◌, sym, ap, subst, ◌∙◌}
-use Rattle.cache_core.specs.declared.access.Access.{Access}
-use Rattle.cache_core.specs.declared.access.Outcome.{Outcome}
-use Rattle.cache_core.specs.declared.counts.PerClass.{PerClass}
+use Rattle.std.proofs.Common.{◌≡◌, ◌&&◌, ◌+◌, ◌^◌, Bool, true, not, ltb, refl, sym, ap}
+use Rattle.std.proofs.Common.{subst, ◌∙◌, arith}
+use Rattle.cache_core.specs.declared.counts.Counts.{Counts}
+use Rattle.cache_core.specs.History.{History, is_write}
 use Rattle.cache_core.specs.Parts.{outcome_of}
-use Rattle.cache_core.specs.Counting.{with_one}
-use Rattle.cache_core.proofs.CacheFacts.{IsWithin-with_one}
+use Rattle.cache_core.specs.Counting.{AreWithin}
+use Rattle.cache_core.specs.Counts.{counts_of}
 use Rattle.cache_core.proofs.Steps.{counts-step}
-use Rattle.grid_core.specs.declared.cells.Cell.{Cell}
-use Rattle.grid_core.specs.declared.shadows.Prior.{Prior}
-use Rattle.grid_core.specs.Cells.{shape_rules, after_outcome, own_counts, with_own, IsServed}
-use Rattle.grid_core.specs.Cells.{IsWithinCell}
-use Rattle.grid_core.proofs.Owing.{own-within}
-use Rattle.grid_core.proofs.Served.{far-step}
+use Rattle.grid_core.specs.Cells.{HitsIn, own_counts, shape_rules, with_own}
+use Rattle.grid_core.specs.Standing.{rules_of, HasMoved}
+use Rattle.grid_core.proofs.Served.{hit-is}
+use Rattle.grid_core.proofs.StackRules.{stacked}
+use Rattle.grid_core.proofs.Hitting.{as-true, hit-own}
+use Rattle.grid_core.proofs.Owing.{cell-more, own-within}
 use Rattle.grid_core.proofs.cells.serve_cell.Goals as goal
 
--- a cell after an access
-abbrev counted : Access → Prior → Outcome → Cell → Cell
-counted x p o c = record c {
-  counts = with_own x o c.counts;
-  answer = (if o.hit then c.answer else o);
-  far = with_one x (ltb c.shape.rank p.level) c.far;
-}
+pub count_miss-requires : goal.count_miss-requires
+count_miss-requires c =
+    let w = c.requires.within in
+    let lt = w.2 in
+    cell-more w.0 (2 ^ 46) (omega arith) c.args.cell.now w.1
 
--- what becomes of a cell in two steps
-two-steps : (x : Access) (p : Prior) (o : Outcome) (c v : Cell) (far : PerClass)
-    → v ≡ after_outcome x o c → far ≡ with_one x (ltb v.shape.rank p.level) v.far
-    → record v { far = far } ≡ counted x p o c
-two-steps x p o c v far first second =
-    let with : Cell → PerClass → Cell = λ w f. record w { far = f } in
-    ap (with v) second ∙ ap (λ w. with w (with_one x (ltb w.shape.rank p.level) w.far)) first
+pub returns-then-position-cell : goal.returns-then-position-cell
+returns-then-position-cell c =
+    let old = c.args.cell.now in
+    let x = c.args.access in
+    let s = c.args.stack.now in
+    let shape = old.shape in
+    let r = shape_rules shape in
+    let t : Bool = is_write x && not shape.wback in
+    let hit : ltb c.position.result shape.ways ≡ true =
+    as-true c.position.result shape.ways c.if-position-cell.true in
+    let is : (h : History) → HasMoved h x s → HitsIn h x shape = λ h moved.
+    hit-is (rules_of s) (stacked s) shape c.requires.placed h x
+    (ap (λ d. ltb d shape.ways) (sym (c.position.ensures ∙ moved.found)) ∙ hit) in
+    record {
+      shape = refl;
+      serves = λ h moved due.
+          let k = own_counts (counts_of r h) in
+          due.counted ∙ sym (hit-own x t k) ∙ ap (λ o. with_own x o k) (sym (is h moved))
+          ∙ ap own_counts (counts-step r h x);
+      bounds = λ n within. cell-more n (n + 1) (omega arith) old within;
+      hits = λ before. (before, λ h moved. is h moved);
+    }
 
 pub returns-clause-serves : goal.returns-clause-serves
-returns-clause-serves c = λ h looked due.
-    let s = c.args.cell.now.shape in
-    let x = c.args.access in
-    let p = c.args.prior in
-    let r = shape_rules s in
+returns-clause-serves c = λ h moved due.
     let old = c.args.cell.now in
-    let o = c.serve_ways-hits.ensures.serves.0 in
-    let is = c.serve_ways-hits.ensures.serves.2 h looked due.prior in
-    subst (IsServed h x) (sym (two-steps x p o old c.serve_ways-hits.new.cell c.count.new.per_class
-    c.serve_ways-hits.ensures.serves.1 c.count.ensures)) (record {
-      counted = record {
-        counts = ap (λ o. with_own x o old.counts) is
-            ∙ ap (with_own x (outcome_of r h x)) due.counted.counts
-            ∙ ap own_counts (counts-step r h x);
-        far = ap (with_one x (ltb s.rank p.level)) due.counted.far ∙ far-step s h x p due.prior;
-      };
-      missed = λ miss. ap (λ t. if t then old.answer else o) (ap (λ (a : Outcome). a.hit) is ∙ miss)
-          ∙ is;
-    })
+    let x = c.args.access in
+    let r = shape_rules old.shape in
+    let is = c.outcome_in-outcome.ensures.is h x moved c.writes.ensures due.prior in
+    c.count_miss.ensures ∙ ap (λ o. with_own x o old.counts) is
+    ∙ ap (with_own x (outcome_of r h x)) due.counted
+    ∙ ap own_counts (counts-step r h x)
 
 pub returns-clause-bounds : goal.returns-clause-bounds
 returns-clause-bounds c = λ n within.
     let old = c.args.cell.now in
-    let x = c.args.access in
-    let p = c.args.prior in
-    let o = c.serve_ways-hits.ensures.serves.0 in
-    subst (IsWithinCell (n + 1)) (sym (two-steps x p o old c.serve_ways-hits.new.cell
-    c.count.new.per_class c.serve_ways-hits.ensures.serves.1 c.count.ensures)) (record {
-      counts = own-within x o old.counts n within.counts;
-      far = IsWithin-with_one x (ltb old.shape.rank p.level) old.far n within.far;
-    })
+    subst (λ (k : Counts). AreWithin k (n + 1)) (sym c.count_miss.ensures)
+    (own-within c.args.access c.outcome_in-outcome.result old.counts n within)

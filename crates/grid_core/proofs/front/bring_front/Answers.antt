@@ -1,8 +1,7 @@
-use Rattle.std.proofs.Common.{◌≡◌, ◌⊎◌, ◌<◌, ◌≤◌, ◌+◌, ◌-◌, ℕ}
-use Rattle.std.proofs.Common.{suc, List, [], ◌∷◌, ◌++◌, length, take, drop}
-use Rattle.std.proofs.Common.{refl, sym, ap, ◌∙◌, subst, inl, inr, cond, ltb, arith}
-use Rattle.grid_core.specs.Slots.{index_of}
-use Rattle.grid_core.proofs.Fronts.{index-le, shifted-last, last-is, copied-first}
+use Rattle.std.proofs.Common.{◌<◌}
+use Rattle.std.proofs.Common.{length}
+use Rattle.std.proofs.Common.{sym, ◌∙◌, arith}
+use Rattle.grid_core.proofs.Fronts.{shifted-last, last-is, copied-first}
 use Rattle.grid_core.proofs.front.bring_front.Goals as goal
 
 pub returns : goal.returns

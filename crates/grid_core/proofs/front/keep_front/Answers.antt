@@ -1,8 +1,6 @@
-use Rattle.std.proofs.Common.{◌≡◌, ◌<◌, ℕ, Bool, false, true, List}
-use Rattle.std.proofs.Common.{[], ◌∷◌, length, refl, sym, ap, ◌∙◌, subst}
-use Rattle.std.proofs.Common.{set, arith}
-use Rattle.grid_core.specs.declared.slots.Slot.{Slot}
-use Rattle.grid_core.specs.Slots.{holds, index_of, next_slots}
+use Rattle.std.proofs.Common.{sym, ap, ◌∙◌}
+use Rattle.std.proofs.Common.{arith}
+use Rattle.grid_core.specs.Slots.{next_slots}
 use Rattle.grid_core.proofs.Fronts.{read-first, write-empty}
 use Rattle.grid_core.proofs.front.keep_front.Goals as goal
 use Rattle.grid_core.proofs.front.keep_front.Goals.{else-write-via-then-write+else-row-gt0}

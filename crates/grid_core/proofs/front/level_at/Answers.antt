@@ -1,4 +1,4 @@
-use Rattle.std.proofs.Common.{◌≡◌, ◌<◌, ◌≤◌, length, sym, ap, ◌∙◌, subst, get_or, arith}
+use Rattle.std.proofs.Common.{◌<◌, ◌≤◌, length, sym, ap, ◌∙◌, subst, get_or, arith}
 use Rattle.grid_core.specs.Slots.{index_of, no_slot}
 use Rattle.grid_core.proofs.Fronts.{level-there, level-nowhere}
 use Rattle.grid_core.proofs.front.level_at.Goals as goal

@@ -1,4 +1,4 @@
-use Rattle.std.proofs.Common.{◌≡◌, ◌<◌, ◌≤◌, ◌^◌, ◌-◌, length, sym, ap, subst, arith}
+use Rattle.std.proofs.Common.{◌^◌, ◌-◌, arith}
 use Rattle.grid_core.specs.Slots.{holds}
 use Rattle.grid_core.proofs.Fronts.{index-le}
 use Rattle.grid_core.proofs.SlotTurns.{after-le}

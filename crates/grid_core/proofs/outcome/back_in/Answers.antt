@@ -9,18 +9,18 @@ use Rattle.grid_core.proofs.StackRules.{stacked}
 use Rattle.grid_core.proofs.outcome.back_in.Goals as goal
 
 pub returns-then-hit : goal.returns-then-hit
-returns-then-hit c = λ h looked is.
+returns-then-hit c = λ h x moved is.
     let s = c.args.stack.now in
     let w = c.args.ways in
-    outcome-kept (rules_of s) (stacked s) w c.requires.fits h c.args.access (w - 1)
+    outcome-kept (rules_of s) (stacked s) w c.requires.fits h x (w - 1)
     (suc-pred w c.requires.some)
-    (ap (λ d. ltb d w) (sym looked.found) ∙ sym is ∙ c.if-hit.true)
+    (ap (λ d. ltb d w) (sym moved.found) ∙ sym is ∙ c.if-hit.true)
 
 pub returns : goal.returns
-returns c = λ h looked is.
+returns c = λ h x moved is.
     let s = c.args.stack.now in
     let w = c.args.ways in
-    let miss : hits (with_ways w (rules_of s)) (renewals (with_ways w (rules_of s)) h) c.args.access
-    ≡ false = hits-distance (rules_of s) (stacked s) w c.requires.fits h c.args.access
-    ∙ ap (λ d. ltb d w) (sym looked.found) ∙ sym is ∙ c.if-hit.false in
-    c.back.ensures h looked.stands miss
+    let miss : hits (with_ways w (rules_of s)) (renewals (with_ways w (rules_of s)) h) x
+    ≡ false = hits-distance (rules_of s) (stacked s) w c.requires.fits h x
+    ∙ ap (λ d. ltb d w) (sym moved.found) ∙ sym is ∙ c.if-hit.false in
+    moved.backs w c.requires.some c.requires.fits miss ∙ sym c.back.ensures

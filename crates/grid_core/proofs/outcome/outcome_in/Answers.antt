@@ -6,12 +6,12 @@ use Rattle.grid_core.proofs.StackRules.{stacked}
 use Rattle.grid_core.proofs.outcome.outcome_in.Goals as goal
 
 pub returns-clause-is : goal.returns-clause-is
-returns-clause-is c = λ h looked prior.
+returns-clause-is c = λ h x moved write prior.
     let s = c.args.stack.now in
-    outcome-is (rules_of s) (stacked s) c.args.shape c.requires h c.args.access c.args.prior prior
-    c.position.result (c.position.ensures ∙ looked.found)
+    outcome-is (rules_of s) (stacked s) c.args.shape c.requires h x c.args.prior prior
+    c.position.result (c.position.ensures ∙ moved.found)
     c.kind_in.result c.back_in.result c.sends_on.result
     c.kind_in.ensures
-    (c.back_in.ensures h looked (ap (λ d. ltb d c.args.shape.ways) c.position.ensures))
-    (c.sends_on.ensures ∙ ap (λ t. t && not c.wback.result) c.writes.ensures
-    ∙ ap (λ t. is_write c.args.access && not t) c.wback.ensures)
+    (c.back_in.ensures h x moved (ap (λ d. ltb d c.args.shape.ways) c.position.ensures))
+    (c.sends_on.ensures ∙ ap (λ t. t && not c.wback.result) write
+    ∙ ap (λ t. is_write x && not t) c.wback.ensures)

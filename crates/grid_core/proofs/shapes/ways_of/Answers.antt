@@ -1,5 +1,5 @@
 use Rattle.std.proofs.Common.{◌/◌, ap, ◌∙◌}
-use Rattle.cache_core.specs.Geometry.{sets_of, blocks_of}
+use Rattle.cache_core.specs.Geometry.{blocks_of}
 use Rattle.cache_core.proofs.Lawful.{sane_of}
 use Rattle.grid_core.proofs.Geometries.{ways-are}
 use Rattle.grid_core.proofs.shapes.ways_of.Goals as goal

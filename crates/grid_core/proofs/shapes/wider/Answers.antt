@@ -1,5 +1,4 @@
 use Rattle.std.proofs.Common.{◌∙◌, arith}
-use Rattle.grid_core.specs.Shapes.{IsWider}
 use Rattle.grid_core.proofs.shapes.wider.Goals as goal
 
 pub returns-then-is_wider : goal.returns-then-is_wider

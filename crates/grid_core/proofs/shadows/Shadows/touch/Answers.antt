@@ -1,14 +1,43 @@
-use Rattle.std.proofs.Common.{◌≡◌, ℕ, Some, false, true, eqb, cond, is_some, nat_eq, unwrap_or}
-use Rattle.std.proofs.Common.{◌||◌}
-use Rattle.std.proofs.Common.{refl, sym, ap, ◌∙◌, Bool, Option, arith}
+use Rattle.std.proofs.Common.{◌≡◌, ℕ, suc, drop, Some, false, true, eqb, cond, is_some, nat_eq}
+use Rattle.std.proofs.Common.{◌||◌, unwrap_or}
+use Rattle.std.proofs.Common.{refl, ap, ◌∙◌, Bool, Option, arith}
 use Rattle.std.specs.HashMap.{get}
 use Rattle.std.proofs.lemmas.Bool.{eq-eqb}
 use Rattle.std.proofs.lemmas.Bool.Decides.{nat_tests}
 use Rattle.cache_core.proofs.Reuse.{has}
 use Rattle.marked_list.specs.Recency.{level_of, brought_front}
-use Rattle.grid_core.specs.Shadows.{HoldsOrder, is_known, number_in, shadow_sizes}
+use Rattle.grid_core.specs.Shadows.{is_known, number_in, shadow_sizes}
 use Rattle.grid_core.proofs.Numbering.{tells, level-map, front-map, known-front}
+use Rattle.marked_list.specs.Marked.{marked_sizes, order_of}
+use Rattle.grid_core.specs.Totals.{total}
+use Rattle.grid_core.proofs.Totals.{level-le, total-set, total-behind}
 use Rattle.grid_core.proofs.shadows.Shadows.touch.Goals as goal
+
+pub count_at-requires-clause-inside : goal.count_at-requires-clause-inside
+count_at-requires-clause-inside c =
+    let s = c.args.self.now in
+    let is = c.in-Ok-touch.ensures.level in
+    let le = level-le (marked_sizes s.order) (order_of s.order) c.in-Ok.found.number in
+    let long = s.leveled in
+    omega arith
+
+pub returns-clause-levels : goal.returns-clause-levels
+returns-clause-levels c =
+    let s = c.args.self.now in
+    let is = c.in-Ok-touch.ensures.level in
+    let le = level-le (marked_sizes s.order) (order_of s.order) c.in-Ok.found.number in
+    let long = s.leveled in
+    ap total c.count_at.ensures
+    ∙ total-set c.args.access s.levels.items c.in-Ok-touch.level (omega arith)
+
+pub returns-clause-far : goal.returns-clause-far
+returns-clause-far c = λ k.
+    let s = c.args.self.now in
+    let is = c.in-Ok-touch.ensures.level in
+    let le = level-le (marked_sizes s.order) (order_of s.order) c.in-Ok.found.number in
+    let long = s.leveled in
+    ap (λ l. total (drop (suc k) l)) c.count_at.ensures
+    ∙ total-behind c.args.access s.levels.items c.in-Ok-touch.level k (omega arith)
 
 pub returns-clause-level : goal.returns-clause-level
 returns-clause-level c = λ ys held.

@@ -3,7 +3,7 @@ use Rattle.std.proofs.lemmas.List.{get_or-map}
 use Rattle.cache_core.specs.History.{Rules}
 use Rattle.cache_core.specs.Parts.{outcome_of}
 use Rattle.grid_core.specs.declared.cells.Cell.{Cell}
-use Rattle.grid_core.specs.Cells.{HasMissed, IsPlacedAmong, shape_rules}
+use Rattle.grid_core.specs.Cells.{IsPlacedAmong, KnowsPrior, shape_rules}
 use Rattle.grid_core.specs.Standing.{rules_of}
 use Rattle.grid_core.specs.StackedCells.{stacked_rules}
 use Rattle.grid_core.specs.Written.{no_rules}
@@ -32,8 +32,9 @@ returns c = λ h x answered.
     let v = c.index-cell.result.now in
     let lt : i < length xs = let all = c.requires in omega (arith, as-many xs) in
     let rules : Cell → Rules = λ cell. shape_rules cell.shape in
-    c.answer_in.ensures h x (answered.found c.if-self.false)
-    (subst (HasMissed h x) (sym c.index-cell.ensures) (answered.missed c.if-self.false i v lt))
+    c.answer_in.ensures h x (answered.moved c.if-self.false)
+    (subst (λ (cell : Cell). KnowsPrior cell.shape h x old.prior) (sym c.index-cell.ensures)
+    (answered.prior c.if-self.false i v lt))
     answered.write
     ∙ ap (λ cell. outcome_of (rules cell) h x) c.index-cell.ensures
     ∙ ap (λ r. outcome_of r h x) (sym (get_or-map rules xs i v no_rules lt))

@@ -5,7 +5,10 @@ use Rattle.cache_core.specs.Geometry.{bsize_of}
 use Rattle.cache_core.specs.Dirty.{rising}
 use Rattle.cache_core.specs.History.{Rules, flush as flushed}
 use Rattle.grid_core.specs.declared.cells.Shape.{Shape}
-use Rattle.grid_core.specs.Shadows.{shadow_sizes}
+use Rattle.cache_core.specs.declared.counts.PerClass.{PerClass}
+use Rattle.cache_core.specs.Counting.{IsWithin}
+use Rattle.grid_core.specs.Shadows.{levels_in, shadow_sizes}
+use Rattle.grid_core.specs.Totals.{total}
 use Rattle.grid_core.specs.Standing.{rules_of}
 use Rattle.grid_core.specs.Cells.{IsPlacedAmong, shape_in}
 use Rattle.grid_core.specs.State.{IsRanked}
@@ -64,12 +67,15 @@ invariant_of-self c =
           (paid-of g old.stacks.items old.shadows cells n lists len lived c.requires.lists)
           old.bounded;
       fetched = within-more old.fetches n (n + 1) (omega arith) old.fetched;
+      leveled = subst (λ (l : List PerClass). IsWithin (total l) (n + 1))
+          (sym c.clear.ensures.levels)
+          (within-more (total (levels_in old.shadows)) n (n + 1) (omega arith) old.leveled);
       few = few;
       lived = λ _. lived-next g old.stacks.items c.clear_in.new.stacks.items old.shadows
           c.clear.new.self cells new n flushed lived
           (λ h st. after-flush g h old.stacks.items c.clear_in.new.stacks.items old.shadows
           c.clear.new.self cells new st (c.clear_in.ensures.stands h) c.clear.ensures.order
-          c.clear.ensures.known c.clear.ensures.recent
+          c.clear.ensures.known c.clear.ensures.recent c.clear.ensures.levels shapes
           (flushed-counted h lists cells new (c.requires.lists h st.rows) len size done
           st.counted));
     }
@@ -82,13 +88,15 @@ returns-clause-stands c = λ h e.
     let lists = c.args.lists.now.items in
     let cells = old.cells.items in
     let new = c.flush_in.new.cells.items in
+    let shapes = flushed-shapes lists cells new len c.flush_in.ensures.len
+    c.flush_in.ensures.flushed in
     record {
       working = e.working;
       served = (let n = e.served in omega arith);
       fetches = e.fetches ∙ fetched-flush h;
       state = after-flush old.geometry h old.stacks.items c.clear_in.new.stacks.items old.shadows
           c.clear.new.self cells new e.state (c.clear_in.ensures.stands h) c.clear.ensures.order
-          c.clear.ensures.known c.clear.ensures.recent
+          c.clear.ensures.known c.clear.ensures.recent c.clear.ensures.levels shapes
           (flushed-counted h lists cells new (c.requires.lists h e.state.rows)
           len c.flush_in.ensures.len c.flush_in.ensures.flushed e.state.counted);
     }

@@ -29,12 +29,14 @@ invariant_of-result c =
       one_policy = c.in_ok-parts.ensures.one_policy;
       bounded = λ k d lt. (fresh k d lt).within;
       fetched = subst (λ p. IsWithin p 0) (sym c.zero_per_class.ensures) AreWithin-none.fetches;
+      leveled = subst (λ p. IsWithin p 0) (sym c.in_ok-shadows.ensures.levels)
+          AreWithin-none.fetches;
       few = omega arith;
       lived = λ _. ∣ (
         [],
         after-start first stacks shadows cells c.in_ok-parts.ensures.stands
             c.in_ok-shadows.ensures.order c.in_ok-shadows.ensures.known
-            c.in_ok-shadows.ensures.recent fresh,
+            c.in_ok-shadows.ensures.recent c.in_ok-shadows.ensures.far fresh,
         refl,
       ) ∣₁;
     }
@@ -47,7 +49,8 @@ returns-clause-stands c = record {
   fetches = c.zero_per_class.ensures ∙ fetched-start;
   state = after-start c.args.first c.in_ok-parts.parts.stacks.items c.in_ok-shadows.shadows
       c.in_ok-parts.parts.cells.items c.in_ok-parts.ensures.stands c.in_ok-shadows.ensures.order
-      c.in_ok-shadows.ensures.known c.in_ok-shadows.ensures.recent c.in_ok-parts.ensures.fresh;
+      c.in_ok-shadows.ensures.known c.in_ok-shadows.ensures.recent c.in_ok-shadows.ensures.far
+      c.in_ok-parts.ensures.fresh;
 }
 
 pub returns-clause-rules : goal.returns-clause-rules

@@ -5,8 +5,9 @@ use Rattle.cache_core.specs.Counting.{IsWithin, with_one}
 use Rattle.cache_core.specs.Geometry.{bsize_of}
 use Rattle.cache_core.specs.History.{access as accessed, is_write}
 use Rattle.cache_core.proofs.CacheFacts.{IsWithin-with_one}
-use Rattle.grid_core.specs.Shadows.{shadow_sizes}
+use Rattle.grid_core.specs.Shadows.{levels_in, shadow_sizes}
 use Rattle.grid_core.specs.StackedCells.{stacked_failed, stacked_served}
+use Rattle.grid_core.specs.Totals.{total}
 use Rattle.grid_core.proofs.After.{all-more, lived-next}
 use Rattle.grid_core.proofs.Again.{after-again, all-again, last-of}
 use Rattle.grid_core.proofs.Owing.{within-more}
@@ -40,6 +41,7 @@ invariant_of-self c =
       bounded = all-more (2 * n) (2 * (n + 1)) (omega arith) cells old.bounded;
       fetched = subst (λ p. IsWithin p (n + 1)) (sym c.count.ensures)
           (IsWithin-with_one x true old.fetches n old.fetched);
+      leveled = within-more (total (levels_in old.shadows)) n (n + 1) (omega arith) old.leveled;
       few = few;
       lived = λ _. lived-next g stacks stacks old.shadows old.shadows cells cells n (accessed x)
           (old.lived c.requires.works)
@@ -73,8 +75,8 @@ returns-clause-answers c = λ h e.
     record {
       write = c.writes-self.ensures;
       again = λ _. hit;
-      found = λ e. absurd (false≢true (sym e));
-      missed = λ e. absurd (false≢true (sym e));
+      moved = λ e. absurd (false≢true (sym e));
+      prior = λ e. absurd (false≢true (sym e));
       silent = λ none. hits-send-nothing h x old.wback c.sends_on.result cells hit old.one_policy
           (c.sends_on.ensures ∙ ap (λ t. t && not old.wback) c.writes-self.ensures)
           (not-true c.sends_on.result (sym c.is_silent-self.ensures ∙ none));

@@ -3,7 +3,7 @@ use Rattle.std.specs.List.{All}
 use Rattle.std.proofs.lemmas.Grind.{common_steps}
 use Rattle.grid_core.specs.declared.cells.Cell.{Cell}
 use Rattle.grid_core.specs.Cells.{IsWithinCell}
-use Rattle.grid_core.proofs.cells.serve_in.Goals as goal
+use Rattle.grid_core.proofs.cells.serve_cells.Goals as goal
 
 pub returns-clause-bounds : goal.returns-clause-bounds
 returns-clause-bounds c = λ n cells.
