@@ -32,7 +32,9 @@ pub struct BodyRuntime<H> {
 
 impl<H> BodyRuntime<H> {
     /// This runtime, for the bodies of threads.
-    pub fn new(rt: H) -> BodyRuntime<H> {
+    pub fn new(rt: H) -> BodyRuntime<H>
+        ensures { result.rt ≡ rt }
+    {
         BodyRuntime { rt }
     }
 }
@@ -40,13 +42,13 @@ impl<H> BodyRuntime<H> {
 impl<H: Wait> BodyRuntime<H> {
     /// Rounds without end.
     #[inline(always)]
-    pub fn forever(&self) -> Forever<'_, H> {
+    pub(crate) fn forever(&self) -> Forever<'_, H> {
         self.rt.forever()
     }
 
     /// Calls the gate, which may hold this thread.
     #[inline(always)]
-    pub fn arrive<G: Gate>(&self, gate: &G, who: Who, nth: u64) {
+    pub(crate) fn arrive<G: Gate>(&self, gate: &G, who: Who, nth: u64) {
         gate.arrive(&self.rt, who, nth);
     }
 }
