@@ -31,7 +31,7 @@ inline take_message()
     mode = RECEIVING
 }
 
-/* `next_turn`, `next_from_i` and `next_from_d`. */
+/* `next_turn` and `next_from`. */
 inline receive_wanted()
 {
     try_receive(wanted);

@@ -1,5 +1,4 @@
 pub mod Serving
-pub mod Merging
 pub mod Merges
 pub mod Splitting
 pub mod Wholes

@@ -1,9 +1,9 @@
 -- The splitter after one more record.
 use Rattle.std.proofs.Common.{◌≡◌, ◌⊎◌, ℕ, ◌+◌, ◌*◌, ◌≤◌, ◌^◌, Bool, false}
-use Rattle.std.proofs.Common.{List, [], ◌∷◌, ◌++◌, map, drop, length}
+use Rattle.std.proofs.Common.{List, [], ◌∷◌, ◌++◌, map, take, drop, length}
 use Rattle.std.proofs.Common.{Option, Some, None, Result, Ok, Err, option_to_list}
 use Rattle.std.proofs.Common.{refl, ap, sym, ◌∙◌, subst, append_assoc, append-nil}
-use Rattle.std.proofs.lemmas.List.{map-append, length-map}
+use Rattle.std.proofs.lemmas.List.{map-append, length-map, take-append-drop}
 use Rattle.pipe_rings.specs.Rings.{sent}
 use Rattle.pipe_rings.proofs.Ends.{tx_stays}
 use Rattle.din_trace.specs.Text.{Remaining}
@@ -121,115 +121,84 @@ pub record Splits {R : Type 0} (remaining : R → Option (List ℕ)) (failures :
   pub counted : place ≡ length (sent ends.order)
   pub posted : HasPosted (splitter_at (events selection past) false ends)
 
-module _ {R : Type 0} (remaining : R → Option (List ℕ)) (failures : R → ℕ) (selection : Selection)
-    (start : Source R) (began : SplitterEnds) (offers : Offers) (place : ℕ) (now : Source R)
-    (ends : SplitterEnds)
+module _ {R : Type 0} {remaining : R → Option (List ℕ)} {failures : R → ℕ} {selection : Selection}
+    {start : Source R} {began : SplitterEnds} {offers : Offers} {place : ℕ} {now : Source R}
+    {ends : SplitterEnds}
     (going : Splits remaining failures selection start began offers place now ends)
-    (next : Source R) (result : Result (Option DinRecord) TraceFault) (given : List ℕ) (fate : Fate)
-    (all : Calls remaining failures start next going.given given going.fate fate)
-    (reads : (before later : Script) (l : Remaining) → Follows fate given before later
-    → HasLeft now before l → (result ≡ first_answer l) × HasLeft next later (after_first l)) where
-  -- what was left before the last call, and what it answered
-  before-last : (first last : Script) (l : Remaining) → Follows all.fate all.given first last
-      → HasLeft start first l → (rest : Remaining) × (l.records ≡ going.past ++ rest.records)
-      × (rest.fault ≡ l.fault) × (result ≡ first_answer rest)
-      × HasLeft next last (after_first rest)
-  before-last first last l is has =
+    {next : Source R} {given : List ℕ} {fate : Fate}
+    (all : Calls remaining failures start next going.given given going.fate fate) where
+  -- what was left at the start and what is left after the last call are related like this
+  abbrev Leaves : (Remaining → (Remaining → Type 0) → Type 0) → Type 0
+  Leaves P = (first last : Script) (l : Remaining) → Follows all.fate all.given first last
+      → HasLeft start first l → P l (HasLeft next last)
+
+  -- if the last call gave no answer, nothing was removed from what was left
+  pub rest-cut : ((before later : Script) (l : Remaining) → Follows fate given before later
+      → HasLeft now before l → HasLeft next later l) → Leaves LeavesRest
+  rest-cut keeps first last l is has =
       let mid = all.between first last is in
       let rest = going.left first mid.0 l mid.1 has in
-      let after = reads mid.0 last rest.0 mid.2 rest.3 in
-      (rest.0, rest.1, rest.2, after.0, after.1)
+      record {
+        gone = going.past;
+        rest = rest.0;
+        records = rest.1;
+        fault = rest.2;
+        left = keeps mid.0 last rest.0 mid.2 rest.3;
+      }
 
-  pub left-record : (r : DinRecord) → result ≡ Ok (Some r) → (first last : Script) (l : Remaining)
-      → Follows all.fate all.given first last → HasLeft start first l → (rest : Remaining)
-      × (l.records ≡ (going.past ++ r ∷ []) ++ rest.records) × (rest.fault ≡ l.fault)
-      × HasLeft next last rest
-  left-record r was first last l is has =
-      let rest = before-last first last l is has in (
-        after_first rest.0,
-        rest.1 ∙ ap (λ rs. going.past ++ rs) (first_record rest.0 r (sym was ∙ rest.3))
-            ∙ sym (append_assoc going.past (r ∷ []) (drop 1 rest.0.records)),
-        rest.2,
-        rest.4,
-      )
+  module _ (result : Result (Option DinRecord) TraceFault)
+      (reads : (before later : Script) (l : Remaining) → Follows fate given before later
+      → HasLeft now before l → (result ≡ first_answer l) × HasLeft next later (after_first l)) where
+    -- what was left before the last call, and what it answered
+    before-last : Leaves (λ l left. (rest : Remaining) × (l.records ≡ going.past ++ rest.records)
+        × (rest.fault ≡ l.fault) × (result ≡ first_answer rest) × left (after_first rest))
+    before-last first last l is has =
+        let mid = all.between first last is in
+        let rest = going.left first mid.0 l mid.1 has in
+        let after = reads mid.0 last rest.0 mid.2 rest.3 in
+        (rest.0, rest.1, rest.2, after.0, after.1)
 
-  pub left-end : result ≡ Ok None → (first last : Script) (l : Remaining)
-      → Follows all.fate all.given first last → HasLeft start first l
-      → (l.fault ≡ None) × (l.records ≡ going.past) × HasLeft next last at_end
-  left-end was first last l is has =
-      let rest = before-last first last l is has in
-      let none = first_end rest.0 (sym was ∙ rest.3) in (
-        sym rest.2 ∙ none.1,
-        rest.1 ∙ ap (λ rs. going.past ++ rs) none.0 ∙ append-nil going.past,
-        subst (λ (x : Remaining). HasLeft next last x)
-            (ap (λ rs. after_first (record { records = rs; fault = rest.0.fault })) none.0
-            ∙ ap (λ f. record { records = []; fault = f }) none.1) rest.4,
-      )
+    pub left-record : (r : DinRecord) → result ≡ Ok (Some r) → Leaves (λ l left. (rest : Remaining)
+        × (l.records ≡ (going.past ++ r ∷ []) ++ rest.records) × (rest.fault ≡ l.fault)
+        × left rest)
+    left-record r was first last l is has =
+        let rest = before-last first last l is has in (
+          after_first rest.0,
+          rest.1 ∙ ap (λ rs. going.past ++ rs) (first_record rest.0 r (sym was ∙ rest.3))
+              ∙ sym (append_assoc going.past (r ∷ []) (drop 1 rest.0.records)),
+          rest.2,
+          rest.4,
+        )
 
-  pub left-fault : (f : TraceFault) → result ≡ Err f → (first last : Script) (l : Remaining)
-      → Follows all.fate all.given first last → HasLeft start first l
-      → (l.fault ≡ Some f) × LeavesRest l (HasLeft next last)
-  left-fault f was first last l is has =
-      let rest = before-last first last l is has in
-      let none = first_fault-is rest.0 f (sym was ∙ rest.3) in (
-        sym rest.2 ∙ none.1,
+    pub left-end : result ≡ Ok None
+        → Leaves (λ l left. (l.fault ≡ None) × (l.records ≡ going.past) × left at_end)
+    left-end was first last l is has =
+        let rest = before-last first last l is has in
+        let none = first_end rest.0 (sym was ∙ rest.3) in (
+          sym rest.2 ∙ none.1,
+          rest.1 ∙ ap (λ rs. going.past ++ rs) none.0 ∙ append-nil going.past,
+          subst (λ (x : Remaining). HasLeft next last x)
+              (ap (λ rs. after_first (record { records = rs; fault = rest.0.fault })) none.0
+              ∙ ap (λ f. record { records = []; fault = f }) none.1) rest.4,
+        )
+
+    -- the rest, whatever the last call answered
+    pub rest-answer : Leaves LeavesRest
+    rest-answer first last l is has =
+        let rest = before-last first last l is has in
         record {
-          gone = going.past;
+          gone = going.past ++ take 1 rest.0.records;
           rest = after_first rest.0;
-          records = rest.1 ∙ ap (λ rs. going.past ++ rs) (none.0 ∙ sym (ap (drop 1) none.0));
+          records = rest.1 ∙ ap (λ rs. going.past ++ rs) (sym (take-append-drop 1 rest.0.records))
+              ∙ sym (append_assoc going.past (take 1 rest.0.records) (drop 1 rest.0.records));
           fault = rest.2;
           left = rest.4;
-        },
-      )
+        }
 
-  pub rest-record : (r : DinRecord) → result ≡ Ok (Some r) → (first last : Script) (l : Remaining)
-      → Follows all.fate all.given first last → HasLeft start first l
-      → LeavesRest l (HasLeft next last)
-  rest-record r was first last l is has =
-      let after = left-record r was first last l is has in
-      record {
-        gone = going.past ++ r ∷ [];
-        rest = after.0;
-        records = after.1;
-        fault = after.2;
-        left = after.3;
-      }
-
-  pub rest-end : result ≡ Ok None → (first last : Script) (l : Remaining)
-      → Follows all.fate all.given first last → HasLeft start first l
-      → LeavesRest l (HasLeft next last)
-  rest-end was first last l is has =
-      let none = left-end was first last l is has in
-      record {
-        gone = l.records;
-        rest = at_end;
-        records = sym (append-nil l.records);
-        fault = sym none.0;
-        left = none.2;
-      }
-
--- if the last call gave no answer, nothing was removed from what was left
-pub rest-cut : {R : Type 0} (remaining : R → Option (List ℕ)) (failures : R → ℕ)
-    (selection : Selection) (start : Source R) (began : SplitterEnds) (offers : Offers) (place : ℕ)
-    (now : Source R) (ends : SplitterEnds)
-    (going : Splits remaining failures selection start began offers place now ends)
-    (next : Source R) (given : List ℕ) (fate : Fate)
-    (all : Calls remaining failures start next going.given given going.fate fate)
-    → ((before later : Script) (l : Remaining) → Follows fate given before later
-    → HasLeft now before l → HasLeft next later l)
-    → (first last : Script) (l : Remaining) → Follows all.fate all.given first last
-    → HasLeft start first l → LeavesRest l (HasLeft next last)
-rest-cut remaining failures selection start began offers place now ends going next given fate all
-    keeps first last l is has =
-    let mid = all.between first last is in
-    let rest = going.left first mid.0 l mid.1 has in
-    record {
-      gone = going.past;
-      rest = rest.0;
-      records = rest.1;
-      fault = rest.2;
-      left = keeps mid.0 last rest.0 mid.2 rest.3;
-    }
+    pub left-fault : (f : TraceFault) → result ≡ Err f → Leaves (λ l left. l.fault ≡ Some f)
+    left-fault f was first last l is has =
+        let rest = before-last first last l is has in
+        sym rest.2 ∙ (first_fault-is rest.0 f (sym was ∙ rest.3)).1
 
 -- a run may answer the fault of its source
 pub answers-fault : (left : Option TraceFault) (f : TraceFault) → left ≡ Some f

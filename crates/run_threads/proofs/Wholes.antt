@@ -1,7 +1,6 @@
 -- If each thread did its part and all messages were received, the whole run is as `HasRun` says.
-use Rattle.std.proofs.Common.{◌≡◌, ℕ, true, List, [], ◌∷◌, ◌++◌, refl, ap, sym, ◌∙◌}
-use Rattle.pipe_rings.specs.Rings.{sent, received, capacity_of}
-use Rattle.pipe_rings.proofs.Ends.{ends_stay}
+use Rattle.std.proofs.Common.{◌≡◌, ℕ, true, List, [], ◌∷◌, ◌++◌, refl, ap, sym, ◌∙◌, subst}
+use Rattle.pipe_rings.specs.Rings.{sent, received}
 use Rattle.din_trace.specs.declared.record.DinRecord.{DinRecord}
 use Rattle.cache_core.specs.Counts.{counts_of}
 use Rattle.cache_core.specs.History.{Rules}
@@ -29,12 +28,11 @@ use Rattle.stage_core.specs.declared.totals.Totals.{Totals}
 use Rattle.stage_core.specs.declared.l1_stage.L1Stage.{L1Stage}
 use Rattle.stage_core.specs.declared.l2_stage.L2Stage.{L2Stage}
 use Rattle.stage_core.proofs.Messages.{taken_in-to_side}
-use Rattle.run_threads.specs.declared.ends.SplitterEnds.{SplitterEnds}
 use Rattle.run_threads.specs.declared.ends.StageEnds.{StageEnds}
 use Rattle.run_threads.specs.declared.ends.Rings.{Rings}
 use Rattle.run_threads.specs.declared.pipeline.Machines.{Machines}
-use Rattle.run_threads.specs.Ends.{Carried, whole, ArePaired, SameRings, AllReceived}
-use Rattle.run_threads.specs.Ends.{SameSplitterEnds, SameStageEnds, SameMergeEnds}
+use Rattle.run_threads.specs.Ends.{Carried, whole, SameRings, AllReceived}
+use Rattle.run_threads.specs.Ends.{SameSplitterEnds, SameStageEnds}
 use Rattle.run_threads.specs.Ends.{on_order, on_to_i, on_to_d, on_from_i}
 use Rattle.run_threads.specs.Ends.{on_from_d, HaveCapacity}
 use Rattle.run_threads.specs.Threads.{StageServed, MergeServed}
@@ -42,62 +40,34 @@ use Rattle.run_threads.specs.Machines.{AreNew, IsNew, hierarchy_in}
 use Rattle.run_threads.specs.Runs.{HasRun}
 use Rattle.run_threads.specs.Waits.{splitter_at}
 use Rattle.run_threads.proofs.Serving.{all-sent}
+use Rattle.run_threads.proofs.Splitting.{same-ends}
 
--- the ends that come back from the threads are still the two ends of each ring
-pub paired-after : (was now : Rings) → ArePaired was → SameSplitterEnds was.splitter now.splitter
-    → SameStageEnds was.i now.i → SameStageEnds was.d now.d → SameMergeEnds was.merge now.merge
-    → ArePaired now
-paired-after was now paired splitter i d merge = record {
-  order = ends_stay was.splitter.order now.splitter.order was.merge.order now.merge.order
-      splitter.order merge.order paired.order;
-  to_i = ends_stay was.splitter.to_i now.splitter.to_i was.i.from_splitter now.i.from_splitter
-      splitter.to_i i.from_splitter paired.to_i;
-  to_d = ends_stay was.splitter.to_d now.splitter.to_d was.d.from_splitter now.d.from_splitter
-      splitter.to_d d.from_splitter paired.to_d;
-  from_i = ends_stay was.i.to_merge now.i.to_merge was.merge.from_i now.merge.from_i i.to_merge
-      merge.from_i paired.from_i;
-  from_d = ends_stay was.d.to_merge now.d.to_merge was.merge.from_d now.merge.from_d d.to_merge
-      merge.from_d paired.from_d;
+-- a stage's ends are those of the same rings as themselves
+pub same-stage_ends : (ends : StageEnds) → SameStageEnds ends ends
+same-stage_ends ends = record {
+  from_splitter = ((refl, refl, refl, refl), refl);
+  to_merge = ((refl, refl, refl, refl), refl);
 }
 
--- rings keep their capacity in the splitter, in the stages, and when they are checked at the end
-pub capacity-fed : (n : ℕ) (rings : Rings) (splitter : SplitterEnds) → HaveCapacity n rings
-    → SameSplitterEnds rings.splitter splitter
-    → HaveCapacity n (record rings { splitter = splitter })
-capacity-fed n rings splitter room same = record {
-  order = same.order.1 ∙ room.order;
-  to_i = same.to_i.1 ∙ room.to_i;
-  to_d = same.to_d.1 ∙ room.to_d;
-  from_i = room.from_i;
-  from_d = room.from_d;
-}
-
-capacity-served : (n : ℕ) (was now : Rings) → HaveCapacity n was → now.splitter ≡ was.splitter
-    → SameStageEnds was.i now.i → SameStageEnds was.d now.d → HaveCapacity n now
-capacity-served n was now room same i d = record {
-  order = ap (λ (s : SplitterEnds). capacity_of s.order) same ∙ room.order;
-  to_i = ap (λ (s : SplitterEnds). capacity_of s.to_i) same ∙ room.to_i;
-  to_d = ap (λ (s : SplitterEnds). capacity_of s.to_d) same ∙ room.to_d;
+-- rings keep their capacity if the splitter and the stages have the same ends
+pub capacity-kept : (n : ℕ) (was now : Rings) → HaveCapacity n was
+    → SameSplitterEnds was.splitter now.splitter → SameStageEnds was.i now.i
+    → SameStageEnds was.d now.d → HaveCapacity n now
+capacity-kept n was now room splitter i d = record {
+  order = splitter.order.1 ∙ room.order;
+  to_i = splitter.to_i.1 ∙ room.to_i;
+  to_d = splitter.to_d.1 ∙ room.to_d;
   from_i = i.to_merge.1 ∙ room.from_i;
   from_d = d.to_merge.1 ∙ room.from_d;
 }
 
-capacity-settled : (n : ℕ) (was now : Rings) → HaveCapacity n was → SameRings was now
-    → HaveCapacity n now
-capacity-settled n was now room same = record {
-  order = same.splitter.order.1 ∙ room.order;
-  to_i = same.splitter.to_i.1 ∙ room.to_i;
-  to_d = same.splitter.to_d.1 ∙ room.to_d;
-  from_i = same.i.to_merge.1 ∙ room.from_i;
-  from_d = same.d.to_merge.1 ∙ room.from_d;
-}
-
 -- if exactly these messages were sent on a ring and all were received, the ring is whole
-carried-whole : {M : Type 0} (c : Carried M) (xs : List M) → c.received ≡ c.sent → c.sent ≡ xs
-    → c ≡ whole xs
-carried-whole c xs all is =
-    ap (λ r. record { sent = c.sent; received = r }) (all ∙ is)
-    ∙ ap (λ s. record { sent = s; received = xs }) is
+carried-whole : {M : Type 0} (was now : Carried M) (xs : List M) → now ≡ was
+    → now.received ≡ now.sent → was.sent ≡ xs → now ≡ whole xs
+carried-whole was now xs same all is =
+    let sent : now.sent ≡ xs = ap (λ (c : Carried _). c.sent) same ∙ is in
+    ap (λ r. record { sent = now.sent; received = r }) (all ∙ sent)
+    ∙ ap (λ s. record { sent = s; received = xs }) sent
 
 -- the answers of a stage depend only on the parts of its own cache
 own-parts : (c : Hierarchy) (s : Side) (before es : List DinRecord)
@@ -149,34 +119,27 @@ module _ (stages : StagesAnswerTheirStreams) (merges : MergeTakesTheRequests) (e
 
   -- all messages of some events, and those of the end, are the whole streams
   into-order : on_order now ≡ whole (streams.order es)
-  into-order = carried-whole (on_order now) _ all.order
-      (ap (λ (x : Carried Turn). x.sent) same.order ∙ fed.order)
+  into-order = carried-whole (on_order was) _ _ same.order all.order fed.order
 
   into-i : on_to_i now ≡ whole (to_side side.I es)
-  into-i = carried-whole (on_to_i now) _ all.to_i
-      (ap (λ (x : Carried ToStage). x.sent) same.to_i ∙ fed.to side.I)
+  into-i = carried-whole (on_to_i was) _ _ same.to_i all.to_i (fed.to side.I)
 
   into-d : on_to_d now ≡ whole (to_side side.D es)
-  into-d = carried-whole (on_to_d now) _ all.to_d
-      (ap (λ (x : Carried ToStage). x.sent) same.to_d ∙ fed.to side.D)
+  into-d = carried-whole (on_to_d was) _ _ same.to_d all.to_d (fed.to side.D)
 
   got-i : received was.i.from_splitter ≡ to_side side.I es
-  got-i = sym (ap (λ (x : Carried ToStage). x.received) same.to_i)
-      ∙ ap (λ (x : Carried ToStage). x.received) into-i
+  got-i = ap (λ (x : Carried ToStage). x.received) (sym same.to_i ∙ into-i)
 
   got-d : received was.d.from_splitter ≡ to_side side.D es
-  got-d = sym (ap (λ (x : Carried ToStage). x.received) same.to_d)
-      ∙ ap (λ (x : Carried ToStage). x.received) into-d
+  got-d = ap (λ (x : Carried ToStage). x.received) (sym same.to_d ∙ into-d)
 
   out-of-i : on_from_i now ≡ whole (from_side parts side.I es)
-  out-of-i = carried-whole (on_from_i now) _ all.from_i
-      (ap (λ (x : Carried FromStage). x.sent) same.from_i
-      ∙ stage-sent stages c side.I es machines.i start.i i was.i new.i refl ran_i got-i)
+  out-of-i = carried-whole (on_from_i was) _ _ same.from_i all.from_i
+      (stage-sent stages c side.I es machines.i start.i i was.i new.i refl ran_i got-i)
 
   out-of-d : on_from_d now ≡ whole (from_side parts side.D es)
-  out-of-d = carried-whole (on_from_d now) _ all.from_d
-      (ap (λ (x : Carried FromStage). x.sent) same.from_d
-      ∙ stage-sent stages c side.D es machines.d start.d d was.d new.d refl ran_d got-d)
+  out-of-d = carried-whole (on_from_d was) _ _ same.from_d all.from_d
+      (stage-sent stages c side.D es machines.d start.d d was.d new.d refl ran_d got-d)
 
   abbrev fed_with : Carried Turn → Carried FromStage → Carried FromStage → Merged
   fed_with order from_i from_d = merged order.received from_i.received from_d.received
@@ -213,8 +176,9 @@ module _ (stages : StagesAnswerTheirStreams) (merges : MergeTakesTheRequests) (e
       → totals.u ≡ counts_of (rules_of (l2_cache u)) (second_history ws))
       → HasRun ring c es (record { totals = totals; rings = now })
   whole-run totals count_i count_d count_u = record {
-    capacity = capacity-settled ring was now
-        (capacity-served ring start was room feeder ran_i.rings ran_d.rings) same;
+    capacity = capacity-kept ring was now (capacity-kept ring start was room
+        (subst (SameSplitterEnds start.splitter) (sym feeder) (same-ends start.splitter))
+        ran_i.rings ran_d.rings) same.splitter same.i same.d;
     paired = same.paired;
     order = into-order;
     to_i = into-i;

@@ -1,7 +1,8 @@
 -- A thread's machine and ends as stage_core's rules see them, and when the thread may wait.
 use Rattle.std.specs.Prelude.{◌≡◌, ℕ, ◌+◌, Bool, true, List, length}
 use Rattle.pipe_rings.specs.Rings as ring
-use Rattle.pipe_rings.specs.Rings.{received, LookedForRoom, IsAnnounced}
+use Rattle.pipe_rings.specs.Rings.{received, LookedForRoom, IsAnnounced, SameRx}
+use Rattle.pipe_rings.specs.declared.rx.Rx.{Rx}
 use Rattle.pipe_rings.specs.declared.tx.Tx.{Tx}
 use Rattle.din_trace.specs.declared.record.DinRecord.{DinRecord}
 use Rattle.cache_core.specs.Standing.{rules_of}
@@ -13,6 +14,8 @@ use Rattle.stage_core.specs.Waiting.{HasPosted, HasMerged, SplitterMayWait, Spli
 use Rattle.stage_core.specs.Waiting as waiting
 use Rattle.stage_core.specs.declared.message.Side.{Side}
 use Rattle.stage_core.specs.declared.message.Side.TheVariants as side
+use Rattle.stage_core.specs.declared.message.Want.{Want}
+use Rattle.stage_core.specs.declared.message.Want.TheVariants as want
 use Rattle.stage_core.specs.declared.message.What.{What}
 use Rattle.stage_core.specs.declared.message.ToStage.{ToStage}
 use Rattle.stage_core.specs.declared.message.FromStage.{FromStage}
@@ -91,16 +94,28 @@ OfStage Rule stage ends = Rule (parts_of (rules_of (cache_of stage))) (side_of s
 abbrev pub StageHasEnded : L1Stage → StageEnds → Type 0
 StageHasEnded = OfStage waiting.StageEnded
 
--- the messages that the merge has received from a side
-abbrev pub received_from : MergeEnds → Side → List FromStage
-received_from ends side.I = received ends.from_i
-received_from ends side.D = received ends.from_d
+-- the merge's receiving end from a side
+abbrev pub end_from : MergeEnds → Side → Rx FromStage
+end_from ends side.I = ends.from_i
+end_from ends side.D = ends.from_d
+
+-- the ring from a side, as the merge wants it
+abbrev pub want_of : Side → Want
+want_of side.I = want.I
+want_of side.D = want.D
+
+-- of the merge's ends, at most the one from this side has received a message
+abbrev pub OnlyFrom : Side → MergeEnds → MergeEnds → Type 0
+OnlyFrom side.I was now =
+    (now.order ≡ was.order) × SameRx was.from_i now.from_i × (now.from_d ≡ was.from_d)
+OnlyFrom side.D was now =
+    (now.order ≡ was.order) × SameRx was.from_d now.from_d × (now.from_i ≡ was.from_i)
 
 -- the merge in state `at`, which has given these requests to the second level
 abbrev pub merge_at : MergeState → List What → MergeEnds → MergeThread
 merge_at at given ends = record {
   turns = received ends.order;
-  from = received_from ends;
+  from = λ s. received (end_from ends s);
   at = at;
   given = given;
 }

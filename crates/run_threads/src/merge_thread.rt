@@ -11,14 +11,14 @@ ghost use Rattle.stage_core.specs.declared.message.FromStage.{FromStage};
 ghost use Rattle.run_threads.specs.declared.fault.Stop.{Stop};
 ghost use Rattle.run_threads.specs.Ends.{UnusedMerge};
 ghost use Rattle.run_threads.specs.Threads.{MergeServed};
-ghost use Rattle.run_threads.specs.Waits.{MergeUsed};
+ghost use Rattle.run_threads.specs.Waits.{MergeUsed, OnlyFrom, end_from, want_of};
 
 use crate::ends::MergeEnds;
 use crate::fault::{NoThread, Stop};
 use crate::gate::{Gate, Who, pass};
-use crate::waits::{BodyRuntime, await_from_d, await_from_i, await_turn};
+use crate::waits::{BodyRuntime, await_from, await_turn};
 use cache_core::MAX_EVENTS;
-use stage_core::{FromStage, L2Stage, Merge, Turn, Want};
+use stage_core::{FromStage, L2Stage, Merge, Side, Turn, Want};
 use std::snapshot::Snapshot;
 use std::sync::Wait;
 use std::thread::{Promise, PromisedHandle, Scope};
@@ -81,64 +81,50 @@ fn next_turn<H: Wait>(
     }
 }
 
-// The next message from the I stage.
+// The next message from a stage.
 #[inline(always)]
-fn next_from_i<H: Wait>(
+fn next_from<H: Wait>(
     rt: &BodyRuntime<H>,
+    side: Side,
     merge: &Merge,
     ends: &mut MergeEnds,
 ) -> Result<FromStage, Stop>
     requires used { MergeUsed merge.now ends.old }
-    requires wants { wanted merge.now ≡ want.I }
-    ensures order { ends.new.order ≡ ends.old.order }
-    ensures from_i { SameRx ends.old.from_i ends.new.from_i }
-    ensures received { IfOk result (λ message. received ends.new.from_i
-        ≡ received ends.old.from_i ++ message ∷ []) }
-    ensures from_d { ends.new.from_d ≡ ends.old.from_d }
+    requires wants { wanted merge.now ≡ want_of side }
+    ensures ring { OnlyFrom side ends.old ends.new }
+    ensures received { IfOk result (λ message. received (end_from ends.new side)
+        ≡ received (end_from ends.old side) ++ message ∷ []) }
 {
-    match ends.from_i.try_recv() {
-        Some(message) => Ok(message),
-        None => await_from_i(rt, merge, ends),
+    match side {
+        Side::I => match ends.from_i.try_recv() {
+            Some(message) => Ok(message),
+            None => await_from(rt, side, merge, ends),
+        },
+        Side::D => match ends.from_d.try_recv() {
+            Some(message) => Ok(message),
+            None => await_from(rt, side, merge, ends),
+        },
     }
 }
 
-// The next message from the D stage.
+// Receives the next message from a stage, passes the gate with it, and then serves it.
 #[inline(always)]
-fn next_from_d<H: Wait>(
-    rt: &BodyRuntime<H>,
-    merge: &Merge,
-    ends: &mut MergeEnds,
-) -> Result<FromStage, Stop>
-    requires used { MergeUsed merge.now ends.old }
-    requires wants { wanted merge.now ≡ want.D }
-    ensures order { ends.new.order ≡ ends.old.order }
-    ensures from_i { ends.new.from_i ≡ ends.old.from_i }
-    ensures from_d { SameRx ends.old.from_d ends.new.from_d }
-    ensures received { IfOk result (λ message. received ends.new.from_d
-        ≡ received ends.old.from_d ++ message ∷ []) }
-{
-    match ends.from_d.try_recv() {
-        Some(message) => Ok(message),
-        None => await_from_d(rt, merge, ends),
-    }
-}
-
-// Passes the gate with a message of a side, and then serves it.
-#[inline(always)]
-fn take_in<H: Wait, G: Gate>(
+fn take_from<H: Wait, G: Gate>(
     rt: &BodyRuntime<H>,
     gate: &G,
+    side: Side,
     merge: &mut Merge,
     u: &mut L2Stage,
-    message: FromStage,
+    ends: &mut MergeEnds,
     count: u64,
 ) -> Result<u64, Stop>
-    requires { (wanted merge.old ≡ want.I) ⊎ (wanted merge.old ≡ want.D) }
-    ensures rules { rules_of (l2_cache u.new) ≡ rules_of (l2_cache u.old) }
-    ensures merge { OnOk result (merge.new ≡ after_message merge.old message) }
-    ensures stands { OnOk result ((before : List What) → L2StandsFor u.old before
-        → L2StandsFor u.new (before ++ what_in message)) }
+    requires used { MergeUsed merge.old ends.old }
+    requires wants { wanted merge.old ≡ want_of side }
+    ensures served { OnOk result ((began : L2Stage) (start : MergeEnds)
+        → MergeServed merge.old began start u.old ends.old
+        → MergeServed merge.new began start u.new ends.new) }
 {
+    let message = next_from(rt, side, merge, ends)?;
     let count = pass(rt, gate, Who::Merge, count)?;
     take_and_serve(merge, u, message)?;
     Ok(count)
@@ -167,16 +153,10 @@ fn merge_all<H: Wait, G: Gate>(
                 merge.turn(turn);
             }
             Want::I => {
-                let Ok(message) = next_from_i(rt, &merge, ends) else {
-                    return Err(Stop::Cut);
-                };
-                received = take_in(rt, gate, &mut merge, u, message, received)?;
+                received = take_from(rt, gate, Side::I, &mut merge, u, ends, received)?;
             }
             Want::D => {
-                let Ok(message) = next_from_d(rt, &merge, ends) else {
-                    return Err(Stop::Cut);
-                };
-                received = take_in(rt, gate, &mut merge, u, message, received)?;
+                received = take_from(rt, gate, Side::D, &mut merge, u, ends, received)?;
             }
             Want::Nothing => return Ok(()),
         }

@@ -13,13 +13,14 @@ ghost use Rattle.stage_core.specs.declared.message.Want.TheVariants as want;
 ghost use Rattle.run_threads.specs.declared.fault.Stop.{Stop};
 ghost use Rattle.run_threads.specs.Ends.{SameSplitterEnds, SentSame};
 ghost use Rattle.run_threads.specs.Waits.{SplitterMay, LookedEverywhere, OfStage, MergeUsed, held};
-ghost use Rattle.run_threads.specs.Waits.{AllAnnounced, AnswersPublished};
+ghost use Rattle.run_threads.specs.Waits.{AllAnnounced, AnswersPublished, OnlyFrom, end_from};
+ghost use Rattle.run_threads.specs.Waits.{want_of};
 
 use crate::ends::{MergeEnds, SplitterEnds, StageEnds};
 use crate::fault::Stop;
 use crate::gate::{Gate, Who};
 use pipe_rings::Rx;
-use stage_core::{FromStage, L1Stage, Merge, ToStage, Turn};
+use stage_core::{FromStage, L1Stage, Merge, Side, ToStage, Turn};
 use std::sync::{Forever, Wait};
 
 /// The runtime, as the body of a thread has it: it lets the body wait in the functions of this
@@ -31,7 +32,9 @@ pub struct BodyRuntime<H> {
 
 impl<H> BodyRuntime<H> {
     /// This runtime, for the bodies of threads.
-    pub fn new(rt: H) -> BodyRuntime<H> {
+    pub fn new(rt: H) -> BodyRuntime<H>
+        ensures { result.rt ≡ rt }
+    {
         BodyRuntime { rt }
     }
 }
@@ -39,13 +42,13 @@ impl<H> BodyRuntime<H> {
 impl<H: Wait> BodyRuntime<H> {
     /// Rounds without end.
     #[inline(always)]
-    pub fn forever(&self) -> Forever<'_, H> {
+    pub(crate) fn forever(&self) -> Forever<'_, H> {
         self.rt.forever()
     }
 
     /// Calls the gate, which may hold this thread.
     #[inline(always)]
-    pub fn arrive<G: Gate>(&self, gate: &G, who: Who, nth: u64) {
+    pub(crate) fn arrive<G: Gate>(&self, gate: &G, who: Who, nth: u64) {
         gate.arrive(&self.rt, who, nth);
     }
 }
@@ -192,40 +195,23 @@ pub fn await_turn<H: Wait>(
     await_item(rt, &mut ends.order)
 }
 
-/// The merge waits for a message from the I stage.
+/// The merge waits for a message from a stage.
 #[inline(always)]
-pub fn await_from_i<H: Wait>(
+pub fn await_from<H: Wait>(
     rt: &BodyRuntime<H>,
+    side: Side,
     merge: &Merge,
     ends: &mut MergeEnds,
 ) -> Result<FromStage, Stop>
     requires may { MergeUsed merge.now ends.old }
-    requires wants { wanted merge.now ≡ want.I }
-    requires looked { LookedForItem ends.old.from_i }
-    ensures order { ends.new.order ≡ ends.old.order }
-    ensures from_i { SameRx ends.old.from_i ends.new.from_i }
-    ensures received { IfOk result (λ message. received ends.new.from_i
-        ≡ received ends.old.from_i ++ message ∷ []) }
-    ensures from_d { ends.new.from_d ≡ ends.old.from_d }
+    requires wants { wanted merge.now ≡ want_of side }
+    requires looked { LookedForItem (end_from ends.old side) }
+    ensures ring { OnlyFrom side ends.old ends.new }
+    ensures received { IfOk result (λ message. received (end_from ends.new side)
+        ≡ received (end_from ends.old side) ++ message ∷ []) }
 {
-    await_item(rt, &mut ends.from_i)
-}
-
-/// The merge waits for a message from the D stage.
-#[inline(always)]
-pub fn await_from_d<H: Wait>(
-    rt: &BodyRuntime<H>,
-    merge: &Merge,
-    ends: &mut MergeEnds,
-) -> Result<FromStage, Stop>
-    requires may { MergeUsed merge.now ends.old }
-    requires wants { wanted merge.now ≡ want.D }
-    requires looked { LookedForItem ends.old.from_d }
-    ensures order { ends.new.order ≡ ends.old.order }
-    ensures from_i { ends.new.from_i ≡ ends.old.from_i }
-    ensures from_d { SameRx ends.old.from_d ends.new.from_d }
-    ensures received { IfOk result (λ message. received ends.new.from_d
-        ≡ received ends.old.from_d ++ message ∷ []) }
-{
-    await_item(rt, &mut ends.from_d)
+    match side {
+        Side::I => await_item(rt, &mut ends.from_i),
+        Side::D => await_item(rt, &mut ends.from_d),
+    }
 }

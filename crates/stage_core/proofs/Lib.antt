@@ -7,6 +7,7 @@ pub mod Turns
 pub mod Finishes
 pub mod Worked
 pub mod Pops
+pub mod OnePop
 pub mod Threads
 pub mod Waits
 pub mod Picks

@@ -1,6 +1,5 @@
 -- The lemmas of the network.
 pub mod Sums
-pub mod OnePop
 pub mod Ends
 pub mod Positions
 pub mod StreamCounts

@@ -13,7 +13,7 @@ use Rattle.stage_core.specs.declared.message.Turn.TheVariants as turn
 use Rattle.stage_core.specs.declared.message.FromStage.{FromStage}
 use Rattle.stage_core.specs.declared.message.FromStage.TheVariants as from_stage
 use Rattle.stage_core.proofs.network.Sums.{total}
-use Rattle.stage_core.proofs.network.OnePop.{used_log}
+use Rattle.stage_core.proofs.OnePop.{used_log}
 use Rattle.stage_core.proofs.Pops.{Pop, Turned, From, Log, want_of, turns_of, from_of, state_after}
 use Rattle.stage_core.proofs.Pops.{Lawful}
 

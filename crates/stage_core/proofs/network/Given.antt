@@ -14,7 +14,7 @@ use Rattle.stage_core.specs.declared.message.FromStage.{FromStage}
 use Rattle.stage_core.specs.declared.message.FromStage.TheVariants as from_stage
 use Rattle.stage_core.proofs.network.Sums.{total, total-append}
 use Rattle.stage_core.proofs.Pops.{Pop, Turned, From, Log, from_of, requests_of}
-use Rattle.stage_core.proofs.network.OnePop.{used_log}
+use Rattle.stage_core.proofs.OnePop.{used_log}
 use Rattle.stage_core.proofs.Merged.{merged-streams}
 use Rattle.stage_core.proofs.network.Schedules.{from-prefix}
 

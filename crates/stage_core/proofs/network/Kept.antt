@@ -21,7 +21,7 @@ use Rattle.stage_core.specs.declared.message.ToStage.{ToStage}
 use Rattle.stage_core.specs.declared.message.FromStage.{FromStage}
 use Rattle.stage_core.proofs.Place.{flat_map_with_past-more}
 use Rattle.stage_core.proofs.Pops.{want_of}
-use Rattle.stage_core.proofs.network.OnePop.{merged-turn, merged-i, merged-d}
+use Rattle.stage_core.proofs.OnePop.{merged-turn, merged-i, merged-d}
 use Rattle.stage_core.proofs.network.StreamCounts.{turns_in-append, sent_to-append}
 
 -- what is mapped and there was there before

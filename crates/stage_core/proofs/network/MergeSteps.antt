@@ -16,7 +16,7 @@ use Rattle.stage_core.specs.declared.message.Turn.{Turn}
 use Rattle.stage_core.specs.declared.message.FromStage.{FromStage}
 use Rattle.stage_core.specs.declared.l2_stage.L2Stage.{L2Stage}
 use Rattle.stage_core.specs.declared.network.Core.TheInside.{Inside}
-use Rattle.stage_core.proofs.network.OnePop.{merged-turn, merged-i, merged-d}
+use Rattle.stage_core.proofs.OnePop.{merged-turn, merged-i, merged-d}
 use Rattle.stage_core.proofs.network.Kept.{keeps-turns, keeps-takes, pop-some}
 use Rattle.stage_core.proofs.network.Steps.{Steps}
 

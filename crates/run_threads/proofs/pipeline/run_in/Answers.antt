@@ -9,7 +9,7 @@ use Rattle.run_threads.specs.Ends.{HaveCapacity}
 use Rattle.run_threads.specs.Machines.{AreNew, hierarchy_in}
 use Rattle.run_threads.specs.Runs.{HasRun}
 use Rattle.run_threads.proofs.Endings.{runs-over, runs-refused}
-use Rattle.run_threads.proofs.Wholes.{capacity-fed}
+use Rattle.run_threads.proofs.Wholes.{capacity-kept, same-stage_ends}
 use Rattle.run_threads.proofs.pipeline.run_in.Goals as goal
 
 pub returns-in-Err-clause-reads : goal.returns-in-Err-clause-reads
@@ -27,8 +27,9 @@ returns-clause-reads g c =
     let reads = c.split-fed.ensures.reads in
     let same = c.in-Ok.ensures.machines in
     let fed : (ring : ℕ) → HaveCapacity ring c.args.rings → HaveCapacity ring _ =
-    λ ring room. capacity-fed ring _ c.split-fed.new.ends
-    (subst (HaveCapacity ring) (sym c.in-Ok.ensures.rings) room) c.split-fed.ensures.rings in (
+    λ ring room. capacity-kept ring _ _
+    (subst (HaveCapacity ring) (sym c.in-Ok.ensures.rings) room) c.split-fed.ensures.rings
+    (same-stage_ends _) (same-stage_ends _) in (
       reads.0,
       reads.1,
       reads.2,

@@ -11,8 +11,7 @@ use Rattle.stage_core.proofs.Place.{flat_map_with_past-more}
 use Rattle.run_threads.specs.Faults.{MayAnswer}
 use Rattle.run_threads.specs.Waits.{splitter_at}
 use Rattle.run_threads.proofs.Splitting.{same-ends, ends-stay, each_side, posted-same, left-record}
-use Rattle.run_threads.proofs.Splitting.{left-end}
-use Rattle.run_threads.proofs.Splitting.{left-fault, rest-record, rest-end, rest-cut, answers-fault}
+use Rattle.run_threads.proofs.Splitting.{left-end, left-fault, rest-answer, rest-cut, answers-fault}
 use Rattle.run_threads.proofs.split.split.Goals as goal
 use Rattle.run_threads.proofs.split.split.Goals.{After-next_record}
 use Rattle.run_threads.proofs.split.split.Given.{Over}
@@ -88,10 +87,7 @@ loop-preserved g c =
         given = all.given;
         fate = all.fate;
         went = all.went;
-        left = left-record g.R.ByteReader.remaining g.R.ByteReader.failures c.args.selection
-            c.args.source.now c.args.ends.now c.loop.selector c.loop.splitter c.loop.source
-            c.loop.ends going c.next_record.new.source c.in-Ok.answer _ _ all
-            c.in-Ok.ensures.reads.3 next answered;
+        left = left-record going all c.in-Ok.answer read.3 next answered;
         chosen = offers.selection ∙ going.chosen;
         offered = offers.stands going.past going.offered;
         room = inr (elim going.room [
@@ -112,80 +108,55 @@ loop-preserved g c =
 
 pub returns-in_default-clause-reads : goal.returns-in_default-clause-reads
 returns-in_default-clause-reads g c =
-    let c₁ = (goal.at.returns-in_default-clause-reads g c).After-next_record in
     let read = c.in_default.ensures.reads in
+    let c₁ = (goal.at.returns-in_default-clause-reads g c).After-next_record in
     let all = composed g c₁ read.0 read.1 read.2 in (
       all.given,
       all.fate,
       all.went,
-      λ first last l is left. (
-        tt,
-        rest-cut g.R.ByteReader.remaining g.R.ByteReader.failures c.args.selection
-            c.args.source.now c.args.ends.now c.loop.selector c.loop.splitter c.loop.source
-            c.loop.ends c.loop.invariant.2 c.next_record.new.source _ _ all
-            c.in_default.ensures.reads.3 first last l is left,
-      ),
+      λ first last l is left. (tt, rest-cut c.loop.invariant.2 all read.3 first last l is left),
     )
 
 pub returns-then-is_err-clause-reads : goal.returns-then-is_err-clause-reads
 returns-then-is_err-clause-reads g c =
+    let read = c.in-Ok.ensures.reads in
     let c₁ = (goal.at.returns-then-is_err-clause-reads g c).After-next_record in
-    let going = c.loop.invariant.2 in
-    let read = c.in-Ok.ensures.reads in
-    let all = composed g c₁ read.0 read.1 read.2 in
-    let next = c.in-Ok-Some.next in
-    let answered : c.in-Ok.answer ≡ Ok (Some next) =
-    c.in-Ok-Some.is ∙ ap (λ (found : Option DinRecord). Ok found)
-    (rw c.in-Ok-Some.is at c.in-Ok-Some.field-0-is) in (
-      all.given,
-      all.fate,
-      all.went,
-      λ first last l is left. (
-        tt,
-        rest-record g.R.ByteReader.remaining g.R.ByteReader.failures c.args.selection
-            c.args.source.now c.args.ends.now c.loop.selector c.loop.splitter c.loop.source
-            c.loop.ends going c.next_record.new.source c.in-Ok.answer _ _ all
-            c.in-Ok.ensures.reads.3 next answered first last l is left,
-      ),
-    )
-
-pub returns-in-Err-clause-reads : goal.returns-in-Err-clause-reads
-returns-in-Err-clause-reads g c =
-    let c₁ = (goal.at.returns-in-Err-clause-reads g c).After-next_record in
-    let read = c.in-Ok.ensures.reads in
     let all = composed g c₁ read.0 read.1 read.2 in (
       all.given,
       all.fate,
       all.went,
       λ first last l is left.
-          let rest = left-fault g.R.ByteReader.remaining g.R.ByteReader.failures c.args.selection
-          c.args.source.now c.args.ends.now c.loop.selector c.loop.splitter c.loop.source
-          c.loop.ends c.loop.invariant.2 c.next_record.new.source c.in-Ok.answer _ _ all
-          c.in-Ok.ensures.reads.3 c.in-Err.fault c.in-Err.is first last l is left in (
-            subst (MayAnswer l.fault) (sym c.fault_of_source.ensures)
-                (answers-fault l.fault c.in-Err.fault rest.0),
-            rest.1,
-          ),
+          (tt, rest-answer c.loop.invariant.2 all c.in-Ok.answer read.3 first last l is left),
     )
 
-pub returns-then-is_err-2-clause-reads : goal.returns-then-is_err-2-clause-reads
-returns-then-is_err-2-clause-reads g c =
-    let c₁ = (goal.at.returns-then-is_err-2-clause-reads g c).After-next_record in
+pub returns-in-Err-clause-reads : goal.returns-in-Err-clause-reads
+returns-in-Err-clause-reads g c =
     let read = c.in-Ok.ensures.reads in
-    let all = composed g c₁ read.0 read.1 read.2 in
-    let answered : c.in-Ok.answer ≡ Ok None =
-    c.in-Ok-None.is ∙ ap (λ (found : Option DinRecord). Ok found)
-    (rw c.in-Ok-None.is at c.in-Ok-None.field-0-is) in (
+    let c₁ = (goal.at.returns-in-Err-clause-reads g c).After-next_record in
+    let going = c.loop.invariant.2 in
+    let all = composed g c₁ read.0 read.1 read.2 in (
       all.given,
       all.fate,
       all.went,
       λ first last l is left. (
-        tt,
-        rest-end g.R.ByteReader.remaining g.R.ByteReader.failures c.args.selection
-            c.args.source.now c.args.ends.now c.loop.selector c.loop.splitter c.loop.source
-            c.loop.ends c.loop.invariant.2 c.next_record.new.source c.in-Ok.answer _ _ all
-            c.in-Ok.ensures.reads.3 answered first last l is left,
+        subst (MayAnswer l.fault) (sym c.fault_of_source.ensures)
+            (answers-fault l.fault c.in-Err.fault
+            (left-fault going all c.in-Ok.answer read.3 c.in-Err.fault c.in-Err.is first last l is
+            left)),
+        rest-answer going all c.in-Ok.answer read.3 first last l is left,
       ),
+    )
+
+pub returns-then-is_err-2-clause-reads : goal.returns-then-is_err-2-clause-reads
+returns-then-is_err-2-clause-reads g c =
+    let read = c.in-Ok.ensures.reads in
+    let c₁ = (goal.at.returns-then-is_err-2-clause-reads g c).After-next_record in
+    let all = composed g c₁ read.0 read.1 read.2 in (
+      all.given,
+      all.fate,
+      all.went,
+      λ first last l is left.
+          (tt, rest-answer c.loop.invariant.2 all c.in-Ok.answer read.3 first last l is left),
     )
 
 pub returns-in-Ok-None-clause-reads : goal.returns-in-Ok-None-clause-reads
@@ -203,10 +174,7 @@ returns-in-Ok-None-clause-reads g c =
       all.fate,
       all.went,
       λ first last l is left.
-          let none = left-end g.R.ByteReader.remaining g.R.ByteReader.failures c.args.selection
-          c.args.source.now c.args.ends.now c.loop.selector c.loop.splitter c.loop.source
-          c.loop.ends going c.next_record.new.source c.in-Ok.answer _ _ all
-          c.in-Ok.ensures.reads.3 answered first last l is left in (
+          let none = left-end going all c.in-Ok.answer read.3 answered first last l is left in (
             none.0,
             subst (λ (rs : List DinRecord).
                 HasPosted (splitter_at (events c.args.selection rs) true c.send_end.new.ends))

@@ -1,0 +1,26 @@
+use Rattle.std.proofs.Common.{◌≡◌, ◌⊎◌, inl, inr}
+use Rattle.stage_core.specs.Merging.{wanted}
+use Rattle.stage_core.specs.declared.message.Side.{Side}
+use Rattle.stage_core.specs.declared.message.Side.TheVariants as side
+use Rattle.stage_core.specs.declared.message.Want.{Want}
+use Rattle.stage_core.specs.declared.message.Want.TheVariants as want
+use Rattle.run_threads.specs.Waits.{want_of}
+use Rattle.run_threads.proofs.Merges.{merges-from}
+use Rattle.run_threads.proofs.merge_thread.take_from.Goals as goal
+
+-- a merge that wants a side's message wants I's or D's
+one-wanted : (s : Side) (w : Want) → w ≡ want_of s → (w ≡ want.I) ⊎ (w ≡ want.D)
+one-wanted side.I w is = inl is
+one-wanted side.D w is = inr is
+
+pub take_and_serve-requires : goal.take_and_serve-requires
+take_and_serve-requires g c = one-wanted c.args.side (wanted c.args.merge.now) c.requires.wants
+
+pub returns : goal.returns
+returns g c = record {
+  served = λ began start going. merges-from began start c.args.merge.now c.args.u.now
+      c.args.ends.now c.in_ok-message.message c.take_and_serve.new.merge c.take_and_serve.new.u
+      c.next_from.new.ends going c.args.side c.requires.wants c.next_from.ensures.ring
+      c.in_ok-message.ensures.received c.in_ok-take_and_serve.ensures.merge
+      c.in_ok-take_and_serve.ensures.stands c.take_and_serve.ensures.rules;
+}
