@@ -7,6 +7,7 @@ use super::{
 use cache_core::{Cache, Class, Counts, NoMemory, Outcome, PerClass, Policy};
 use std::alloc::Global;
 use std::process::Abort;
+use std::test::Fail;
 
 /// What is in the list before a flush, and what two written blocks add.
 static LENT: [u64; 1] = [7];
@@ -121,19 +122,19 @@ fn writes_two(rt: &impl Abort, cache: &mut Cache, out: &mut Vec<u64>) -> Result<
 }
 
 #[test]
-fn two_blocks_are_written_and_flushed_or_the_cache_fails(rt: HostRuntime) -> Result<(), NoMemory> {
+fn two_blocks_are_written_and_flushed_or_the_cache_fails(rt: HostRuntime) -> Result<(), Fail> {
     let mut out = lent(rt.alloc())?;
     let mut cache = made(&rt, rt.alloc(), (16, 4, 2), LRU)?;
-    writes_two(&rt, &mut cache, &mut out)
+    Ok(writes_two(&rt, &mut cache, &mut out)?)
 }
 
 #[test]
-fn a_cache_of_few_ways_serves_all_or_fails(rt: HostRuntime) -> Result<(), NoMemory> {
-    serves_or_fails(&rt, rt.alloc(), (1_024, 4, 4), LRU)
+fn a_cache_of_few_ways_serves_all_or_fails(rt: HostRuntime) -> Result<(), Fail> {
+    Ok(serves_or_fails(&rt, rt.alloc(), (1_024, 4, 4), LRU)?)
 }
 
 #[test]
-fn a_cache_of_many_ways_serves_all_or_fails(rt: HostRuntime) -> Result<(), NoMemory> {
+fn a_cache_of_many_ways_serves_all_or_fails(rt: HostRuntime) -> Result<(), Fail> {
     serves_or_fails(&rt, rt.alloc(), (1_024, 4, 256), FIFO)?;
-    serves_or_fails(&rt, rt.alloc(), (1_024, 4, 256), LRU)
+    Ok(serves_or_fails(&rt, rt.alloc(), (1_024, 4, 256), LRU)?)
 }

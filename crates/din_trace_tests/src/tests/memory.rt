@@ -8,6 +8,7 @@ use super::texts::in_memory;
 use din_trace::{DinRecord, Label, MAX_LIMIT, TraceFault, Why};
 use std::alloc::Global;
 use std::process::Abort;
+use std::test::Fail;
 
 static TWELVE: &str = "2 0\n2 0\n2 0\n2 0\n2 0\n2 0\n2 0\n2 0\n2 0\n2 0\n2 0\n2 0\n";
 
@@ -69,30 +70,30 @@ fn reads(
 }
 
 #[test]
-fn all_records_are_left_or_memory_is_wanted(rt: HostRuntime) -> Result<(), TraceFault> {
-    leaves(&rt, rt.alloc(), TWELVE, (&FETCHES, Found::Nothing))
+fn all_records_are_left_or_memory_is_wanted(rt: HostRuntime) -> Result<(), Fail> {
+    Ok(leaves(&rt, rt.alloc(), TWELVE, (&FETCHES, Found::Nothing))?)
 }
 
 #[test]
-fn a_fault_behind_records_is_left_or_memory_is_wanted(rt: HostRuntime) -> Result<(), TraceFault> {
+fn a_fault_behind_records_is_left_or_memory_is_wanted(rt: HostRuntime) -> Result<(), Fail> {
     let text = "2 0\n2 0\n2 0\n2 0\n2 0\n2\n2 0\n";
-    leaves(&rt, rt.alloc(), text, (&[], Found::Bad(6, Why::Gap)))
+    Ok(leaves(&rt, rt.alloc(), text, (&[], Found::Bad(6, Why::Gap)))?)
 }
 
 #[test]
-fn a_text_has_its_records_or_memory_is_wanted(rt: HostRuntime) -> Result<(), TraceFault> {
-    reads(
+fn a_text_has_its_records_or_memory_is_wanted(rt: HostRuntime) -> Result<(), Fail> {
+    Ok(reads(
         &rt,
         rt.alloc(),
         TWELVE,
         MAX_LIMIT,
         (&FETCHES, Found::Nothing),
-    )
+    )?)
 }
 
 #[test]
-fn a_text_is_too_long_or_memory_is_wanted(rt: HostRuntime) -> Result<(), TraceFault> {
-    reads(&rt, rt.alloc(), TWELVE, 40, (&[], Found::TooLong))
+fn a_text_is_too_long_or_memory_is_wanted(rt: HostRuntime) -> Result<(), Fail> {
+    Ok(reads(&rt, rt.alloc(), TWELVE, 40, (&[], Found::TooLong))?)
 }
 
 #[test]

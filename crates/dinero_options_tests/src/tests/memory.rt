@@ -29,30 +29,30 @@ fn refuses(
 }
 
 #[test]
-fn the_worked_words_are_read_or_memory_is_wanted(rt: HostRuntime) -> Result<(), WordsFault> {
+fn the_worked_words_are_read_or_memory_is_wanted(rt: HostRuntime) -> Result<(), Fail> {
     let (config, selection) = parsed(rt.alloc(), "")?;
     assert!(rt; worked_caches(&config, selection));
     Ok(())
 }
 
 #[test]
-fn a_bad_number_is_named_or_memory_is_wanted(rt: HostRuntime) -> Result<(), WordsFault> {
-    refuses(&rt, rt.alloc(), "--ring two", WordsFault::Number(Opt::Ring))
+fn a_bad_number_is_named_or_memory_is_wanted(rt: HostRuntime) -> Result<(), Fail> {
+    Ok(refuses(&rt, rt.alloc(), "--ring two", WordsFault::Number(Opt::Ring))?)
 }
 
 #[test]
-fn an_unknown_option_is_refused_or_memory_is_wanted(rt: HostRuntime) -> Result<(), WordsFault> {
-    refuses(&rt, rt.alloc(), "--l3-usize 16", WordsFault::Words)
+fn an_unknown_option_is_refused_or_memory_is_wanted(rt: HostRuntime) -> Result<(), Fail> {
+    Ok(refuses(&rt, rt.alloc(), "--l3-usize 16", WordsFault::Words)?)
 }
 
 #[test]
-fn a_missing_option_is_refused_or_memory_is_wanted(rt: HostRuntime) -> Result<(), WordsFault> {
-    is_refused(&rt, parsed_line(rt.alloc(), ""), WordsFault::Words)
+fn a_missing_option_is_refused_or_memory_is_wanted(rt: HostRuntime) -> Result<(), Fail> {
+    Ok(is_refused(&rt, parsed_line(rt.alloc(), ""), WordsFault::Words)?)
 }
 
 #[test]
-fn help_is_asked_for_or_memory_is_wanted(rt: HostRuntime) -> Result<(), WordsFault> {
-    refuses(&rt, rt.alloc(), "--help", WordsFault::Help)
+fn help_is_asked_for_or_memory_is_wanted(rt: HostRuntime) -> Result<(), Fail> {
+    Ok(refuses(&rt, rt.alloc(), "--help", WordsFault::Help)?)
 }
 
 #[test]

@@ -6,6 +6,7 @@ use super::{clear, same, touch};
 use marked_list::Marked;
 use std::alloc::AllocError;
 use std::process::Abort;
+use std::test::Fail;
 
 /// Uses a block, which has to have this level. If an allocation fails, a use of the block that was
 /// used last before has to have level 0.
@@ -42,7 +43,7 @@ fn fills(rt: &impl Abort, marked: &mut Marked) -> Result<(), AllocError> {
 }
 
 #[test]
-fn blocks_are_used_or_the_list_is_as_it_was(rt: HostRuntime) -> Result<(), AllocError> {
+fn blocks_are_used_or_the_list_is_as_it_was(rt: HostRuntime) -> Result<(), Fail> {
     let mut marked = Marked::new(rt.alloc(), &[1, 2, 100])?;
-    fills(&rt, &mut marked)
+    Ok(fills(&rt, &mut marked)?)
 }

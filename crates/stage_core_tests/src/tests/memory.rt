@@ -10,6 +10,7 @@ use super::{LRU, config_of, same};
 use cache_core::Class;
 use stage_core::{FromStage, L1Stage, NoMemory, Side, ToStage, What};
 use std::process::Abort;
+use std::test::Fail;
 
 // A message to a stage, and all that it has to send then.
 type Row<'a> = (ToStage, &'a [FromStage]);
@@ -92,7 +93,7 @@ static DATA_ROWS: [Row<'static>; 4] = [
 ];
 
 #[test]
-fn the_data_stage_answers_or_fails(rt: HostRuntime) -> Result<(), NoMemory> {
+fn the_data_stage_answers_or_fails(rt: HostRuntime) -> Result<(), Fail> {
     let mut stage = stage_of(rt.alloc(), &config_of(&rt, LRU, 2), Side::D)?;
     answers_all(&rt, &mut stage, &DATA_ROWS)?;
     same(
@@ -129,7 +130,7 @@ static INSTRUCTION_ROWS: [Row<'static>; 3] = [
 ];
 
 #[test]
-fn the_instruction_stage_answers_or_fails(rt: HostRuntime) -> Result<(), NoMemory> {
+fn the_instruction_stage_answers_or_fails(rt: HostRuntime) -> Result<(), Fail> {
     let mut stage = stage_of(rt.alloc(), &config_of(&rt, LRU, 2), Side::I)?;
     answers_all(&rt, &mut stage, &INSTRUCTION_ROWS)?;
     assert!(rt; stage.served() == 2);
@@ -145,7 +146,7 @@ static SENT: [What; 5] = [
 ];
 
 #[test]
-fn the_second_level_serves_or_fails(rt: HostRuntime) -> Result<(), NoMemory> {
+fn the_second_level_serves_or_fails(rt: HostRuntime) -> Result<(), Fail> {
     let mut stage = second_of(rt.alloc(), &config_of(&rt, LRU, 2))?;
     serve(&rt, &mut stage, &SENT)?;
     same(
@@ -159,7 +160,7 @@ fn the_second_level_serves_or_fails(rt: HostRuntime) -> Result<(), NoMemory> {
 }
 
 #[test]
-fn a_run_counts_all_or_wants_memory(rt: HostRuntime) -> Result<(), NoMemory> {
+fn a_run_counts_all_or_wants_memory(rt: HostRuntime) -> Result<(), Fail> {
     static RUNS: [Run; 1] = [("a flush", LRU, 0, &FLUSHED, FLUSHED_TOTALS)];
-    come_to(&rt, rt.alloc(), &RUNS)
+    Ok(come_to(&rt, rt.alloc(), &RUNS)?)
 }

@@ -8,6 +8,7 @@ use din_trace::{DinRecord, MAX_LIMIT};
 use stage_core::{Core, NoMemory, Selection, Totals, drive};
 use std::alloc::Global;
 use std::process::Abort;
+use std::test::Fail;
 
 // The choices of so many steps: these two in turn.
 fn choices_of(rt: &impl Abort, alloc: Global, (even, odd): (u8, u8), steps: u64) -> Vec<u8> {
@@ -148,14 +149,14 @@ fn ends_are_sent(rt: &impl Abort, core: &mut Core) -> Result<(), NoMemory> {
 }
 
 #[test]
-fn the_machines_that_can_are_counted(rt: HostRuntime) -> Result<(), NoMemory> {
+fn the_machines_that_can_are_counted(rt: HostRuntime) -> Result<(), Fail> {
     let mut core = core_of(&rt, rt.alloc(), &[])?;
-    ends_are_sent(&rt, &mut core)
+    Ok(ends_are_sent(&rt, &mut core)?)
 }
 
 // If an allocation fails, the run has to fail with the name of that.
 #[test]
-fn a_refused_run_answers_want_of_memory(rt: HostRuntime) -> Result<(), NoMemory> {
+fn a_refused_run_answers_want_of_memory(rt: HostRuntime) -> Result<(), Fail> {
     let answer = run(&rt, rt.alloc(), (0, 1), &FLUSHED, &[])?;
     same(
         &rt,
@@ -178,7 +179,7 @@ fn runs_to_its_end(rt: &impl Abort, core: &mut Core) -> Result<(), NoMemory> {
 
 // If an allocation fails in a step, the test fails with the name of that.
 #[test]
-fn a_refused_step_leaves_nothing_enabled(rt: HostRuntime) -> Result<(), NoMemory> {
+fn a_refused_step_leaves_nothing_enabled(rt: HostRuntime) -> Result<(), Fail> {
     let mut core = core_of(&rt, rt.alloc(), &FLUSHED)?;
-    runs_to_its_end(&rt, &mut core)
+    Ok(runs_to_its_end(&rt, &mut core)?)
 }
