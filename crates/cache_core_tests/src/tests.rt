@@ -1,12 +1,15 @@
 //! Traces whose outcomes were worked out by hand, served one access at a time.
 
 use cache_core::{
-    Access, Cache, Class, Counts, Geometry, MAX_EVENTS, MissKind, Outcome, PerClass, Policy, Repl,
+    Access, Cache, Class, Counts, Geometry, MAX_EVENTS, MissKind, NoMemory, Outcome, PerClass,
+    Policy, Repl,
 };
 use std::alloc::Global;
+use std::fmt::Debug;
 use std::process::Abort;
 
 mod against_slow;
+mod flushes;
 mod geometries;
 mod many_ways;
 mod memory;
@@ -46,80 +49,141 @@ const FIFO: Policy = Policy {
     walloc: true,
 };
 
-/// A miss that loads its block.
-fn missed(kind: MissKind) -> Outcome {
-    Outcome {
-        hit: false,
-        kind: Some(kind),
-        back: None,
-        fetch: true,
-        through: false,
-    }
+const CAPACITY: Outcome = Outcome {
+    kind: Some(MissKind::Capacity),
+    ..NEW
+};
+
+const NONE: PerClass = PerClass {
+    instr: 0,
+    read: 0,
+    write: 0,
+    misc: 0,
+};
+
+const NO_COUNTS: Counts = Counts {
+    fetches: NONE,
+    misses: NONE,
+    compulsory: NONE,
+    capacity: NONE,
+    conflict: NONE,
+    loaded: 0,
+    written_back: 0,
+    sent_on: 0,
+    flushes: 0,
+};
+
+/// What came has to be what is wanted, in this place of this case.
+fn same<T: PartialEq + Debug>(rt: &impl Abort, came: &T, wanted: &T, case: &str, place: u64) {
+    assert_eq!(rt; came, wanted, "{case} at {place}");
 }
 
-/// A miss that loads its block and evicts a dirty one.
-fn missed_back(kind: MissKind, first: u64) -> Outcome {
-    Outcome {
-        back: Some(first),
-        ..missed(kind)
-    }
+fn push<T: Drop>(rt: &impl Abort, list: &mut Vec<T>, item: T) {
+    assert!(rt; list.push(item).is_ok());
 }
 
-fn reads(read: u64) -> PerClass {
-    PerClass {
-        read,
-        ..PerClass::default()
-    }
+/// The size of a cache in bytes, that of its blocks, and the number of ways.
+type Shape = (u64, u64, u64);
+
+fn geometry_of(rt: &impl Abort, shape: Shape) -> Geometry {
+    Geometry::new(shape.0, shape.1, shape.2).expect(rt, "a lawful geometry")
 }
 
-fn writes(write: u64) -> PerClass {
-    PerClass {
-        write,
-        ..PerClass::default()
-    }
+fn try_new(
+    rt: &impl Abort,
+    alloc: Global,
+    shape: Shape,
+    policy: Policy,
+) -> Result<Cache, NoMemory> {
+    Cache::new(alloc, geometry_of(rt, shape), policy)
 }
 
-fn instrs(instr: u64) -> PerClass {
-    PerClass {
-        instr,
-        ..PerClass::default()
-    }
+fn cache_of(rt: &impl Abort, alloc: Global, shape: Shape, policy: Policy) -> Cache {
+    try_new(rt, alloc, shape, policy).expect(rt, "memory")
 }
 
-fn cache_of(rt: &impl Abort, alloc: Global, shape: (u64, u64, u64), policy: Policy) -> Cache {
-    let geometry = Geometry::new(shape.0, shape.1, shape.2).expect(rt, "a lawful geometry");
-    Cache::new(alloc, geometry, policy).expect(rt, "memory")
+/// The cache has to have these counts, to have served so many accesses and flushes, and to have
+/// failed or not.
+fn expect_state(rt: &impl Abort, cache: &Cache, counts: &Counts, served: u64, failed: bool) {
+    same(rt, &cache.counts(), counts, "the counts", served);
+    assert!(rt; cache.served() == served && cache.failed() == failed);
 }
 
-/// A cache of two sets of two blocks of four bytes.
-fn data_cache(rt: &impl Abort, alloc: Global, policy: Policy) -> Cache {
-    cache_of(rt, alloc, (16, 4, 2), policy)
+fn try_serve(
+    rt: &impl Abort,
+    cache: &mut Cache,
+    class: Class,
+    addr: u64,
+) -> Result<Outcome, NoMemory> {
+    assert!(rt; cache.served() < MAX_EVENTS);
+    cache.access(Access { class, addr })
 }
 
 fn serve(rt: &impl Abort, cache: &mut Cache, class: Class, addr: u64) -> Outcome {
+    try_serve(rt, cache, class, addr).expect(rt, "memory")
+}
+
+fn try_flush(rt: &impl Abort, cache: &mut Cache, out: &mut Vec<u64>) -> Result<(), NoMemory> {
     assert!(rt; cache.served() < MAX_EVENTS);
-    cache.access(Access { class, addr }).expect(rt, "memory")
+    cache.flush(out)
+}
+
+fn flush(rt: &impl Abort, cache: &mut Cache, out: &mut Vec<u64>) {
+    try_flush(rt, cache, out).expect(rt, "memory");
+}
+
+/// What a cache goes through, and what it has to answer.
+#[derive(Clone, Copy)]
+enum Step<'a> {
+    /// Accesses of one class to these addresses. Each has to have the outcome next to it.
+    Serve(Class, &'a [(u64, Outcome)]),
+    /// A flush, which has to write these blocks back.
+    Flush(&'a [u64]),
+    /// The cache has to have these counts, after so many accesses and flushes.
+    Count(Counts, u64),
 }
 
 /// Serves accesses of one class. Each has to have the outcome next to it.
 fn expect(rt: &impl Abort, cache: &mut Cache, class: Class, trace: &[(u64, Outcome)]) {
     for (addr, want) in trace {
-        assert_eq!(rt; serve(rt, cache, class, *addr), *want, "at {addr}");
+        same(
+            rt,
+            &serve(rt, cache, class, *addr),
+            want,
+            "the outcome",
+            *addr,
+        );
     }
 }
 
-fn expect_counts(rt: &impl Abort, cache: &Cache, want: Counts) {
-    assert_eq!(rt; cache.counts(), want);
-}
-
-fn flush(rt: &impl Abort, cache: &mut Cache, out: &mut Vec<u64>) {
-    assert!(rt; cache.served() < MAX_EVENTS);
-    cache.flush(out).expect(rt, "memory");
+/// The list has to have these addresses.
+fn has(rt: &impl Abort, list: &Vec<u64>, wanted: &[u64]) {
+    same(rt, &list.as_slice(), &wanted, "the list", 0);
 }
 
 /// Flushes the cache, which has to write these blocks back.
 fn expect_flush(rt: &impl Abort, alloc: Global, cache: &mut Cache, blocks: &[u64]) {
     let mut out = Vec::new(alloc);
     flush(rt, cache, &mut out);
-    assert_eq!(rt; out.as_slice(), blocks);
+    has(rt, &out, blocks);
 }
+
+/// Goes through these steps.
+fn walk(rt: &impl Abort, alloc: Global, cache: &mut Cache, steps: &[Step<'_>]) {
+    for step in steps {
+        match *step {
+            Step::Serve(class, trace) => expect(rt, cache, class, trace),
+            Step::Flush(blocks) => expect_flush(rt, alloc, cache, blocks),
+            Step::Count(counts, served) => expect_state(rt, cache, &counts, served, false),
+        }
+    }
+}
+
+/// Goes through these steps with a new cache.
+fn walk_new(rt: &impl Abort, alloc: Global, shape: Shape, policy: Policy, steps: &[Step<'_>]) {
+    let mut cache = cache_of(rt, alloc, shape, policy);
+    walk(rt, alloc, &mut cache, steps);
+}
+
+/// Two sets of two blocks of four bytes.
+const DATA: Shape = (16, 4, 2);

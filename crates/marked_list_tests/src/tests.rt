@@ -1,27 +1,58 @@
 //! Levels that were worked out by hand, and pseudo-random uses beside a plain, slow list.
 
+ghost use Rattle.std.specs.Prelude.{◌<◌};
+ghost use Rattle.std.specs.List.{All};
+
 use marked_list::Marked;
+use std::alloc::{AllocError, Global};
+use std::fmt::Debug;
 use std::process::Abort;
-use std::test::Fail;
 
 mod against_slow;
 mod memory;
 mod slow;
 
-/// Uses a block, which has to have this level.
-fn expect(rt: &impl Abort, marked: &mut Marked, number: usize, level: usize) {
-    assert!(rt; number < usize::MAX);
-    assert_eq!(rt;
-        marked.touch(number).expect(rt, "memory"),
-        level,
-        "block {number}"
-    );
+/// What came has to be what is wanted, at this use of this block.
+fn same<T: PartialEq + Debug>(rt: &impl Abort, came: &T, wanted: &T, place: u64, block: usize) {
+    assert_eq!(rt; came, wanted, "use {place}, of block {block}");
 }
 
+fn touch(rt: &impl Abort, marked: &mut Marked, number: usize) -> Result<usize, AllocError> {
+    assert!(rt; number < usize::MAX);
+    marked.touch(number)
+}
+
+fn clear(marked: &mut Marked) {
+    marked.clear();
+}
+
+/// Uses blocks, which have to have these levels.
+fn expect(rt: &impl Abort, marked: &mut Marked, uses: &[(usize, usize)]) {
+    let mut place = 0u64;
+    for (number, level) in uses {
+        same(rt, &touch(rt, marked, *number), &Ok(*level), place, *number);
+        place = place.wrapping_add(1);
+    }
+}
+
+/// Uses blocks of a new list of these sizes, which have to have these levels. The list is cleared
+/// after each part.
+fn expect_new(rt: &impl Abort, alloc: Global, sizes: &[usize], parts: &[&[(usize, usize)]])
+    requires { All (λ size. 0 < size) sizes.now }
+{
+    let mut marked = Marked::new(alloc, sizes).expect(rt, "memory");
+    for uses in parts {
+        expect(rt, &mut marked, *uses);
+        clear(&mut marked);
+    }
+}
+
+/// Blocks with their levels, in parts.
+type Parts = &'static [&'static [(usize, usize)]];
+
 #[test]
-fn levels_are_those_worked_out_by_hand(rt: HostRuntime) -> Result<(), Fail> {
-    let mut marked = Marked::new(rt.alloc(), &[1, 2, 4]).expect(&rt, "memory");
-    let uses = [
+fn levels_are_those_worked_out_by_hand(rt: HostRuntime) {
+    static USES: Parts = &[&[
         (3, 3),
         (3, 0),
         (5, 3),
@@ -34,63 +65,51 @@ fn levels_are_those_worked_out_by_hand(rt: HostRuntime) -> Result<(), Fail> {
         (6, 3),
         (3, 3),
         (6, 1),
+    ]];
+    expect_new(&rt, rt.alloc(), &[1, 2, 4], USES);
+}
+
+#[test]
+fn a_size_of_one_has_the_latest_block(rt: HostRuntime) {
+    static USES: Parts = &[&[(0, 1), (0, 0), (1, 1), (0, 1), (0, 0)]];
+    expect_new(&rt, rt.alloc(), &[1], USES);
+}
+
+#[test]
+fn no_size_has_level_zero(rt: HostRuntime) {
+    static USES: Parts = &[&[(4, 0), (4, 0), (9, 0)]];
+    expect_new(&rt, rt.alloc(), &[], USES);
+}
+
+#[test]
+fn the_first_size_that_has_the_block_counts(rt: HostRuntime) {
+    static USES: Parts = &[&[(8, 4), (8, 0), (9, 4), (8, 0), (7, 4), (9, 3), (9, 0)]];
+    expect_new(&rt, rt.alloc(), &[2, 1, 2, 3], USES);
+}
+
+#[test]
+fn a_cleared_list_has_no_block(rt: HostRuntime) {
+    static USES: Parts = &[
+        &[],
+        &[(5, 2), (6, 2), (5, 1)],
+        &[],
+        &[(5, 2), (6, 2), (7, 2), (6, 1), (5, 2)],
     ];
-    for (number, level) in uses {
-        expect(&rt, &mut marked, number, level);
-    }
-    Ok(())
+    expect_new(&rt, rt.alloc(), &[1, 2], USES);
+}
+
+/// Uses two blocks, and then one of a number that is refused, which changes nothing.
+fn refuses(rt: &impl Abort, marked: &mut Marked) {
+    static BEFORE: [(usize, usize); 2] = [(5, 2), (6, 2)];
+    static AFTER: [(usize, usize); 2] = [(5, 1), (5, 0)];
+    expect(rt, marked, &BEFORE);
+    assert!(rt; touch(rt, marked, u32::MAX as usize).is_err());
+    assert!(rt; touch(rt, marked, usize::MAX - 1).is_err());
+    expect(rt, marked, &AFTER);
 }
 
 #[test]
-fn a_size_of_one_has_the_latest_block(rt: HostRuntime) -> Result<(), Fail> {
-    let mut marked = Marked::new(rt.alloc(), &[1]).expect(&rt, "memory");
-    for (number, level) in [(0, 1), (0, 0), (1, 1), (0, 1), (0, 0)] {
-        expect(&rt, &mut marked, number, level);
-    }
-    Ok(())
-}
-
-#[test]
-fn no_size_has_level_zero(rt: HostRuntime) -> Result<(), Fail> {
-    let mut marked = Marked::new(rt.alloc(), &[]).expect(&rt, "memory");
-    for number in [4, 4, 9usize] {
-        expect(&rt, &mut marked, number, 0);
-    }
-    Ok(())
-}
-
-#[test]
-fn the_first_size_that_has_the_block_counts(rt: HostRuntime) -> Result<(), Fail> {
-    let mut marked = Marked::new(rt.alloc(), &[2, 1, 2, 3]).expect(&rt, "memory");
-    for (number, level) in [(8, 4), (8, 0), (9, 4), (8, 0), (7, 4), (9, 3), (9, 0)] {
-        expect(&rt, &mut marked, number, level);
-    }
-    Ok(())
-}
-
-#[test]
-fn a_cleared_list_has_no_block(rt: HostRuntime) -> Result<(), Fail> {
+fn a_number_of_more_than_32_bits_is_refused(rt: HostRuntime) {
     let mut marked = Marked::new(rt.alloc(), &[1, 2]).expect(&rt, "memory");
-    marked.clear();
-    for (number, level) in [(5, 2), (6, 2), (5, 1)] {
-        expect(&rt, &mut marked, number, level);
-    }
-    marked.clear();
-    marked.clear();
-    for (number, level) in [(5, 2), (6, 2), (7, 2), (6, 1), (5, 2)] {
-        expect(&rt, &mut marked, number, level);
-    }
-    Ok(())
-}
-
-#[test]
-fn a_number_of_more_than_32_bits_is_refused(rt: HostRuntime) -> Result<(), Fail> {
-    let mut marked = Marked::new(rt.alloc(), &[1, 2]).expect(&rt, "memory");
-    expect(&rt, &mut marked, 5, 2);
-    expect(&rt, &mut marked, 6, 2);
-    assert!(&rt; marked.touch(u32::MAX as usize).is_err());
-    assert!(&rt; marked.touch(usize::MAX - 1).is_err());
-    expect(&rt, &mut marked, 5, 1);
-    expect(&rt, &mut marked, 5, 0);
-    Ok(())
+    refuses(&rt, &mut marked);
 }

@@ -2,6 +2,8 @@
 
 mod memory;
 mod network;
+mod policies;
+mod rings;
 mod seen;
 mod selections;
 mod stages;
@@ -9,12 +11,20 @@ mod streams;
 mod totals;
 mod worked;
 
-ghost use Rattle.std.specs.Prelude.{◌≡◌};
-
 use cache_core::{Policy, Repl};
 use din_trace::{DinRecord, Label};
-use stage_core::{CacheSpec, Config, Selection};
-use std::test::Fail;
+use stage_core::{CacheSpec, Config};
+use std::fmt::Debug;
+use std::process::Abort;
+
+/// What came has to be what is wanted, in this place of this case.
+fn same<T: PartialEq + Debug>(rt: &impl Abort, came: &T, wanted: &T, case: &str, place: u64) {
+    assert_eq!(rt; came, wanted, "{case} at {place}");
+}
+
+fn push<T: Drop>(rt: &impl Abort, list: &mut Vec<T>, item: T) {
+    assert!(rt; list.push(item).is_ok());
+}
 
 fn read(addr: u64) -> DinRecord {
     DinRecord {
@@ -23,68 +33,97 @@ fn read(addr: u64) -> DinRecord {
     }
 }
 
-fn write(addr: u64) -> DinRecord {
-    DinRecord {
-        label: Label::Write,
-        addr,
-    }
-}
+const READ_0: DinRecord = DinRecord {
+    label: Label::Read,
+    addr: 0,
+};
 
-fn instr(addr: u64) -> DinRecord {
-    DinRecord {
-        label: Label::Instr,
-        addr,
-    }
-}
+const READ_8: DinRecord = DinRecord {
+    label: Label::Read,
+    addr: 8,
+};
 
-fn misc(addr: u64) -> DinRecord {
-    DinRecord {
-        label: Label::Misc,
-        addr,
-    }
-}
+const READ_16: DinRecord = DinRecord {
+    label: Label::Read,
+    addr: 16,
+};
 
-fn flush() -> DinRecord {
-    DinRecord {
-        label: Label::Flush,
-        addr: 0,
-    }
-}
+const WRITE_0: DinRecord = DinRecord {
+    label: Label::Write,
+    addr: 0,
+};
 
-fn lru(size: u64, bsize: u64, assoc: u64) -> CacheSpec {
-    let policy = Policy {
-        repl: Repl::Lru,
-        wback: true,
-        walloc: true,
-    };
-    CacheSpec {
-        size,
-        bsize,
-        assoc,
-        policy,
-    }
-}
+const WRITE_2: DinRecord = DinRecord {
+    label: Label::Write,
+    addr: 2,
+};
 
-// The data cache of most traces.
-fn data() -> CacheSpec {
-    lru(16, 4, 2)
-}
+const WRITE_8: DinRecord = DinRecord {
+    label: Label::Write,
+    addr: 8,
+};
 
-fn config_of(d: CacheSpec, ring: u64) -> Result<Config, Fail> {
-    Ok(Config::new(lru(16, 4, 1), d, lru(32, 8, 2), ring)?)
-}
+const INSTR_0: DinRecord = DinRecord {
+    label: Label::Instr,
+    addr: 0,
+};
 
-fn config(d: CacheSpec) -> Result<Config, Fail> {
-    config_of(d, 2)
-}
+const INSTR_4: DinRecord = DinRecord {
+    label: Label::Instr,
+    addr: 4,
+};
 
-// The whole trace, with a flush after every `every` references.
-fn selection(every: u64) -> Selection
-    ensures { result ≡ record { skip = 0; max = 0; every = every } }
-{
-    Selection {
-        skip: 0,
-        max: 0,
-        every,
-    }
+const INSTR_8: DinRecord = DinRecord {
+    label: Label::Instr,
+    addr: 8,
+};
+
+const FLUSH: DinRecord = DinRecord {
+    label: Label::Flush,
+    addr: 0,
+};
+
+const LRU: Policy = Policy {
+    repl: Repl::Lru,
+    wback: true,
+    walloc: true,
+};
+
+const THROUGH: Policy = Policy {
+    wback: false,
+    ..LRU
+};
+
+const AROUND: Policy = Policy {
+    walloc: false,
+    ..LRU
+};
+
+/// The instruction cache.
+const INSTRUCTIONS: CacheSpec = CacheSpec {
+    size: 16,
+    bsize: 4,
+    assoc: 1,
+    policy: LRU,
+};
+
+/// The data cache of most traces.
+const DATA: CacheSpec = CacheSpec {
+    size: 16,
+    bsize: 4,
+    assoc: 2,
+    policy: LRU,
+};
+
+/// The second level.
+const SECOND: CacheSpec = CacheSpec {
+    size: 32,
+    bsize: 8,
+    assoc: 2,
+    policy: LRU,
+};
+
+fn config_of(rt: &impl Abort, policy: Policy, ring: u64) -> Config {
+    let d = CacheSpec { policy, ..DATA };
+    Config::new(INSTRUCTIONS, d, SECOND, ring).expect(rt, "a lawful configuration")
 }

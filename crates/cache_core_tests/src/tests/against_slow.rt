@@ -1,11 +1,10 @@
 //! Pseudo-random traces, served by a cache and by the slow reference cache.
 
 use super::slow::Slow;
-use super::{FIFO, LRU, cache_of, expect_counts, flush, serve};
-use cache_core::{Access, Cache, Class, Policy};
+use super::{Shape, cache_of, expect_flush, same, serve};
+use cache_core::{Access, Cache, Class, Policy, Repl};
 use std::alloc::Global;
 use std::process::Abort;
-use std::test::Fail;
 
 /// The next pseudo-random number, by a linear congruence with Knuth's constants.
 fn next_random(state: &mut u64) -> u64 {
@@ -29,82 +28,63 @@ fn access_of(state: &mut u64, blocks: u64) -> Access {
     Access { class, addr }
 }
 
-/// Flushes both caches, which have to write the same blocks back.
-fn flushes_alike(
-    rt: &impl Abort,
-    alloc: Global,
-    cache: &mut Cache,
-    slow: &mut Slow,
-) -> Result<(), Fail> {
-    let mut out = Vec::new(alloc);
-    flush(rt, cache, &mut out);
-    assert_eq!(rt; out.as_slice(), slow.flush()?.as_slice());
-    Ok(())
+/// Serves an access on both caches. The outcomes have to agree.
+fn serves_alike(rt: &impl Abort, cache: &mut Cache, slow: &mut Slow, access: Access, place: u64) {
+    let outcome = serve(rt, cache, access.class, access.addr);
+    same(rt, &outcome, &slow.access(rt, access), "the outcome", place);
 }
 
-/// Serves the same accesses on both caches, with a flush now and then. The outcomes have to agree.
-fn serve_alike(
-    rt: &impl Abort,
-    alloc: Global,
-    cache: &mut Cache,
-    slow: &mut Slow,
-    blocks: u64,
-) -> Result<(), Fail> {
-    let mut state = blocks;
+/// Flushes both caches, which have to write the same blocks back.
+fn flushes_alike(rt: &impl Abort, alloc: Global, cache: &mut Cache, slow: &mut Slow) {
+    let wanted = slow.flush(rt);
+    expect_flush(rt, alloc, cache, &wanted);
+}
+
+/// Serves the same accesses on both caches, with a flush now and then.
+fn serve_alike(rt: &impl Abort, alloc: Global, cache: &mut Cache, slow: &mut Slow, blocks: u64) {
+    let mut random = blocks;
     for k in 0..300u64 {
-        let access = access_of(&mut state, blocks);
-        let wanted = slow.access(access)?;
-        let outcome = serve(rt, cache, access.class, access.addr);
-        assert_eq!(rt; outcome, wanted, "access {k} of {blocks} blocks");
-        if next_random(&mut state) % 100 == 0 {
-            flushes_alike(rt, alloc, cache, slow)?;
+        let access = access_of(&mut random, blocks);
+        serves_alike(rt, cache, slow, access, k);
+        if next_random(&mut random) % 100 == 0 {
+            flushes_alike(rt, alloc, cache, slow);
         }
     }
-    flushes_alike(rt, alloc, cache, slow)?;
-    expect_counts(rt, cache, slow.counts()?);
-    Ok(())
+    flushes_alike(rt, alloc, cache, slow);
+    same(rt, &cache.counts(), &slow.counts(), "the counts", blocks);
 }
 
-/// Compares caches of this shape, with each policy for writes.
-fn is_alike(
-    rt: &impl Abort,
-    alloc: Global,
-    shape: (u64, u64, u64),
-    usual: Policy,
-    blocks: u64,
-) -> Result<(), Fail> {
+/// Compares caches of this shape, with each policy.
+fn is_alike(rt: &impl Abort, alloc: Global, shape: Shape, blocks: u64) {
     for (wback, walloc) in [(true, true), (true, false), (false, true), (false, false)] {
-        let policy = Policy {
-            wback,
-            walloc,
-            ..usual
-        };
-        let mut cache = cache_of(rt, alloc, shape, policy);
-        let mut slow = Slow::new(alloc, shape, policy).expect(rt, "a shape");
-        serve_alike(rt, alloc, &mut cache, &mut slow, blocks)?;
+        for repl in [Repl::Lru, Repl::Fifo] {
+            let policy = Policy {
+                repl,
+                wback,
+                walloc,
+            };
+            let mut cache = cache_of(rt, alloc, shape, policy);
+            let mut slow = Slow::new(alloc, shape, policy);
+            serve_alike(rt, alloc, &mut cache, &mut slow, blocks);
+        }
     }
-    Ok(())
 }
 
 #[test]
-fn rows_answer_as_the_slow_cache(rt: HostRuntime) -> Result<(), Fail> {
+fn rows_answer_as_the_slow_cache(rt: HostRuntime) {
     for (shape, blocks) in [
         ((16, 4, 1), 12),
         ((64, 4, 4), 24),
         ((64, 8, 2), 24),
         ((256, 16, 16), 100),
     ] {
-        is_alike(&rt, rt.alloc(), shape, LRU, blocks)?;
-        is_alike(&rt, rt.alloc(), shape, FIFO, blocks)?;
+        is_alike(&rt, rt.alloc(), shape, blocks);
     }
-    Ok(())
 }
 
 #[test]
-fn maps_answer_as_the_slow_cache(rt: HostRuntime) -> Result<(), Fail> {
+fn maps_answer_as_the_slow_cache(rt: HostRuntime) {
     for (shape, blocks) in [((512, 4, 128), 180), ((2_048, 8, 128), 600)] {
-        is_alike(&rt, rt.alloc(), shape, LRU, blocks)?;
-        is_alike(&rt, rt.alloc(), shape, FIFO, blocks)?;
+        is_alike(&rt, rt.alloc(), shape, blocks);
     }
-    Ok(())
 }

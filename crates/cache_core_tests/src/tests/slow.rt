@@ -1,12 +1,12 @@
 //! A slow reference cache, written straight from the definitions: it keeps lists of all that
 //! happened and searches them at each access. Sets as rows and sets as maps have to agree with it.
 
-ghost use Rattle.std.specs.Prelude.{◌<◌};
-
+use super::{NO_COUNTS, Shape, push};
 use cache_core::{Access, Class, Counts, MissKind, Outcome, PerClass, Policy, Repl};
-use std::alloc::{AllocError, Global};
+use std::alloc::Global;
+use std::process::Abort;
 
-/// An access that used the cache, since the last flush.
+/// An access that used a cache, since the last flush.
 #[derive(Clone, Copy)]
 struct Use {
     block: u64,
@@ -14,53 +14,64 @@ struct Use {
     load: bool,
 }
 
-/// How many sets there are, and how many ways each has.
-#[derive(Clone, Copy)]
-struct Shape {
+/// The uses of a cache of so many sets and ways.
+#[derive(Drop)]
+struct Uses {
+    list: Vec<Use>,
     sets: u64,
     ways: usize,
-    ghost some: { 0 < sets },
-}
-
-/// The residents of a set by last use (FIFO: by last load), the latest first.
-fn residents(
-    alloc: Global,
-    uses: &[Use],
-    shape: Shape,
     repl: Repl,
-    set: u64,
-) -> Result<Vec<u64>, AllocError> {
-    let mut blocks = Vec::new(alloc);
-    for used in uses.iter().rev() {
-        if blocks.len() == shape.ways {
-            break;
-        }
-        let renewed = used.block % shape.sets == set && (repl == Repl::Lru || used.load);
-        if renewed && !blocks.contains(&used.block) {
-            blocks.push(used.block)?;
-        }
-    }
-    Ok(blocks)
+    walloc: bool,
 }
 
-/// Whether a write used the block when it was last loaded, or after that.
-fn is_written(uses: &[Use], block: u64) -> bool {
-    for used in uses.iter().rev() {
-        if used.block == block && (used.write || used.load) {
-            return used.write;
-        }
+impl Uses {
+    fn set_of(&self, block: u64) -> u64 {
+        if self.sets == 0 { 0 } else { block % self.sets }
     }
-    false
-}
 
-/// How many accesses there are of each class.
-fn by_class(classes: &[Class]) -> PerClass {
-    let of = |wanted: Class| classes.iter().filter(|class| **class == wanted).count() as u64;
-    PerClass {
-        instr: of(Class::Instr),
-        read: of(Class::Read),
-        write: of(Class::Write),
-        misc: of(Class::Misc),
+    /// Whether the use renewed its block in this set: each use, or under FIFO each load.
+    fn renews(&self, used: Use, set: u64) -> bool {
+        self.set_of(used.block) == set && (self.repl == Repl::Lru || used.load)
+    }
+
+    /// The residents of the block's set by last use (FIFO: by last load), the latest first.
+    fn residents(&self, rt: &impl Abort, alloc: Global, block: u64) -> Vec<u64> {
+        let set = self.set_of(block);
+        let mut blocks = Vec::new(alloc);
+        for used in self.list.iter().rev() {
+            if blocks.len() == self.ways {
+                break;
+            }
+            if self.renews(*used, set) && !blocks.contains(&used.block) {
+                push(rt, &mut blocks, used.block);
+            }
+        }
+        blocks
+    }
+
+    fn is_resident(&self, rt: &impl Abort, alloc: Global, block: u64) -> bool {
+        self.residents(rt, alloc, block).contains(&block)
+    }
+
+    /// Adds the access to the list, unless it is a write that misses and loads nothing. Answers
+    /// whether it hit.
+    fn touch(&mut self, rt: &impl Abort, alloc: Global, block: u64, write: bool) -> bool {
+        let hit = self.is_resident(rt, alloc, block);
+        if !write || self.walloc || hit {
+            let load = !hit;
+            push(rt, &mut self.list, Use { block, write, load });
+        }
+        hit
+    }
+
+    /// Whether a write used the block when it was last loaded, or after that.
+    fn is_written(&self, block: u64) -> bool {
+        for used in self.list.iter().rev() {
+            if used.block == block && (used.write || used.load) {
+                return used.write;
+            }
+        }
+        false
     }
 }
 
@@ -69,85 +80,78 @@ fn by_class(classes: &[Class]) -> PerClass {
 pub(super) struct Slow {
     alloc: Global,
     block_size: u64,
-    shape: Shape,
-    shadow_shape: Shape,
-    policy: Policy,
-    uses: Vec<Use>,
-    shadow_uses: Vec<Use>,
+    wback: bool,
+    own: Uses,
+    /// The shadow is one LRU set of all blocks.
+    shadow: Uses,
     known: Vec<u64>,
     answers: Vec<(Class, Outcome)>,
-    written_back: Vec<u64>,
-    flushes: Vec<u64>,
-    ghost some: { 0 < block_size },
+    flushes: u64,
+    flushed_back: u64,
 }
 
 impl Slow {
     /// An empty cache of this size, block size and number of ways.
-    pub(super) fn new(alloc: Global, shape: (u64, u64, u64), policy: Policy) -> Option<Slow> {
+    pub(super) fn new(alloc: Global, shape: Shape, policy: Policy) -> Slow {
         let (size, block_size, ways) = shape;
-        let blocks = size.checked_div(block_size)?;
-        let sets = blocks.checked_div(ways)?;
-        if sets == 0 {
-            return None;
-        }
-        Some(Slow {
+        let blocks = size.checked_div(block_size).unwrap_or(0);
+        let own = Uses {
+            list: Vec::new(alloc),
+            sets: blocks.checked_div(ways).unwrap_or(0),
+            ways: ways as usize,
+            repl: policy.repl,
+            walloc: policy.walloc,
+        };
+        let shadow = Uses {
+            list: Vec::new(alloc),
+            sets: 1,
+            ways: blocks as usize,
+            repl: Repl::Lru,
+            walloc: policy.walloc,
+        };
+        Slow {
             alloc,
             block_size,
-            shape: Shape {
-                sets,
-                ways: ways as usize,
-            },
-            shadow_shape: Shape {
-                sets: 1,
-                ways: blocks as usize,
-            },
-            policy,
-            uses: Vec::new(alloc),
-            shadow_uses: Vec::new(alloc),
+            wback: policy.wback,
+            own,
+            shadow,
             known: Vec::new(alloc),
             answers: Vec::new(alloc),
-            written_back: Vec::new(alloc),
-            flushes: Vec::new(alloc),
-        })
+            flushes: 0,
+            flushed_back: 0,
+        }
     }
 
-    fn set_of(&self, block: u64) -> u64 {
-        block % self.shape.sets
-    }
-
-    /// The resident blocks of a set.
-    fn in_set(&self, set: u64) -> Result<Vec<u64>, AllocError> {
-        residents(self.alloc, &self.uses, self.shape, self.policy.repl, set)
-    }
-
-    /// Whether the shadow has the block. The shadow is one LRU set of all blocks.
-    fn shadow_hits(&self, block: u64) -> Result<bool, AllocError> {
-        let blocks = residents(
-            self.alloc,
-            &self.shadow_uses,
-            self.shadow_shape,
-            Repl::Lru,
-            0,
-        )?;
-        Ok(blocks.contains(&block))
-    }
-
-    /// Whether a resident block is dirty.
-    fn is_dirty(&self, block: u64) -> bool {
-        self.policy.wback && is_written(&self.uses, block)
+    /// The first byte of a resident block, if it is dirty.
+    fn dirty_first(&self, block: u64) -> Option<u64> {
+        if self.wback && self.own.is_written(block) {
+            Some(block.wrapping_mul(self.block_size))
+        } else {
+            None
+        }
     }
 
     /// The first byte of the block that is in `before` and not in `after`, if there is one and it
     /// is dirty.
     fn dirty_victim(&self, before: &[u64], after: &[u64]) -> Option<u64> {
         for block in before {
-            if !after.contains(block) && self.is_dirty(*block) {
-                return Some(block.wrapping_mul(self.block_size));
+            if !after.contains(block) {
+                return self.dirty_first(*block);
             }
         }
         None
     }
 
+    /// Adds the access to the list of the cache. Answers whether it hit, and the dirty block that
+    /// it evicts.
+    fn touch(&mut self, rt: &impl Abort, block: u64, write: bool) -> (bool, Option<u64>) {
+        let before = self.own.residents(rt, self.alloc, block);
+        let hit = self.own.touch(rt, self.alloc, block, write);
+        let after = self.own.residents(rt, self.alloc, block);
+        (hit, self.dirty_victim(&before, &after))
+    }
+
+    /// Why an access that missed did so.
     fn kind(&self, block: u64, in_shadow: bool) -> MissKind {
         if !self.known.contains(&block) {
             MissKind::Compulsory
@@ -158,122 +162,117 @@ impl Slow {
         }
     }
 
-    /// Adds the access to the list of the shadow, and answers whether the shadow hit.
-    fn shadow(&mut self, block: u64, write: bool) -> Result<bool, AllocError> {
-        let hit = self.shadow_hits(block)?;
-        if !write || self.policy.walloc || hit {
-            let load = !hit;
-            self.shadow_uses.push(Use { block, write, load })?;
-        }
-        Ok(hit)
-    }
-
-    /// Adds the access to the list of the cache, and answers the dirty block that it evicts.
-    fn used(&mut self, block: u64, write: bool, hit: bool) -> Result<Option<u64>, AllocError> {
-        let load = !hit;
-        let before = self.in_set(self.set_of(block))?;
-        let mut uses = self.uses.clone()?;
-        uses.push(Use { block, write, load })?;
-        let after = residents(
-            self.alloc,
-            &uses,
-            self.shape,
-            self.policy.repl,
-            self.set_of(block),
-        )?;
-        let back = self.dirty_victim(&before, &after);
-        self.uses = uses;
-        Ok(back)
-    }
-
-    pub(super) fn access(&mut self, access: Access) -> Result<Outcome, AllocError> {
-        let block = access.addr / self.block_size;
+    pub(super) fn access(&mut self, rt: &impl Abort, access: Access) -> Outcome {
+        let block = access.addr.checked_div(self.block_size).unwrap_or(0);
         let write = access.class == Class::Write;
-        let hit = self.in_set(self.set_of(block))?.contains(&block);
-        let in_shadow = self.shadow(block, write)?;
+        let (hit, back) = self.touch(rt, block, write);
+        let in_shadow = self.shadow.touch(rt, self.alloc, block, write);
         let kind = if hit {
             None
         } else {
             Some(self.kind(block, in_shadow))
         };
-        let uses = !write || self.policy.walloc || hit;
-        let back = if uses {
-            self.used(block, write, hit)?
-        } else {
-            None
-        };
+        let uses = !write || self.own.walloc || hit;
         let outcome = Outcome {
             hit,
             kind,
             back,
             fetch: uses && !hit,
-            through: write && (!self.policy.wback || !uses),
+            through: write && (!self.wback || !uses),
         };
-        self.note(access.class, block, outcome)?;
-        Ok(outcome)
+        push(rt, &mut self.known, block);
+        push(rt, &mut self.answers, (access.class, outcome));
+        outcome
     }
 
-    fn note(&mut self, class: Class, block: u64, outcome: Outcome) -> Result<(), AllocError> {
-        self.known.push(block)?;
-        self.answers.push((class, outcome))?;
-        if let Some(first) = outcome.back {
-            self.written_back.push(first)?;
+    /// The first byte of the block, if the block is resident and dirty.
+    fn resident_first(&self, rt: &impl Abort, block: u64) -> Option<u64> {
+        if self.own.is_resident(rt, self.alloc, block) {
+            self.dirty_first(block)
+        } else {
+            None
         }
-        Ok(())
     }
 
-    /// The first bytes of the dirty blocks, in ascending order.
-    fn dirty_blocks(&self) -> Result<Vec<u64>, AllocError> {
+    /// Empties the cache. The answer is the first bytes of the dirty blocks, in ascending order.
+    pub(super) fn flush(&mut self, rt: &impl Abort) -> Vec<u64> {
         let mut firsts = Vec::new(self.alloc);
-        for used in &self.uses {
-            let block = used.block;
-            let resident = self.in_set(self.set_of(block))?.contains(&block);
-            let first = block.wrapping_mul(self.block_size);
-            if resident && self.is_dirty(block) && !firsts.contains(&first) {
-                firsts.push(first)?;
+        for used in &self.own.list {
+            if let Some(first) = self.resident_first(rt, used.block) {
+                if !firsts.contains(&first) {
+                    push(rt, &mut firsts, first);
+                }
             }
         }
-        firsts.sort()?;
-        Ok(firsts)
+        assert!(rt; firsts.sort().is_ok());
+        self.flushes = self.flushes.wrapping_add(1);
+        self.flushed_back = self.flushed_back.wrapping_add(firsts.len() as u64);
+        self.own.list.clear();
+        self.shadow.list.clear();
+        firsts
     }
 
-    pub(super) fn flush(&mut self) -> Result<Vec<u64>, AllocError> {
-        let firsts = self.dirty_blocks()?;
-        self.uses.clear();
-        self.shadow_uses.clear();
-        self.written_back.extend_from_slice(&firsts)?;
-        self.flushes.push(firsts.len() as u64)?;
-        Ok(firsts)
+    pub(super) fn counts(&self) -> Counts {
+        let mut counts = Counts {
+            written_back: self.flushed_back,
+            flushes: self.flushes,
+            ..NO_COUNTS
+        };
+        for (class, outcome) in &self.answers {
+            counts = counted(counts, *class, *outcome);
+        }
+        counts
     }
+}
 
-    /// The classes of the accesses that had this kind of miss.
-    fn misses(&self, kind: MissKind) -> Result<Vec<Class>, AllocError> {
-        self.answers
-            .iter()
-            .filter(|answer| answer.1.kind == Some(kind))
-            .map(|answer| answer.0)
-            .collect(self.alloc)
+/// One more of this class, if it counts.
+fn one_more(counts: PerClass, class: Class, is_one: bool) -> PerClass {
+    let one = is_one as u64;
+    let PerClass {
+        instr,
+        read,
+        write,
+        misc,
+    } = counts;
+    match class {
+        Class::Instr => PerClass {
+            instr: instr.wrapping_add(one),
+            ..counts
+        },
+        Class::Read => PerClass {
+            read: read.wrapping_add(one),
+            ..counts
+        },
+        Class::Write => PerClass {
+            write: write.wrapping_add(one),
+            ..counts
+        },
+        Class::Misc => PerClass {
+            misc: misc.wrapping_add(one),
+            ..counts
+        },
     }
+}
 
-    pub(super) fn counts(&self) -> Result<Counts, AllocError> {
-        let alloc = self.alloc;
-        let answers = &self.answers;
-        let all: Vec<Class> = answers.iter().map(|answer| answer.0).collect(alloc)?;
-        let missed: Vec<Class> = answers
-            .iter()
-            .filter(|answer| !answer.1.hit)
-            .map(|answer| answer.0)
-            .collect(alloc)?;
-        Ok(Counts {
-            fetches: by_class(&all),
-            misses: by_class(&missed),
-            compulsory: by_class(&self.misses(MissKind::Compulsory)?),
-            capacity: by_class(&self.misses(MissKind::Capacity)?),
-            conflict: by_class(&self.misses(MissKind::Conflict)?),
-            loaded: answers.iter().filter(|answer| answer.1.fetch).count() as u64,
-            written_back: self.written_back.len() as u64,
-            sent_on: answers.iter().filter(|answer| answer.1.through).count() as u64,
-            flushes: self.flushes.len() as u64,
-        })
+/// The counts with one more access, which had this outcome.
+fn counted(counts: Counts, class: Class, outcome: Outcome) -> Counts {
+    let Outcome {
+        hit,
+        kind,
+        back,
+        fetch,
+        through,
+    } = outcome;
+    let is_back = back.is_some();
+    Counts {
+        fetches: one_more(counts.fetches, class, true),
+        misses: one_more(counts.misses, class, !hit),
+        compulsory: one_more(counts.compulsory, class, kind == Some(MissKind::Compulsory)),
+        capacity: one_more(counts.capacity, class, kind == Some(MissKind::Capacity)),
+        conflict: one_more(counts.conflict, class, kind == Some(MissKind::Conflict)),
+        loaded: counts.loaded.wrapping_add(fetch as u64),
+        written_back: counts.written_back.wrapping_add(is_back as u64),
+        sent_on: counts.sent_on.wrapping_add(through as u64),
+        flushes: counts.flushes,
     }
 }

@@ -1,112 +1,162 @@
 //! Devices over std's readers and writers.
 
-use super::fakes::{Tape, in_pieces, with_a_pause, with_an_interruption};
+use super::fakes::{FAIL, INTERRUPTED, Stop, Tape, WHOLE, in_pieces};
+use super::same;
 use din_trace::{ByteReader, ByteWriter, DeviceFailed, FromRead, FromWrite};
 use std::alloc::Global;
-use std::test::Fail;
+use std::process::Abort;
+
+/// The answer of a reader that failed.
+const FAILED: Result<usize, DeviceFailed> = Err(DeviceFailed);
+
+/// What a call of `fill` has to answer, and the bytes that the buffer of four then has to have.
+type Filled = (Result<usize, DeviceFailed>, [u8; 4]);
+
+fn fill<R: ByteReader>(reader: &mut R, buffer: &mut [u8]) -> Result<usize, DeviceFailed> {
+    reader.fill(buffer)
+}
+
+/// Fills a buffer of four bytes again and again.
+fn fill_four<R: ByteReader>(rt: &impl Abort, reader: &mut R, calls: &[Filled]) {
+    let mut buffer = [0; 4];
+    for (place, (answer, held)) in calls.iter().enumerate() {
+        same(rt, &fill(reader, &mut buffer), answer, "fill", place);
+        same(rt, &buffer, held, "fill", place);
+    }
+}
 
 #[test]
 fn hands_on_the_bytes_of_a_good_reader(rt: HostRuntime) {
-    let mut buffer = [0; 4];
+    static CALLS: [Filled; 3] = [(Ok(4), *b"2 0\n"), (Ok(1), *b"2 0\n"), (Ok(0), *b"2 0\n")];
     let mut reader = FromRead::new(b"2 0\n2".as_slice());
-    assert!(rt; reader.fill(&mut buffer) == Ok(4));
-    assert!(rt; buffer == *b"2 0\n");
-    assert!(rt; reader.fill(&mut buffer) == Ok(1));
-    assert!(rt; buffer == *b"2 0\n");
-    assert!(rt; reader.fill(&mut buffer) == Ok(0));
-    assert!(rt; reader.fill(&mut []) == Ok(0));
+    fill_four(&rt, &mut reader, &CALLS);
+    assert!(rt; fill(&mut reader, &mut []) == Ok(0));
 }
+
+/// A reader's text, what it would give if it were asked again, the size of its pieces, and how it
+/// stops, with the calls. No read that failed or was interrupted is tried again.
+static STOPPING: [(&str, &str, usize, Stop, &[Filled]); 3] = [
+    (
+        "2 0",
+        "",
+        2,
+        FAIL,
+        &[
+            (Ok(2), *b"2 \0\0"),
+            (Ok(1), *b"0 \0\0"),
+            (FAILED, *b"0 \0\0"),
+            (FAILED, *b"0 \0\0"),
+        ],
+    ),
+    (
+        "2 0\n",
+        "2 4\n",
+        WHOLE,
+        FAIL,
+        &[(Ok(4), *b"2 0\n"), (FAILED, *b"2 0\n"), (Ok(4), *b"2 4\n")],
+    ),
+    (
+        "",
+        "2 0\n",
+        WHOLE,
+        INTERRUPTED,
+        &[(FAILED, [0; 4]), (Ok(4), *b"2 0\n")],
+    ),
+];
 
 #[test]
 fn fails_where_the_reader_does(rt: HostRuntime) {
-    let mut buffer = [0; 4];
-    let mut reader = in_pieces(b"2 0", 2, true);
-    assert!(rt; reader.fill(&mut buffer) == Ok(2));
-    assert!(rt; reader.fill(&mut buffer) == Ok(1));
-    assert!(rt; reader.fill(&mut buffer) == Err(DeviceFailed));
-    assert!(rt; reader.fill(&mut buffer) == Err(DeviceFailed));
-}
-
-#[test]
-fn tries_no_failed_read_again(rt: HostRuntime) {
-    let mut buffer = [0; 4];
-    let mut reader = with_a_pause(b"2 0\n", b"2 4\n", 65536, true);
-    assert!(rt; reader.fill(&mut buffer) == Ok(4));
-    assert!(rt; reader.fill(&mut buffer) == Err(DeviceFailed));
-    assert!(rt; buffer == *b"2 0\n");
-    assert!(rt; reader.fill(&mut buffer) == Ok(4));
-    assert!(rt; buffer == *b"2 4\n");
-}
-
-#[test]
-fn tries_no_interrupted_read_again(rt: HostRuntime) {
-    let mut buffer = [0; 4];
-    let mut reader = with_an_interruption(b"2 0\n");
-    assert!(rt; reader.fill(&mut buffer) == Err(DeviceFailed));
-    assert!(rt; buffer == [0; 4]);
-    assert!(rt; reader.fill(&mut buffer) == Ok(4));
-    assert!(rt; buffer == *b"2 0\n");
+    for (text, more, size, stop, calls) in &STOPPING {
+        let mut reader = in_pieces(text.as_bytes(), more.as_bytes(), *size, *stop);
+        fill_four(&rt, &mut reader, *calls);
+    }
 }
 
 /// How many lines of eight bytes the large text has.
 const LINES: usize = 2_500;
 
-/// So many lines, one after another.
-fn repeated(alloc: Global, line: &[u8]) -> Result<Vec<u8>, Fail> {
+/// So many lines, one after another, if there is memory.
+fn repeated(alloc: Global, line: &[u8]) -> Option<Vec<u8>> {
     let mut text = Vec::new(alloc);
     for _ in 0..LINES {
-        text.extend_from_slice(line)?;
+        if text.extend_from_slice(line).is_err() {
+            return None;
+        }
     }
-    Ok(text)
+    Some(text)
+}
+
+/// Fills the buffer with all of the text. Then the reader is at its end.
+fn fill_whole(rt: &impl Abort, text: &[u8], buffer: &mut [u8]) {
+    let mut reader = FromRead::new(text);
+    assert!(rt; fill(&mut reader, buffer) == Ok(text.len()));
+    assert!(rt; &*buffer == text);
+    assert!(rt; fill(&mut reader, buffer) == Ok(0));
 }
 
 #[test]
-fn fills_a_large_buffer(rt: HostRuntime) -> Result<(), Fail> {
-    let text = repeated(rt.alloc(), b"2 7fff8\n")?;
-    let mut buffer = repeated(rt.alloc(), b"........")?;
-    let mut reader = FromRead::new(text.as_slice());
-    assert!(rt; reader.fill(buffer.as_mut_slice()) == Ok(text.len()));
-    assert!(rt; buffer.as_slice() == text.as_slice());
-    assert!(rt; reader.fill(buffer.as_mut_slice()) == Ok(0));
-    Ok(())
+fn fills_a_large_buffer(rt: HostRuntime) {
+    let text = repeated(rt.alloc(), b"2 7fff8\n").expect(&rt, "memory");
+    let mut buffer = repeated(rt.alloc(), b"........").expect(&rt, "memory");
+    fill_whole(&rt, text.as_slice(), buffer.as_mut_slice());
+}
+
+/// Calls of a writer: these bytes are put, or, without any, it is flushed. Each has to succeed, or
+/// to fail.
+type Calls<'a> = &'a [(Option<&'a [u8]>, Result<(), DeviceFailed>)];
+
+fn put<W: ByteWriter>(writer: &mut W, bytes: Option<&[u8]>) -> Result<(), DeviceFailed> {
+    match bytes {
+        Some(bytes) => writer.put(bytes),
+        None => writer.flush(),
+    }
+}
+
+/// Makes these calls, one after another.
+fn put_all<W: ByteWriter>(rt: &impl Abort, writer: &mut W, calls: Calls<'_>) {
+    for (place, (bytes, answer)) in calls.iter().enumerate() {
+        same(rt, &put(writer, *bytes), answer, "put", place);
+    }
 }
 
 #[test]
 fn appends_what_is_put(rt: HostRuntime) {
+    static CALLS: Calls<'static> = &[
+        (Some(b"l1-"), Ok(())),
+        (Some(b""), Ok(())),
+        (Some(b"icache"), Ok(())),
+        (None, Ok(())),
+    ];
     let mut held = Vec::new(rt.alloc());
-    let mut writer = FromWrite::new(&mut held);
-    assert!(rt; writer.put(b"l1-") == Ok(()));
-    assert!(rt; writer.put(b"") == Ok(()));
-    assert!(rt; writer.put(b"icache") == Ok(()));
-    assert!(rt; writer.flush() == Ok(()));
+    put_all(&rt, &mut FromWrite::new(&mut held), CALLS);
     assert!(rt; held.as_slice() == b"l1-icache".as_slice());
+}
+
+/// Makes these calls of a writer over a tape that fails so often first. Then the tape has to hold
+/// nine bytes, and to have been flushed so often.
+fn put_on_tape(rt: &impl Abort, failing: u64, calls: Calls<'_>, flushes: u64) {
+    let mut tape = Tape {
+        failing,
+        taken: 0,
+        flushes: 0,
+    };
+    put_all(rt, &mut FromWrite::new(&mut tape), calls);
+    assert!(rt; tape.taken == 9 && tape.flushes == flushes);
 }
 
 #[test]
 fn puts_all_bytes_into_a_writer_that_takes_few(rt: HostRuntime) {
-    let mut tape = Tape {
-        failing: 0,
-        taken: 0,
-        flushes: 0,
-    };
-    let mut writer = FromWrite::new(&mut tape);
-    assert!(rt; writer.put(b"l1-icache") == Ok(()));
-    assert!(rt; writer.flush() == Ok(()));
-    assert!(rt; writer.flush() == Ok(()));
-    assert!(rt; tape.taken == 9 && tape.flushes == 2);
+    static CALLS: Calls<'static> = &[(Some(b"l1-icache"), Ok(())), (None, Ok(())), (None, Ok(()))];
+    put_on_tape(&rt, 0, CALLS, 2);
 }
 
 #[test]
 fn fails_where_the_writer_does(rt: HostRuntime) {
-    let mut tape = Tape {
-        failing: 2,
-        taken: 0,
-        flushes: 0,
-    };
-    let mut writer = FromWrite::new(&mut tape);
-    assert!(rt; writer.put(b"l1-icache") == Err(DeviceFailed));
-    assert!(rt; writer.flush() == Err(DeviceFailed));
-    assert!(rt; writer.put(b"l1-icache") == Ok(()));
-    assert!(rt; writer.flush() == Ok(()));
-    assert!(rt; tape.taken == 9 && tape.flushes == 1);
+    static CALLS: Calls<'static> = &[
+        (Some(b"l1-icache"), Err(DeviceFailed)),
+        (None, Err(DeviceFailed)),
+        (Some(b"l1-icache"), Ok(())),
+        (None, Ok(())),
+    ];
+    put_on_tape(&rt, 2, CALLS, 1);
 }

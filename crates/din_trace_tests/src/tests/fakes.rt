@@ -1,108 +1,64 @@
-//! Readers and writers that give pieces, stop or fail, and the records of the tests.
+//! Readers and writers that give pieces, stop or fail.
 
-use din_trace::{DinRecord, FromRead, Label, TraceFault, Why};
+use din_trace::FromRead;
 use std::io;
 use std::io::{Error, ErrorKind, Read, Write};
 
 /// Sizes of pieces: 1, 2, 3 and 5 bytes, so that every part of a line is cut, and all at once.
-pub const SIZES: [usize; 5] = [1, 2, 3, 5, 65536];
+pub const SIZES: [usize; 5] = [1, 2, 3, 5, WHOLE];
 
-/// Gives a text in pieces of one size. After it, every call ends or fails.
+/// The size of pieces that have all at once.
+pub const WHOLE: usize = 65536;
+
+/// How a reader stops: it ends, or fails with an error of a kind.
+pub type Stop = Option<ErrorKind>;
+
+pub const END: Stop = None;
+
+pub const FAIL: Stop = Some(ErrorKind::Other);
+
+pub const INTERRUPTED: Stop = Some(ErrorKind::Interrupted);
+
+/// Gives a text in pieces of one size, and then stops. If it is asked again, it gives more in the
+/// same way, and at last it stops at every call.
 #[derive(Drop)]
 pub struct Pieces<'a> {
-    rest: &'a [u8],
-    size: usize,
-    fails: bool,
+    pub text: &'a [u8],
+    pub more: &'a [u8],
+    pub size: usize,
+    pub stop: Stop,
 }
 
 impl Read for Pieces<'_> {
     fn read(&mut self, buffer: &mut [u8]) -> io::Result<usize> {
-        let count = buffer.len().min(self.rest.len()).min(self.size);
-        if count == 0 && self.fails {
-            return Err(Error::from(ErrorKind::Other));
+        let count = buffer.len().min(self.text.len()).min(self.size);
+        if count == 0 {
+            self.text = self.more;
+            self.more = b"";
+            return match self.stop {
+                None => Ok(0),
+                Some(kind) => Err(Error::from(kind)),
+            };
         }
-        let (front, back) = self.rest.split_at(count);
+        let (front, back) = self.text.split_at(count);
         buffer[..count].copy_from_slice(front);
-        self.rest = back;
+        self.text = back;
         Ok(count)
     }
 }
 
-/// A reader that gives the text in pieces, and then ends or fails.
-pub fn in_pieces(text: &[u8], size: usize, fails: bool) -> FromRead<Pieces<'_>> {
-    FromRead::new(Pieces {
-        rest: text,
-        size,
-        fails,
-    })
-}
-
-/// Ends or fails after its first text, and would give more if it were asked again.
-#[derive(Drop)]
-pub struct Pausing<'a> {
-    first: Pieces<'a>,
-    more: Pieces<'a>,
-    paused: bool,
-}
-
-impl Read for Pausing<'_> {
-    fn read(&mut self, buffer: &mut [u8]) -> io::Result<usize> {
-        if self.paused {
-            return self.more.read(buffer);
-        }
-        self.paused = self.first.rest.is_empty();
-        self.first.read(buffer)
-    }
-}
-
-/// A reader that ends or fails once between the two texts.
-pub fn with_a_pause<'a>(
-    first: &'a [u8],
+/// A reader that gives the text in pieces, stops, and would give more if it were asked again.
+pub fn in_pieces<'a>(
+    text: &'a [u8],
     more: &'a [u8],
     size: usize,
-    fails: bool,
-) -> FromRead<Pausing<'a>> {
-    FromRead::new(Pausing {
-        first: Pieces {
-            rest: first,
-            size,
-            fails,
-        },
-        more: Pieces {
-            rest: more,
-            size,
-            fails: false,
-        },
-        paused: false,
-    })
-}
-
-/// Says once that it was interrupted, and would give its text if it were asked again.
-#[derive(Drop)]
-pub struct Interrupted<'a> {
-    text: Pieces<'a>,
-    was_interrupted: bool,
-}
-
-impl Read for Interrupted<'_> {
-    fn read(&mut self, buffer: &mut [u8]) -> io::Result<usize> {
-        if !self.was_interrupted {
-            self.was_interrupted = true;
-            return Err(Error::from(ErrorKind::Interrupted));
-        }
-        self.text.read(buffer)
-    }
-}
-
-/// A reader that is interrupted once before the text.
-pub fn with_an_interruption(text: &[u8]) -> FromRead<Interrupted<'_>> {
-    FromRead::new(Interrupted {
-        text: Pieces {
-            rest: text,
-            size: 65536,
-            fails: false,
-        },
-        was_interrupted: false,
+    stop: Stop,
+) -> FromRead<Pieces<'a>> {
+    FromRead::new(Pieces {
+        text,
+        more,
+        size,
+        stop,
     })
 }
 
@@ -116,11 +72,13 @@ pub struct Tape {
 
 impl Tape {
     fn try_once(&mut self) -> io::Result<()> {
-        if self.failing == 0 {
-            return Ok(());
+        match self.failing.checked_sub(1) {
+            None => Ok(()),
+            Some(left) => {
+                self.failing = left;
+                Err(Error::from(ErrorKind::Other))
+            }
         }
-        self.failing -= 1;
-        Err(Error::from(ErrorKind::Other))
     }
 }
 
@@ -137,43 +95,4 @@ impl Write for Tape {
         self.flushes = self.flushes.saturating_add(1);
         Ok(())
     }
-}
-
-pub fn read(addr: u64) -> DinRecord {
-    DinRecord {
-        label: Label::Read,
-        addr,
-    }
-}
-
-pub fn write(addr: u64) -> DinRecord {
-    DinRecord {
-        label: Label::Write,
-        addr,
-    }
-}
-
-pub fn fetch(addr: u64) -> DinRecord {
-    DinRecord {
-        label: Label::Instr,
-        addr,
-    }
-}
-
-pub fn miscellaneous(addr: u64) -> DinRecord {
-    DinRecord {
-        label: Label::Misc,
-        addr,
-    }
-}
-
-pub fn flush(addr: u64) -> DinRecord {
-    DinRecord {
-        label: Label::Flush,
-        addr,
-    }
-}
-
-pub fn bad(line: u64, why: Why) -> TraceFault {
-    TraceFault::Bad { line, why }
 }

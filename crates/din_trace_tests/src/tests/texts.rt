@@ -1,291 +1,297 @@
 //! Whole texts. Each is read in memory, and from a reader that gives it in pieces of several sizes.
 
-ghost use Rattle.std.specs.Prelude.{◌≤◌};
-
-use super::fakes::{SIZES, bad, fetch, flush, in_pieces, miscellaneous, read, write};
-use din_trace::{ByteReader, DinRecord, MAX_LIMIT, Source, TraceFault, Why, read_all};
+use super::fakes::{END, FAIL};
+use super::sources::{Found, Text, has, left_in_pieces};
+use din_trace::{DinRecord, Label, MAX_LIMIT, TraceFault, Why, read_all};
 use std::alloc::Global;
 use std::process::Abort;
 
-/// The source has to answer these records and then the end, or this fault, and to repeat that.
-pub fn expect_left<R: ByteReader>(
-    rt: &impl Abort,
-    alloc: Global,
-    source: &mut Source<R>,
-    want: Result<&[DinRecord], TraceFault>,
-) {
-    match source.rest(alloc) {
-        Ok(records) => {
-            assert!(rt; want == Ok(records.as_slice()));
-            assert!(rt; source.next() == Ok(None));
-            assert!(rt; source.next() == Ok(None));
-            assert!(rt; source.rest(alloc).is_ok());
-        }
-        Err(fault) => {
-            assert!(rt; want == Err(fault));
-            assert!(rt; source.next() == Err(fault));
-            assert!(rt; source.next() == Err(fault));
-            assert!(rt; source.rest(alloc).err() == Some(fault));
-        }
+/// Reads the text in memory, under the limit.
+pub fn in_memory(alloc: Global, text: &str, limit: u64) -> Result<Vec<DinRecord>, TraceFault> {
+    read_all(alloc, text.as_bytes(), limit.min(MAX_LIMIT))
+}
+
+/// Reads texts from readers that fail after them. Each has to have this fault.
+fn expect_failing(rt: &impl Abort, alloc: Global, rows: &[(&str, Found)]) {
+    for (text, fault) in rows {
+        left_in_pieces(rt, alloc, (*text, "", FAIL), MAX_LIMIT, (&[], *fault));
     }
 }
 
-/// Reads the text under the limit, in memory and from a reader that ends after it.
-fn expect(
-    rt: &impl Abort,
-    alloc: Global,
-    text: &[u8],
-    limit: u64,
-    want: Result<&[DinRecord], TraceFault>,
-)
-    requires { limit ≤ MAX_LIMIT }
-{
-    match read_all(alloc, text, limit) {
-        Ok(records) => assert!(rt; want == Ok(records.as_slice())),
-        Err(fault) => assert!(rt; want == Err(fault)),
-    }
-    for size in SIZES {
-        expect_left(
-            rt,
-            alloc,
-            &mut Source::new(in_pieces(text, size, false), limit),
-            want,
-        );
+/// Reads the text under the limit, in memory and from readers that end after it.
+fn expect(rt: &impl Abort, alloc: Global, text: &str, limit: u64, want: Text<'_>) {
+    has(rt, in_memory(alloc, text, limit), want, text);
+    left_in_pieces(rt, alloc, (text, "", END), limit, want);
+}
+
+/// Reads texts in this way.
+fn expect_each(rt: &impl Abort, alloc: Global, rows: &[(&str, Text<'_>)]) {
+    for (text, want) in rows {
+        expect(rt, alloc, *text, MAX_LIMIT, *want);
     }
 }
 
-/// Reads the text from a reader that fails after it.
-fn expect_failing(rt: &impl Abort, alloc: Global, text: &[u8], want: TraceFault) {
-    for size in SIZES {
-        expect_left(
-            rt,
-            alloc,
-            &mut Source::new(in_pieces(text, size, true), MAX_LIMIT),
-            Err(want),
-        );
+/// Reads texts in this way, each under its limit.
+fn expect_limited(rt: &impl Abort, alloc: Global, rows: &[(&str, u64, Text<'_>)]) {
+    for (text, limit, want) in rows {
+        expect(rt, alloc, *text, *limit, *want);
     }
 }
 
-#[test]
-fn refuses_each_faulty_line_for_its_first_fault(rt: HostRuntime) {
-    for (line, why) in [
-        ("0 10000000000000000", Why::Range),
-        ("0 10000000000000000g", Why::Range),
-        ("0 100000000g", Why::Tail),
-        ("0 12g", Why::Tail),
-        ("0 00x1", Why::Tail),
-        ("0 0x0x1", Why::Tail),
-        ("0 12\u{0b}", Why::Tail),
-        ("0", Why::Gap),
-        ("12 0", Why::Gap),
-        ("0x1 0", Why::Gap),
-        ("0 0x", Why::Address),
-        ("0 ", Why::Address),
-        ("0 -1", Why::Address),
-        ("0 x1", Why::Address),
-        ("x 0", Why::Label),
-        ("5 0", Why::Label),
-        ("-0 0", Why::Label),
-        ("# a comment alone", Why::Label),
-    ] {
-        expect(
-            &rt,
-            rt.alloc(),
-            line.as_bytes(),
-            MAX_LIMIT,
-            Err(bad(1, why)),
-        );
-    }
-}
+/// Faulty lines, each with its first fault.
+static FAULTY: [(&str, Text<'static>); 18] = [
+    ("0 10000000000000000", (&[], Found::Bad(1, Why::Range))),
+    ("0 10000000000000000g", (&[], Found::Bad(1, Why::Range))),
+    ("0 100000000g", (&[], Found::Bad(1, Why::Tail))),
+    ("0 12g", (&[], Found::Bad(1, Why::Tail))),
+    ("0 00x1", (&[], Found::Bad(1, Why::Tail))),
+    ("0 0x0x1", (&[], Found::Bad(1, Why::Tail))),
+    ("0 12\u{0b}", (&[], Found::Bad(1, Why::Tail))),
+    ("0", (&[], Found::Bad(1, Why::Gap))),
+    ("12 0", (&[], Found::Bad(1, Why::Gap))),
+    ("0x1 0", (&[], Found::Bad(1, Why::Gap))),
+    ("0 0x", (&[], Found::Bad(1, Why::Address))),
+    ("0 ", (&[], Found::Bad(1, Why::Address))),
+    ("0 -1", (&[], Found::Bad(1, Why::Address))),
+    ("0 x1", (&[], Found::Bad(1, Why::Address))),
+    ("x 0", (&[], Found::Bad(1, Why::Label))),
+    ("5 0", (&[], Found::Bad(1, Why::Label))),
+    ("-0 0", (&[], Found::Bad(1, Why::Label))),
+    ("# a comment alone", (&[], Found::Bad(1, Why::Label))),
+];
+
+/// Faulty lines that are held whole.
+static HELD_FAULTY: [(&str, Text<'static>); 7] = [
+    (
+        "0 1\n0 12g comment\n2 1000\n2 2000\n2 3000\n2 4000\n",
+        (&[], Found::Bad(2, Why::Tail)),
+    ),
+    (
+        "0 1\n0  12; comment\n2 1000\n2 2000\n2 3000\n2 4000\n",
+        (&[], Found::Bad(2, Why::Tail)),
+    ),
+    (
+        "0 1\n0 \t comment\n2 1000\n2 2000\n2 3000\n2 4000\n",
+        (&[], Found::Bad(2, Why::Tail)),
+    ),
+    (
+        "0 1\n0 \t \n2 1000\n2 2000\n2 3000\n2 4000\n",
+        (&[], Found::Bad(2, Why::Address)),
+    ),
+    (
+        "0 1\n0  0x 1\n2 1000\n2 2000\n2 3000\n2 4000\n",
+        (&[], Found::Bad(2, Why::Address)),
+    ),
+    (
+        "0 1\n0\n 2 1000\n2 2000\n2 3000\n2 4000\n",
+        (&[], Found::Bad(2, Why::Gap)),
+    ),
+    (
+        "0 1\n0  10000000000000000 c\n2 1000\n2 2000\n2 3000\n",
+        (&[], Found::Bad(2, Why::Range)),
+    ),
+];
 
 #[test]
-fn reads_each_form_of_an_address(rt: HostRuntime) {
-    for (line, want) in [
-        ("0 00000000000ffffffff", read(0xffff_ffff)),
-        ("0 100000000", read(0x1_0000_0000)),
-        ("0 ffffffffffffffff", read(u64::MAX)),
-        ("0 FFFFFFFFFFFFFFFF", read(u64::MAX)),
-        ("0 0000ffffffffffffffff", read(u64::MAX)),
-        ("0 0xffffffffffffffff", read(u64::MAX)),
-        ("0 8000000000000001", read(0x8000_0000_0000_0001)),
-        ("0 0Xab", read(0xab)),
-        ("0 0", read(0)),
-        ("1 aBcD", write(0xabcd)),
-        ("2 9", fetch(9)),
-        ("3 10", miscellaneous(0x10)),
-        ("4 0", flush(0)),
-        ("4 7f", flush(0x7f)),
-        (" \t0 \t\r 1f\r", read(0x1f)),
-        ("0 1 2 3", read(1)),
-        ("0 1\t; a comment", read(1)),
-    ] {
-        expect(
-            &rt,
-            rt.alloc(),
-            line.as_bytes(),
-            MAX_LIMIT,
-            Ok([want].as_slice()),
-        );
-    }
+fn refuses_faulty_lines(rt: HostRuntime) {
+    expect_each(&rt, rt.alloc(), &FAULTY);
+    expect_each(&rt, rt.alloc(), &HELD_FAULTY);
+}
+
+/// Each form of an address.
+static FORMS: [(&str, Text<'static>); 17] = [
+    (
+        "0 00000000000ffffffff",
+        (&[(Label::Read, 0xffff_ffff)], Found::Nothing),
+    ),
+    (
+        "0 100000000",
+        (&[(Label::Read, 0x1_0000_0000)], Found::Nothing),
+    ),
+    (
+        "0 ffffffffffffffff",
+        (&[(Label::Read, u64::MAX)], Found::Nothing),
+    ),
+    (
+        "0 FFFFFFFFFFFFFFFF",
+        (&[(Label::Read, u64::MAX)], Found::Nothing),
+    ),
+    (
+        "0 0000ffffffffffffffff",
+        (&[(Label::Read, u64::MAX)], Found::Nothing),
+    ),
+    (
+        "0 0xffffffffffffffff",
+        (&[(Label::Read, u64::MAX)], Found::Nothing),
+    ),
+    (
+        "0 8000000000000001",
+        (&[(Label::Read, 0x8000_0000_0000_0001)], Found::Nothing),
+    ),
+    ("0 0Xab", (&[(Label::Read, 0xab)], Found::Nothing)),
+    ("0 0", (&[(Label::Read, 0)], Found::Nothing)),
+    ("1 aBcD", (&[(Label::Write, 0xabcd)], Found::Nothing)),
+    ("2 9", (&[(Label::Instr, 9)], Found::Nothing)),
+    ("3 10", (&[(Label::Misc, 0x10)], Found::Nothing)),
+    ("4 0", (&[(Label::Flush, 0)], Found::Nothing)),
+    ("4 7f", (&[(Label::Flush, 0x7f)], Found::Nothing)),
+    (" \t0 \t\r 1f\r", (&[(Label::Read, 0x1f)], Found::Nothing)),
+    ("0 1 2 3", (&[(Label::Read, 1)], Found::Nothing)),
+    ("0 1\t; a comment", (&[(Label::Read, 1)], Found::Nothing)),
+];
+
+/// Lines that hold no record are counted.
+static BLANK: [(&str, Text<'static>); 5] = [
+    ("", (&[], Found::Nothing)),
+    ("\n\n \t\r\n", (&[], Found::Nothing)),
+    (" ", (&[], Found::Nothing)),
+    ("0 0\n\n5 0\n", (&[], Found::Bad(3, Why::Label))),
+    ("0 0\r\n \r\n0\r\n", (&[], Found::Bad(3, Why::Address))),
+];
+
+/// Comments, line ends, a last line without one, and a flush between fetches.
+static ENDS: [(&str, Text<'static>); 2] = [
+    (
+        "0 0x1F comment\r\n 1 ffffffff",
+        (
+            &[(Label::Read, 0x1f), (Label::Write, 0xffff_ffff)],
+            Found::Nothing,
+        ),
+    ),
+    (
+        "2 0\n4 0\n2 0\n",
+        (
+            &[(Label::Instr, 0), (Label::Flush, 0), (Label::Instr, 0)],
+            Found::Nothing,
+        ),
+    ),
+];
+
+#[test]
+fn reads_lines_of_each_form(rt: HostRuntime) {
+    expect_each(&rt, rt.alloc(), &FORMS);
+    expect_each(&rt, rt.alloc(), &BLANK);
+    expect_each(&rt, rt.alloc(), &ENDS);
 }
 
 #[test]
 fn reads_gaps_and_comments_of_lines_that_are_held_whole(rt: HostRuntime) {
     // Each line but the last ones is followed by more bytes than an address takes.
-    let text = b"1  7f\n1\t7e\n1 \t\r 0x7D\n0 \t  \t \t  \t  \t  \t 0Xffffffffffffffff\n\
+    static TEXT: &str = "1  7f\n1\t7e\n1 \t\r 0x7D\n0 \t  \t \t  \t  \t  \t 0Xffffffffffffffff\n\
         2 0x40 a comment with a number 0x80\n3   40\t; 4 80\n4 0\r\n4\t\t10 \r\n\
         1 0000000000000001 \n1 00000000000000002 c\n2 3 \n2 4\n2 5\n2 6\n2 7\n2 8\n2 9\n";
-    let want = [
-        write(0x7f),
-        write(0x7e),
-        write(0x7d),
-        read(u64::MAX),
-        fetch(0x40),
-        miscellaneous(0x40),
-        flush(0),
-        flush(0x10),
-        write(1),
-        write(2),
-        fetch(3),
-        fetch(4),
-        fetch(5),
-        fetch(6),
-        fetch(7),
-        fetch(8),
-        fetch(9),
+    static WANT: [(Label, u64); 17] = [
+        (Label::Write, 0x7f),
+        (Label::Write, 0x7e),
+        (Label::Write, 0x7d),
+        (Label::Read, u64::MAX),
+        (Label::Instr, 0x40),
+        (Label::Misc, 0x40),
+        (Label::Flush, 0),
+        (Label::Flush, 0x10),
+        (Label::Write, 1),
+        (Label::Write, 2),
+        (Label::Instr, 3),
+        (Label::Instr, 4),
+        (Label::Instr, 5),
+        (Label::Instr, 6),
+        (Label::Instr, 7),
+        (Label::Instr, 8),
+        (Label::Instr, 9),
     ];
-    expect(&rt, rt.alloc(), text, MAX_LIMIT, Ok(want.as_slice()));
-}
-
-#[test]
-fn refuses_faulty_lines_that_are_held_whole(rt: HostRuntime) {
-    for (text, why) in [
-        (
-            "0 1\n0 12g comment\n2 1000\n2 2000\n2 3000\n2 4000\n",
-            Why::Tail,
-        ),
-        (
-            "0 1\n0  12; comment\n2 1000\n2 2000\n2 3000\n2 4000\n",
-            Why::Tail,
-        ),
-        (
-            "0 1\n0 \t comment\n2 1000\n2 2000\n2 3000\n2 4000\n",
-            Why::Tail,
-        ),
-        ("0 1\n0 \t \n2 1000\n2 2000\n2 3000\n2 4000\n", Why::Address),
-        (
-            "0 1\n0  0x 1\n2 1000\n2 2000\n2 3000\n2 4000\n",
-            Why::Address,
-        ),
-        ("0 1\n0\n 2 1000\n2 2000\n2 3000\n2 4000\n", Why::Gap),
-        (
-            "0 1\n0  10000000000000000 c\n2 1000\n2 2000\n2 3000\n",
-            Why::Range,
-        ),
-    ] {
-        expect(
-            &rt,
-            rt.alloc(),
-            text.as_bytes(),
-            MAX_LIMIT,
-            Err(bad(2, why)),
-        );
-    }
-}
-
-#[test]
-fn counts_lines_that_hold_no_record(rt: HostRuntime) {
-    let alloc = rt.alloc();
-    expect(&rt, alloc, b"", MAX_LIMIT, Ok([].as_slice()));
-    expect(&rt, alloc, b"\n\n \t\r\n", MAX_LIMIT, Ok([].as_slice()));
-    expect(&rt, alloc, b" ", MAX_LIMIT, Ok([].as_slice()));
-    expect(
-        &rt,
-        alloc,
-        b"0 0\n\n5 0\n",
-        MAX_LIMIT,
-        Err(bad(3, Why::Label)),
-    );
-    expect(
-        &rt,
-        alloc,
-        b"0 0\r\n \r\n0\r\n",
-        MAX_LIMIT,
-        Err(bad(3, Why::Address)),
-    );
-}
-
-#[test]
-fn reads_comments_line_ends_and_a_last_line_without_one(rt: HostRuntime) {
-    let text = b"0 0x1F comment\r\n 1 ffffffff";
-    let want = [read(0x1f), write(0xffff_ffff)];
-    expect(&rt, rt.alloc(), text, MAX_LIMIT, Ok(want.as_slice()));
-}
-
-#[test]
-fn reads_a_flush_between_fetches(rt: HostRuntime) {
-    let want = [fetch(0), flush(0), fetch(0)];
-    expect(
-        &rt,
-        rt.alloc(),
-        b"2 0\n4 0\n2 0\n",
-        MAX_LIMIT,
-        Ok(want.as_slice()),
-    );
+    expect(&rt, rt.alloc(), TEXT, MAX_LIMIT, (&WANT, Found::Nothing));
 }
 
 #[test]
 fn judges_the_lines_within_the_limit_before_the_length(rt: HostRuntime) {
-    let alloc = rt.alloc();
-    let label_in = |line: u64| Err(bad(line, Why::Label));
-    let long = Err(TraceFault::TooLong);
-    let two = [fetch(0), fetch(4)];
-    expect(&rt, alloc, b"2 0\n2 4\n2 8\n", 8, long);
-    expect(&rt, alloc, b"9 0\n2 0\n2 4\n2 8\n", 8, label_in(1));
-    expect(&rt, alloc, b"2 0\n2 4\n", 8, Ok(two.as_slice()));
-    expect(&rt, alloc, b"2 0\n2 4", 7, Ok(two.as_slice()));
-    expect(&rt, alloc, b"2 0\n9 0\n", 8, label_in(2));
-    expect(&rt, alloc, b"2 0\n9 0\n", 7, long);
-    expect(&rt, alloc, b"9 0", 3, label_in(1));
-    expect(&rt, alloc, b"9 0", 2, long);
-    expect(&rt, alloc, b"", 0, Ok([].as_slice()));
-    expect(&rt, alloc, b"\n", 0, long);
+    static ROWS: [(&str, u64, Text<'static>); 10] = [
+        ("2 0\n2 4\n2 8\n", 8, (&[], Found::TooLong)),
+        ("9 0\n2 0\n2 4\n2 8\n", 8, (&[], Found::Bad(1, Why::Label))),
+        (
+            "2 0\n2 4\n",
+            8,
+            (&[(Label::Instr, 0), (Label::Instr, 4)], Found::Nothing),
+        ),
+        (
+            "2 0\n2 4",
+            7,
+            (&[(Label::Instr, 0), (Label::Instr, 4)], Found::Nothing),
+        ),
+        ("2 0\n9 0\n", 8, (&[], Found::Bad(2, Why::Label))),
+        ("2 0\n9 0\n", 7, (&[], Found::TooLong)),
+        ("9 0", 3, (&[], Found::Bad(1, Why::Label))),
+        ("9 0", 2, (&[], Found::TooLong)),
+        ("", 0, (&[], Found::Nothing)),
+        ("\n", 0, (&[], Found::TooLong)),
+    ];
+    expect_limited(&rt, rt.alloc(), &ROWS);
 }
 
 #[test]
 fn judges_the_lines_that_came_before_the_reader_failed(rt: HostRuntime) {
-    let alloc = rt.alloc();
-    expect_failing(&rt, alloc, b"2 0\n9 0\n", bad(2, Why::Label));
-    expect_failing(&rt, alloc, b"2 0\n9", TraceFault::Read);
-    expect_failing(&rt, alloc, b"2 0\n9 0", TraceFault::Read);
-    let text = b"1 0\n0 8\n0 10\n";
-    for count in 0..=text.len() {
-        expect_failing(&rt, alloc, &text[..count], TraceFault::Read);
-    }
+    static ROWS: [(&str, Found); 17] = [
+        ("2 0\n9 0\n", Found::Bad(2, Why::Label)),
+        ("2 0\n9", Found::Unread),
+        ("2 0\n9 0", Found::Unread),
+        ("", Found::Unread),
+        ("1", Found::Unread),
+        ("1 ", Found::Unread),
+        ("1 0", Found::Unread),
+        ("1 0\n", Found::Unread),
+        ("1 0\n0", Found::Unread),
+        ("1 0\n0 ", Found::Unread),
+        ("1 0\n0 8", Found::Unread),
+        ("1 0\n0 8\n", Found::Unread),
+        ("1 0\n0 8\n0", Found::Unread),
+        ("1 0\n0 8\n0 ", Found::Unread),
+        ("1 0\n0 8\n0 1", Found::Unread),
+        ("1 0\n0 8\n0 10", Found::Unread),
+        ("1 0\n0 8\n0 10\n", Found::Unread),
+    ];
+    expect_failing(&rt, rt.alloc(), &ROWS);
 }
 
 #[test]
 fn reads_a_text_that_is_cut_off_anywhere(rt: HostRuntime) {
-    let alloc = rt.alloc();
-    let text = b"1 0\n0 8\n0 10\n";
-    let all = [write(0), read(8), read(0x10)];
-    let cut = [write(0), read(8), read(1)];
-    for (count, want) in [
-        (0, Ok(&all[..0])),
-        (1, Err(bad(1, Why::Gap))),
-        (2, Err(bad(1, Why::Address))),
-        (3, Ok(&all[..1])),
-        (4, Ok(&all[..1])),
-        (5, Err(bad(2, Why::Gap))),
-        (6, Err(bad(2, Why::Address))),
-        (7, Ok(&all[..2])),
-        (8, Ok(&all[..2])),
-        (9, Err(bad(3, Why::Gap))),
-        (10, Err(bad(3, Why::Address))),
-        (11, Ok(cut.as_slice())),
-        (12, Ok(all.as_slice())),
-        (13, Ok(all.as_slice())),
-    ] {
-        expect(&rt, alloc, &text[..count], MAX_LIMIT, want);
-    }
+    static ROWS: [(&str, Text<'static>); 14] = [
+        ("", (&[], Found::Nothing)),
+        ("1", (&[], Found::Bad(1, Why::Gap))),
+        ("1 ", (&[], Found::Bad(1, Why::Address))),
+        ("1 0", (&[(Label::Write, 0)], Found::Nothing)),
+        ("1 0\n", (&[(Label::Write, 0)], Found::Nothing)),
+        ("1 0\n0", (&[], Found::Bad(2, Why::Gap))),
+        ("1 0\n0 ", (&[], Found::Bad(2, Why::Address))),
+        (
+            "1 0\n0 8",
+            (&[(Label::Write, 0), (Label::Read, 8)], Found::Nothing),
+        ),
+        (
+            "1 0\n0 8\n",
+            (&[(Label::Write, 0), (Label::Read, 8)], Found::Nothing),
+        ),
+        ("1 0\n0 8\n0", (&[], Found::Bad(3, Why::Gap))),
+        ("1 0\n0 8\n0 ", (&[], Found::Bad(3, Why::Address))),
+        (
+            "1 0\n0 8\n0 1",
+            (
+                &[(Label::Write, 0), (Label::Read, 8), (Label::Read, 1)],
+                Found::Nothing,
+            ),
+        ),
+        (
+            "1 0\n0 8\n0 10",
+            (
+                &[(Label::Write, 0), (Label::Read, 8), (Label::Read, 0x10)],
+                Found::Nothing,
+            ),
+        ),
+        (
+            "1 0\n0 8\n0 10\n",
+            (
+                &[(Label::Write, 0), (Label::Read, 8), (Label::Read, 0x10)],
+                Found::Nothing,
+            ),
+        ),
+    ];
+    expect_each(&rt, rt.alloc(), &ROWS);
 }

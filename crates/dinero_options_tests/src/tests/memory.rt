@@ -1,18 +1,14 @@
 //! Failing allocations. Each test passes if there is enough memory. If an allocation is refused,
 //! also one for the words themselves, it fails with the name of the refusal and nothing else.
 
-use super::words::{parsed, worked_caches};
-use dinero_options::{Opt, WordsFault, help_text, parse_words};
+use super::words::{Answer, names_each_option, parsed, parsed_line, worked_caches};
+use dinero_options::{Opt, WordsFault, help_text};
 use std::alloc::Global;
 use std::process::Abort;
 use std::test::Fail;
 
 /// The words have to be refused for this reason, unless an allocation fails.
-fn is_refused<T: Drop>(
-    rt: &impl Abort,
-    answer: Result<T, WordsFault>,
-    want: WordsFault,
-) -> Result<(), WordsFault> {
+fn is_refused(rt: &impl Abort, answer: Answer, want: WordsFault) -> Result<(), WordsFault> {
     let fault = answer.err();
     assert!(rt; fault == Some(want) || fault == Some(WordsFault::Memory));
     match fault {
@@ -23,44 +19,45 @@ fn is_refused<T: Drop>(
 
 /// The worked words with these changes have to be refused for this reason, unless an allocation
 /// fails.
-fn refuses(rt: &impl Abort, alloc: Global, changes: &str, want: WordsFault) -> Result<(), Fail> {
-    let answer = parsed(alloc, changes)?;
-    Ok(is_refused(rt, answer, want)?)
+fn refuses(
+    rt: &impl Abort,
+    alloc: Global,
+    changes: &str,
+    want: WordsFault,
+) -> Result<(), WordsFault> {
+    is_refused(rt, parsed(alloc, changes), want)
 }
 
 #[test]
 fn the_worked_words_are_read_or_memory_is_wanted(rt: HostRuntime) -> Result<(), Fail> {
-    let (config, selection) = parsed(rt.alloc(), "")??;
+    let (config, selection) = parsed(rt.alloc(), "")?;
     assert!(rt; worked_caches(&config, selection));
     Ok(())
 }
 
 #[test]
 fn a_bad_number_is_named_or_memory_is_wanted(rt: HostRuntime) -> Result<(), Fail> {
-    refuses(&rt, rt.alloc(), "--ring two", WordsFault::Number(Opt::Ring))
+    Ok(refuses(&rt, rt.alloc(), "--ring two", WordsFault::Number(Opt::Ring))?)
 }
 
 #[test]
 fn an_unknown_option_is_refused_or_memory_is_wanted(rt: HostRuntime) -> Result<(), Fail> {
-    refuses(&rt, rt.alloc(), "--l3-usize 16", WordsFault::Words)
+    Ok(refuses(&rt, rt.alloc(), "--l3-usize 16", WordsFault::Words)?)
 }
 
 #[test]
 fn a_missing_option_is_refused_or_memory_is_wanted(rt: HostRuntime) -> Result<(), Fail> {
-    let answer = parse_words(rt.alloc(), &[]);
-    Ok(is_refused(&rt, answer, WordsFault::Words)?)
+    Ok(is_refused(&rt, parsed_line(rt.alloc(), ""), WordsFault::Words)?)
 }
 
 #[test]
 fn help_is_asked_for_or_memory_is_wanted(rt: HostRuntime) -> Result<(), Fail> {
-    refuses(&rt, rt.alloc(), "--help", WordsFault::Help)
+    Ok(refuses(&rt, rt.alloc(), "--help", WordsFault::Help)?)
 }
 
 #[test]
 fn the_help_names_every_option_or_memory_is_wanted(rt: HostRuntime) -> Result<(), Fail> {
     let text = help_text(rt.alloc())?;
-    for option in Opt::ALL {
-        assert!(rt; text.as_str().contains(option.name()));
-    }
+    assert!(rt; names_each_option(text.as_str()));
     Ok(())
 }

@@ -2,10 +2,9 @@
 //! checks that the block that was used last still is, and then fails with the name of the refusal
 //! and nothing else.
 
-ghost use Rattle.std.specs.Prelude.{◌<◌};
-
+use super::{clear, same, touch};
 use marked_list::Marked;
-use std::alloc::{AllocError, Global};
+use std::alloc::AllocError;
 use std::process::Abort;
 use std::test::Fail;
 
@@ -17,40 +16,34 @@ fn used(
     latest: Option<usize>,
     number: usize,
     level: usize,
-) -> Result<(), AllocError>
-    requires { number < 1_000_000 }
-{
-    let answer = marked.touch(number);
+) -> Result<(), AllocError> {
+    let answer = touch(rt, marked, number);
     if answer.is_err() {
         if let Some(latest) = latest {
-            assert!(rt; latest < usize::MAX);
-            assert_eq!(rt; marked.touch(latest), Ok(0));
+            same(rt, &touch(rt, marked, latest), &Ok(0), 0, latest);
         }
     }
-    assert_eq!(rt; answer?, level);
+    same(rt, &answer?, &level, 0, number);
     Ok(())
 }
 
 /// Uses blocks of rising numbers and some of them again, up to the first refusal.
-fn fills(rt: &impl Abort, alloc: Global) -> Result<(), Fail> {
-    let mut marked = Marked::new(alloc, &[1, 2, 100])?;
-    let mut latest = None;
-    for number in 0..300usize {
-        used(rt, &mut marked, latest, number, 3)?;
-        latest = Some(number);
-        if number > 0 {
-            used(rt, &mut marked, latest, number - 1, 1)?;
-            used(rt, &mut marked, Some(number - 1), number, 1)?;
-        }
+fn fills(rt: &impl Abort, marked: &mut Marked) -> Result<(), AllocError> {
+    used(rt, marked, None, 0, 3)?;
+    for number in 1..300usize {
+        let before = number - 1;
+        used(rt, marked, Some(before), number, 3)?;
+        used(rt, marked, Some(number), before, 1)?;
+        used(rt, marked, Some(before), number, 1)?;
     }
-    marked.clear();
-    used(rt, &mut marked, None, 299, 3)?;
-    used(rt, &mut marked, Some(299), 400, 3)?;
-    used(rt, &mut marked, Some(400), 299, 1)?;
-    Ok(())
+    clear(marked);
+    used(rt, marked, None, 299, 3)?;
+    used(rt, marked, Some(299), 400, 3)?;
+    used(rt, marked, Some(400), 299, 1)
 }
 
 #[test]
 fn blocks_are_used_or_the_list_is_as_it_was(rt: HostRuntime) -> Result<(), Fail> {
-    fills(&rt, rt.alloc())
+    let mut marked = Marked::new(rt.alloc(), &[1, 2, 100])?;
+    Ok(fills(&rt, &mut marked)?)
 }

@@ -1,6 +1,7 @@
 //! A plain, slow list, written straight from the definitions: the blocks in order of last use.
 
-use std::alloc::{AllocError, Global};
+use std::alloc::Global;
+use std::process::Abort;
 
 #[derive(Drop)]
 pub(super) struct Slow {
@@ -10,23 +11,21 @@ pub(super) struct Slow {
 }
 
 impl Slow {
-    pub(super) fn new(alloc: Global, sizes: &[usize]) -> Result<Slow, AllocError> {
-        Ok(Slow {
-            sizes: Vec::from_slice(alloc, sizes)?,
+    pub(super) fn new(rt: &impl Abort, alloc: Global, sizes: &[usize]) -> Slow {
+        Slow {
+            sizes: Vec::from_slice(alloc, sizes).expect(rt, "memory"),
             blocks: Vec::new(alloc),
-        })
+        }
     }
 
     /// The first size among whose latest blocks the block is, by how many were used after it.
     fn level(&self, number: usize) -> usize {
-        let mut later = 0;
+        let mut later = 0usize;
         for block in self.blocks.iter().rev() {
             if *block == number {
                 return self.first_above(later);
             }
-            if later < usize::MAX {
-                later += 1;
-            }
+            later = later.wrapping_add(1);
         }
         self.sizes.len()
     }
@@ -41,11 +40,11 @@ impl Slow {
     }
 
     /// Uses a block, and answers its level before.
-    pub(super) fn touch(&mut self, number: usize) -> Result<usize, AllocError> {
+    pub(super) fn touch(&mut self, rt: &impl Abort, number: usize) -> usize {
         let level = self.level(number);
         self.blocks.retain(|block| *block != number);
-        self.blocks.push(number)?;
-        Ok(level)
+        assert!(rt; self.blocks.push(number).is_ok());
+        level
     }
 
     pub(super) fn clear(&mut self) {

@@ -1,122 +1,196 @@
 //! What one stage sends, and what the second level serves.
 
-use super::{config, data};
+use super::worked::{NO_COUNTS, NONE};
+use super::{LRU, config_of, push, same};
 use cache_core::{Class, Counts, MAX_EVENTS, PerClass};
-use stage_core::{FromStage, L1Stage, L2Stage, Side, ToStage, What};
+use stage_core::{Config, FromStage, L1Stage, L2Stage, NoMemory, Side, ToStage, What};
 use std::alloc::Global;
 use std::process::Abort;
-use std::test::Fail;
 
-// A refusal has left a stage failed, and does so for good.
-fn stays_failed(rt: &impl Abort, stage: &mut L1Stage, message: ToStage) {
-    assert!(rt; stage.failed());
-    assert!(rt; stage.ready());
-    assert!(rt; stage.served() < MAX_EVENTS);
-    assert_eq!(rt; stage.outbox_next(), None);
-    assert!(rt; stage.on(message).is_err());
+// A stage that has received nothing.
+pub(super) fn stage_of(alloc: Global, config: &Config, side: Side) -> Result<L1Stage, NoMemory> {
+    let (geometry, policy) = match side {
+        Side::I => config.i(),
+        Side::D => config.d(),
+    };
+    L1Stage::new(alloc, side, geometry, policy)
 }
 
-// A stage takes a message in and sends all that this brings. A refusal leaves it failed for good.
+pub(super) fn second_of(alloc: Global, config: &Config) -> Result<L2Stage, NoMemory> {
+    let (geometry, policy) = config.u();
+    L2Stage::new(alloc, geometry, policy)
+}
+
+// What a stage has counted, of how many events, and whether it has failed.
+pub(super) fn state(stage: &L1Stage) -> (Counts, u64, bool) {
+    (stage.counts(), stage.served(), stage.failed())
+}
+
+pub(super) fn finished(stage: &L1Stage) -> bool {
+    stage.finished()
+}
+
+// The next message that a stage sends.
+pub(super) fn sent_next(stage: &mut L1Stage) -> Option<FromStage> {
+    stage.outbox_next()
+}
+
+// Gives a stage a message, for which it has to be ready.
+fn give(rt: &impl Abort, stage: &mut L1Stage, message: ToStage) -> Result<(), NoMemory> {
+    assert!(rt; stage.ready());
+    assert!(rt; stage.served() < MAX_EVENTS);
+    stage.on(message)
+}
+
+// A stage has to have failed, with an empty outbox and the counts from before.
+fn has_failed(rt: &impl Abort, stage: &mut L1Stage, before: (Counts, u64, bool)) {
+    same(
+        rt,
+        &state(stage),
+        &(before.0, before.1, true),
+        "the counts",
+        before.1,
+    );
+    assert!(rt; !finished(stage));
+    assert!(rt; sent_next(stage) == None);
+}
+
+// After a refusal, a stage has to have failed for good.
+fn stays_failed(
+    rt: &impl Abort,
+    stage: &mut L1Stage,
+    message: ToStage,
+    before: (Counts, u64, bool),
+) {
+    for next in [message, ToStage::Flush { place: 9 }, ToStage::Finish] {
+        has_failed(rt, stage, before);
+        assert!(rt; give(rt, stage, next) == Err(NoMemory));
+    }
+    has_failed(rt, stage, before);
+}
+
+// A stage takes a message in. If an allocation fails, the stage has to stay failed.
+pub(super) fn receive(
+    rt: &impl Abort,
+    stage: &mut L1Stage,
+    message: ToStage,
+) -> Result<(), NoMemory> {
+    let before = state(stage);
+    let received = give(rt, stage, message);
+    if received.is_err() {
+        stays_failed(rt, stage, message, before);
+    }
+    received
+}
+
+// A stage takes a message in and sends all that this brings.
 pub(super) fn answer(
     rt: &impl Abort,
     stage: &mut L1Stage,
     message: ToStage,
     sent: &mut Vec<FromStage>,
-) -> Result<(), Fail> {
-    assert!(rt; stage.ready());
-    assert!(rt; stage.served() < MAX_EVENTS);
-    if let Err(refusal) = stage.on(message) {
-        stays_failed(rt, stage, message);
-        return Err(refusal)?;
-    }
+) {
+    assert!(rt; receive(rt, stage, message).is_ok());
     for _ in 0..10 {
-        if let Some(next) = stage.outbox_next() {
-            sent.push(next)?;
+        if let Some(next) = sent_next(stage) {
+            push(rt, sent, next);
         }
     }
-    Ok(())
-}
-
-pub(super) fn part(place: u64, part: u32, what: What) -> FromStage {
-    FromStage::Part { place, part, what }
-}
-
-pub(super) fn done(place: u64, parts: u32) -> FromStage {
-    FromStage::Done { place, parts }
-}
-
-pub(super) fn fetch(addr: u64) -> What {
-    What::Fetch(Class::Read, addr)
-}
-
-pub(super) fn reference(place: u64, class: Class, addr: u64) -> ToStage {
-    ToStage::Ref { place, class, addr }
 }
 
 // Answers a reference, and then the end.
-fn finishes(rt: &impl Abort, stage: &mut L1Stage, sent: &mut Vec<FromStage>) -> Result<(), Fail> {
-    answer(rt, stage, reference(1, Class::Write, 0), sent)?;
-    assert!(rt; !stage.finished());
-    answer(rt, stage, ToStage::Finish, sent)?;
-    assert!(rt; stage.finished());
-    Ok(())
-}
-
-fn finishes_new(rt: &impl Abort, alloc: Global, sent: &mut Vec<FromStage>) -> Result<(), Fail> {
-    let (geometry, policy) = config(data())?.d();
-    let mut stage = L1Stage::new(alloc, Side::D, geometry, policy)?;
-    finishes(rt, &mut stage, sent)
-}
-
-#[test]
-fn a_stage_sends_finish_last(rt: HostRuntime) -> Result<(), Fail> {
-    let mut sent = Vec::new(rt.alloc());
-    finishes_new(&rt, rt.alloc(), &mut sent)?;
-    let wanted = [part(1, 1, fetch(0)), done(1, 1), FromStage::Finish];
-    assert_eq!(rt; sent.as_slice(), wanted.as_slice());
-    Ok(())
-}
-
-// Serves three parts. A refusal leaves the second level failed.
-fn serves(rt: &impl Abort, stage: &mut L2Stage) -> Result<(), Fail> {
-    for what in [fetch(0), What::Back(4), What::FlushAll] {
-        assert!(rt; stage.served() < MAX_EVENTS);
-        if let Err(refusal) = stage.on(what) {
-            assert!(rt; stage.failed());
-            assert!(rt; stage.on(what).is_err());
-            return Err(refusal)?;
-        }
-    }
-    assert_eq!(rt; stage.served(), 3);
-    Ok(())
-}
-
-// What a new second level counts then.
-fn served(rt: &impl Abort, alloc: Global) -> Result<Counts, Fail> {
-    let (geometry, policy) = config(data())?.u();
-    let mut stage = L2Stage::new(alloc, geometry, policy)?;
-    serves(rt, &mut stage)?;
-    Ok(stage.counts())
-}
-
-#[test]
-fn the_second_level_serves_each_part(rt: HostRuntime) -> Result<(), Fail> {
-    let counts = served(&rt, rt.alloc())?;
-    let reads = PerClass {
-        read: 1,
-        ..PerClass::default()
+fn finishes(rt: &impl Abort, stage: &mut L1Stage, sent: &mut Vec<FromStage>) {
+    static WANTED: [FromStage; 3] = [
+        FromStage::Part {
+            place: 1,
+            part: 1,
+            what: What::Fetch(Class::Read, 0),
+        },
+        FromStage::Done { place: 1, parts: 1 },
+        FromStage::Finish,
+    ];
+    let message = ToStage::Ref {
+        place: 1,
+        class: Class::Write,
+        addr: 0,
     };
-    assert_eq!(rt; counts.fetches, PerClass { write: 1, ..reads });
-    assert_eq!(rt; counts.misses, reads);
-    assert_eq!(rt; counts.compulsory, counts.misses);
-    assert_eq!(rt;
-        (
-            counts.loaded,
-            counts.written_back,
-            counts.sent_on,
-            counts.flushes
-        ),
-        (1, 1, 0, 1)
+    answer(rt, stage, message, sent);
+    assert!(rt; !finished(stage));
+    answer(rt, stage, ToStage::Finish, sent);
+    assert!(rt; finished(stage));
+    assert!(rt; sent.as_slice() == WANTED.as_slice());
+}
+
+#[test]
+fn a_stage_sends_finish_last(rt: HostRuntime) -> Result<(), NoMemory> {
+    let mut stage = stage_of(rt.alloc(), &config_of(&rt, LRU, 2), Side::D)?;
+    let mut sent = Vec::new(rt.alloc());
+    finishes(&rt, &mut stage, &mut sent);
+    Ok(())
+}
+
+// What the second level has counted, of how many requests, and whether it has failed.
+pub(super) fn second_state(stage: &L2Stage) -> (Counts, u64, bool) {
+    (stage.counts(), stage.served(), stage.failed())
+}
+
+fn give_second(rt: &impl Abort, stage: &mut L2Stage, what: What) -> Result<(), NoMemory> {
+    assert!(rt; stage.served() < MAX_EVENTS);
+    stage.on(what)
+}
+
+// After a refusal, the second level has to have failed for good, with the counts from before.
+fn second_stays_failed(
+    rt: &impl Abort,
+    stage: &mut L2Stage,
+    what: What,
+    before: (Counts, u64, bool),
+) {
+    let failed = (before.0, before.1, true);
+    for next in [what, What::Back(0), What::FlushAll] {
+        same(rt, &second_state(stage), &failed, "the counts", failed.1);
+        assert!(rt; give_second(rt, stage, next) == Err(NoMemory));
+    }
+    same(rt, &second_state(stage), &failed, "the counts", failed.1);
+}
+
+// Serves requests of the first level. If an allocation fails, the second level has to stay failed.
+pub(super) fn serve(rt: &impl Abort, stage: &mut L2Stage, sent: &[What]) -> Result<(), NoMemory> {
+    for what in sent {
+        let before = second_state(stage);
+        let served = give_second(rt, stage, *what);
+        if served.is_err() {
+            second_stays_failed(rt, stage, *what, before);
+        }
+        served?;
+    }
+    Ok(())
+}
+
+#[test]
+fn the_second_level_serves_each_part(rt: HostRuntime) -> Result<(), NoMemory> {
+    static SENT: [What; 3] = [What::Fetch(Class::Read, 0), What::Back(4), What::FlushAll];
+    static COUNTS: Counts = Counts {
+        fetches: PerClass {
+            read: 1,
+            write: 1,
+            ..NONE
+        },
+        misses: PerClass { read: 1, ..NONE },
+        compulsory: PerClass { read: 1, ..NONE },
+        loaded: 1,
+        written_back: 1,
+        flushes: 1,
+        ..NO_COUNTS
+    };
+    let mut stage = second_of(rt.alloc(), &config_of(&rt, LRU, 2))?;
+    serve(&rt, &mut stage, &SENT)?;
+    same(
+        &rt,
+        &second_state(&stage),
+        &(COUNTS, 3, false),
+        "the counts",
+        3,
     );
     Ok(())
 }

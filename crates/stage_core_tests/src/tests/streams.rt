@@ -1,241 +1,166 @@
-//! The messages that each machine sends.
+//! The machines, one after another, and the messages that they send.
 
-use super::stages::{answer, done, fetch, part, reference};
-use super::{config, data, flush, read, write};
-use cache_core::Class;
+use super::stages::{answer, finished, stage_of};
+use super::{config_of, push, same};
+use cache_core::Policy;
 use din_trace::{DinRecord, MAX_LIMIT};
 use stage_core::{
-    CacheSpec, Config, FromStage, L1Stage, Merge, Routed, Side, Splitter, ToStage, Turn, Want, What,
+    Config, FromStage, L1Stage, Merge, Routed, Side, Splitter, ToStage, Turn, Want, What,
 };
 use std::alloc::Global;
 use std::process::Abort;
-use std::test::Fail;
+
+// A first-level stage, with the messages of the two rings at it.
+#[derive(Drop)]
+pub(super) struct Lane {
+    stage: L1Stage,
+    to: Vec<ToStage>,
+    from: Vec<FromStage>,
+}
+
+impl Lane {
+    fn new(rt: &impl Abort, alloc: Global, config: &Config, side: Side) -> Lane {
+        Lane {
+            stage: stage_of(alloc, config, side).expect(rt, "memory"),
+            to: Vec::new(alloc),
+            from: Vec::new(alloc),
+        }
+    }
+
+    fn send(&mut self, rt: &impl Abort, message: Option<ToStage>) {
+        if let Some(message) = message {
+            push(rt, &mut self.to, message);
+            answer(rt, &mut self.stage, message, &mut self.from);
+        }
+    }
+
+    // The two rings have to have carried just this.
+    pub(super) fn expect(&self, rt: &impl Abort, to: &[ToStage], from: &[FromStage]) {
+        same(rt, &self.to.as_slice(), &to, "the messages to a side", 0);
+        same(
+            rt,
+            &self.from.as_slice(),
+            &from,
+            "the messages from a side",
+            0,
+        );
+    }
+}
 
 // The messages that the five rings carry.
 #[derive(Drop)]
 pub(super) struct Streams {
-    order: Vec<Turn>,
-    to_i: Vec<ToStage>,
-    to_d: Vec<ToStage>,
-    from_i: Vec<FromStage>,
-    from_d: Vec<FromStage>,
+    pub order: Vec<Turn>,
+    pub i: Lane,
+    pub d: Lane,
 }
 
 impl Streams {
-    fn send(
-        &mut self,
-        rt: &impl Abort,
-        routed: Routed,
-        i: &mut L1Stage,
-        d: &mut L1Stage,
-    ) -> Result<(), Fail> {
-        self.order.push(routed.turn)?;
-        if let Some(message) = routed.i {
-            self.to_i.push(message)?;
-            answer(rt, i, message, &mut self.from_i)?;
+    // The rings before the first event.
+    fn new(rt: &impl Abort, alloc: Global, policy: Policy) -> Streams {
+        let config = config_of(rt, policy, 2);
+        Streams {
+            order: Vec::new(alloc),
+            i: Lane::new(rt, alloc, &config, Side::I),
+            d: Lane::new(rt, alloc, &config, Side::D),
         }
-        if let Some(message) = routed.d {
-            self.to_d.push(message)?;
-            answer(rt, d, message, &mut self.from_d)?;
-        }
-        Ok(())
     }
 
-    fn send_all(
-        &mut self,
-        rt: &impl Abort,
-        events: &[DinRecord],
-        i: &mut L1Stage,
-        d: &mut L1Stage,
-    ) -> Result<(), Fail> {
+    fn send(&mut self, rt: &impl Abort, routed: Routed) {
+        push(rt, &mut self.order, routed.turn);
+        self.i.send(rt, routed.i);
+        self.d.send(rt, routed.d);
+    }
+
+    fn send_all(&mut self, rt: &impl Abort, events: &[DinRecord]) {
         let mut splitter = Splitter::new();
         for event in events {
-            assert!(rt; splitter.place() < 2 * MAX_LIMIT);
-            self.send(rt, splitter.route(*event), i, d)?;
+            let routed = route(rt, &mut splitter, *event);
+            self.send(rt, routed);
         }
-        self.send(rt, splitter.finish(), i, d)?;
-        assert!(rt; i.finished());
-        assert!(rt; d.finished());
-        Ok(())
-    }
-
-    // Sends all messages through two new stages.
-    fn fill(
-        &mut self,
-        rt: &impl Abort,
-        alloc: Global,
-        config: &Config,
-        events: &[DinRecord],
-    ) -> Result<(), Fail> {
-        let (geometry, policy) = config.i();
-        let mut i = L1Stage::new(alloc, Side::I, geometry, policy)?;
-        let (geometry, policy) = config.d();
-        let mut d = L1Stage::new(alloc, Side::D, geometry, policy)?;
-        self.send_all(rt, events, &mut i, &mut d)
+        self.send(rt, splitter.finish());
+        assert!(rt; finished(&self.i.stage) && finished(&self.d.stage));
     }
 }
 
-// What the rings carry for these events, with this data cache.
+fn route(rt: &impl Abort, splitter: &mut Splitter, event: DinRecord) -> Routed {
+    assert!(rt; splitter.place() < 2 * MAX_LIMIT);
+    splitter.route(event)
+}
+
+// What the rings carry for these events, with this policy of the data cache.
 pub(super) fn streams_of(
     rt: &impl Abort,
     alloc: Global,
-    d: CacheSpec,
+    policy: Policy,
     events: &[DinRecord],
-) -> Result<Streams, Fail> {
-    let config = config(d)?;
-    let mut streams = Streams {
-        order: Vec::new(alloc),
-        to_i: Vec::new(alloc),
-        to_d: Vec::new(alloc),
-        from_i: Vec::new(alloc),
-        from_d: Vec::new(alloc),
-    };
-    streams.fill(rt, alloc, &config, events)?;
-    Ok(streams)
+) -> Streams {
+    let mut streams = Streams::new(rt, alloc, policy);
+    streams.send_all(rt, events);
+    streams
 }
 
 // The next item of a list, which has to have one.
 fn next_of<T: Copy>(rt: &impl Abort, list: &[T], taken: &mut usize) -> T {
-    let at = *taken;
-    assert!(rt; at < list.len());
-    *taken = at + 1;
-    list[at]
+    let next = list.get(*taken).expect(rt, "a message");
+    *taken = taken.wrapping_add(1);
+    *next
 }
 
-// The requests that the merge takes from the streams, each message from the side that it wants.
-fn merged(rt: &impl Abort, alloc: Global, streams: &Streams) -> Result<Vec<What>, Fail> {
-    let mut merge = Merge::new();
-    let (mut turns, mut i, mut d) = (0, 0, 0);
-    let mut taken = Vec::new(alloc);
+// How many items of the order and of both sides' messages the merge has taken.
+#[derive(Clone, Copy)]
+struct Taken {
+    turns: usize,
+    i: usize,
+    d: usize,
+}
+
+// Gives the merge the item that it wants. The answer is the request in that.
+fn give_wanted(
+    rt: &impl Abort,
+    merge: &mut Merge,
+    streams: &Streams,
+    taken: &mut Taken,
+) -> Option<What> {
+    match merge.wants() {
+        Want::Nothing => None,
+        Want::Order => {
+            merge.turn(next_of(rt, &streams.order, &mut taken.turns));
+            None
+        }
+        Want::I => merge.take(next_of(rt, &streams.i.from, &mut taken.i)),
+        Want::D => merge.take(next_of(rt, &streams.d.from, &mut taken.d)),
+    }
+}
+
+// Takes what the merge wants, at most a hundred times. The answer is the requests in that.
+fn merge_all(
+    rt: &impl Abort,
+    requests: &mut Vec<What>,
+    merge: &mut Merge,
+    streams: &Streams,
+) -> Taken {
+    let mut taken = Taken {
+        turns: 0,
+        i: 0,
+        d: 0,
+    };
     for _ in 0..100 {
-        let message = match merge.wants() {
-            Want::Nothing => break,
-            Want::Order => {
-                merge.turn(next_of(rt, &streams.order, &mut turns));
-                continue;
-            }
-            Want::I => next_of(rt, &streams.from_i, &mut i),
-            Want::D => next_of(rt, &streams.from_d, &mut d),
-        };
-        if let Some(what) = merge.take(message) {
-            taken.push(what)?;
+        if let Some(what) = give_wanted(rt, merge, streams, &mut taken) {
+            push(rt, requests, what);
         }
     }
-    assert_eq!(rt; merge.wants(), Want::Nothing);
-    let lengths = (
-        streams.order.len(),
-        streams.from_i.len(),
-        streams.from_d.len(),
-    );
-    assert_eq!(rt; (turns, i, d), lengths);
-    Ok(taken)
+    taken
 }
 
-// The merge takes just this from the streams.
-pub(super) fn is_merged(
-    rt: &impl Abort,
-    alloc: Global,
-    streams: &Streams,
-    wanted: &[What],
-) -> Result<(), Fail> {
-    let taken = merged(rt, alloc, streams)?;
-    assert_eq!(rt; taken.as_slice(), wanted);
-    Ok(())
-}
-
-// The splitter has sent just this.
-fn is_routed(
-    rt: &impl Abort,
-    streams: &Streams,
-    order: &[Turn],
-    to_i: &[ToStage],
-    to_d: &[ToStage],
-) {
-    assert_eq!(rt; streams.order.as_slice(), order);
-    assert_eq!(rt; streams.to_i.as_slice(), to_i);
-    assert_eq!(rt; streams.to_d.as_slice(), to_d);
-}
-
-// The stages have to have answered exactly these messages.
-fn is_answered(rt: &impl Abort, streams: &Streams, from_i: &[FromStage], from_d: &[FromStage]) {
-    assert_eq!(rt; streams.from_i.as_slice(), from_i);
-    assert_eq!(rt; streams.from_d.as_slice(), from_d);
-}
-
-fn a_victim_is_routed(rt: &impl Abort, streams: &Streams) {
-    let to_d = [
-        reference(1, Class::Write, 0),
-        reference(2, Class::Read, 8),
-        reference(3, Class::Read, 16),
-        ToStage::Finish,
-    ];
-    let order = [Turn::D, Turn::D, Turn::D, Turn::Finish];
-    is_routed(rt, streams, &order, &[ToStage::Finish], &to_d);
-}
-
-fn a_victim_is_answered(rt: &impl Abort, streams: &Streams) {
-    let from_d = [
-        part(1, 1, fetch(0)),
-        done(1, 1),
-        part(2, 1, fetch(8)),
-        done(2, 1),
-        part(3, 1, What::Back(0)),
-        part(3, 2, fetch(16)),
-        done(3, 2),
-        FromStage::Finish,
-    ];
-    is_answered(rt, streams, &[FromStage::Finish], &from_d);
-}
-
-#[test]
-fn streams_of_a_victim(rt: HostRuntime) -> Result<(), Fail> {
-    let alloc = rt.alloc();
-    let streams = streams_of(&rt, alloc, data(), &[write(0), read(8), read(16)])?;
-    a_victim_is_routed(&rt, &streams);
-    a_victim_is_answered(&rt, &streams);
-    let wanted = [fetch(0), fetch(8), What::Back(0), fetch(16)];
-    is_merged(&rt, alloc, &streams, &wanted)
-}
-
-fn a_flush_is_routed(rt: &impl Abort, streams: &Streams) {
-    let to_i = [ToStage::Flush { place: 3 }, ToStage::Finish];
-    let to_d = [
-        reference(1, Class::Write, 8),
-        reference(2, Class::Write, 0),
-        ToStage::Flush { place: 3 },
-        ToStage::Finish,
-    ];
-    let order = [Turn::D, Turn::D, Turn::Both, Turn::Finish];
-    is_routed(rt, streams, &order, &to_i, &to_d);
-}
-
-fn a_flush_is_answered(rt: &impl Abort, streams: &Streams) {
-    let from_d = [
-        part(1, 1, fetch(8)),
-        done(1, 1),
-        part(2, 1, fetch(0)),
-        done(2, 1),
-        part(3, 1, What::Back(0)),
-        part(3, 2, What::Back(8)),
-        part(3, 3, What::FlushAll),
-        done(3, 3),
-        FromStage::Finish,
-    ];
-    is_answered(rt, streams, &[done(3, 0), FromStage::Finish], &from_d);
-}
-
-#[test]
-fn streams_of_a_flush(rt: HostRuntime) -> Result<(), Fail> {
-    let alloc = rt.alloc();
-    let streams = streams_of(&rt, alloc, data(), &[write(8), write(0), flush()])?;
-    a_flush_is_routed(&rt, &streams);
-    a_flush_is_answered(&rt, &streams);
-    let wanted = [
-        fetch(8),
-        fetch(0),
-        What::Back(0),
-        What::Back(8),
-        What::FlushAll,
-    ];
-    is_merged(&rt, alloc, &streams, &wanted)
+// The merge takes all of the streams, each message from the side that it wants, and just these
+// requests.
+pub(super) fn is_merged(rt: &impl Abort, alloc: Global, streams: &Streams, wanted: &[What]) {
+    let mut merge = Merge::new();
+    let mut requests = Vec::new(alloc);
+    let taken = merge_all(rt, &mut requests, &mut merge, streams);
+    assert!(rt; merge.wants() == Want::Nothing);
+    assert!(rt; taken.turns == streams.order.len());
+    assert!(rt; taken.i == streams.i.from.len() && taken.d == streams.d.from.len());
+    same(rt, &requests.as_slice(), &wanted, "the requests", 0);
 }
