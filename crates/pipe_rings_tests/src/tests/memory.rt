@@ -1,22 +1,29 @@
 //! Failing allocations. The test passes if there is enough memory. If an allocation is refused, it
 //! fails with the name of the refusal and nothing else.
 
-use pipe_rings::{Gone, SenderGone, ring, settle};
+use super::ends::{Ends, receive};
+use super::{ONE, hands_back};
+use pipe_rings::SenderGone;
+use std::process::Abort;
+use std::sync::Wait;
 use std::test::Fail;
+
+/// Without its sender the receiver says so.
+fn is_told<R: Wait + Abort>(rt: &R, ends: Ends) {
+    let (tx, mut rx) = ends.apart();
+    drop(tx);
+    assert_eq!(rt; receive(rt, &mut rx), Err(SenderGone));
+}
 
 #[test]
 fn a_ring_is_made_whole_or_not_at_all(rt: HostRuntime) -> Result<(), Fail> {
     for capacity in [1, 3, 64] {
-        let (mut tx, mut rx) = ring::<u64>(rt.alloc(), capacity)?;
-        assert_eq!(rt; tx.send(&rt, 7), Ok(()));
-        assert_eq!(rt; settle(&mut tx, &mut rx), 1);
-        assert_eq!(rt; rx.recv(&rt), Ok(7));
+        let mut ends = Ends::new(rt.alloc(), capacity)?;
+        ends.answers(&rt, &ONE);
         if capacity == 3 {
-            drop(tx);
-            assert_eq!(rt; rx.recv(&rt), Err(SenderGone));
+            is_told(&rt, ends);
         } else {
-            drop(rx);
-            assert_eq!(rt; tx.send(&rt, 8), Err(Gone { item: 8 }));
+            hands_back(&rt, ends);
         }
     }
     Ok(())
