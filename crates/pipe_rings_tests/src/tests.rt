@@ -6,27 +6,27 @@ mod memory;
 mod neighbours;
 mod outbox;
 
-use ends::{Call, Ends, gives, receive, send};
-use pipe_rings::{Gone, Rx, SenderGone, Tx, ring};
+use ends::{Call, Ends, Step, receiver_answers, sender_answers};
+use pipe_rings::{Rx, SenderGone, Tx, ring};
 use std::process::Abort;
 use std::sync::Wait;
 use std::test::Fail;
 use std::thread::{self, Threads};
-use std::time::{Clock, Duration};
+use std::time::Clock;
 
 /// A number goes through, and nothing is left on its way.
-static ONE: [(Call, Option<u64>); 4] = [
-    (Call::Send(7), Some(1)),
+static ONE: [Step; 4] = [
+    (Call::Send(7), None),
     (Call::Settle, Some(1)),
     (Call::Receive, Some(7)),
     (Call::Settle, Some(0)),
 ];
 
 /// Without its receiver the sender gets back what it sends.
-fn hands_back<R: Wait + Abort>(rt: &R, ends: Ends) {
+fn hands_back<R: Wait + Clock + Abort>(rt: &R, ends: Ends) {
     let (mut tx, rx) = ends.apart();
     drop(rx);
-    assert_eq!(rt; send(rt, &mut tx, 8), Err(Gone { item: 8 }));
+    sender_answers(rt, &mut tx, &[(Call::Send(8), Some(8))]);
 }
 
 #[test]
@@ -37,13 +37,20 @@ fn one_place(rt: HostRuntime) -> Result<(), Fail> {
     Ok(())
 }
 
+static ONE_AND_TWO: [Step; 2] = [(Call::Send(1), None), (Call::Send(2), None)];
+
+static BOTH_AND_THE_END: [Step; 3] = [
+    (Call::Receive, Some(1)),
+    (Call::Receive, Some(2)),
+    (Call::Receive, None),
+];
+
 #[test]
 fn what_was_sent_is_received_though_the_sender_is_gone(rt: HostRuntime) -> Result<(), Fail> {
     let (mut tx, mut rx) = Ends::new(rt.alloc(), 2)?.apart();
-    assert_eq!(rt; send(&rt, &mut tx, 1), Ok(()));
-    assert_eq!(rt; send(&rt, &mut tx, 2), Ok(()));
+    sender_answers(&rt, &mut tx, &ONE_AND_TWO);
     drop(tx);
-    gives(&rt, &mut rx, [Ok(1), Ok(2), Err(SenderGone)]);
+    receiver_answers(&rt, &mut rx, &BOTH_AND_THE_END);
     Ok(())
 }
 
@@ -51,7 +58,7 @@ fn what_was_sent_is_received_though_the_sender_is_gone(rt: HostRuntime) -> Resul
 fn send_below<R: Wait>(rt: &R, mut tx: Tx<u64>, count: u64) -> u64 {
     let mut sent = 0u64;
     for number in 0..count {
-        if send(rt, &mut tx, number).is_ok() {
+        if tx.send(rt, number).is_ok() {
             sent = sent.saturating_add(1);
         }
     }
@@ -62,56 +69,59 @@ fn send_below<R: Wait>(rt: &R, mut tx: Tx<u64>, count: u64) -> u64 {
 fn receive_below<R: Wait>(rt: &R, mut rx: Rx<u64>, count: u64) -> (u64, Result<u64, SenderGone>) {
     let mut received = 0u64;
     for number in 0..count {
-        if receive(rt, &mut rx) == Ok(number) {
+        if rx.recv(rt) == Ok(number) {
             received = received.saturating_add(1);
         }
     }
-    (received, receive(rt, &mut rx))
-}
-
-/// Sends the numbers below `count` through a ring from one thread to another. Returns how many were
-/// sent, how many came in order, and what came last.
-fn carry<R: Threads + Wait + Sync>(
-    rt: &R,
-    (tx, rx): (Tx<u64>, Rx<u64>),
-    count: u64,
-) -> (u64, (u64, Result<u64, SenderGone>)) {
-    thread::join(
-        rt,
-        move || send_below(rt, tx, count),
-        move || receive_below(rt, rx, count),
-    )
+    (received, rx.recv(rt))
 }
 
 #[test]
 fn two_threads_carry_all_items_in_order(rt: HostRuntime) -> Result<(), Fail> {
     for capacity in [1, 2, 64] {
-        let ends = ring(rt.alloc(), capacity)?;
-        let all = (10_000, (10_000, Err(SenderGone)));
-        assert_eq!(rt; carry(&rt, ends, 10_000), all, "capacity {capacity}");
+        let (tx, rx) = ring(rt.alloc(), capacity)?;
+        let rt = &rt;
+        let (sent, received) = thread::join(
+            rt,
+            move || send_below(rt, tx, 10_000),
+            move || receive_below(rt, rx, 10_000),
+        );
+        assert_eq!(rt; sent, 10_000, "capacity {capacity}");
+        assert_eq!(rt; received, (10_000, Err(SenderGone)), "capacity {capacity}");
     }
     Ok(())
 }
 
-/// Sleeps for a while, and then receives three times.
-fn receive_late<R: Wait + Clock>(rt: &R, mut rx: Rx<u64>) -> [Result<u64, SenderGone>; 3] {
-    thread::sleep(rt, Duration::from_millis(50));
-    [
-        receive(rt, &mut rx),
-        receive(rt, &mut rx),
-        receive(rt, &mut rx),
-    ]
+/// Each end has to give these answers, one in a thread of its own and the other beside it. An end
+/// is dropped after its last call.
+fn answer<R: Threads + Wait + Clock + Abort + Sync>(
+    rt: &R,
+    (tx, rx): (Tx<u64>, Rx<u64>),
+    sends: &[Step],
+    receives: &[Step],
+) {
+    thread::join(
+        rt,
+        move || {
+            let mut tx = tx;
+            sender_answers(rt, &mut tx, sends);
+        },
+        move || {
+            let mut rx = rx;
+            receiver_answers(rt, &mut rx, receives);
+        },
+    );
 }
+
+static LATE: [Step; 4] = [
+    (Call::Rest(50), None),
+    (Call::Receive, Some(1)),
+    (Call::Receive, Some(2)),
+    (Call::Receive, None),
+];
 
 #[test]
 fn an_end_sleeps_until_the_other_one_goes_on(rt: HostRuntime) -> Result<(), Fail> {
-    let (tx, rx) = ring(rt.alloc(), 1)?;
-    let rt = &rt;
-    let ends = thread::join(
-        rt,
-        move || send_below(rt, tx, 2),
-        move || receive_late(rt, rx),
-    );
-    assert_eq!(rt; ends, (2, [Ok(0), Ok(1), Err(SenderGone)]));
+    answer(&rt, ring(rt.alloc(), 1)?, &ONE_AND_TWO, &LATE);
     Ok(())
 }

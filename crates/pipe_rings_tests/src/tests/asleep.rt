@@ -1,37 +1,37 @@
 //! Senders and receivers that sleep without a limit, and what wakes them.
 
-use super::ends::{look, post, receive};
-use super::neighbours::{send_back, stay_away};
-use super::send_below;
+use super::answer;
+use super::ends::{Call, LONG, Step, sender_answers};
+use super::neighbours::{look, send_back};
 use pipe_rings::{Bell, Rx, Tx, ring, ring_from};
+use std::process::Abort;
 use std::sync::Wait;
 use std::test::Fail;
 use std::thread;
 use std::time::Clock;
 
-/// Receives each number a long time after the sender fell asleep at the full ring. Returns how many
-/// were right.
-fn receive_late<R: Wait + Clock>(rt: &R, mut rx: Rx<u64>) -> u64 {
-    let mut right = 0u64;
-    for number in 0..4 {
-        stay_away(rt);
-        if receive(rt, &mut rx) == Ok(number) {
-            right = right.saturating_add(1);
-        }
-    }
-    right
-}
+static FOUR: [Step; 4] = [
+    (Call::Send(0), None),
+    (Call::Send(1), None),
+    (Call::Send(2), None),
+    (Call::Send(3), None),
+];
+
+/// Each number is received a long time after the sender fell asleep at the full ring.
+static FOUR_LATE: [Step; 8] = [
+    (LONG, None),
+    (Call::Receive, Some(0)),
+    (LONG, None),
+    (Call::Receive, Some(1)),
+    (LONG, None),
+    (Call::Receive, Some(2)),
+    (LONG, None),
+    (Call::Receive, Some(3)),
+];
 
 #[test]
 fn a_sender_that_sleeps_at_a_full_ring_is_woken_by_a_receiver(rt: HostRuntime) -> Result<(), Fail> {
-    let (tx, rx) = ring(rt.alloc(), 1)?;
-    let rt = &rt;
-    let ends = thread::join(
-        rt,
-        move || send_below(rt, tx, 4),
-        move || receive_late(rt, rx),
-    );
-    assert_eq!(rt; ends, (4, 4));
+    answer(&rt, ring(rt.alloc(), 1)?, &FOUR, &FOUR_LATE);
     Ok(())
 }
 
@@ -46,12 +46,20 @@ fn pause_for<R: Wait>(rt: &R, tx: &mut Tx<u64>, rx: &mut Rx<u64>) -> Option<u64>
     unreachable!()
 }
 
+static OFFER: [Step; 3] = [
+    (LONG, None),
+    (Call::Post(7, 8), Some(1)),
+    (Call::Offer, Some(1)),
+];
+
 /// Offers a number, and then waits for an answer through the pauses of the same end alone. Only a
 /// pause tells the receiver, which sleeps, of what was offered.
-fn offer_and_pause<R: Wait + Clock>(rt: &R, mut tx: Tx<u64>, mut rx: Rx<u64>) -> Option<u64> {
-    stay_away(rt);
-    post(&mut tx, 7);
-    tx.offer();
+fn offer_and_pause<R: Wait + Clock + Abort>(
+    rt: &R,
+    mut tx: Tx<u64>,
+    mut rx: Rx<u64>,
+) -> Option<u64> {
+    sender_answers(rt, &mut tx, &OFFER);
     pause_for(rt, &mut tx, &mut rx)
 }
 

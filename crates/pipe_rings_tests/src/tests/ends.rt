@@ -1,78 +1,24 @@
-//! Calls of the ends of a ring that promise nothing. So each call of the library is proved here
-//! alone, and not in every test again.
+//! Calls of the ends of a ring, as values. A test is a table of calls with their answers, so each
+//! call of the library is proved here alone, and not in every test again.
 
 ghost use Rattle.std.specs.Prelude.{◌≤◌};
 ghost use Rattle.pipe_rings.specs.Rings.{AreEnds};
 
-use pipe_rings::{Bell, Gone, NoMemory, Rx, SenderGone, Tx, ring, ring_from, settle};
+use pipe_rings::{Bell, NoMemory, Rx, Tx, ring, ring_from, settle};
 use std::alloc::Global;
 use std::process::Abort;
 use std::sync::Wait;
+use std::thread;
+use std::time::{Clock, Duration};
 
-/// Sends a number.
-pub(super) fn send<R: Wait>(rt: &R, tx: &mut Tx<u64>, number: u64) -> Result<(), Gone<u64>> {
-    tx.send(rt, number)
-}
-
-/// Receives a number.
-pub(super) fn receive<R: Wait>(rt: &R, rx: &mut Rx<u64>) -> Result<u64, SenderGone> {
-    rx.recv(rt)
-}
-
-/// What a look finds that does not wait: a number, or `Some(None)` if the sender is gone.
-pub(super) fn look(rx: &mut Rx<u64>) -> Option<Option<u64>> {
-    let number = rx.try_recv();
-    if number.is_some() {
-        Some(number)
-    } else if rx.is_cut() {
-        // A number may have been published between these two looks.
-        Some(rx.try_recv())
-    } else {
-        None
-    }
-}
-
-/// Posts a number, if the outbox has room for it.
-pub(super) fn post(tx: &mut Tx<u64>, number: u64) -> bool {
-    let has_room = tx.has_room();
-    if has_room {
-        tx.post(number);
-    }
-    has_room
-}
-
-/// Posts the numbers below `count`, as far as there is room. Returns how many were posted.
-pub(super) fn post_below(tx: &mut Tx<u64>, count: u64) -> u64 {
-    let mut posted = 0u64;
-    for number in 0..count {
-        if post(tx, number) {
-            posted = posted.saturating_add(1);
-        }
-    }
-    posted
-}
-
-/// Publishes as many numbers as fit into the ring, and returns how many.
-pub(super) fn publish(tx: &mut Tx<u64>) -> usize {
-    tx.publish()
-}
-
-/// These have to be received next, in this order.
-pub(super) fn gives<R: Wait + Abort>(
-    rt: &R,
-    rx: &mut Rx<u64>,
-    wanted: [Result<u64, SenderGone>; 3],
-) {
-    for result in wanted {
-        assert_eq!(rt; receive(rt, rx), result);
-    }
-}
-
-/// A call of one of the two ends of a ring, or some calls of one kind.
+/// A call of an end, or several of one kind.
 #[derive(Clone, Copy)]
 pub(super) enum Call {
-    /// Posts the numbers below this one, as far as there is room. Answers how many.
-    Post(u64),
+    /// Sleeps for so many milliseconds.
+    Rest(u64),
+    /// Posts the numbers from the first one to below the second one, as far as there is room.
+    /// Answers how many.
+    Post(u64, u64),
     /// How many numbers were posted and are not yet published.
     Posted,
     /// Whether the outbox has room: 1 or 0.
@@ -80,9 +26,9 @@ pub(super) enum Call {
     /// Publishes, or offers, and answers how many numbers went into the ring.
     Publish,
     Offer,
-    /// Sends this number. Answers how many were sent: 1 or 0.
+    /// Sends this number. Answers the number that was handed back, if one was.
     Send(u64),
-    /// The next number, if there is one, and waits for it or not.
+    /// The next number, and waits for it or not. Answers `None` if there is none.
     Receive,
     TryReceive,
     /// Receives numbers from this one on, as long as they come in order. Answers the first one that
@@ -92,6 +38,85 @@ pub(super) enum Call {
     Carry,
     /// How many numbers were sent and not received.
     Settle,
+    /// Whether the other end was dropped: 1 or 0.
+    IsCut,
+}
+
+/// A call and its answer.
+pub(super) type Step = (Call, Option<u64>);
+
+/// A pause after which a thread that waits at a ring has fallen asleep, and its sleep has no limit
+/// any more.
+pub(super) const LONG: Call = Call::Rest(250);
+
+fn rest<R: Clock>(rt: &R, millis: u64) -> Option<u64> {
+    thread::sleep(rt, Duration::from_millis(millis));
+    None
+}
+
+fn sent<R: Wait>(rt: &R, tx: &mut Tx<u64>, number: u64) -> Option<u64> {
+    match tx.send(rt, number) {
+        Ok(()) => None,
+        Err(gone) => Some(gone.item),
+    }
+}
+
+fn post(tx: &mut Tx<u64>, number: u64) -> bool {
+    let has_room = tx.has_room();
+    if has_room {
+        tx.post(number);
+    }
+    has_room
+}
+
+fn post_all(tx: &mut Tx<u64>, first: u64, end: u64) -> u64 {
+    let mut posted = 0u64;
+    for number in first..end {
+        if post(tx, number) {
+            posted = posted.saturating_add(1);
+        }
+    }
+    posted
+}
+
+/// What a sender answers. It makes no call of a receiver.
+pub(super) fn of_sender<R: Wait + Clock>(rt: &R, tx: &mut Tx<u64>, call: &Call) -> Option<u64> {
+    match call {
+        Call::Rest(millis) => rest(rt, *millis),
+        Call::Post(first, end) => Some(post_all(tx, *first, *end)),
+        Call::Posted => Some(tx.posted() as u64),
+        Call::HasRoom => Some(u64::from(tx.has_room())),
+        Call::Publish => Some(tx.publish() as u64),
+        Call::Offer => Some(tx.offer() as u64),
+        Call::Send(number) => sent(rt, tx, *number),
+        Call::IsCut => Some(u64::from(tx.is_cut())),
+        _ => None,
+    }
+}
+
+/// What a receiver answers. It makes no call of a sender.
+pub(super) fn of_receiver<R: Wait + Clock>(rt: &R, rx: &mut Rx<u64>, call: &Call) -> Option<u64> {
+    match call {
+        Call::Rest(millis) => rest(rt, *millis),
+        Call::Receive => rx.recv(rt).ok(),
+        Call::TryReceive => rx.try_recv(),
+        Call::IsCut => Some(u64::from(rx.is_cut())),
+        _ => None,
+    }
+}
+
+/// A sender has to give these answers, one after another.
+pub(super) fn sender_answers<R: Wait + Clock + Abort>(rt: &R, tx: &mut Tx<u64>, steps: &[Step]) {
+    for (index, (call, wanted)) in steps.iter().enumerate() {
+        assert_eq!(rt; of_sender(rt, tx, call), *wanted, "call {index}");
+    }
+}
+
+/// A receiver has to give these answers, one after another.
+pub(super) fn receiver_answers<R: Wait + Clock + Abort>(rt: &R, rx: &mut Rx<u64>, steps: &[Step]) {
+    for (index, (call, wanted)) in steps.iter().enumerate() {
+        assert_eq!(rt; of_receiver(rt, rx, call), *wanted, "call {index}");
+    }
 }
 
 /// Both ends of one ring, in one thread.
@@ -124,7 +149,6 @@ impl Ends {
         (tx, rx)
     }
 
-    // Posts a number, if the outbox has room for it.
     fn post(&mut self, number: u64) -> bool {
         let has_room = self.tx.has_room();
         if has_room {
@@ -133,9 +157,9 @@ impl Ends {
         has_room
     }
 
-    fn post_below(&mut self, count: u64) -> u64 {
+    fn post_all(&mut self, first: u64, end: u64) -> u64 {
         let mut posted = 0u64;
-        for number in 0..count {
+        for number in first..end {
             if self.post(number) {
                 posted = posted.saturating_add(1);
             }
@@ -169,26 +193,34 @@ impl Ends {
         next
     }
 
-    fn answer<R: Wait>(&mut self, rt: &R, call: Call) -> Option<u64> {
+    fn send<R: Wait>(&mut self, rt: &R, number: u64) -> Option<u64> {
+        match self.tx.send(rt, number) {
+            Ok(()) => None,
+            Err(gone) => Some(gone.item),
+        }
+    }
+
+    fn answer<R: Wait>(&mut self, rt: &R, call: &Call) -> Option<u64> {
         match call {
-            Call::Post(count) => Some(self.post_below(count)),
+            Call::Post(first, end) => Some(self.post_all(*first, *end)),
             Call::Posted => Some(self.tx.posted() as u64),
             Call::HasRoom => Some(u64::from(self.tx.has_room())),
             Call::Publish => Some(self.publish() as u64),
             Call::Offer => Some(self.tx.offer() as u64),
-            Call::Send(number) => Some(u64::from(self.tx.send(rt, number).is_ok())),
+            Call::Send(number) => self.send(rt, *number),
             Call::Receive => self.rx.recv(rt).ok(),
             Call::TryReceive => self.try_receive(),
-            Call::ReceiveFrom(first) => Some(self.receive_from(first)),
+            Call::ReceiveFrom(first) => Some(self.receive_from(*first)),
             Call::Carry => Some(self.carry()),
             Call::Settle => Some(settle(&mut self.tx, &mut self.rx) as u64),
+            Call::Rest(_) | Call::IsCut => None,
         }
     }
 
-    /// These calls have to have these answers, one after another.
-    pub(super) fn answers<R: Wait + Abort>(&mut self, rt: &R, calls: &[(Call, Option<u64>)]) {
-        for (index, (call, wanted)) in calls.iter().copied().enumerate() {
-            assert_eq!(rt; self.answer(rt, call), wanted, "call {index}");
+    /// The ends have to give these answers, one after another.
+    pub(super) fn answers<R: Wait + Abort>(&mut self, rt: &R, steps: &[Step]) {
+        for (index, (call, wanted)) in steps.iter().enumerate() {
+            assert_eq!(rt; self.answer(rt, call), *wanted, "call {index}");
         }
     }
 }

@@ -1,10 +1,7 @@
 //! Posting, publishing and receiving with both ends in one thread: the order of the items, and
 //! where they are.
 
-use super::ends::{Call, Ends, gives, post_below, publish, send};
-use pipe_rings::{Gone, Rx, SenderGone, Tx};
-use std::process::Abort;
-use std::sync::Wait;
+use super::ends::{Call, Ends, Step, receiver_answers, sender_answers};
 use std::test::Fail;
 
 /// Posts 100 numbers and publishes: this many have to fit into the ring, and this many to be left.
@@ -12,7 +9,7 @@ use std::test::Fail;
 fn as_much_is_published_as_the_ring_has_room_for(rt: HostRuntime) -> Result<(), Fail> {
     for (capacity, published, left) in [(1, 1, 99), (2, 2, 98), (64, 64, 36)] {
         let calls = [
-            (Call::Post(100), Some(100)),
+            (Call::Post(0, 100), Some(100)),
             (Call::Posted, Some(100)),
             (Call::TryReceive, None),
             (Call::Publish, Some(published)),
@@ -31,7 +28,7 @@ fn as_much_is_published_as_the_ring_has_room_for(rt: HostRuntime) -> Result<(), 
 fn as_much_is_offered_as_the_ring_has_room_for(rt: HostRuntime) -> Result<(), Fail> {
     for (capacity, offered, left) in [(1, 1, 99), (64, 64, 36), (128, 100, 0)] {
         let calls = [
-            (Call::Post(100), Some(100)),
+            (Call::Post(0, 100), Some(100)),
             (Call::Offer, Some(offered)),
             (Call::Posted, Some(left)),
             (Call::Offer, Some(0)),
@@ -43,11 +40,11 @@ fn as_much_is_offered_as_the_ring_has_room_for(rt: HostRuntime) -> Result<(), Fa
 }
 
 /// The outbox has room for 512 numbers, and for as many again once they are published.
-static FILLED_TWICE: [(Call, Option<u64>); 9] = [
-    (Call::Post(511), Some(511)),
+static FILLED_TWICE: [Step; 9] = [
+    (Call::Post(0, 511), Some(511)),
     (Call::HasRoom, Some(1)),
     (Call::Carry, Some(511)),
-    (Call::Post(600), Some(512)),
+    (Call::Post(0, 600), Some(512)),
     (Call::HasRoom, Some(0)),
     (Call::Posted, Some(512)),
     (Call::Carry, Some(512)),
@@ -68,7 +65,7 @@ fn an_outbox_holds_512_items(rt: HostRuntime) -> Result<(), Fail> {
 fn an_outbox_has_room_for_as_many_items_as_asked_for(rt: HostRuntime) -> Result<(), Fail> {
     for (outbox, room) in [(0, 1), (1, 1), (2, 2), (512, 512), (600, 512)] {
         let calls = [
-            (Call::Post(600), Some(room)),
+            (Call::Post(0, 600), Some(room)),
             (Call::HasRoom, Some(0)),
             (Call::Carry, Some(room)),
             (Call::HasRoom, Some(1)),
@@ -78,8 +75,8 @@ fn an_outbox_has_room_for_as_many_items_as_asked_for(rt: HostRuntime) -> Result<
     Ok(())
 }
 
-static LEFT_IN_THE_RING: [(Call, Option<u64>); 5] = [
-    (Call::Post(3), Some(3)),
+static LEFT_IN_THE_RING: [Step; 5] = [
+    (Call::Post(0, 3), Some(3)),
     (Call::Settle, Some(3)),
     (Call::Publish, Some(2)),
     (Call::Receive, Some(0)),
@@ -92,10 +89,10 @@ fn what_is_in_the_outbox_and_in_the_ring_is_on_its_way(rt: HostRuntime) -> Resul
     Ok(())
 }
 
-static LEFT_IN_THE_BATCH: [(Call, Option<u64>); 8] = [
-    (Call::Post(3), Some(3)),
+static LEFT_IN_THE_BATCH: [Step; 8] = [
+    (Call::Post(0, 3), Some(3)),
     (Call::Publish, Some(3)),
-    (Call::Post(1), Some(1)),
+    (Call::Post(3, 4), Some(1)),
     // The first item comes without a batch, and the second one is the first item of a batch.
     (Call::TryReceive, Some(0)),
     (Call::TryReceive, Some(1)),
@@ -111,11 +108,11 @@ fn what_is_in_the_batch_is_on_its_way(rt: HostRuntime) -> Result<(), Fail> {
     Ok(())
 }
 
-static SENT_BEHIND: [(Call, Option<u64>); 8] = [
-    (Call::Post(2), Some(2)),
-    (Call::Send(2), Some(1)),
+static SENT_BEHIND: [Step; 8] = [
+    (Call::Post(0, 2), Some(2)),
+    (Call::Send(2), None),
     (Call::Posted, Some(0)),
-    (Call::Post(1), Some(1)),
+    (Call::Post(0, 1), Some(1)),
     (Call::ReceiveFrom(0), Some(3)),
     (Call::Publish, Some(1)),
     (Call::TryReceive, Some(0)),
@@ -128,41 +125,42 @@ fn what_is_sent_comes_behind_what_was_posted(rt: HostRuntime) -> Result<(), Fail
     Ok(())
 }
 
-/// Posts three numbers to a ring of capacity two, publishes, and is dropped.
-fn leave_one_unpublished(rt: &impl Abort, mut tx: Tx<u64>) {
-    assert_eq!(rt; post_below(&mut tx, 3), 3);
-    assert_eq!(rt; publish(&mut tx), 2);
-}
+/// Three numbers are posted to a ring of capacity two, and published.
+static ONE_UNPUBLISHED: [Step; 2] = [(Call::Post(0, 3), Some(3)), (Call::Publish, Some(2))];
 
 /// If the sender is gone, what it published comes, and nothing after that.
-fn gives_the_rest<R: Wait + Abort>(rt: &R, rx: &mut Rx<u64>) {
-    assert!(rt; rx.is_cut());
-    gives(rt, rx, [Ok(0), Ok(1), Err(SenderGone)]);
-    assert_eq!(rt; rx.try_recv(), None);
-}
+static THE_REST: [Step; 5] = [
+    (Call::IsCut, Some(1)),
+    (Call::Receive, Some(0)),
+    (Call::Receive, Some(1)),
+    (Call::Receive, None),
+    (Call::TryReceive, None),
+];
 
 #[test]
 fn what_was_published_is_received_though_the_sender_is_gone(rt: HostRuntime) -> Result<(), Fail> {
-    let (tx, mut rx) = Ends::new(rt.alloc(), 2)?.apart();
-    assert!(rt; !rx.is_cut());
-    leave_one_unpublished(&rt, tx);
-    gives_the_rest(&rt, &mut rx);
+    let (mut tx, mut rx) = Ends::new(rt.alloc(), 2)?.apart();
+    receiver_answers(&rt, &mut rx, &[(Call::IsCut, Some(0))]);
+    sender_answers(&rt, &mut tx, &ONE_UNPUBLISHED);
+    drop(tx);
+    receiver_answers(&rt, &mut rx, &THE_REST);
     Ok(())
 }
 
+static ONE_POSTED: [Step; 2] = [(Call::Post(0, 1), Some(1)), (Call::IsCut, Some(0))];
+
 /// If the receiver is gone, posted items stay in the outbox, and an item that is sent comes back.
-fn hands_back<R: Wait + Abort>(rt: &R, tx: &mut Tx<u64>) {
-    assert!(rt; tx.is_cut());
-    assert_eq!(rt; send(rt, tx, 8), Err(Gone { item: 8 }));
-    assert_eq!(rt; tx.posted(), 1);
-}
+static HANDED_BACK: [Step; 3] = [
+    (Call::IsCut, Some(1)),
+    (Call::Send(8), Some(8)),
+    (Call::Posted, Some(1)),
+];
 
 #[test]
 fn a_sender_sees_that_the_receiver_is_gone(rt: HostRuntime) -> Result<(), Fail> {
     let (mut tx, rx) = Ends::new(rt.alloc(), 2)?.apart();
-    assert_eq!(rt; post_below(&mut tx, 1), 1);
-    assert!(rt; !tx.is_cut());
+    sender_answers(&rt, &mut tx, &ONE_POSTED);
     drop(rx);
-    hands_back(&rt, &mut tx);
+    sender_answers(&rt, &mut tx, &HANDED_BACK);
     Ok(())
 }
