@@ -1,8 +1,5 @@
 //! Runs over traces in memory. The expected values were worked out by hand.
 
-ghost use Rattle.std.specs.Prelude.{◌≤◌};
-ghost use Rattle.stage_core.specs.Events.{IsBounded};
-
 mod counts;
 mod devices;
 mod faults;
@@ -21,14 +18,13 @@ mod writers;
 use cache_core::{Policy, Repl};
 use counts::{first_misses, instrs, reads, reads_and_writes, writes};
 use din_trace::{FromRead, FromWrite, MAX_LIMIT, Source, TraceFault, Why};
-use reported::{is_counted, reports};
+use reported::{is_counted, reported, reports, writes_text};
 use sim_run::{Gate, OpenGate, RunFault, Settled, run_pipeline, simulate, simulate_plain};
 use stage_core::{CacheSpec, Config, Selection, Totals};
 use std::alloc::Global;
 use std::io::{Read, Write};
 use std::process::Abort;
 use std::sync::Wait;
-use std::test::Fail;
 use std::thread::Threads;
 
 static EVERYTHING: Selection = Selection {
@@ -55,120 +51,114 @@ fn spec(size: u64, bsize: u64, assoc: u64, policy: Policy) -> CacheSpec {
 
 /// An instruction cache of 16 bytes, a data cache of 16 bytes in two ways with this policy, and a
 /// second level of 32 bytes. Each ring holds `ring` messages.
-fn config_of(data: Policy, ring: u64) -> Result<Config, Fail> {
+fn config_of(rt: &impl Abort, data: Policy, ring: u64) -> Config {
     let i = spec(16, 4, 1, USUAL);
     let d = spec(16, 4, 2, data);
     let u = spec(32, 8, 2, USUAL);
-    Ok(Config::new(i, d, u, ring)?)
+    Config::new(i, d, u, ring).expect(rt, "a lawful configuration")
 }
 
-fn config_with(data: Policy) -> Result<Config, Fail> {
-    config_of(data, 2)
+fn config_with(rt: &impl Abort, data: Policy) -> Config {
+    config_of(rt, data, 2)
 }
 
-fn config() -> Result<Config, Fail> {
-    config_with(USUAL)
+fn config(rt: &impl Abort) -> Config {
+    config_with(rt, USUAL)
 }
 
-/// The counts of a run in threads. Its rings are dropped.
-fn totals_of(ended: Result<Settled, RunFault>) -> Result<Totals, RunFault> {
-    let Settled { totals, rings } = ended?;
+/// The greatest number that a selection may have.
+const MOST: u64 = 1_099_511_627_776;
+
+/// The counts of a run in threads. Its rings are dropped. What a test calls promises nothing, so
+/// that the calls of the library are proved once, and not in every test.
+fn simulated<H: Threads + Wait + Abort + Sync, R: Read + Drop, G: Gate, W: Write + Drop>(
+    rt: &H,
+    alloc: Global,
+    config: &Config,
+    selection: &Selection,
+    reader: R,
+    limit: u64,
+    gate: &G,
+    writer: W,
+) -> Result<Totals, RunFault> {
+    assert!(rt; limit <= MAX_LIMIT && selection.skip <= MOST);
+    assert!(rt; selection.max <= MOST && selection.every <= MOST);
+    let reader = FromRead::new(reader);
+    let writer = &mut FromWrite::new(writer);
+    let Settled { totals, rings } = simulate(
+        rt, alloc, config, selection, reader, limit, gate, writer,
+    )?;
     drop(rings);
     Ok(totals)
 }
 
+/// The result of a run on one thread.
+fn simulated_plainly<R: Read + Drop, W: Write + Drop>(
+    rt: &impl Abort,
+    alloc: Global,
+    config: &Config,
+    selection: &Selection,
+    reader: R,
+    limit: u64,
+    writer: W,
+) -> Result<(), RunFault> {
+    assert!(rt; limit <= MAX_LIMIT && selection.skip <= MOST);
+    assert!(rt; selection.max <= MOST && selection.every <= MOST);
+    let reader = FromRead::new(reader);
+    let writer = &mut FromWrite::new(writer);
+    simulate_plain(alloc, config, selection, reader, limit, writer)
+}
+
 /// The result of a run in threads with the usual caches over the whole trace of this reader.
-fn run_in_threads<H: Threads + Wait + Sync, R: Read + Drop, G: Gate, W: Write + Drop>(
+fn run_in_threads<H: Threads + Wait + Abort + Sync, R: Read + Drop, G: Gate, W: Write + Drop>(
     rt: &H,
     alloc: Global,
     reader: R,
     gate: &G,
     writer: W,
-) -> Result<Result<Totals, RunFault>, Fail> {
-    Ok(totals_of(simulate(
+) -> Result<Totals, RunFault> {
+    let config = config(rt);
+    simulated(
         rt,
         alloc,
-        &config()?,
+        &config,
         &EVERYTHING,
-        FromRead::new(reader),
+        reader,
         MAX_LIMIT,
         gate,
-        &mut FromWrite::new(writer),
-    )))
-}
-
-/// The fault of such a run, if it fails.
-fn fault_in_threads<H: Threads + Wait + Sync, R: Read + Drop, W: Write + Drop>(
-    rt: &H,
-    alloc: Global,
-    reader: R,
-    writer: W,
-) -> Result<Option<RunFault>, Fail> {
-    Ok(run_in_threads(rt, alloc, reader, &OpenGate, writer)?.err())
+        writer,
+    )
 }
 
 /// The result of the same run on one thread.
 fn run_plainly<R: Read + Drop, W: Write + Drop>(
+    rt: &impl Abort,
     alloc: Global,
     reader: R,
     writer: W,
-) -> Result<Result<(), RunFault>, Fail> {
-    Ok(simulate_plain(
-        alloc,
-        &config()?,
-        &EVERYTHING,
-        FromRead::new(reader),
-        MAX_LIMIT,
-        &mut FromWrite::new(writer),
-    ))
-}
-
-/// The result of a run on one thread over a trace, and the bytes that it wrote.
-fn plainly(
-    alloc: Global,
-    config: &Config,
-    selection: &Selection,
-    trace: &[u8],
-    limit: u64,
-    written: &mut Vec<u8>,
-) -> Result<(), RunFault>
-    requires limit { limit ≤ MAX_LIMIT }
-    requires bounded { IsBounded selection.now }
-{
-    simulate_plain(
-        alloc,
-        config,
-        selection,
-        FromRead::new(trace),
-        limit,
-        &mut FromWrite::new(written),
-    )
-}
-
-/// The result of a run in threads over a trace, and the bytes that it wrote.
-fn threaded<H: Threads + Wait + Sync>(
-    rt: &H,
-    alloc: Global,
-    config: &Config,
-    selection: &Selection,
-    trace: &[u8],
-    limit: u64,
-    written: &mut Vec<u8>,
-) -> Option<RunFault>
-    requires limit { limit ≤ MAX_LIMIT }
-    requires bounded { IsBounded selection.now }
-{
-    simulate(
+) -> Result<(), RunFault> {
+    simulated_plainly(
         rt,
         alloc,
-        config,
-        selection,
-        FromRead::new(trace),
-        limit,
-        &OpenGate,
-        &mut FromWrite::new(written),
+        &config(rt),
+        &EVERYTHING,
+        reader,
+        MAX_LIMIT,
+        writer,
     )
-    .err()
+}
+
+/// The fault of both runs, each over a reader and a writer of its own. The faults have to agree.
+fn fault_of_both<H: Threads + Wait + Abort + Sync, R: Read + Drop, W: Write + Drop>(
+    rt: &H,
+    alloc: Global,
+    readers: (R, R),
+    writers: (W, W),
+) -> Option<RunFault> {
+    let ended = run_in_threads(rt, alloc, readers.0, &OpenGate, writers.0);
+    let plain = run_plainly(rt, alloc, readers.1, writers.1);
+    assert_eq!(rt; ended.err(), plain.err());
+    plain.err()
 }
 
 /// The result of a run over a trace, and the bytes that it wrote. It runs on one thread and in
@@ -181,14 +171,13 @@ fn run<H: Threads + Wait + Abort + Sync>(
     trace: &[u8],
     limit: u64,
     written: &mut Vec<u8>,
-) -> Result<(), RunFault>
-    requires limit { limit ≤ MAX_LIMIT }
-    requires bounded { IsBounded selection.now }
-{
-    let plain = plainly(alloc, config, selection, trace, limit, written);
+) -> Result<(), RunFault> {
+    let plain = simulated_plainly(rt, alloc, config, selection, trace, limit, &mut *written);
     let mut other = Vec::new(alloc);
-    let ended = threaded(rt, alloc, config, selection, trace, limit, &mut other);
-    assert_eq!(rt; ended, plain.err());
+    let ended = simulated(
+        rt, alloc, config, selection, trace, limit, &OpenGate, &mut other,
+    );
+    assert_eq!(rt; ended.err(), plain.err());
     assert_eq!(rt; other.as_slice(), written.as_slice());
     plain
 }
@@ -202,10 +191,7 @@ fn ends_with<H: Threads + Wait + Abort + Sync>(
     trace: &[u8],
     limit: u64,
     expected: Result<(), RunFault>,
-)
-    requires limit { limit ≤ MAX_LIMIT }
-    requires bounded { IsBounded selection.now }
-{
+) {
     let mut written = Vec::new(alloc);
     let ended = run(rt, alloc, config, selection, trace, limit, &mut written);
     assert_eq!(rt; ended, expected);
@@ -220,24 +206,20 @@ fn ends<H: Threads + Wait + Abort + Sync>(
     trace: &[u8],
     limit: u64,
     expected: Result<(), RunFault>,
-) -> Result<(), Fail>
-    requires limit { limit ≤ MAX_LIMIT }
-    requires bounded { IsBounded selection.now }
-{
-    ends_with(rt, alloc, &config()?, selection, trace, limit, expected);
-    Ok(())
+) {
+    ends_with(rt, alloc, &config(rt), selection, trace, limit, expected);
 }
 
 /// The source of a trace after a run of the pipeline, and the result of that run.
-fn run_source<'a, H: Threads + Wait + Sync>(
+fn run_source<'a, H: Threads + Wait + Abort + Sync>(
     rt: &H,
     alloc: Global,
     trace: &'a [u8],
-) -> Result<(Source<FromRead<&'a [u8]>>, Result<Totals, RunFault>), Fail> {
-    let config = config()?;
+) -> (Source<FromRead<&'a [u8]>>, Result<Totals, RunFault>) {
+    let config = config(rt);
     let source = Source::new(FromRead::new(trace), MAX_LIMIT);
     let (source, ended) = run_pipeline(rt, alloc, &config, &EVERYTHING, source, &OpenGate);
-    Ok((source, totals_of(ended)))
+    (source, ended.map(|settled| settled.totals))
 }
 
 fn bad(line: u64, why: Why) -> RunFault {

@@ -1,14 +1,13 @@
 //! Readers and writers that take few bytes at a time.
 
+use super::fault_of_both;
 use super::layout::ONE_WRITE_BACK;
-use super::{fault_in_threads, run_plainly};
 use sim_run::RunFault;
 use std::alloc::Global;
 use std::io;
 use std::io::{Read, Write};
 use std::process::Abort;
 use std::sync::Wait;
-use std::test::Fail;
 use std::thread::Threads;
 
 /// Gives a text in pieces of at most one size.
@@ -60,55 +59,44 @@ impl Write for Awaiting<'_> {
     }
 }
 
-/// The result of both runs over a trace in pieces, each with a writer like this one. The results
-/// and the writers have to agree.
-fn run<H: Threads + Wait + Abort + Sync>(
+/// The fault of both runs over a trace in pieces, each with a writer like this one. The faults and
+/// the writers have to agree.
+fn fault_of<H: Threads + Wait + Abort + Sync>(
     rt: &H,
     alloc: Global,
     size: usize,
     writer: &mut Awaiting,
-) -> Result<Result<(), RunFault>, Fail> {
+) -> Option<RunFault> {
     let rest = b"1 0\n0 8\n0 10\n";
     let mut other = to_take(writer.rest, writer.most);
-    let ended = fault_in_threads(rt, alloc, Pieces { rest, size }, &mut other)?;
-    let plain = run_plainly(alloc, Pieces { rest, size }, &mut *writer)?;
-    assert_eq!(rt; ended, plain.err());
+    let readers = (Pieces { rest, size }, Pieces { rest, size });
+    let fault = fault_of_both(rt, alloc, readers, (&mut other, &mut *writer));
     assert!(rt; other.rest == writer.rest);
     assert_eq!(rt; other.flushes, writer.flushes);
-    Ok(plain)
+    fault
 }
 
 /// Both runs have to write the whole report and flush it once.
-fn is_written<H: Threads + Wait + Abort + Sync>(
-    rt: &H,
-    alloc: Global,
-    size: usize,
-    most: usize,
-) -> Result<(), Fail> {
+fn is_written<H: Threads + Wait + Abort + Sync>(rt: &H, alloc: Global, size: usize, most: usize) {
     let mut writer = to_take(ONE_WRITE_BACK.as_bytes(), most);
-    assert_eq!(rt; run(rt, alloc, size, &mut writer)?, Ok(()));
+    assert_eq!(rt; fault_of(rt, alloc, size, &mut writer), None);
     assert!(rt; writer.rest.is_empty());
     assert_eq!(rt; writer.flushes, 1);
-    Ok(())
 }
 
 #[test]
-fn a_report_is_the_same_however_bytes_are_cut(rt: HostRuntime) -> Result<(), Fail> {
+fn a_report_is_the_same_however_bytes_are_cut(rt: HostRuntime) {
     for size in [1, 2, 3, 5, 65_536] {
         for most in [1, 7, 65_536] {
-            is_written(&rt, rt.alloc(), size, most)?;
+            is_written(&rt, rt.alloc(), size, most);
         }
     }
-    Ok(())
 }
 
 #[test]
-fn a_writer_that_takes_nothing_has_failed(rt: HostRuntime) -> Result<(), Fail> {
+fn a_writer_that_takes_nothing_has_failed(rt: HostRuntime) {
     let mut writer = to_take(ONE_WRITE_BACK.as_bytes(), 0);
-    assert_eq!(rt;
-        run(&rt, rt.alloc(), 65_536, &mut writer)?,
-        Err(RunFault::Write)
-    );
+    let fault = fault_of(&rt, rt.alloc(), 65_536, &mut writer);
+    assert_eq!(rt; fault, Some(RunFault::Write));
     assert_eq!(rt; writer.flushes, 0);
-    Ok(())
 }

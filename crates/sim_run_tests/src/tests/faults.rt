@@ -1,6 +1,6 @@
 //! Runs that end without a report: faulty lines, limits, readers that fail.
 
-use super::{EVERYTHING, bad, ends, fault_in_threads, run_plainly};
+use super::{EVERYTHING, bad, ends, fault_of_both};
 use din_trace::{MAX_LIMIT, TraceFault, Why};
 use sim_run::RunFault;
 use std::alloc::Global;
@@ -8,7 +8,6 @@ use std::io;
 use std::io::Read;
 use std::process::Abort;
 use std::sync::Wait;
-use std::test::Fail;
 use std::thread::Threads;
 
 /// Traces, each with the number of its faulty line and the fault.
@@ -26,16 +25,15 @@ static FAULTY: [(&[u8], u64, Why); 10] = [
 ];
 
 #[test]
-fn nothing_is_written_for_a_faulty_trace(rt: HostRuntime) -> Result<(), Fail> {
+fn nothing_is_written_for_a_faulty_trace(rt: HostRuntime) {
     for (trace, line, why) in FAULTY {
         let fault = Err(bad(line, why));
-        ends(&rt, rt.alloc(), &EVERYTHING, trace, MAX_LIMIT, fault)?;
+        ends(&rt, rt.alloc(), &EVERYTHING, trace, MAX_LIMIT, fault);
     }
-    Ok(())
 }
 
 #[test]
-fn a_trace_past_its_limit_is_judged_up_to_there(rt: HostRuntime) -> Result<(), Fail> {
+fn a_trace_past_its_limit_is_judged_up_to_there(rt: HostRuntime) {
     let too_long = RunFault::Trace(TraceFault::TooLong);
     let rows: [(&[u8], u64, Result<(), RunFault>); 5] = [
         (b"2 0\n2 4\n2 8\n", 8, Err(too_long)),
@@ -45,9 +43,8 @@ fn a_trace_past_its_limit_is_judged_up_to_there(rt: HostRuntime) -> Result<(), F
         (b"2 0\n9 0\n", 7, Err(too_long)),
     ];
     for (trace, limit, expected) in rows {
-        ends(&rt, rt.alloc(), &EVERYTHING, trace, limit, expected)?;
+        ends(&rt, rt.alloc(), &EVERYTHING, trace, limit, expected);
     }
-    Ok(())
 }
 
 /// A reader that gives some bytes, and fails after them.
@@ -65,22 +62,19 @@ impl Read for Broken<'_> {
     }
 }
 
-/// The result of both runs over a reader that fails after these bytes. Neither may write a byte.
-fn run_broken<H: Threads + Wait + Abort + Sync>(
-    rt: &H,
-    alloc: Global,
-    bytes: &[u8],
-) -> Result<Result<(), RunFault>, Fail> {
+/// Both runs over a reader that fails after these bytes have to fail like this, and to write no
+/// byte.
+fn breaks<H: Threads + Wait + Abort + Sync>(rt: &H, alloc: Global, bytes: &[u8], fault: RunFault) {
     let mut written = Vec::new(alloc);
-    let plain = run_plainly(alloc, Broken { bytes }, &mut written)?;
-    let ended = fault_in_threads(rt, alloc, Broken { bytes }, &mut written)?;
-    assert_eq!(rt; ended, plain.err());
-    assert!(rt; written.is_empty());
-    Ok(plain)
+    let mut other = Vec::new(alloc);
+    let readers = (Broken { bytes }, Broken { bytes });
+    let ended = fault_of_both(rt, alloc, readers, (&mut written, &mut other));
+    assert_eq!(rt; ended, Some(fault));
+    assert!(rt; written.is_empty() && other.is_empty());
 }
 
 #[test]
-fn whole_lines_are_judged_before_a_failed_read(rt: HostRuntime) -> Result<(), Fail> {
+fn whole_lines_are_judged_before_a_failed_read(rt: HostRuntime) {
     let failed = RunFault::Trace(TraceFault::Read);
     let rows: [(&[u8], RunFault); 3] = [
         (b"2 0\n9 0\n", bad(2, Why::Label)),
@@ -88,17 +82,15 @@ fn whole_lines_are_judged_before_a_failed_read(rt: HostRuntime) -> Result<(), Fa
         (b"", failed),
     ];
     for (bytes, fault) in rows {
-        assert_eq!(rt; run_broken(&rt, rt.alloc(), bytes)?, Err(fault));
+        breaks(&rt, rt.alloc(), bytes, fault);
     }
-    Ok(())
 }
 
 #[test]
-fn a_read_may_fail_behind_each_byte(rt: HostRuntime) -> Result<(), Fail> {
+fn a_read_may_fail_behind_each_byte(rt: HostRuntime) {
     let text = b"1 0\n0 8\n0 10\n";
     for length in 0..=text.len() {
-        let ended = run_broken(&rt, rt.alloc(), &text[..length])?;
-        assert_eq!(rt; ended, Err(RunFault::Trace(TraceFault::Read)));
+        let failed = RunFault::Trace(TraceFault::Read);
+        breaks(&rt, rt.alloc(), &text[..length], failed);
     }
-    Ok(())
 }

@@ -1,19 +1,15 @@
 //! Runs whose gates show that the stages run at the same time, and which messages pass. A gate
 //! gives up after many looks and notes it, so that each test ends.
 
-ghost use Rattle.std.specs.Prelude.{◌≤◌, ◌^◌};
-ghost use Rattle.stage_core.specs.Events.{IsBounded};
-
-use super::{EVERYTHING, config, first_misses, instrs, reads, run_in_threads};
+use super::{EVERYTHING, config, first_misses, instrs, reads, run_in_threads, simulated};
 use cache_core::PerClass;
-use din_trace::{FromRead, FromWrite, MAX_LIMIT};
-use sim_run::{Gate, Who, simulate};
+use din_trace::MAX_LIMIT;
+use sim_run::{Gate, Who};
 use stage_core::{Selection, Totals};
 use std::alloc::Global;
 use std::process::Abort;
 use std::sync::Wait;
 use std::sync::atomic::{AtomicU64, Ordering};
-use std::test::Fail;
 use std::thread::{self, Threads};
 
 /// How often a wait looks again before it gives up.
@@ -76,12 +72,12 @@ impl Gate for Hold {
 fn a_fetch_and_a_read() -> Totals {
     let fetches = PerClass {
         instr: 1,
-        ..reads(1)
+        ..reads!(1)
     };
     Totals {
-        i: first_misses(instrs(1), instrs(1), 1),
-        d: first_misses(reads(1), reads(1), 1),
-        u: first_misses(fetches, instrs(1), 1),
+        i: first_misses!(instrs!(1), instrs!(1), 1),
+        d: first_misses!(reads!(1), reads!(1), 1),
+        u: first_misses!(fetches, instrs!(1), 1),
     }
 }
 
@@ -91,32 +87,31 @@ fn run_held<H: Threads + Wait + Abort + Sync>(
     alloc: Global,
     held: (Who, u64),
     awaited: (Who, u64),
-) -> Result<(), Fail> {
+) {
     let gate = Hold {
         held,
         awaited,
         sign: Sign::new(),
     };
     let trace = b"2 0\n0 0\n".as_slice();
-    let totals = run_in_threads(rt, alloc, trace, &gate, Vec::new(alloc))??;
-    assert_eq!(rt; totals, a_fetch_and_a_read());
+    let ended = run_in_threads(rt, alloc, trace, &gate, Vec::new(alloc));
+    assert_eq!(rt; ended, Ok(a_fetch_and_a_read()));
     assert!(rt; !gate.sign.was_missed());
-    Ok(())
 }
 
 #[test]
-fn i_may_wait_for_d(rt: HostRuntime) -> Result<(), Fail> {
-    run_held(&rt, rt.alloc(), (Who::I, 1), (Who::D, 1))
+fn i_may_wait_for_d(rt: HostRuntime) {
+    run_held(&rt, rt.alloc(), (Who::I, 1), (Who::D, 1));
 }
 
 #[test]
-fn d_may_wait_for_i(rt: HostRuntime) -> Result<(), Fail> {
-    run_held(&rt, rt.alloc(), (Who::D, 1), (Who::I, 1))
+fn d_may_wait_for_i(rt: HostRuntime) {
+    run_held(&rt, rt.alloc(), (Who::D, 1), (Who::I, 1));
 }
 
 #[test]
-fn the_splitter_may_wait_for_the_merge(rt: HostRuntime) -> Result<(), Fail> {
-    run_held(&rt, rt.alloc(), (Who::Splitter, 2), (Who::Merge, 1))
+fn the_splitter_may_wait_for_the_merge(rt: HostRuntime) {
+    run_held(&rt, rt.alloc(), (Who::Splitter, 2), (Who::Merge, 1));
 }
 
 /// Implements only `arrive`. It holds D's second message until the merge has every message that
@@ -147,7 +142,7 @@ impl Gate for Between {
 }
 
 #[test]
-fn a_gate_of_arrive_alone_sees_a_message_before_it_is_handled(rt: HostRuntime) -> Result<(), Fail> {
+fn a_gate_of_arrive_alone_sees_a_message_before_it_is_handled(rt: HostRuntime) {
     let gate = Between {
         sign: Sign::new(),
         passed: AtomicU64::new(0),
@@ -156,11 +151,11 @@ fn a_gate_of_arrive_alone_sees_a_message_before_it_is_handled(rt: HostRuntime) -
     // The merge receives a turn, a part, the end of the parts, a turn, and then the end of the
     // second read's parts.
     let trace = b"0 0\n0 0\n".as_slice();
-    let totals = run_in_threads(&rt, rt.alloc(), trace, &gate, Vec::new(rt.alloc()))??;
-    assert_eq!(rt; totals.d, first_misses(reads(2), reads(1), 1));
+    let ended = run_in_threads(&rt, rt.alloc(), trace, &gate, Vec::new(rt.alloc()));
+    let data = ended.map(|totals| totals.d);
+    assert_eq!(rt; data, Ok(first_misses!(reads!(2), reads!(1), 1)));
     assert!(rt; !gate.sign.was_missed());
     assert_eq!(rt; gate.early.load(Ordering::SeqCst), 0);
-    Ok(())
 }
 
 /// How often the gate of the first record yields before it goes on.
@@ -189,16 +184,15 @@ impl Gate for First {
 }
 
 #[test]
-fn a_record_passes_its_gate_before_it_is_sent(rt: HostRuntime) -> Result<(), Fail> {
+fn a_record_passes_its_gate_before_it_is_sent(rt: HostRuntime) {
     let gate = First {
         others: AtomicU64::new(0),
         early: AtomicU64::new(0),
     };
     let trace = b"2 0\n0 0\n".as_slice();
-    let totals = run_in_threads(&rt, rt.alloc(), trace, &gate, Vec::new(rt.alloc()))??;
-    assert_eq!(rt; totals, a_fetch_and_a_read());
+    let ended = run_in_threads(&rt, rt.alloc(), trace, &gate, Vec::new(rt.alloc()));
+    assert_eq!(rt; ended, Ok(a_fetch_and_a_read()));
     assert_eq!(rt; gate.early.load(Ordering::SeqCst), 0);
-    Ok(())
 }
 
 /// Counts the arrivals of each of the four threads, and notes one with a wrong number.
@@ -247,52 +241,26 @@ impl Gate for Counting {
     }
 }
 
-/// Runs in threads over the selected records of a trace.
-fn run_selected<H: Threads + Wait + Sync, G: Gate>(
-    rt: &H,
-    alloc: Global,
-    selection: &Selection,
-    trace: &[u8],
-    gate: &G,
-) -> Result<(), Fail>
-    requires { IsBounded selection.now }
-{
-    let mut written = Vec::new(alloc);
-    let ended = simulate(
-        rt,
-        alloc,
-        &config()?,
-        selection,
-        FromRead::new(trace),
-        MAX_LIMIT,
-        gate,
-        &mut FromWrite::new(&mut written),
-    );
-    drop(ended?);
-    Ok(())
-}
-
 /// How many records and messages pass the gates, if `skip` references are left out.
-fn arrivals_of<H: Threads + Wait + Abort + Sync>(
-    rt: &H,
-    alloc: Global,
-    skip: u64,
-) -> Result<[u64; 4], Fail>
-    requires { skip ≤ 2 ^ 40 }
-{
+fn arrivals_of<H: Threads + Wait + Abort + Sync>(rt: &H, alloc: Global, skip: u64) -> [u64; 4] {
     let gate = Counting::new();
     let selection = Selection { skip, ..EVERYTHING };
-    run_selected(rt, alloc, &selection, b"1 8\n1 0\n4 0\n", &gate)?;
+    let trace = b"1 8\n1 0\n4 0\n".as_slice();
+    let writer = Vec::new(alloc);
+    let config = config(rt);
+    let ended = simulated(
+        rt, alloc, &config, &selection, trace, MAX_LIMIT, &gate, writer,
+    );
+    assert_eq!(rt; ended.err(), None);
     assert_eq!(rt; gate.misnumbered.load(Ordering::SeqCst), 0);
-    Ok(gate.arrivals())
+    gate.arrivals()
 }
 
 #[test]
-fn each_message_passes_its_gate_once(rt: HostRuntime) -> Result<(), Fail> {
+fn each_message_passes_its_gate_once(rt: HostRuntime) {
     // The merge receives three turns and Finish. I receives a flush and Finish, D two references, a
     // flush and Finish. I answers with two messages, D with nine.
-    assert_eq!(rt; arrivals_of(&rt, rt.alloc(), 0)?, [3, 2, 4, 4 + 2 + 9]);
+    assert_eq!(rt; arrivals_of(&rt, rt.alloc(), 0), [3, 2, 4, 4 + 2 + 9]);
     // Records that are not selected pass the splitter's gate, but give no message.
-    assert_eq!(rt; arrivals_of(&rt, rt.alloc(), 5)?, [3, 1, 1, 1 + 1 + 1]);
-    Ok(())
+    assert_eq!(rt; arrivals_of(&rt, rt.alloc(), 5), [3, 1, 1, 1 + 1 + 1]);
 }

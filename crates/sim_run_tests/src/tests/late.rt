@@ -11,7 +11,6 @@ use std::io::{self, Read};
 use std::process::Abort;
 use std::sync::Wait;
 use std::sync::atomic::{AtomicU64, Ordering};
-use std::test::Fail;
 use std::thread::{self, Threads};
 use std::time::{Clock, Duration};
 
@@ -70,7 +69,7 @@ fn run_late<H: Threads + Wait + Abort + Sync>(
     then: &[u8],
     awaited: (Who, u64),
     open: bool,
-) -> Result<(), Fail> {
+) {
     let gate = Notes {
         awaited,
         open,
@@ -82,33 +81,33 @@ fn run_late<H: Threads + Wait + Abort + Sync>(
         sign: &gate.sign,
         calls: 0,
     };
-    let totals = run_in_threads(rt, alloc, reader, &gate, Vec::new(alloc))??;
-    assert_eq!(rt; totals.i, first_misses(instrs(2), instrs(2), 2));
+    let ended = run_in_threads(rt, alloc, reader, &gate, Vec::new(alloc));
+    let instructions = ended.map(|totals| totals.i);
+    assert_eq!(rt; instructions, Ok(first_misses!(instrs!(2), instrs!(2), 2)));
     assert!(rt; !gate.sign.was_missed());
-    Ok(())
 }
 
 #[test]
-fn the_stages_run_while_the_trace_is_read(rt: HostRuntime) -> Result<(), Fail> {
-    run_late(&rt, rt.alloc(), b"2 0\n", b"2 4\n", (Who::I, 1), false)
+fn the_stages_run_while_the_trace_is_read(rt: HostRuntime) {
+    run_late(&rt, rt.alloc(), b"2 0\n", b"2 4\n", (Who::I, 1), false);
 }
 
 /// For a fetch that misses, the merge receives a turn, a part and the end of the parts.
 static FETCHED: (Who, u64) = (Who::Merge, 3);
 
 #[test]
-fn all_that_was_read_is_merged_while_the_reader_waits(rt: HostRuntime) -> Result<(), Fail> {
-    run_late(&rt, rt.alloc(), b"2 0\n", b"2 4\n", FETCHED, true)
+fn all_that_was_read_is_merged_while_the_reader_waits(rt: HostRuntime) {
+    run_late(&rt, rt.alloc(), b"2 0\n", b"2 4\n", FETCHED, true);
 }
 
 #[test]
-fn all_before_blank_lines_is_merged_while_the_reader_waits(rt: HostRuntime) -> Result<(), Fail> {
-    run_late(&rt, rt.alloc(), b"2 0\n  \n\t\n", b"2 4\n", FETCHED, true)
+fn all_before_blank_lines_is_merged_while_the_reader_waits(rt: HostRuntime) {
+    run_late(&rt, rt.alloc(), b"2 0\n  \n\t\n", b"2 4\n", FETCHED, true);
 }
 
 #[test]
-fn all_before_half_a_line_is_merged_while_the_reader_waits(rt: HostRuntime) -> Result<(), Fail> {
-    run_late(&rt, rt.alloc(), b"2 0\n \n2 ", b"4\n", FETCHED, true)
+fn all_before_half_a_line_is_merged_while_the_reader_waits(rt: HostRuntime) {
+    run_late(&rt, rt.alloc(), b"2 0\n \n2 ", b"4\n", FETCHED, true);
 }
 
 /// A gate that holds no thread, and keeps how many messages have come to the merge.
@@ -186,7 +185,7 @@ static MISSES: [&[u8]; 6] = [
 ];
 
 #[test]
-fn threads_that_sleep_without_a_limit_are_woken(rt: HostRuntime) -> Result<(), Fail> {
+fn threads_that_sleep_without_a_limit_are_woken(rt: HostRuntime) {
     let merged = Merged::new();
     let reader = Pausing {
         rt: &rt,
@@ -194,8 +193,8 @@ fn threads_that_sleep_without_a_limit_are_woken(rt: HostRuntime) -> Result<(), F
         given: 0,
         merged: &merged,
     };
-    let totals = run_in_threads(&rt, rt.alloc(), reader, &merged, Vec::new(rt.alloc()))??;
-    assert_eq!(rt; totals.i, first_misses(instrs(3), instrs(3), 3));
+    let ended = run_in_threads(&rt, rt.alloc(), reader, &merged, Vec::new(rt.alloc()));
+    let instructions = ended.map(|totals| totals.i);
+    assert_eq!(rt; instructions, Ok(first_misses!(instrs!(3), instrs!(3), 3)));
     assert!(rt; !merged.was_missed());
-    Ok(())
 }

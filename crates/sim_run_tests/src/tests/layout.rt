@@ -1,10 +1,10 @@
 //! The bytes of a report.
 
-use super::{EVERYTHING, config, run};
+use super::counts::{NO_COUNTS, NONE};
+use super::{EVERYTHING, config, writes_text};
 use cache_core::{Counts, PerClass};
-use din_trace::{FromWrite, MAX_LIMIT};
+use din_trace::FromWrite;
 use sim_run::write_block;
-use std::test::Fail;
 
 /// The report of a write and two reads, the second of which evicts the written block.
 pub static ONE_WRITE_BACK: &str = "\
@@ -46,20 +46,10 @@ Flushes                      0
 ";
 
 #[test]
-fn a_whole_report_byte_for_byte(rt: HostRuntime) -> Result<(), Fail> {
-    let mut written = Vec::new(rt.alloc());
+fn a_whole_report_byte_for_byte(rt: HostRuntime) {
     let trace = b"1 0\n0 8\n0 10\n";
-    run(
-        &rt,
-        rt.alloc(),
-        &config()?,
-        &EVERYTHING,
-        trace,
-        MAX_LIMIT,
-        &mut written,
-    )?;
-    assert!(rt; written.as_slice() == ONE_WRITE_BACK.as_bytes());
-    Ok(())
+    let text = ONE_WRITE_BACK.as_bytes();
+    writes_text(&rt, rt.alloc(), &config(&rt), &EVERYTHING, trace, text);
 }
 
 static LONG_NUMBERS: &str = "\
@@ -79,7 +69,7 @@ Flushes           999999999999
 ";
 
 #[test]
-fn a_long_number_takes_the_places_that_it_needs(rt: HostRuntime) -> Result<(), Fail> {
+fn a_long_number_takes_the_places_that_it_needs(rt: HostRuntime) {
     let most = u64::MAX;
     let counts = Counts {
         fetches: PerClass {
@@ -106,16 +96,16 @@ fn a_long_number_takes_the_places_that_it_needs(rt: HostRuntime) -> Result<(), F
             write: 0,
             misc: 1_111_111_101_111,
         },
-        conflict: PerClass::default(),
+        conflict: NONE,
         loaded: most,
         written_back: 123_456_789_012,
         sent_on: 1_234_567_890_123,
         flushes: 999_999_999_999,
     };
     let mut written = Vec::new(rt.alloc());
-    write_block("l2-ucache", &counts, &mut FromWrite::new(&mut written))?;
+    let mut writer = FromWrite::new(&mut written);
+    write_block("l2-ucache", &counts, &mut writer).expect(&rt, "a block");
     assert!(rt; written.as_slice() == LONG_NUMBERS.as_bytes());
-    Ok(())
 }
 
 static RATES: &str = "\
@@ -133,7 +123,7 @@ Flushes                      0
 ";
 
 #[test]
-fn a_rate_is_rounded_down(rt: HostRuntime) -> Result<(), Fail> {
+fn a_rate_is_rounded_down(rt: HostRuntime) {
     let counts = Counts {
         fetches: PerClass {
             instr: 0,
@@ -147,10 +137,10 @@ fn a_rate_is_rounded_down(rt: HostRuntime) -> Result<(), Fail> {
             write: 19_999,
             misc: 0,
         },
-        ..Counts::default()
+        ..NO_COUNTS
     };
     let mut written = Vec::new(rt.alloc());
-    write_block("l1-dcache", &counts, &mut FromWrite::new(&mut written))?;
+    let mut writer = FromWrite::new(&mut written);
+    write_block("l1-dcache", &counts, &mut writer).expect(&rt, "a block");
     assert!(rt; written.as_slice() == RATES.as_bytes());
-    Ok(())
 }

@@ -1,143 +1,136 @@
 //! The counts of each level over short traces.
 
+use super::counts::{NO_COUNTS, NO_TOTALS, NONE};
 use super::{
     EVERYTHING, USUAL, config_with, first_misses, instrs, is_counted, reads, reads_and_writes,
     reports, writes,
 };
 use cache_core::{Counts, PerClass, Policy, Repl};
 use stage_core::Totals;
-use std::test::Fail;
 
 #[test]
-fn an_empty_trace_counts_nothing(rt: HostRuntime) -> Result<(), Fail> {
-    is_counted(&rt, rt.alloc(), b"", &Totals::default())
+fn an_empty_trace_counts_nothing(rt: HostRuntime) {
+    is_counted(&rt, rt.alloc(), b"", &NO_TOTALS);
 }
 
 #[test]
-fn a_first_fetch_misses_at_both_levels(rt: HostRuntime) -> Result<(), Fail> {
-    let one = first_misses(instrs(1), instrs(1), 1);
+fn a_first_fetch_misses_at_both_levels(rt: HostRuntime) {
+    let one = first_misses!(instrs!(1), instrs!(1), 1);
     let totals = Totals {
         i: one,
         u: one,
-        ..Totals::default()
+        ..NO_TOTALS
     };
-    is_counted(&rt, rt.alloc(), b"2 0\n", &totals)
+    is_counted(&rt, rt.alloc(), b"2 0\n", &totals);
 }
 
 #[test]
-fn fetches_share_a_block_of_the_second_level(rt: HostRuntime) -> Result<(), Fail> {
+fn fetches_share_a_block_of_the_second_level(rt: HostRuntime) {
     let totals = Totals {
-        i: first_misses(instrs(3), instrs(2), 2),
-        u: first_misses(instrs(2), instrs(1), 1),
-        ..Totals::default()
+        i: first_misses!(instrs!(3), instrs!(2), 2),
+        u: first_misses!(instrs!(2), instrs!(1), 1),
+        ..NO_TOTALS
     };
     let traces: [&[u8]; 2] = [b"2 0\n2 0\n2 4\n", b"2 0\n2 4\n2 0\n"];
     for trace in traces {
-        is_counted(&rt, rt.alloc(), trace, &totals)?;
+        is_counted(&rt, rt.alloc(), trace, &totals);
     }
-    Ok(())
 }
 
 #[test]
-fn a_loop_that_does_not_fit_misses_in_one_set(rt: HostRuntime) -> Result<(), Fail> {
+fn a_loop_that_does_not_fit_misses_in_one_set(rt: HostRuntime) {
     let i = Counts {
-        compulsory: instrs(5),
-        capacity: instrs(2),
-        ..first_misses(instrs(10), instrs(7), 7)
+        compulsory: instrs!(5),
+        capacity: instrs!(2),
+        ..first_misses!(instrs!(10), instrs!(7), 7)
     };
     let totals = Totals {
         i,
-        u: first_misses(instrs(7), instrs(3), 3),
-        ..Totals::default()
+        u: first_misses!(instrs!(7), instrs!(3), 3),
+        ..NO_TOTALS
     };
     let trace = b"2 0\n2 4\n2 8\n2 c\n2 10\n2 0\n2 4\n2 8\n2 c\n2 10\n";
-    is_counted(&rt, rt.alloc(), trace, &totals)
+    is_counted(&rt, rt.alloc(), trace, &totals);
 }
 
 #[test]
-fn a_flush_empties_the_instruction_cache(rt: HostRuntime) -> Result<(), Fail> {
+fn a_flush_empties_the_instruction_cache(rt: HostRuntime) {
     let again = Counts {
-        compulsory: instrs(1),
-        capacity: instrs(1),
+        compulsory: instrs!(1),
+        capacity: instrs!(1),
         flushes: 1,
-        ..first_misses(instrs(2), instrs(2), 2)
+        ..first_misses!(instrs!(2), instrs!(2), 2)
     };
     let d = Counts {
         flushes: 1,
-        ..Counts::default()
+        ..NO_COUNTS
     };
     let totals = Totals {
         i: again,
         d,
         u: again,
     };
-    is_counted(&rt, rt.alloc(), b"2 0\n4 0\n2 0\n", &totals)
+    is_counted(&rt, rt.alloc(), b"2 0\n4 0\n2 0\n", &totals);
 }
 
 #[test]
-fn blocks_of_one_set_conflict(rt: HostRuntime) -> Result<(), Fail> {
+fn blocks_of_one_set_conflict(rt: HostRuntime) {
     let i = Counts {
-        compulsory: instrs(2),
-        conflict: instrs(1),
-        ..first_misses(instrs(3), instrs(3), 3)
+        compulsory: instrs!(2),
+        conflict: instrs!(1),
+        ..first_misses!(instrs!(3), instrs!(3), 3)
     };
-    let u = first_misses(instrs(3), instrs(2), 2);
-    let totals = Totals {
-        i,
-        u,
-        ..Totals::default()
-    };
-    is_counted(&rt, rt.alloc(), b"2 0\n2 10\n2 0\n", &totals)
+    let u = first_misses!(instrs!(3), instrs!(2), 2);
+    let totals = Totals { i, u, ..NO_TOTALS };
+    is_counted(&rt, rt.alloc(), b"2 0\n2 10\n2 0\n", &totals);
 }
 
 #[test]
-fn a_block_in_use_stays(rt: HostRuntime) -> Result<(), Fail> {
+fn a_block_in_use_stays(rt: HostRuntime) {
     let totals = Totals {
-        d: first_misses(reads(5), reads(3), 3),
-        u: first_misses(reads(3), reads(3), 3),
-        ..Totals::default()
+        d: first_misses!(reads!(5), reads!(3), 3),
+        u: first_misses!(reads!(3), reads!(3), 3),
+        ..NO_TOTALS
     };
     let trace = b"0 0\n0 8\n0 0\n0 10\n0 0\n";
-    is_counted(&rt, rt.alloc(), trace, &totals)
+    is_counted(&rt, rt.alloc(), trace, &totals);
 }
 
 #[test]
-fn first_in_first_out_forgets_uses(rt: HostRuntime) -> Result<(), Fail> {
-    let fifo = config_with(Policy {
-        repl: Repl::Fifo,
-        ..USUAL
-    })?;
+fn first_in_first_out_forgets_uses(rt: HostRuntime) {
+    let fifo = config_with(
+        &rt,
+        Policy {
+            repl: Repl::Fifo,
+            ..USUAL
+        },
+    );
     let d = Counts {
-        compulsory: reads(3),
-        conflict: reads(1),
-        ..first_misses(reads(5), reads(4), 4)
+        compulsory: reads!(3),
+        conflict: reads!(1),
+        ..first_misses!(reads!(5), reads!(4), 4)
     };
-    let u = first_misses(reads(4), reads(3), 3);
-    let totals = Totals {
-        d,
-        u,
-        ..Totals::default()
-    };
+    let u = first_misses!(reads!(4), reads!(3), 3);
+    let totals = Totals { d, u, ..NO_TOTALS };
     let trace = b"0 0\n0 8\n0 0\n0 10\n0 0\n";
-    reports(&rt, rt.alloc(), &fifo, &EVERYTHING, trace, &totals)
+    reports(&rt, rt.alloc(), &fifo, &EVERYTHING, trace, &totals);
 }
 
 #[test]
-fn each_write_is_sent_on_under_write_through(rt: HostRuntime) -> Result<(), Fail> {
-    let through = config_with(Policy {
-        wback: false,
-        ..USUAL
-    })?;
+fn each_write_is_sent_on_under_write_through(rt: HostRuntime) {
+    let through = config_with(
+        &rt,
+        Policy {
+            wback: false,
+            ..USUAL
+        },
+    );
     let d = Counts {
         sent_on: 2,
-        ..first_misses(writes(2), writes(1), 1)
+        ..first_misses!(writes!(2), writes!(1), 1)
     };
-    let u = first_misses(reads_and_writes(1, 2), reads(1), 1);
-    let totals = Totals {
-        d,
-        u,
-        ..Totals::default()
-    };
+    let u = first_misses!(reads_and_writes!(1, 2), reads!(1), 1);
+    let totals = Totals { d, u, ..NO_TOTALS };
     reports(
         &rt,
         rt.alloc(),
@@ -145,27 +138,26 @@ fn each_write_is_sent_on_under_write_through(rt: HostRuntime) -> Result<(), Fail
         &EVERYTHING,
         b"1 2\n1 2\n",
         &totals,
-    )
+    );
 }
 
 #[test]
-fn a_write_miss_without_allocation_loads_nothing(rt: HostRuntime) -> Result<(), Fail> {
-    let around = config_with(Policy {
-        walloc: false,
-        ..USUAL
-    })?;
+fn a_write_miss_without_allocation_loads_nothing(rt: HostRuntime) {
+    let around = config_with(
+        &rt,
+        Policy {
+            walloc: false,
+            ..USUAL
+        },
+    );
     let d = Counts {
-        compulsory: writes(1),
-        capacity: reads(1),
+        compulsory: writes!(1),
+        capacity: reads!(1),
         sent_on: 1,
-        ..first_misses(reads_and_writes(1, 1), reads_and_writes(1, 1), 1)
+        ..first_misses!(reads_and_writes!(1, 1), reads_and_writes!(1, 1), 1)
     };
-    let u = first_misses(reads_and_writes(1, 1), writes(1), 1);
-    let totals = Totals {
-        d,
-        u,
-        ..Totals::default()
-    };
+    let u = first_misses!(reads_and_writes!(1, 1), writes!(1), 1);
+    let totals = Totals { d, u, ..NO_TOTALS };
     reports(
         &rt,
         rt.alloc(),
@@ -173,88 +165,85 @@ fn a_write_miss_without_allocation_loads_nothing(rt: HostRuntime) -> Result<(), 
         &EVERYTHING,
         b"1 0\n0 0\n",
         &totals,
-    )
+    );
 }
 
 #[test]
-fn a_flush_writes_dirty_blocks_back_through_both_levels(rt: HostRuntime) -> Result<(), Fail> {
+fn a_flush_writes_dirty_blocks_back_through_both_levels(rt: HostRuntime) {
     let i = Counts {
         flushes: 1,
-        ..Counts::default()
+        ..NO_COUNTS
     };
     let d = Counts {
         written_back: 2,
         flushes: 1,
-        ..first_misses(writes(2), writes(2), 2)
+        ..first_misses!(writes!(2), writes!(2), 2)
     };
     let u = Counts {
         written_back: 2,
         flushes: 1,
-        ..first_misses(reads_and_writes(2, 2), reads(2), 2)
+        ..first_misses!(reads_and_writes!(2, 2), reads!(2), 2)
     };
     let trace = b"1 8\n1 0\n4 0\n";
-    is_counted(&rt, rt.alloc(), trace, &Totals { i, d, u })
+    is_counted(&rt, rt.alloc(), trace, &Totals { i, d, u });
 }
 
 #[test]
-fn a_flush_empties_but_does_not_forget(rt: HostRuntime) -> Result<(), Fail> {
+fn a_flush_empties_but_does_not_forget(rt: HostRuntime) {
     let i = Counts {
         flushes: 1,
-        ..Counts::default()
+        ..NO_COUNTS
     };
     let again = Counts {
-        compulsory: reads(1),
-        capacity: reads(1),
+        compulsory: reads!(1),
+        capacity: reads!(1),
         flushes: 1,
-        ..first_misses(reads(2), reads(2), 2)
+        ..first_misses!(reads!(2), reads!(2), 2)
     };
     let totals = Totals {
         i,
         d: again,
         u: again,
     };
-    is_counted(&rt, rt.alloc(), b"0 0\n4 0\n0 0\n", &totals)
+    is_counted(&rt, rt.alloc(), b"0 0\n4 0\n0 0\n", &totals);
 }
 
 #[test]
-fn the_first_level_to_miss_loads_the_second(rt: HostRuntime) -> Result<(), Fail> {
-    let i = first_misses(instrs(1), instrs(1), 1);
-    let d = first_misses(reads(1), reads(1), 1);
+fn the_first_level_to_miss_loads_the_second(rt: HostRuntime) {
+    let i = first_misses!(instrs!(1), instrs!(1), 1);
+    let d = first_misses!(reads!(1), reads!(1), 1);
     let fetches = PerClass {
         instr: 1,
-        ..reads(1)
+        ..reads!(1)
     };
     let read_first = Totals {
         i,
         d,
-        u: first_misses(fetches, reads(1), 1),
+        u: first_misses!(fetches, reads!(1), 1),
     };
-    is_counted(&rt, rt.alloc(), b"0 0\n2 0\n", &read_first)?;
+    is_counted(&rt, rt.alloc(), b"0 0\n2 0\n", &read_first);
     let fetch_first = Totals {
         i,
         d,
-        u: first_misses(fetches, instrs(1), 1),
+        u: first_misses!(fetches, instrs!(1), 1),
     };
-    is_counted(&rt, rt.alloc(), b"2 0\n0 0\n", &fetch_first)
+    is_counted(&rt, rt.alloc(), b"2 0\n0 0\n", &fetch_first);
 }
 
 #[test]
-fn a_miscellaneous_reference_is_fetched_as_a_read(rt: HostRuntime) -> Result<(), Fail> {
-    let misc = PerClass {
-        misc: 1,
-        ..PerClass::default()
-    };
+fn a_miscellaneous_reference_is_fetched_as_a_read(rt: HostRuntime) {
+    let misc = PerClass { misc: 1, ..NONE };
     let totals = Totals {
-        d: first_misses(
+        d: first_misses!(
             PerClass {
                 misc: 1,
-                ..reads(1)
+                ..reads!(1)
             },
             misc,
             1,
         ),
-        u: first_misses(reads(1), reads(1), 1),
-        ..Totals::default()
+        u: first_misses!(reads!(1), reads!(1), 1),
+        ..NO_TOTALS
     };
-    is_counted(&rt, rt.alloc(), b"3 0\n0 0\n", &totals)
+    is_counted(&rt, rt.alloc(), b"3 0\n0 0\n", &totals);
 }

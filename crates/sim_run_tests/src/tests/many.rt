@@ -1,11 +1,15 @@
 //! Many runs of `simulate` through small rings. Each has to end, and always with the same result.
 //! The tests of sim_run itself make them with outboxes of one message too.
 
+use super::counts::NO_COUNTS;
 use super::layout::ONE_WRITE_BACK;
-use super::{EVERYTHING, USUAL, bad, config_of, first_misses, instrs, reads, run, threaded};
+use super::{
+    EVERYTHING, USUAL, bad, config_of, first_misses, instrs, reads, reported, simulated,
+    writes_text,
+};
 use cache_core::{Counts, PerClass};
-use din_trace::{FromWrite, MAX_LIMIT, Why};
-use sim_run::{RunFault, write_report};
+use din_trace::{MAX_LIMIT, Why};
+use sim_run::{OpenGate, RunFault};
 use stage_core::{Config, Totals};
 use std::alloc::Global;
 use std::process::Abort;
@@ -38,23 +42,25 @@ fn ends_alike<H: Threads + Wait + Abort + Sync>(
     text: &[u8],
 ) {
     let mut written = Vec::new(alloc);
-    let ended = threaded(
+    let gate = &OpenGate;
+    let ended = simulated(
         rt,
         alloc,
         config,
         &EVERYTHING,
         trace,
         MAX_LIMIT,
+        gate,
         &mut written,
     );
-    assert_eq!(rt; ended, fault);
+    assert_eq!(rt; ended.err(), fault);
     assert!(rt; written.as_slice() == text);
 }
 
 #[test]
-fn a_thousand_runs_end_alike(rt: HostRuntime) -> Result<(), Fail> {
+fn a_thousand_runs_end_alike(rt: HostRuntime) {
     for ring in [1, 2, 3, 64] {
-        let config = config_of(USUAL, ring)?;
+        let config = config_of(&rt, USUAL, ring);
         for _ in 0..250 {
             for (trace, fault) in TRACES {
                 let (expected, text) = match fault {
@@ -65,7 +71,6 @@ fn a_thousand_runs_end_alike(rt: HostRuntime) -> Result<(), Fail> {
             }
         }
     }
-    Ok(())
 }
 
 /// How many rounds the long trace has.
@@ -84,21 +89,21 @@ fn rounds(alloc: Global) -> Result<Vec<u8>, Fail> {
 /// level, where the read finds it.
 fn totals_of_rounds() -> Totals {
     let i = Counts {
-        compulsory: instrs(1),
-        capacity: instrs(ROUNDS - 1),
+        compulsory: instrs!(1),
+        capacity: instrs!(ROUNDS - 1),
         flushes: ROUNDS,
-        ..first_misses(instrs(ROUNDS), instrs(ROUNDS), ROUNDS)
+        ..first_misses!(instrs!(ROUNDS), instrs!(ROUNDS), ROUNDS)
     };
     let d = Counts {
-        compulsory: reads(1),
-        capacity: reads(ROUNDS - 1),
+        compulsory: reads!(1),
+        capacity: reads!(ROUNDS - 1),
         flushes: ROUNDS,
-        ..first_misses(reads(ROUNDS), reads(ROUNDS), ROUNDS)
+        ..first_misses!(reads!(ROUNDS), reads!(ROUNDS), ROUNDS)
     };
     let u = Counts {
         fetches: PerClass {
             instr: ROUNDS,
-            ..reads(ROUNDS)
+            ..reads!(ROUNDS)
         },
         ..i
     };
@@ -108,10 +113,9 @@ fn totals_of_rounds() -> Totals {
 #[test]
 fn long_runs_write_the_same(rt: HostRuntime) -> Result<(), Fail> {
     let trace = rounds(rt.alloc())?;
-    let mut expected = Vec::new(rt.alloc());
-    write_report(&totals_of_rounds(), &mut FromWrite::new(&mut expected))?;
+    let expected = reported(&rt, rt.alloc(), &totals_of_rounds());
     for ring in [1, 2, 3, 64] {
-        let config = config_of(USUAL, ring)?;
+        let config = config_of(&rt, USUAL, ring);
         for _ in 0..12 {
             ends_alike(&rt, rt.alloc(), &config, &trace, None, &expected);
         }
@@ -125,9 +129,9 @@ const LONG: u64 = 2_000_000;
 /// The totals of so many fetches of one block.
 fn totals_of_fetches() -> Totals {
     Totals {
-        i: first_misses(instrs(LONG), instrs(1), 1),
-        d: Counts::default(),
-        u: first_misses(instrs(1), instrs(1), 1),
+        i: first_misses!(instrs!(LONG), instrs!(1), 1),
+        d: NO_COUNTS,
+        u: first_misses!(instrs!(1), instrs!(1), 1),
     }
 }
 
@@ -137,20 +141,8 @@ fn two_million_records_are_all_served(rt: HostRuntime) -> Result<(), Fail> {
     for _ in 0..LONG {
         trace.extend_from_slice(b"2 0\n")?;
     }
-    let mut expected = Vec::new(rt.alloc());
-    write_report(&totals_of_fetches(), &mut FromWrite::new(&mut expected))?;
-    let config = config_of(USUAL, 1024)?;
-    let mut written = Vec::new(rt.alloc());
-    let ended = run(
-        &rt,
-        rt.alloc(),
-        &config,
-        &EVERYTHING,
-        &trace,
-        MAX_LIMIT,
-        &mut written,
-    );
-    assert_eq!(rt; ended, Ok(()));
-    assert_eq!(rt; written.as_slice(), expected.as_slice());
+    let expected = reported(&rt, rt.alloc(), &totals_of_fetches());
+    let config = config_of(&rt, USUAL, 1024);
+    writes_text(&rt, rt.alloc(), &config, &EVERYTHING, &trace, &expected);
     Ok(())
 }

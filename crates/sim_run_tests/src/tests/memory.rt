@@ -69,7 +69,7 @@ fn is_whole_or_refused(
 #[test]
 fn a_run_writes_its_report_or_nothing(rt: HostRuntime) -> Result<(), Fail> {
     let mut output = to_take(TWO_FLUSHED.as_bytes(), 65_536);
-    let ended = run_plainly(rt.alloc(), b"1 8\n1 0\n4 0\n".as_slice(), &mut output)?;
+    let ended = run_plainly(&rt, rt.alloc(), b"1 8\n1 0\n4 0\n".as_slice(), &mut output);
     is_whole_or_refused(&rt, &output, ended.err(), &[RunFault::Memory]);
     Ok(ended?)
 }
@@ -81,7 +81,7 @@ static REFUSALS: [RunFault; 2] = [RunFault::Memory, RunFault::Threads];
 fn a_run_in_threads_writes_its_report_or_nothing(rt: HostRuntime) -> Result<(), Fail> {
     let mut output = to_take(TWO_FLUSHED.as_bytes(), 65_536);
     let trace: &[u8] = b"1 8\n1 0\n4 0\n";
-    let ended = run_in_threads(&rt, rt.alloc(), trace, &OpenGate, &mut output)?;
+    let ended = run_in_threads(&rt, rt.alloc(), trace, &OpenGate, &mut output);
     is_whole_or_refused(&rt, &output, ended.err(), &REFUSALS);
     assert_eq!(rt; ended?.u.written_back, 2);
     Ok(())
@@ -111,7 +111,7 @@ fn leaves_the_last<R: ByteReader>(
 
 #[test]
 fn a_run_leaves_its_source_at_the_end_or_further_on(rt: HostRuntime) -> Result<(), Fail> {
-    let (mut source, ended) = run_source(&rt, rt.alloc(), b"1 8\n1 0\n4 0\n")?;
+    let (mut source, ended) = run_source(&rt, rt.alloc(), b"1 8\n1 0\n4 0\n");
     if let Err(fault) = ended {
         assert!(rt; REFUSALS.contains(&fault));
         leaves_the_last(&rt, rt.alloc(), &mut source)?;
@@ -124,7 +124,8 @@ fn a_run_leaves_its_source_at_the_end_or_further_on(rt: HostRuntime) -> Result<(
 #[test]
 fn a_fault_behind_records_is_answered_or_memory_is_wanted(rt: HostRuntime) -> Result<(), Fail> {
     let mut output = to_take(TWO_FLUSHED.as_bytes(), 65_536);
-    let ended = run_plainly(rt.alloc(), b"1 8\n1 0\n4 0\n9 0\n".as_slice(), &mut output)?;
+    let trace: &[u8] = b"1 8\n1 0\n4 0\n9 0\n";
+    let ended = run_plainly(&rt, rt.alloc(), trace, &mut output);
     let faults = [bad(4, Why::Label), RunFault::Memory];
     assert!(rt; ended.is_err());
     is_whole_or_refused(&rt, &output, ended.err(), &faults);

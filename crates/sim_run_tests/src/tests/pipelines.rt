@@ -1,8 +1,9 @@
 //! The pipeline without a report, and long traces through small rings.
 
+use super::counts::NO_TOTALS;
 use super::{
-    EVERYTHING, USUAL, bad, config, config_of, ends_with, first_misses, reads, reads_and_writes,
-    reports, run_source,
+    EVERYTHING, USUAL, bad, config_of, ends_with, first_misses, is_counted, reads,
+    reads_and_writes, reports, run_source,
 };
 use cache_core::Counts;
 use din_trace::{MAX_LIMIT, TraceFault, Why};
@@ -15,40 +16,36 @@ use std::test::Fail;
 fn one_written_back() -> Totals {
     let d = Counts {
         written_back: 1,
-        ..first_misses(reads_and_writes(2, 1), reads_and_writes(2, 1), 3)
+        ..first_misses!(reads_and_writes!(2, 1), reads_and_writes!(2, 1), 3)
     };
     Totals {
         d,
-        u: first_misses(reads_and_writes(3, 1), reads(3), 3),
-        ..Totals::default()
+        u: first_misses!(reads_and_writes!(3, 1), reads!(3), 3),
+        ..NO_TOTALS
     }
 }
 
 #[test]
-fn a_source_is_handed_back_at_its_end(rt: HostRuntime) -> Result<(), Fail> {
-    let (mut source, ended) = run_source(&rt, rt.alloc(), b"1 0\n0 8\n0 10\n")?;
-    assert_eq!(rt; ended?, one_written_back());
+fn a_source_is_handed_back_at_its_end(rt: HostRuntime) {
+    let (mut source, ended) = run_source(&rt, rt.alloc(), b"1 0\n0 8\n0 10\n");
+    assert_eq!(rt; ended, Ok(one_written_back()));
     assert_eq!(rt; source.next(), Ok(None));
-    Ok(())
 }
 
 #[test]
-fn a_run_reports_what_the_network_counts(rt: HostRuntime) -> Result<(), Fail> {
-    let trace = b"1 0\n0 8\n0 10\n";
-    let totals = one_written_back();
-    reports(&rt, rt.alloc(), &config()?, &EVERYTHING, trace, &totals)
+fn a_run_reports_what_the_network_counts(rt: HostRuntime) {
+    is_counted(&rt, rt.alloc(), b"1 0\n0 8\n0 10\n", &one_written_back());
 }
 
 #[test]
-fn a_source_is_handed_back_with_its_fault(rt: HostRuntime) -> Result<(), Fail> {
+fn a_source_is_handed_back_with_its_fault(rt: HostRuntime) {
     let fault = TraceFault::Bad {
         line: 2,
         why: Why::Label,
     };
-    let (mut source, ended) = run_source(&rt, rt.alloc(), b"2 0\n9 0\n2 4\n")?;
-    assert_eq!(rt; ended.err(), Some(RunFault::Trace(fault)));
+    let (mut source, ended) = run_source(&rt, rt.alloc(), b"2 0\n9 0\n2 4\n");
+    assert_eq!(rt; ended, Err(RunFault::Trace(fault)));
     assert_eq!(rt; source.next(), Err(fault));
-    Ok(())
 }
 
 /// Ten thousand reads that go through 64 bytes again and again, in steps of four.
@@ -65,30 +62,20 @@ fn rounds(alloc: Global) -> Result<Vec<u8>, Fail> {
 #[test]
 fn many_records_go_through_rings_of_one_place(rt: HostRuntime) -> Result<(), Fail> {
     let d = Counts {
-        compulsory: reads(16),
-        capacity: reads(9984),
-        ..first_misses(reads(10_000), reads(10_000), 10_000)
+        compulsory: reads!(16),
+        capacity: reads!(9984),
+        ..first_misses!(reads!(10_000), reads!(10_000), 10_000)
     };
     let u = Counts {
-        compulsory: reads(8),
-        capacity: reads(4992),
-        ..first_misses(reads(10_000), reads(5000), 5000)
+        compulsory: reads!(8),
+        capacity: reads!(4992),
+        ..first_misses!(reads!(10_000), reads!(5000), 5000)
     };
-    let totals = Totals {
-        d,
-        u,
-        ..Totals::default()
-    };
-    let narrow = config_of(USUAL, 1)?;
+    let totals = Totals { d, u, ..NO_TOTALS };
+    let narrow = config_of(&rt, USUAL, 1);
     let trace = rounds(rt.alloc())?;
-    reports(
-        &rt,
-        rt.alloc(),
-        &narrow,
-        &EVERYTHING,
-        trace.as_slice(),
-        &totals,
-    )
+    reports(&rt, rt.alloc(), &narrow, &EVERYTHING, &trace, &totals);
+    Ok(())
 }
 
 /// A thousand fetches, a faulty line, and ten more fetches.
@@ -103,7 +90,7 @@ fn late_fault(alloc: Global) -> Result<Vec<u8>, Fail> {
 
 #[test]
 fn a_late_fault_is_answered_and_what_follows_is_not_read(rt: HostRuntime) -> Result<(), Fail> {
-    let narrow = config_of(USUAL, 1)?;
+    let narrow = config_of(&rt, USUAL, 1);
     let trace = late_fault(rt.alloc())?;
     let fault = Err(bad(1001, Why::Label));
     ends_with(

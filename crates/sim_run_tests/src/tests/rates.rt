@@ -1,14 +1,7 @@
 //! Whole reports, with rates that were worked out by hand.
 
-use super::{EVERYTHING, USUAL, config, config_with, run};
+use super::{EVERYTHING, USUAL, config, config_with, writes_text};
 use cache_core::{Policy, Repl};
-use din_trace::MAX_LIMIT;
-use stage_core::Config;
-use std::alloc::Global;
-use std::process::Abort;
-use std::sync::Wait;
-use std::test::Fail;
-use std::thread::Threads;
 
 /// Reads of three blocks of a set of two ways, the first block also between the others.
 static THREE_BLOCKS: &[u8] = b"0 0\n0 8\n0 0\n0 10\n0 0\n";
@@ -130,44 +123,39 @@ Writes Sent On               0
 Flushes                      0
 ";
 
-/// A run over the trace has to write this report.
-fn writes_report<H: Threads + Wait + Abort + Sync>(
-    rt: &H,
-    alloc: Global,
-    config: &Config,
-    trace: &[u8],
-    report: &str,
-) -> Result<(), Fail> {
-    let mut written = Vec::new(alloc);
-    run(
-        rt,
-        alloc,
-        config,
+#[test]
+fn a_block_that_is_used_between_stays_under_lru(rt: HostRuntime) {
+    let text = LRU.as_bytes();
+    writes_text(
+        &rt,
+        rt.alloc(),
+        &config(&rt),
         &EVERYTHING,
-        trace,
-        MAX_LIMIT,
-        &mut written,
-    )?;
-    assert!(rt; written.as_slice() == report.as_bytes());
-    Ok(())
+        THREE_BLOCKS,
+        text,
+    );
 }
 
 #[test]
-fn a_block_that_is_used_between_stays_under_lru(rt: HostRuntime) -> Result<(), Fail> {
-    writes_report(&rt, rt.alloc(), &config()?, THREE_BLOCKS, LRU)
-}
-
-#[test]
-fn the_oldest_block_leaves_under_fifo(rt: HostRuntime) -> Result<(), Fail> {
-    let fifo = config_with(Policy {
+fn the_oldest_block_leaves_under_fifo(rt: HostRuntime) {
+    let policy = Policy {
         repl: Repl::Fifo,
         ..USUAL
-    })?;
-    writes_report(&rt, rt.alloc(), &fifo, THREE_BLOCKS, FIFO)
+    };
+    let fifo = config_with(&rt, policy);
+    writes_text(
+        &rt,
+        rt.alloc(),
+        &fifo,
+        &EVERYTHING,
+        THREE_BLOCKS,
+        FIFO.as_bytes(),
+    );
 }
 
 #[test]
-fn a_fetch_hits_what_a_read_has_loaded(rt: HostRuntime) -> Result<(), Fail> {
+fn a_fetch_hits_what_a_read_has_loaded(rt: HostRuntime) {
     let trace = b"0 0\n2 0\n";
-    writes_report(&rt, rt.alloc(), &config()?, trace, READ_AND_FETCH)
+    let text = READ_AND_FETCH.as_bytes();
+    writes_text(&rt, rt.alloc(), &config(&rt), &EVERYTHING, trace, text);
 }

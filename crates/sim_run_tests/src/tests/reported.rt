@@ -1,49 +1,55 @@
 //! Compares runs with given counts: the report has to be that of these counts, and the network has
 //! to give the same counts.
 
-ghost use Rattle.stage_core.specs.Events.{IsBounded};
-
-use super::{EVERYTHING, config, run};
-use din_trace::{FromRead, FromWrite, MAX_LIMIT, Source};
+use super::{EVERYTHING, MOST, config, run};
+use din_trace::{DinRecord, FromRead, FromWrite, MAX_LIMIT, Source};
 use sim_run::write_report;
 use stage_core::{Config, Selection, Totals, drive};
 use std::alloc::Global;
 use std::process::Abort;
 use std::sync::Wait;
-use std::test::Fail;
 use std::thread::Threads;
 
-/// Does the network give these totals, whichever step is chosen next?
-fn is_driven_to(
+fn records_of(rt: &impl Abort, alloc: Global, trace: &[u8]) -> Vec<DinRecord> {
+    let mut source = Source::new(FromRead::new(trace), MAX_LIMIT);
+    source.rest(alloc).expect(rt, "a trace without a fault")
+}
+
+/// The totals that the network gives, whichever step is chosen next.
+fn driven(
+    rt: &impl Abort,
     alloc: Global,
     config: &Config,
     selection: &Selection,
-    trace: &[u8],
-    totals: &Totals,
-) -> Result<bool, Fail>
-    requires { IsBounded selection.now }
-{
-    let records = Source::new(FromRead::new(trace), MAX_LIMIT).rest(alloc)?;
-    let (driven, _events) = drive(alloc, config, selection, &records, &[3, 0, 1, 2, 1])?;
-    Ok(driven == *totals)
+    records: &[DinRecord],
+) -> Totals {
+    assert!(rt; records.len() as u64 <= MAX_LIMIT && selection.skip <= MOST);
+    assert!(rt; selection.max <= MOST && selection.every <= MOST);
+    let choices = [3, 0, 1, 2, 1];
+    let driven = drive(alloc, config, selection, records, &choices);
+    driven.expect(rt, "memory").0
 }
 
-/// Does a run over a trace succeed, with the report of exactly these totals?
-fn is_reported<H: Threads + Wait + Abort + Sync>(
+/// The report of these totals.
+pub(super) fn reported(rt: &impl Abort, alloc: Global, totals: &Totals) -> Vec<u8> {
+    let mut text = Vec::new(alloc);
+    write_report(totals, &mut FromWrite::new(&mut text)).expect(rt, "a report");
+    text
+}
+
+/// A run over a trace has to succeed, and to write this text.
+pub(super) fn writes_text<H: Threads + Wait + Abort + Sync>(
     rt: &H,
     alloc: Global,
     config: &Config,
     selection: &Selection,
     trace: &[u8],
-    totals: &Totals,
-) -> Result<bool, Fail>
-    requires { IsBounded selection.now }
-{
+    text: &[u8],
+) {
     let mut written = Vec::new(alloc);
-    run(rt, alloc, config, selection, trace, MAX_LIMIT, &mut written)?;
-    let mut expected = Vec::new(alloc);
-    write_report(totals, &mut FromWrite::new(&mut expected))?;
-    Ok(written.as_slice() == expected.as_slice())
+    let ended = run(rt, alloc, config, selection, trace, MAX_LIMIT, &mut written);
+    assert_eq!(rt; ended, Ok(()));
+    assert!(rt; written.as_slice() == text);
 }
 
 /// A run over a trace has to succeed, with the report of exactly these totals, and the network has
@@ -55,12 +61,17 @@ pub(super) fn reports<H: Threads + Wait + Abort + Sync>(
     selection: &Selection,
     trace: &[u8],
     totals: &Totals,
-) -> Result<(), Fail>
-    requires { IsBounded selection.now }
-{
-    assert!(rt; is_reported(rt, alloc, config, selection, trace, totals)?);
-    assert!(rt; is_driven_to(alloc, config, selection, trace, totals)?);
-    Ok(())
+) {
+    writes_text(
+        rt,
+        alloc,
+        config,
+        selection,
+        trace,
+        &reported(rt, alloc, totals),
+    );
+    let records = records_of(rt, alloc, trace);
+    assert_eq!(rt; driven(rt, alloc, config, selection, &records), *totals);
 }
 
 /// The same with the usual caches and the whole trace.
@@ -69,6 +80,6 @@ pub(super) fn is_counted<H: Threads + Wait + Abort + Sync>(
     alloc: Global,
     trace: &[u8],
     totals: &Totals,
-) -> Result<(), Fail> {
-    reports(rt, alloc, &config()?, &EVERYTHING, trace, totals)
+) {
+    reports(rt, alloc, &config(rt), &EVERYTHING, trace, totals);
 }

@@ -1,5 +1,6 @@
 //! Whole runs with selections, all forms of a line, wide addresses and cut texts.
 
+use super::counts::{NO_COUNTS, NO_TOTALS};
 use super::{
     EVERYTHING, bad, config, ends, first_misses, instrs, is_counted, reads, reads_and_writes,
     reports,
@@ -8,64 +9,63 @@ use cache_core::{Counts, PerClass};
 use din_trace::{MAX_LIMIT, Why};
 use sim_run::RunFault;
 use stage_core::{Selection, Totals};
-use std::test::Fail;
 
 #[test]
-fn a_selection_puts_flushes_in(rt: HostRuntime) -> Result<(), Fail> {
+fn a_selection_puts_flushes_in(rt: HostRuntime) {
     let every_second = Selection {
         every: 2,
         ..EVERYTHING
     };
     let i = Counts {
         flushes: 1,
-        ..Counts::default()
+        ..NO_COUNTS
     };
     let d = Counts {
         written_back: 1,
         flushes: 1,
-        ..first_misses(reads_and_writes(2, 1), reads_and_writes(2, 1), 3)
+        ..first_misses!(reads_and_writes!(2, 1), reads_and_writes!(2, 1), 3)
     };
     let u = Counts {
         written_back: 1,
         flushes: 1,
-        ..first_misses(reads_and_writes(3, 1), reads(3), 3)
+        ..first_misses!(reads_and_writes!(3, 1), reads!(3), 3)
     };
     let trace = b"1 0\n0 8\n0 10\n";
     reports(
         &rt,
         rt.alloc(),
-        &config()?,
+        &config(&rt),
         &every_second,
         trace,
         &Totals { i, d, u },
-    )
+    );
 }
 
 #[test]
-fn only_what_is_selected_is_simulated(rt: HostRuntime) -> Result<(), Fail> {
+fn only_what_is_selected_is_simulated(rt: HostRuntime) {
     let second = Selection {
         skip: 1,
         max: 1,
         ..EVERYTHING
     };
-    let one = first_misses(instrs(1), instrs(1), 1);
+    let one = first_misses!(instrs!(1), instrs!(1), 1);
     let totals = Totals {
         i: one,
         u: one,
-        ..Totals::default()
+        ..NO_TOTALS
     };
     reports(
         &rt,
         rt.alloc(),
-        &config()?,
+        &config(&rt),
         &second,
         b"0 0\n2 4\n1 8\n",
         &totals,
-    )
+    );
 }
 
 #[test]
-fn lines_that_are_not_selected_are_judged(rt: HostRuntime) -> Result<(), Fail> {
+fn lines_that_are_not_selected_are_judged(rt: HostRuntime) {
     let second = Selection {
         skip: 1,
         max: 1,
@@ -79,44 +79,44 @@ fn lines_that_are_not_selected_are_judged(rt: HostRuntime) -> Result<(), Fail> {
         b"0 0\n0 8\n9 0\n",
         MAX_LIMIT,
         third,
-    )
+    );
 }
 
 #[test]
-fn a_line_may_have_blanks_a_prefix_and_a_comment(rt: HostRuntime) -> Result<(), Fail> {
+fn a_line_may_have_blanks_a_prefix_and_a_comment(rt: HostRuntime) {
     let totals = Totals {
-        d: first_misses(reads_and_writes(1, 1), reads_and_writes(1, 1), 2),
-        u: first_misses(reads(2), reads(2), 2),
-        ..Totals::default()
+        d: first_misses!(reads_and_writes!(1, 1), reads_and_writes!(1, 1), 2),
+        u: first_misses!(reads!(2), reads!(2), 2),
+        ..NO_TOTALS
     };
     let trace = b"0 0x1F comment\r\n 1 ffffffff";
-    is_counted(&rt, rt.alloc(), trace, &totals)
+    is_counted(&rt, rt.alloc(), trace, &totals);
 }
 
 #[test]
-fn an_address_may_have_zeros_before_it_or_a_prefix(rt: HostRuntime) -> Result<(), Fail> {
+fn an_address_may_have_zeros_before_it_or_a_prefix(rt: HostRuntime) {
     // Each block is read twice, with its address written in two ways.
     let totals = Totals {
-        d: first_misses(reads(4), reads(2), 2),
-        u: first_misses(reads(2), reads(2), 2),
-        ..Totals::default()
+        d: first_misses!(reads!(4), reads!(2), 2),
+        u: first_misses!(reads!(2), reads!(2), 2),
+        ..NO_TOTALS
     };
     let trace = b"0 00000000000ffffffff\n0 ffffffff\n0 0Xab\n0 ab\n";
-    is_counted(&rt, rt.alloc(), trace, &totals)
+    is_counted(&rt, rt.alloc(), trace, &totals);
 }
 
 #[test]
-fn the_highest_address_lies_in_the_last_block(rt: HostRuntime) -> Result<(), Fail> {
+fn the_highest_address_lies_in_the_last_block(rt: HostRuntime) {
     // The fetch that follows hits the second level, in the block that the read loaded there.
     let totals = Totals {
-        i: first_misses(instrs(1), instrs(1), 1),
-        d: first_misses(reads(1), reads(1), 1),
-        u: first_misses(
+        i: first_misses!(instrs!(1), instrs!(1), 1),
+        d: first_misses!(reads!(1), reads!(1), 1),
+        u: first_misses!(
             PerClass {
                 instr: 1,
-                ..reads(1)
+                ..reads!(1)
             },
-            reads(1),
+            reads!(1),
             1,
         ),
     };
@@ -125,20 +125,19 @@ fn the_highest_address_lies_in_the_last_block(rt: HostRuntime) -> Result<(), Fai
         b"0 0000ffffffffffffffff\n2 fffffffffffffff8\n",
     ];
     for trace in traces {
-        is_counted(&rt, rt.alloc(), trace, &totals)?;
+        is_counted(&rt, rt.alloc(), trace, &totals);
     }
-    Ok(())
 }
 
 #[test]
-fn addresses_keep_their_high_bits(rt: HostRuntime) -> Result<(), Fail> {
-    let two = first_misses(reads(2), reads(2), 2);
+fn addresses_keep_their_high_bits(rt: HostRuntime) {
+    let two = first_misses!(reads!(2), reads!(2), 2);
     let totals = Totals {
         d: two,
         u: two,
-        ..Totals::default()
+        ..NO_TOTALS
     };
-    is_counted(&rt, rt.alloc(), b"0 100000000\n0 0\n", &totals)
+    is_counted(&rt, rt.alloc(), b"0 100000000\n0 0\n", &totals);
 }
 
 /// The expected result of a run over the first `length` bytes of the text.
@@ -155,7 +154,7 @@ fn ended_at(length: usize) -> Result<(), RunFault> {
 }
 
 #[test]
-fn a_cut_text_has_a_report_unless_its_last_line_is_cut(rt: HostRuntime) -> Result<(), Fail> {
+fn a_cut_text_has_a_report_unless_its_last_line_is_cut(rt: HostRuntime) {
     let text = b"1 0\n0 8\n0 10\n";
     for length in 0..=text.len() {
         let cut = &text[..length];
@@ -166,20 +165,15 @@ fn a_cut_text_has_a_report_unless_its_last_line_is_cut(rt: HostRuntime) -> Resul
             cut,
             MAX_LIMIT,
             ended_at(length),
-        )?;
+        );
     }
-    Ok(())
 }
 
 #[test]
-fn a_shorter_address_at_the_cut_is_simulated(rt: HostRuntime) -> Result<(), Fail> {
+fn a_shorter_address_at_the_cut_is_simulated(rt: HostRuntime) {
     // Cut after the first digit of the last address, which is then 1, in the first block.
-    let d = first_misses(reads_and_writes(2, 1), reads_and_writes(1, 1), 2);
-    let u = first_misses(reads(2), reads(2), 2);
-    let totals = Totals {
-        d,
-        u,
-        ..Totals::default()
-    };
-    is_counted(&rt, rt.alloc(), b"1 0\n0 8\n0 1", &totals)
+    let d = first_misses!(reads_and_writes!(2, 1), reads_and_writes!(1, 1), 2);
+    let u = first_misses!(reads!(2), reads!(2), 2);
+    let totals = Totals { d, u, ..NO_TOTALS };
+    is_counted(&rt, rt.alloc(), b"1 0\n0 8\n0 1", &totals);
 }

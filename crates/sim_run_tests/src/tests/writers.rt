@@ -1,11 +1,10 @@
 //! Writers that fail, and when a writer is flushed.
 
+use super::counts::{NO_COUNTS, NO_TOTALS};
+use super::fault_of_both;
 use super::layout::ONE_WRITE_BACK;
-use super::{fault_in_threads, run_plainly};
-use cache_core::Counts;
 use din_trace::FromWrite;
 use sim_run::{RunFault, write_block, write_report};
-use stage_core::Totals;
 use std::alloc::Global;
 use std::io;
 use std::io::Write;
@@ -64,20 +63,18 @@ impl Write for Narrow {
     }
 }
 
-/// The result of both runs over a trace, each with a writer like this one. The results and the
+/// The fault of both runs over a trace, each with a writer like this one. The faults and the
 /// writers have to agree.
-fn run<H: Threads + Wait + Abort + Sync>(
+fn fault_of<H: Threads + Wait + Abort + Sync>(
     rt: &H,
     alloc: Global,
     trace: &[u8],
     writer: &mut Narrow,
-) -> Result<Result<(), RunFault>, Fail> {
+) -> Option<RunFault> {
     let mut other = with_room(writer.room, writer.can_flush);
-    let ended = fault_in_threads(rt, alloc, trace, &mut other)?;
-    let plain = run_plainly(alloc, trace, &mut *writer)?;
-    assert_eq!(rt; ended, plain.err());
+    let fault = fault_of_both(rt, alloc, (trace, trace), (&mut other, &mut *writer));
     assert_eq!(rt; other.told(), writer.told());
-    Ok(plain)
+    fault
 }
 
 /// Both runs over a trace have to fail with `Write`. Returns what the writer on one thread noted.
@@ -87,74 +84,59 @@ fn fails<H: Threads + Wait + Abort + Sync>(
     trace: &[u8],
     room: usize,
     can_flush: bool,
-) -> Result<(usize, u8, usize), Fail> {
+) -> (usize, u8, usize) {
     let mut writer = with_room(room, can_flush);
-    let ended = run(rt, alloc, trace, &mut writer)?;
-    assert_eq!(rt; ended, Err(RunFault::Write));
-    Ok(writer.told())
+    let fault = fault_of(rt, alloc, trace, &mut writer);
+    assert_eq!(rt; fault, Some(RunFault::Write));
+    writer.told()
 }
 
+/// The trace of `ONE_WRITE_BACK`.
+static TRACE: &[u8] = b"1 0\n0 8\n0 10\n";
+
 #[test]
-fn a_writer_may_fail_behind_each_byte(rt: HostRuntime) -> Result<(), Fail> {
+fn a_writer_may_fail_behind_each_byte(rt: HostRuntime) {
     for room in 0..ONE_WRITE_BACK.len() {
-        let told = fails(&rt, rt.alloc(), b"1 0\n0 8\n0 10\n", room, true)?;
+        let told = fails(&rt, rt.alloc(), TRACE, room, true);
         assert_eq!(rt; (told.0, told.1), (room, 0));
     }
-    Ok(())
 }
 
 #[test]
-fn a_writer_may_fail_at_once(rt: HostRuntime) -> Result<(), Fail> {
-    fails(&rt, rt.alloc(), b"", 0, true)?;
-    fails(&rt, rt.alloc(), b"2 0\n", 0, true)?;
-    Ok(())
+fn a_writer_may_fail_at_once(rt: HostRuntime) {
+    fails(&rt, rt.alloc(), b"", 0, true);
+    fails(&rt, rt.alloc(), b"2 0\n", 0, true);
 }
 
 #[test]
-fn a_writer_may_fail_at_its_flush(rt: HostRuntime) -> Result<(), Fail> {
-    fails(
-        &rt,
-        rt.alloc(),
-        b"1 0\n0 8\n0 10\n",
-        ONE_WRITE_BACK.len(),
-        false,
-    )?;
-    Ok(())
+fn a_writer_may_fail_at_its_flush(rt: HostRuntime) {
+    fails(&rt, rt.alloc(), TRACE, ONE_WRITE_BACK.len(), false);
 }
 
 #[test]
-fn a_report_is_flushed_once_at_its_end(rt: HostRuntime) -> Result<(), Fail> {
-    let mut writer = with_room(ONE_WRITE_BACK.len(), true);
-    assert_eq!(rt;
-        run(&rt, rt.alloc(), b"1 0\n0 8\n0 10\n", &mut writer)?,
-        Ok(())
-    );
-    assert_eq!(rt; writer.flushes, 1);
-    assert_eq!(rt; writer.taken_at_flush, ONE_WRITE_BACK.len());
-    Ok(())
+fn a_report_is_flushed_once_at_its_end(rt: HostRuntime) {
+    let length = ONE_WRITE_BACK.len();
+    let mut writer = with_room(length, true);
+    assert_eq!(rt; fault_of(&rt, rt.alloc(), TRACE, &mut writer), None);
+    assert_eq!(rt; writer.told(), (length, 1, length));
 }
 
 #[test]
 fn totals_are_flushed_and_a_block_is_not(rt: HostRuntime) -> Result<(), Fail> {
     let mut writer = with_room(10_000, true);
-    write_block(
-        "l1-icache",
-        &Counts::default(),
-        &mut FromWrite::new(&mut writer),
-    )?;
+    write_block("l1-icache", &NO_COUNTS, &mut FromWrite::new(&mut writer))?;
     assert!(rt; writer.taken > 0);
     assert_eq!(rt; writer.flushes, 0);
-    write_report(&Totals::default(), &mut FromWrite::new(&mut writer))?;
+    write_report(&NO_TOTALS, &mut FromWrite::new(&mut writer))?;
     assert_eq!(rt; writer.flushes, 1);
     assert_eq!(rt; writer.taken_at_flush, writer.taken);
     Ok(())
 }
 
 #[test]
-fn a_faulty_trace_leaves_the_writer_alone(rt: HostRuntime) -> Result<(), Fail> {
+fn a_faulty_trace_leaves_the_writer_alone(rt: HostRuntime) {
     let mut writer = with_room(10_000, true);
-    assert!(rt; run(&rt, rt.alloc(), b"5 0\n", &mut writer)?.is_err());
-    assert_eq!(rt; writer.taken, 0);
-    assert_eq!(rt; writer.flushes, 0);
-    Ok(())
+    let fault = fault_of(&rt, rt.alloc(), b"5 0\n", &mut writer);
+    assert!(rt; fault.is_some());
+    assert_eq!(rt; writer.told(), (0, 0, 0));
 }
