@@ -4,21 +4,25 @@ use cache_core::GeometryFault;
 use grid_options::{GridWordsFault, ParsedGrid, parse_grid_words};
 use stage_core::{CacheName, Config, ConfigFault, Selection};
 use std::alloc::{AllocError, Global};
+use std::process::Abort;
 use std::test::Fail;
 
 /// Three caches without the data cache's size: 16 bytes in blocks of 4, and a second level of 64
 /// bytes in blocks of 8.
 pub static OTHERS: &str = "--l1-isize 16 --l1-ibsize 4 --l1-dbsize 4 --l2-usize 64 --l2-ubsize 8";
 
-/// The answer to the words of `OTHERS`, and then of this line.
-pub fn parsed(alloc: Global, line: &str) -> Result<Result<ParsedGrid, GridWordsFault>, AllocError> {
-    let mut words = Vec::new(alloc);
-    for word in OTHERS.split_whitespace() {
-        words.push(String::from_str(alloc, word)?)?;
-    }
+fn add_words(alloc: Global, words: &mut Vec<String>, line: &str) -> Result<(), AllocError> {
     for word in line.split_whitespace() {
         words.push(String::from_str(alloc, word)?)?;
     }
+    Ok(())
+}
+
+/// The answer to the words of `OTHERS`, and then of this line.
+pub fn parsed(alloc: Global, line: &str) -> Result<Result<ParsedGrid, GridWordsFault>, AllocError> {
+    let mut words = Vec::new(alloc);
+    add_words(alloc, &mut words, OTHERS)?;
+    add_words(alloc, &mut words, line)?;
     Ok(parse_grid_words(alloc, words.as_slice()))
 }
 
@@ -42,77 +46,69 @@ pub fn has_data_cache(config: &Result<Config, ConfigFault>, blocks: u64, sets: u
     }
 }
 
+/// The grid of these words, which have to be taken.
+pub fn made(alloc: Global, line: &str) -> Result<ParsedGrid, Fail> {
+    Ok(parsed(alloc, line)??)
+}
+
+/// The grid has to have these names, and points with these words.
+pub fn has_rows(rt: &impl Abort, grid: &ParsedGrid, names: &str, rows: &[&str]) {
+    assert!(rt; are(grid.names.as_slice(), names));
+    assert_eq!(rt; grid.points.len(), rows.len());
+    for (point, row) in grid.points.iter().zip(rows) {
+        assert!(rt; are(point.words.as_slice(), *row), "at {row}");
+    }
+}
+
+/// The data caches of the points have to have so many blocks and sets.
+pub fn has_data_caches(rt: &impl Abort, grid: &ParsedGrid, caches: &[(u64, u64)]) {
+    assert_eq!(rt; grid.points.len(), caches.len());
+    for (point, (blocks, sets)) in grid.points.iter().zip(caches) {
+        assert!(rt; has_data_cache(&point.config, *blocks, *sets));
+    }
+}
+
 #[test]
 fn varies_the_last_list_fastest(rt: HostRuntime) -> Result<(), Fail> {
-    let answer = parsed(rt.alloc(), "--l1-dassoc 1,2 --l1-dsize 16,32,64")?;
-    assert!(rt; answer.is_ok());
-    if let Ok(grid) = answer {
-        assert!(rt; are(grid.names.as_slice(), "l1-dsize l1-dassoc"));
-        let rows = [
-            ("16 1", 4, 4),
-            ("16 2", 4, 2),
-            ("32 1", 8, 8),
-            ("32 2", 8, 4),
-            ("64 1", 16, 16),
-            ("64 2", 16, 8),
-        ];
-        assert_eq!(rt; grid.points.len(), 6);
-        for (point, row) in grid.points.iter().zip(rows) {
-            assert!(rt; are(point.words.as_slice(), row.0));
-            assert!(rt; has_data_cache(&point.config, row.1, row.2));
-        }
-    }
+    let grid = made(rt.alloc(), "--l1-dassoc 1,2 --l1-dsize 16,32,64")?;
+    let rows = ["16 1", "16 2", "32 1", "32 2", "64 1", "64 2"];
+    has_rows(&rt, &grid, "l1-dsize l1-dassoc", &rows);
+    let caches = [(4, 4), (4, 2), (8, 8), (8, 4), (16, 16), (16, 8)];
+    has_data_caches(&rt, &grid, &caches);
     Ok(())
 }
 
 #[test]
 fn gives_each_point_its_selection(rt: HostRuntime) -> Result<(), Fail> {
     let line = "--l1-dsize 16 --skipcount 5 --maxcount 6 --flushcount 0,007";
-    let answer = parsed(rt.alloc(), line)?;
-    assert!(rt; answer.is_ok());
-    if let Ok(grid) = answer {
-        assert!(rt; are(grid.names.as_slice(), "flushcount"));
-        assert_eq!(rt; grid.points.len(), 2);
-        for (point, (word, every)) in grid.points.iter().zip([("0", 0), ("007", 7)]) {
-            assert!(rt; are(point.words.as_slice(), word));
-            let selection = Selection {
-                skip: 5,
-                max: 6,
-                every,
-            };
-            assert_eq!(rt; point.selection, selection);
-        }
+    let grid = made(rt.alloc(), line)?;
+    has_rows(&rt, &grid, "flushcount", &["0", "007"]);
+    for (point, every) in grid.points.iter().zip([0, 7]) {
+        let selection = Selection {
+            skip: 5,
+            max: 6,
+            every,
+        };
+        assert_eq!(rt; point.selection, selection);
     }
     Ok(())
 }
 
 #[test]
 fn takes_one_configuration_as_a_grid_without_names(rt: HostRuntime) -> Result<(), Fail> {
-    let answer = parsed(rt.alloc(), "--l1-dsize 16")?;
-    assert!(rt; answer.is_ok());
-    if let Ok(grid) = answer {
-        assert!(rt; grid.names.is_empty());
-        assert_eq!(rt; grid.points.len(), 1);
-        for point in grid.points.iter() {
-            assert!(rt; point.words.is_empty());
-            assert!(rt; has_data_cache(&point.config, 4, 4));
-        }
-    }
+    let grid = made(rt.alloc(), "--l1-dsize 16")?;
+    has_rows(&rt, &grid, "", &[""]);
+    has_data_caches(&rt, &grid, &[(4, 4)]);
     Ok(())
 }
 
 #[test]
 fn keeps_a_refused_member_in_its_place(rt: HostRuntime) -> Result<(), Fail> {
-    let answer = parsed(rt.alloc(), "--l1-dsize 16,24,32")?;
-    assert!(rt; answer.is_ok());
-    if let Ok(grid) = answer {
-        let refused = ConfigFault::Geometry(CacheName::D, GeometryFault::SizeNotPower);
-        let rows = [("16", None), ("24", Some(refused)), ("32", None)];
-        assert_eq!(rt; grid.points.len(), 3);
-        for (point, (word, fault)) in grid.points.iter().zip(rows) {
-            assert!(rt; are(point.words.as_slice(), word));
-            assert_eq!(rt; point.config.err(), fault);
-        }
+    let grid = made(rt.alloc(), "--l1-dsize 16,24,32")?;
+    has_rows(&rt, &grid, "l1-dsize", &["16", "24", "32"]);
+    let refused = ConfigFault::Geometry(CacheName::D, GeometryFault::SizeNotPower);
+    for (point, fault) in grid.points.iter().zip([None, Some(refused), None]) {
+        assert_eq!(rt; point.config.err(), fault);
     }
     Ok(())
 }

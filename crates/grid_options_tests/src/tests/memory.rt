@@ -1,7 +1,8 @@
 //! Failing allocations. Each test passes if there is enough memory. If an allocation is refused,
 //! also one for the words themselves, it fails with the name of the refusal and nothing else.
 
-use super::grids::{has_data_cache, parsed};
+use super::grids::{has_data_caches, parsed};
+use super::refusals::names_all_but_the_rings;
 use dinero_options::{Opt, WordsFault};
 use grid_options::{GridWordsFault, ParsedGrid, grid_help_text};
 use std::process::Abort;
@@ -31,17 +32,21 @@ fn is_refused(
     }
 }
 
+/// The grid has to have so many names and points, and each point as many words.
+fn has_counts(rt: &impl Abort, grid: &ParsedGrid, names: usize, points: usize) {
+    assert_eq!(rt; grid.names.len(), names);
+    assert_eq!(rt; grid.points.len(), points);
+    for point in grid.points.iter() {
+        assert_eq!(rt; point.words.len(), names);
+    }
+}
+
 #[test]
 fn a_grid_is_read_or_memory_is_wanted(rt: HostRuntime) -> Result<(), Fail> {
     match parsed(rt.alloc(), "--l1-dsize 16,32 --l1-dassoc 1,2")? {
         Ok(grid) => {
-            assert_eq!(rt; grid.names.len(), 2);
-            assert_eq!(rt; grid.points.len(), 4);
-            let caches = [(4, 4), (4, 2), (8, 8), (8, 4)];
-            for (point, (blocks, sets)) in grid.points.iter().zip(caches) {
-                assert_eq!(rt; point.words.len(), 2);
-                assert!(rt; has_data_cache(&point.config, blocks, sets));
-            }
+            has_counts(&rt, &grid, 2, 4);
+            has_data_caches(&rt, &grid, &[(4, 4), (4, 2), (8, 8), (8, 4)]);
             Ok(())
         }
         Err(fault) => Ok(wants_memory(&rt, fault)?),
@@ -53,11 +58,7 @@ fn a_full_table_is_asked_for_or_memory_is_wanted(rt: HostRuntime) -> Result<(), 
     match parsed(rt.alloc(), "--l1-dsize 16,32 --full")? {
         Ok(grid) => {
             assert!(rt; grid.full);
-            assert_eq!(rt; grid.names.len(), 19);
-            assert_eq!(rt; grid.points.len(), 2);
-            for point in grid.points.iter() {
-                assert_eq!(rt; point.words.len(), 19);
-            }
+            has_counts(&rt, &grid, 19, 2);
             Ok(())
         }
         Err(fault) => Ok(wants_memory(&rt, fault)?),
@@ -85,10 +86,6 @@ fn an_unknown_option_is_refused_or_memory_is_wanted(rt: HostRuntime) -> Result<(
 
 #[test]
 fn the_help_names_every_option_or_memory_is_wanted(rt: HostRuntime) -> Result<(), Fail> {
-    let text = grid_help_text(rt.alloc())?;
-    for option in Opt::ALL {
-        let named = text.as_str().contains(option.name());
-        assert_eq!(rt; named, option != Opt::Ring);
-    }
+    names_all_but_the_rings(&rt, grid_help_text(rt.alloc())?.as_str());
     Ok(())
 }

@@ -1,12 +1,13 @@
 //! The options that the program has of its own.
 
-use super::grids::{are, has_data_cache, parsed};
-use super::refusals::{of_words, refusal};
+use super::grids::{has_data_caches, has_rows, made, parsed};
+use super::refusals::{are_refused, refusal};
 use cache_core::GeometryFault;
 use dinero_options::{Opt, WordsFault};
 use grid_options::{GridWordsFault, ParsedGrid, grid_help_text};
 use stage_core::{CacheName, ConfigFault};
 use std::alloc::{AllocError, Global};
+use std::process::Abort;
 use std::test::Fail;
 
 /// The names of all options but that of the rings.
@@ -24,60 +25,59 @@ fn threads(alloc: Global, line: &str) -> Result<Result<usize, GridWordsFault>, A
 
 #[test]
 fn takes_a_number_of_threads(rt: HostRuntime) -> Result<(), Fail> {
-    let alloc = rt.alloc();
-    assert_eq!(rt; threads(alloc, "--l1-dsize 16")?, Ok(0));
-    assert_eq!(rt; threads(alloc, "--l1-dsize 16 --threads 0")?, Ok(0));
-    assert_eq!(rt; threads(alloc, "--l1-dsize 16 --threads 1")?, Ok(1));
-    assert_eq!(rt; threads(alloc, "--threads=007 --l1-dsize 16,32")?, Ok(7));
-    assert_eq!(rt;
-        threads(alloc, "--threads 1024 --l1-dsize 16 --maxcount 3")?,
-        Ok(1024)
-    );
+    let rows = [
+        ("--l1-dsize 16", 0),
+        ("--l1-dsize 16 --threads 0", 0),
+        ("--l1-dsize 16 --threads 1", 1),
+        ("--threads=007 --l1-dsize 16,32", 7),
+        ("--threads 1024 --l1-dsize 16 --maxcount 3", 1024),
+    ];
+    for (line, wanted) in rows {
+        assert_eq!(rt; threads(rt.alloc(), line)?, Ok(wanted), "at {line}");
+    }
     Ok(())
 }
 
 #[test]
 fn refuses_other_numbers_of_threads(rt: HostRuntime) -> Result<(), Fail> {
-    let alloc = rt.alloc();
-    let refused = Some(GridWordsFault::Threads);
-    assert_eq!(rt; refusal(alloc, "--l1-dsize 16 --threads 1025")?, refused);
-    assert_eq!(rt;
-        refusal(alloc, "--l1-dsize 16 --threads 999999999999")?,
-        refused
-    );
-    assert_eq!(rt;
-        refusal(alloc, "--l1-dsize 16 --threads 0000000000001")?,
-        refused
-    );
-    assert_eq!(rt; refusal(alloc, "--l1-dsize 16 --threads 1,2")?, refused);
-    assert_eq!(rt; refusal(alloc, "--l1-dsize 16 --threads 1k")?, refused);
-    assert_eq!(rt; refusal(alloc, "--l1-dsize 16 --threads four")?, refused);
-    assert_eq!(rt; refusal(alloc, "--l1-dsize 16 --threads +1")?, refused);
-    assert_eq!(rt; refusal(alloc, "--l1-dsize 16 --threads=-1")?, refused);
-    assert_eq!(rt; refusal(alloc, "--l1-dsize 16 --threads=")?, refused);
-    Ok(())
+    let lines = [
+        "--l1-dsize 16 --threads 1025",
+        "--l1-dsize 16 --threads 999999999999",
+        "--l1-dsize 16 --threads 0000000000001",
+        "--l1-dsize 16 --threads 1,2",
+        "--l1-dsize 16 --threads 1k",
+        "--l1-dsize 16 --threads four",
+        "--l1-dsize 16 --threads +1",
+        "--l1-dsize 16 --threads=-1",
+        "--l1-dsize 16 --threads=",
+    ];
+    are_refused(&rt, rt.alloc(), &lines, GridWordsFault::Threads)
 }
 
 #[test]
 fn takes_threads_once_and_with_a_number(rt: HostRuntime) -> Result<(), Fail> {
-    let alloc = rt.alloc();
-    let refused = of_words(WordsFault::Words);
-    assert_eq!(rt;
-        refusal(alloc, "--l1-dsize 16 --threads 1 --threads 1")?,
-        refused
-    );
-    assert_eq!(rt; refusal(alloc, "--l1-dsize 16 --threads")?, refused);
-    assert_eq!(rt; refusal(alloc, "--threads --l1-dsize 16")?, refused);
-    Ok(())
+    let lines = [
+        "--l1-dsize 16 --threads 1 --threads 1",
+        "--l1-dsize 16 --threads",
+        "--threads --l1-dsize 16",
+    ];
+    are_refused(
+        &rt,
+        rt.alloc(),
+        &lines,
+        GridWordsFault::Words(WordsFault::Words),
+    )
 }
 
 #[test]
 fn names_the_threads_behind_other_options(rt: HostRuntime) -> Result<(), Fail> {
-    let alloc = rt.alloc();
-    let flushes = of_words(WordsFault::Number(Opt::Flushcount));
-    let line = "--threads x --l1-dsize 16 --flushcount x";
-    assert_eq!(rt; refusal(alloc, line)?, flushes);
-    Ok(())
+    let flushes = GridWordsFault::Words(WordsFault::Number(Opt::Flushcount));
+    are_refused(
+        &rt,
+        rt.alloc(),
+        &["--threads x --l1-dsize 16 --flushcount x"],
+        flushes,
+    )
 }
 
 #[test]
@@ -91,30 +91,18 @@ fn helps_with_both(rt: HostRuntime) -> Result<(), Fail> {
     Ok(())
 }
 
-/// Is this a full grid whose points have these words?
-fn is_full(grid: &ParsedGrid, rows: &[&str]) -> bool {
-    grid.full
-        && are(grid.names.as_slice(), ALL)
-        && grid.points.len() == rows.len()
-        && grid
-            .points
-            .iter()
-            .zip(rows)
-            .all(|(point, row)| are(point.words.as_slice(), *row))
+/// The grid has to be full, and to have points with these words.
+fn is_full(rt: &impl Abort, grid: &ParsedGrid, rows: &[&str]) {
+    assert!(rt; grid.full);
+    has_rows(rt, grid, ALL, rows);
 }
 
 #[test]
 fn gives_a_full_table_all_options(rt: HostRuntime) -> Result<(), Fail> {
-    let answer = parsed(rt.alloc(), "--full --l1-dsize 16")?;
-    assert!(rt; answer.is_ok());
-    if let Ok(grid) = answer {
-        let rows = ["16 4 1 l 16 4 1 l a a 64 8 1 l a a 0 0 0"];
-        assert!(rt; is_full(&grid, rows.as_slice()));
-        assert_eq!(rt; grid.threads, 0);
-        for point in grid.points.iter() {
-            assert!(rt; has_data_cache(&point.config, 4, 4));
-        }
-    }
+    let grid = made(rt.alloc(), "--full --l1-dsize 16")?;
+    is_full(&rt, &grid, &["16 4 1 l 16 4 1 l a a 64 8 1 l a a 0 0 0"]);
+    assert_eq!(rt; grid.threads, 0);
+    has_data_caches(&rt, &grid, &[(4, 4)]);
     Ok(())
 }
 
@@ -122,24 +110,21 @@ fn gives_a_full_table_all_options(rt: HostRuntime) -> Result<(), Fail> {
 fn writes_sizes_in_bytes_and_counts_without_zeros_in_front(rt: HostRuntime) -> Result<(), Fail> {
     let line = "--l1-dsize 0016,1k,2K,1m,1M --l1-dassoc 02 --skipcount 007 --maxcount 0
         --flushcount 00,999999999999 --full --threads 3";
-    let answer = parsed(rt.alloc(), line)?;
-    assert!(rt; answer.is_ok());
-    if let Ok(grid) = answer {
-        let rows = [
-            "16 4 1 l 16 4 2 l a a 64 8 1 l a a 7 0 0",
-            "16 4 1 l 16 4 2 l a a 64 8 1 l a a 7 0 999999999999",
-            "16 4 1 l 1024 4 2 l a a 64 8 1 l a a 7 0 0",
-            "16 4 1 l 1024 4 2 l a a 64 8 1 l a a 7 0 999999999999",
-            "16 4 1 l 2048 4 2 l a a 64 8 1 l a a 7 0 0",
-            "16 4 1 l 2048 4 2 l a a 64 8 1 l a a 7 0 999999999999",
-            "16 4 1 l 1048576 4 2 l a a 64 8 1 l a a 7 0 0",
-            "16 4 1 l 1048576 4 2 l a a 64 8 1 l a a 7 0 999999999999",
-            "16 4 1 l 1048576 4 2 l a a 64 8 1 l a a 7 0 0",
-            "16 4 1 l 1048576 4 2 l a a 64 8 1 l a a 7 0 999999999999",
-        ];
-        assert!(rt; is_full(&grid, rows.as_slice()));
-        assert_eq!(rt; grid.threads, 3);
-    }
+    let rows = [
+        "16 4 1 l 16 4 2 l a a 64 8 1 l a a 7 0 0",
+        "16 4 1 l 16 4 2 l a a 64 8 1 l a a 7 0 999999999999",
+        "16 4 1 l 1024 4 2 l a a 64 8 1 l a a 7 0 0",
+        "16 4 1 l 1024 4 2 l a a 64 8 1 l a a 7 0 999999999999",
+        "16 4 1 l 2048 4 2 l a a 64 8 1 l a a 7 0 0",
+        "16 4 1 l 2048 4 2 l a a 64 8 1 l a a 7 0 999999999999",
+        "16 4 1 l 1048576 4 2 l a a 64 8 1 l a a 7 0 0",
+        "16 4 1 l 1048576 4 2 l a a 64 8 1 l a a 7 0 999999999999",
+        "16 4 1 l 1048576 4 2 l a a 64 8 1 l a a 7 0 0",
+        "16 4 1 l 1048576 4 2 l a a 64 8 1 l a a 7 0 999999999999",
+    ];
+    let grid = made(rt.alloc(), line)?;
+    is_full(&rt, &grid, &rows);
+    assert_eq!(rt; grid.threads, 3);
     Ok(())
 }
 
@@ -147,59 +132,52 @@ fn writes_sizes_in_bytes_and_counts_without_zeros_in_front(rt: HostRuntime) -> R
 fn writes_policies_as_their_letters(rt: HostRuntime) -> Result<(), Fail> {
     let line = "--l1-dsize 16 --full --l1-iassoc 2 --l1-irepl f --l1-dassoc 4 --l1-drepl l,f
         --l1-dwback n --l1-dwalloc n --l2-uassoc 8 --l2-urepl f --l2-uwback n,a --l2-uwalloc n";
-    let answer = parsed(rt.alloc(), line)?;
-    assert!(rt; answer.is_ok());
-    if let Ok(grid) = answer {
-        let rows = [
-            "16 4 2 f 16 4 4 l n n 64 8 8 f n n 0 0 0",
-            "16 4 2 f 16 4 4 l n n 64 8 8 f a n 0 0 0",
-            "16 4 2 f 16 4 4 f n n 64 8 8 f n n 0 0 0",
-            "16 4 2 f 16 4 4 f n n 64 8 8 f a n 0 0 0",
-        ];
-        assert!(rt; is_full(&grid, rows.as_slice()));
-    }
+    let rows = [
+        "16 4 2 f 16 4 4 l n n 64 8 8 f n n 0 0 0",
+        "16 4 2 f 16 4 4 l n n 64 8 8 f a n 0 0 0",
+        "16 4 2 f 16 4 4 f n n 64 8 8 f n n 0 0 0",
+        "16 4 2 f 16 4 4 f n n 64 8 8 f a n 0 0 0",
+    ];
+    is_full(&rt, &made(rt.alloc(), line)?, &rows);
     Ok(())
 }
 
 #[test]
 fn gives_refused_points_their_values_too(rt: HostRuntime) -> Result<(), Fail> {
-    let answer = parsed(rt.alloc(), "--l1-dsize 0024,999999999999m --full")?;
-    assert!(rt; answer.is_ok());
-    if let Ok(grid) = answer {
-        let rows = [
-            "16 4 1 l 24 4 1 l a a 64 8 1 l a a 0 0 0",
-            "16 4 1 l 1048575999998951424 4 1 l a a 64 8 1 l a a 0 0 0",
-        ];
-        assert!(rt; is_full(&grid, rows.as_slice()));
-        let refused = ConfigFault::Geometry(CacheName::D, GeometryFault::SizeNotPower);
-        for point in grid.points.iter() {
-            assert_eq!(rt; point.config.err(), Some(refused));
-        }
+    let rows = [
+        "16 4 1 l 24 4 1 l a a 64 8 1 l a a 0 0 0",
+        "16 4 1 l 1048575999998951424 4 1 l a a 64 8 1 l a a 0 0 0",
+    ];
+    let grid = made(rt.alloc(), "--l1-dsize 0024,999999999999m --full")?;
+    is_full(&rt, &grid, &rows);
+    let refused = ConfigFault::Geometry(CacheName::D, GeometryFault::SizeNotPower);
+    for point in grid.points.iter() {
+        assert_eq!(rt; point.config.err(), Some(refused));
     }
     Ok(())
 }
 
 #[test]
 fn gives_no_full_table_unless_asked(rt: HostRuntime) -> Result<(), Fail> {
-    let answer = parsed(rt.alloc(), "--l1-dsize 0016,1k")?;
-    assert!(rt; answer.is_ok());
-    if let Ok(grid) = answer {
-        assert!(rt; !grid.full);
-        assert!(rt; are(grid.names.as_slice(), "l1-dsize"));
-        for (point, word) in grid.points.iter().zip(["0016", "1k"]) {
-            assert!(rt; are(point.words.as_slice(), word));
-        }
-    }
+    let grid = made(rt.alloc(), "--l1-dsize 0016,1k")?;
+    assert!(rt; !grid.full);
+    has_rows(&rt, &grid, "l1-dsize", &["0016", "1k"]);
     Ok(())
 }
 
 #[test]
 fn takes_the_flag_once_and_without_a_value(rt: HostRuntime) -> Result<(), Fail> {
-    let alloc = rt.alloc();
-    let refused = of_words(WordsFault::Words);
-    assert_eq!(rt; refusal(alloc, "--l1-dsize 16 --full=true")?, refused);
-    assert_eq!(rt; refusal(alloc, "--l1-dsize 16 --full true")?, refused);
-    assert_eq!(rt; refusal(alloc, "--l1-dsize 16 --full --full")?, refused);
-    assert_eq!(rt; refusal(alloc, "--full --l1-dsize 16")?, None);
+    let lines = [
+        "--l1-dsize 16 --full=true",
+        "--l1-dsize 16 --full true",
+        "--l1-dsize 16 --full --full",
+    ];
+    are_refused(
+        &rt,
+        rt.alloc(),
+        &lines,
+        GridWordsFault::Words(WordsFault::Words),
+    )?;
+    assert_eq!(rt; refusal(rt.alloc(), "--full --l1-dsize 16")?, None);
     Ok(())
 }

@@ -5,6 +5,7 @@ use din_trace::FromWrite;
 use dinero_options::{Opt, WordsFault};
 use grid_options::{GridWordsFault, grid_help_text, put_grid_words};
 use std::alloc::{AllocError, Global};
+use std::process::Abort;
 use std::test::Fail;
 
 /// Why these words, behind those of `OTHERS`, are refused.
@@ -15,9 +16,17 @@ pub fn refusal(alloc: Global, line: &str) -> Result<Option<GridWordsFault>, Allo
     }
 }
 
-/// A refusal of words like those of one configuration.
-pub fn of_words(fault: WordsFault) -> Option<GridWordsFault> {
-    Some(GridWordsFault::Words(fault))
+/// Each of these lines, behind the words of `OTHERS`, has to be refused for this reason.
+pub fn are_refused(
+    rt: &impl Abort,
+    alloc: Global,
+    lines: &[&str],
+    fault: GridWordsFault,
+) -> Result<(), Fail> {
+    for line in lines {
+        assert_eq!(rt; refusal(alloc, *line)?, Some(fault), "at {line}");
+    }
+    Ok(())
 }
 
 /// A list of so many values, each of them 16.
@@ -53,12 +62,20 @@ fn points(
 
 #[test]
 fn refuses_more_than_4096_configurations(rt: HostRuntime) -> Result<(), Fail> {
-    let alloc = rt.alloc();
-    assert_eq!(rt; points(alloc, 16, 256)?, Ok(4096));
-    assert_eq!(rt; points(alloc, 1, 4096)?, Ok(4096));
-    assert_eq!(rt; points(alloc, 17, 241)?, Err(GridWordsFault::TooMany));
-    assert_eq!(rt; points(alloc, 4097, 1)?, Err(GridWordsFault::TooMany));
-    assert_eq!(rt; points(alloc, 1, 4097)?, Err(GridWordsFault::TooMany));
+    let rows = [
+        (16, 256, Ok(4096)),
+        (1, 4096, Ok(4096)),
+        (17, 241, Err(GridWordsFault::TooMany)),
+        (4097, 1, Err(GridWordsFault::TooMany)),
+        (1, 4097, Err(GridWordsFault::TooMany)),
+    ];
+    for (sizes, flushes, wanted) in rows {
+        assert_eq!(rt;
+            points(rt.alloc(), sizes, flushes)?,
+            wanted,
+            "{sizes} by {flushes}"
+        );
+    }
     Ok(())
 }
 
@@ -66,56 +83,77 @@ fn refuses_more_than_4096_configurations(rt: HostRuntime) -> Result<(), Fail> {
 fn names_bad_threads_before_too_many_configurations(rt: HostRuntime) -> Result<(), Fail> {
     let mut line = lists(rt.alloc(), 17, 241)?;
     line.push_str(" --threads x")?;
-    assert_eq!(rt;
-        refusal(rt.alloc(), line.as_str())?,
-        Some(GridWordsFault::Threads)
-    );
-    Ok(())
+    are_refused(&rt, rt.alloc(), &[line.as_str()], GridWordsFault::Threads)
 }
 
 #[test]
 fn refuses_an_empty_value(rt: HostRuntime) -> Result<(), Fail> {
-    let alloc = rt.alloc();
-    let refused = of_words(WordsFault::Number(Opt::L1Dsize));
-    assert_eq!(rt; refusal(alloc, "--l1-dsize 16,,32")?, refused);
-    assert_eq!(rt; refusal(alloc, "--l1-dsize 16,")?, refused);
-    assert_eq!(rt; refusal(alloc, "--l1-dsize ,16")?, refused);
-    assert_eq!(rt; refusal(alloc, "--l1-dsize ,")?, refused);
-    assert_eq!(rt; refusal(alloc, "--l1-dsize=")?, refused);
-    assert_eq!(rt; refusal(alloc, "--l1-dsize 16,32")?, None);
+    let lines = [
+        "--l1-dsize 16,,32",
+        "--l1-dsize 16,",
+        "--l1-dsize ,16",
+        "--l1-dsize ,",
+        "--l1-dsize=",
+    ];
+    are_refused(
+        &rt,
+        rt.alloc(),
+        &lines,
+        GridWordsFault::Words(WordsFault::Number(Opt::L1Dsize)),
+    )?;
+    assert_eq!(rt; refusal(rt.alloc(), "--l1-dsize 16,32")?, None);
     Ok(())
 }
+
+/// Words with a bad value, and how they are refused like those of one configuration.
+static BAD_VALUES: [(&str, WordsFault); 5] = [
+    ("--l1-dsize 16,x", WordsFault::Number(Opt::L1Dsize)),
+    (
+        "--l1-dsize 16 --l1-irepl l,r,f",
+        WordsFault::Choice(Opt::L1Irepl),
+    ),
+    (
+        "--l1-dsize 16,x --l1-irepl l,r,f",
+        WordsFault::Choice(Opt::L1Irepl),
+    ),
+    // These options take one value.
+    (
+        "--l1-dsize 16 --skipcount 1,2",
+        WordsFault::Number(Opt::Skipcount),
+    ),
+    (
+        "--l1-dsize 16 --maxcount 1,2",
+        WordsFault::Number(Opt::Maxcount),
+    ),
+];
 
 #[test]
 fn names_the_first_option_with_a_bad_value(rt: HostRuntime) -> Result<(), Fail> {
-    let alloc = rt.alloc();
-    let number = of_words(WordsFault::Number(Opt::L1Dsize));
-    let letter = of_words(WordsFault::Choice(Opt::L1Irepl));
-    assert_eq!(rt; refusal(alloc, "--l1-dsize 16,x")?, number);
-    assert_eq!(rt; refusal(alloc, "--l1-dsize 16 --l1-irepl l,r,f")?, letter);
-    assert_eq!(rt; refusal(alloc, "--l1-dsize 16,x --l1-irepl l,r,f")?, letter);
-    Ok(())
-}
-
-#[test]
-fn takes_one_value_for_skipcount_and_maxcount(rt: HostRuntime) -> Result<(), Fail> {
-    let alloc = rt.alloc();
-    let skip = of_words(WordsFault::Number(Opt::Skipcount));
-    let max = of_words(WordsFault::Number(Opt::Maxcount));
-    assert_eq!(rt; refusal(alloc, "--l1-dsize 16 --skipcount 1,2")?, skip);
-    assert_eq!(rt; refusal(alloc, "--l1-dsize 16 --maxcount 1,2")?, max);
+    for (line, fault) in BAD_VALUES {
+        are_refused(&rt, rt.alloc(), &[line], GridWordsFault::Words(fault))?;
+    }
     Ok(())
 }
 
 #[test]
 fn leaves_rings_and_unknown_options_to_clap(rt: HostRuntime) -> Result<(), Fail> {
-    let alloc = rt.alloc();
-    let refused = of_words(WordsFault::Words);
-    assert_eq!(rt; refusal(alloc, "--l1-dsize 16 --ring 2")?, refused);
-    assert_eq!(rt; refusal(alloc, "--l1-dsize x --l3-usize 16")?, refused);
-    assert_eq!(rt; refusal(alloc, "--l1-dassoc 1")?, refused);
-    assert_eq!(rt; refusal(alloc, "--help")?, of_words(WordsFault::Help));
-    Ok(())
+    let lines = [
+        "--l1-dsize 16 --ring 2",
+        "--l1-dsize x --l3-usize 16",
+        "--l1-dassoc 1",
+    ];
+    are_refused(
+        &rt,
+        rt.alloc(),
+        &lines,
+        GridWordsFault::Words(WordsFault::Words),
+    )?;
+    are_refused(
+        &rt,
+        rt.alloc(),
+        &["--help"],
+        GridWordsFault::Words(WordsFault::Help),
+    )
 }
 
 /// Is this what is said of the fault?
@@ -158,15 +196,15 @@ fn tells_what_is_wrong_with_the_words(rt: HostRuntime) -> Result<(), Fail> {
     Ok(())
 }
 
+/// The help has to name each option but that of the rings.
+pub fn names_all_but_the_rings(rt: &impl Abort, help: &str) {
+    for option in Opt::ALL {
+        assert_eq!(rt; help.contains(option.name()), option != Opt::Ring);
+    }
+}
+
 #[test]
 fn helps_with_each_option_but_the_rings(rt: HostRuntime) -> Result<(), Fail> {
-    let text = grid_help_text(rt.alloc());
-    assert!(rt; text.is_ok());
-    if let Ok(text) = text {
-        for option in Opt::ALL {
-            let named = text.as_str().contains(option.name());
-            assert_eq!(rt; named, option != Opt::Ring);
-        }
-    }
+    names_all_but_the_rings(&rt, grid_help_text(rt.alloc())?.as_str());
     Ok(())
 }
