@@ -32,6 +32,18 @@ static HEADS: &str = concat!(
     "l2-ucache-flushes\tfault\n",
 );
 
+/// Is the text made of these parts, one after another?
+fn is_made_of(text: &[u8], parts: &[&str]) -> bool {
+    let mut rest = text;
+    for part in parts {
+        let Some(left) = rest.strip_prefix(part.as_bytes()) else {
+            return false;
+        };
+        rest = left;
+    }
+    rest.is_empty()
+}
+
 /// Words as a line has them.
 fn words_of(alloc: Global, words: &[&str]) -> Result<Vec<String>, Fail> {
     let mut made = Vec::new(alloc);

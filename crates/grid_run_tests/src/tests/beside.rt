@@ -6,11 +6,11 @@ ghost use Rattle.grid_run.specs.Grids.{HasBoundedRows};
 
 use super::{add_row, words_of};
 use cache_core::{Policy, Repl};
-use din_trace::{FromRead, FromWrite, MAX_LIMIT, read_all};
+use din_trace::{DinRecord, FromRead, FromWrite, MAX_LIMIT, read_all};
 use grid_run::{
     Columns, Figures, Grid, Setup, ShadowMisses, simulate_grid, write_counted, write_heads,
 };
-use stage_core::{CacheSpec, Config, Selection, run_plain};
+use stage_core::{CacheSpec, Config, Selection, Totals, run_plain};
 use std::alloc::Global;
 use std::process::Abort;
 use std::test::Fail;
@@ -110,32 +110,72 @@ fn whole(spec: CacheSpec) -> CacheSpec {
     }
 }
 
-/// What a run of one configuration alone counts. Its shadows are caches of other runs: those of the
-/// first level in place of its caches, and that of the second level above the same first level.
+/// The counts of a run of one configuration alone.
+fn totals_alone(
+    rt: &impl Abort,
+    alloc: Global,
+    specs: Specs,
+    selection: &Selection,
+    records: &[DinRecord],
+) -> Totals
+    requires { IsBounded selection.now }
+{
+    assert!(rt; records.len() as u64 <= MAX_LIMIT);
+    let config = Config::new(specs.i, specs.d, specs.u, 1).expect(rt, "a lawful configuration");
+    run_plain(alloc, &config, selection, records).expect(rt, "memory")
+}
+
+/// The figures of such a run. Its shadows are caches of other runs: those of the first level in
+/// place of its caches, and that of the second level above the same first level.
 fn figures_alone(
     rt: &impl Abort,
     alloc: Global,
     specs: Specs,
     selection: &Selection,
-    trace: &[u8],
-) -> Result<Figures, Fail>
+    records: &[DinRecord],
+) -> Figures
     requires { IsBounded selection.now }
 {
-    let records = read_all(alloc, trace, MAX_LIMIT)?;
-    assert!(rt; records.len() as u64 <= MAX_LIMIT);
     let Specs { i, d, u } = specs;
-    let alone = Config::new(i, d, u, 1)?;
-    let first = Config::new(whole(i), whole(d), u, 1)?;
-    let second = Config::new(i, d, whole(u), 1)?;
-    let totals = run_plain(alloc, &alone, selection, &records)?;
-    let first_whole = run_plain(alloc, &first, selection, &records)?;
-    let second_whole = run_plain(alloc, &second, selection, &records)?;
+    let first = Specs {
+        i: whole(i),
+        d: whole(d),
+        u,
+    };
+    let second = Specs { i, d, u: whole(u) };
+    let first_whole = totals_alone(rt, alloc, first, selection, records);
+    let second_whole = totals_alone(rt, alloc, second, selection, records);
     let shadows = ShadowMisses {
         i: first_whole.i.misses,
         d: first_whole.d.misses,
         u: second_whole.u.misses,
     };
-    Ok(Figures { totals, shadows })
+    let totals = totals_alone(rt, alloc, specs, selection, records);
+    Figures { totals, shadows }
+}
+
+/// The table of all configurations, each with both selections, as each of them counts alone.
+fn table_alone(
+    rt: &impl Abort,
+    alloc: Global,
+    first: &Selection,
+    second: &Selection,
+    records: &[DinRecord],
+) -> Vec<u8>
+    requires first { IsBounded first.now }
+    requires second { IsBounded second.now }
+{
+    let mut expected = Vec::new(alloc);
+    let mut lines = FromWrite::new(&mut expected);
+    write_heads(Columns::Full, &[], &mut lines).expect(rt, "heads");
+    for specs in all_specs() {
+        let whole = figures_alone(rt, alloc, specs, first, records);
+        let part = figures_alone(rt, alloc, specs, second, records);
+        for figures in [whole, part] {
+            write_counted(Columns::Full, &[], &figures, &mut lines).expect(rt, "a line");
+        }
+    }
+    expected
 }
 
 /// A grid of all configurations, each with both selections.
@@ -169,15 +209,8 @@ fn agrees<H: Abort + Threads + Sync>(
     requires first { IsBounded first.now }
     requires second { IsBounded second.now }
 {
-    let mut expected = Vec::new(alloc);
-    let mut lines = FromWrite::new(&mut expected);
-    write_heads(Columns::Full, &[], &mut lines)?;
-    for specs in all_specs() {
-        let figures = figures_alone(rt, alloc, specs, first, trace)?;
-        write_counted(Columns::Full, &[], &figures, &mut lines)?;
-        let figures_in_part = figures_alone(rt, alloc, specs, second, trace)?;
-        write_counted(Columns::Full, &[], &figures_in_part, &mut lines)?;
-    }
+    let records = read_all(alloc, trace, MAX_LIMIT)?;
+    let expected = table_alone(rt, alloc, first, second, &records);
     let grid = grid_of(alloc, first, second)?;
     for threads in [1, 2, 4] {
         let mut written = Vec::new(alloc);

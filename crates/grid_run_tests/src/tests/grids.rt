@@ -4,7 +4,7 @@ ghost use Rattle.std.specs.Prelude.{IfOk};
 ghost use Rattle.stage_core.specs.Events.{IsBounded};
 ghost use Rattle.grid_run.specs.Grids.{HasBoundedRows};
 
-use super::{HEADS, add_row, words_of};
+use super::{HEADS, add_row, is_made_of, words_of};
 use cache_core::{Policy, Repl};
 use din_trace::{FromRead, FromWrite, MAX_LIMIT, TraceFault, Why};
 use grid_run::{Columns, Grid, GridFault, Setup, simulate_grid};
@@ -73,6 +73,9 @@ pub(super) fn grid(alloc: Global, small: &Selection, large: &Selection) -> Resul
     })
 }
 
+/// The head of the one column of words.
+static FIRST_HEAD: &str = "l1-dsize\t";
+
 /// The line of the refused row.
 static REFUSED: &str = concat!(
     "3\t-\t-\t-\t-\t-\t-\t-\t-\t-\t-\t-",
@@ -103,29 +106,21 @@ pub(super) fn run<H: Threads + Sync, R: Read + Drop, W: Write + Drop>(
     )
 }
 
-/// The table of a grid over a trace has to have these lines of its first and last rows, whatever
-/// the number of threads.
+/// The table of a grid over a trace has to be made of these parts, whatever the number of threads.
 fn writes<H: Abort + Threads + Sync>(
     rt: &H,
     alloc: Global,
     grid: &Grid,
     trace: &[u8],
-    small: &str,
-    large: &str,
-) -> Result<(), Fail>
+    parts: [&str; 5],
+)
     requires { HasBoundedRows grid.now }
 {
-    let mut expected = String::from_str(alloc, "l1-dsize\t")?;
-    expected.push_str(HEADS)?;
-    expected.push_str(small)?;
-    expected.push_str(REFUSED)?;
-    expected.push_str(large)?;
     for threads in 0..4 {
         let mut written = Vec::new(alloc);
         assert_eq!(rt; run(rt, alloc, grid, threads, trace, &mut written), Ok(()));
-        assert!(rt; written.as_slice() == expected.as_bytes());
+        assert!(rt; is_made_of(&written, &parts), "{threads} threads");
     }
-    Ok(())
 }
 
 /// Two blocks of one set of the small data cache, the first of them twice. The large one has a set
@@ -157,16 +152,17 @@ static LARGE_IN_PART: &str = concat!(
     "2\t2\t1.000000\t2\t0\t0\t2\t2\t0\t0\t0\t-\n",
 );
 
+/// The table with these lines of its first and last rows.
+fn table<'a>(small: &'a str, large: &'a str) -> [&'a str; 5] {
+    [FIRST_HEAD, HEADS, small, REFUSED, large]
+}
+
 #[test]
 fn each_row_has_its_own_counts(rt: HostRuntime) -> Result<(), Fail> {
-    writes(
-        &rt,
-        rt.alloc(),
-        &grid(rt.alloc(), &EVERYTHING, &EVERYTHING)?,
-        CONFLICT,
-        CONFLICT_SMALL,
-        CONFLICT_LARGE,
-    )
+    let grid = grid(rt.alloc(), &EVERYTHING, &EVERYTHING)?;
+    let wanted = table(CONFLICT_SMALL, CONFLICT_LARGE);
+    writes(&rt, rt.alloc(), &grid, CONFLICT, wanted);
+    Ok(())
 }
 
 #[test]
@@ -181,14 +177,15 @@ fn a_dirty_block_is_written_back(rt: HostRuntime) -> Result<(), Fail> {
         "2\t2\t1.000000\t2\t0\t0\t2\t2\t1\t0\t1\t",
         "3\t2\t0.666666\t2\t0\t0\t2\t2\t1\t0\t1\t-\n",
     );
+    let grid = grid(rt.alloc(), &EVERYTHING, &EVERYTHING)?;
     writes(
         &rt,
         rt.alloc(),
-        &grid(rt.alloc(), &EVERYTHING, &EVERYTHING)?,
+        &grid,
         b"1 0\n0 8\n4 0\n",
-        small,
-        large,
-    )
+        table(small, large),
+    );
+    Ok(())
 }
 
 #[test]
@@ -199,20 +196,22 @@ fn the_selection_is_obeyed(rt: HostRuntime) -> Result<(), Fail> {
         "2\t2\t1.000000\t2\t0\t0\t2\t2\t0\t0\t0\t-\n",
     );
     let grid = grid(rt.alloc(), &SECOND_AND_THIRD, &SECOND_AND_THIRD)?;
-    writes(&rt, rt.alloc(), &grid, CONFLICT, small, LARGE_IN_PART)
-}
-
-#[test]
-fn each_row_has_its_own_selection(rt: HostRuntime) -> Result<(), Fail> {
-    let grid = grid(rt.alloc(), &EVERYTHING, &SECOND_AND_THIRD)?;
     writes(
         &rt,
         rt.alloc(),
         &grid,
         CONFLICT,
-        CONFLICT_SMALL,
-        LARGE_IN_PART,
-    )
+        table(small, LARGE_IN_PART),
+    );
+    Ok(())
+}
+
+#[test]
+fn each_row_has_its_own_selection(rt: HostRuntime) -> Result<(), Fail> {
+    let grid = grid(rt.alloc(), &EVERYTHING, &SECOND_AND_THIRD)?;
+    let wanted = table(CONFLICT_SMALL, LARGE_IN_PART);
+    writes(&rt, rt.alloc(), &grid, CONFLICT, wanted);
+    Ok(())
 }
 
 #[test]
@@ -222,17 +221,19 @@ fn a_flush_is_inserted(rt: HostRuntime) -> Result<(), Fail> {
         max: 1,
         every: 1,
     };
-    let line = concat!(
-        "\t0\t0\t0.000000\t0\t0\t0\t0\t0\t0\t0\t1\t",
+    let small = concat!(
+        "8\t0\t0\t0.000000\t0\t0\t0\t0\t0\t0\t0\t1\t",
         "1\t1\t1.000000\t1\t0\t0\t1\t1\t0\t0\t1\t",
         "1\t1\t1.000000\t1\t0\t0\t1\t1\t0\t0\t1\t-\n",
     );
-    let mut small = String::from_str(rt.alloc(), "8")?;
-    small.push_str(line)?;
-    let mut large = String::from_str(rt.alloc(), "16")?;
-    large.push_str(line)?;
+    let large = concat!(
+        "16\t0\t0\t0.000000\t0\t0\t0\t0\t0\t0\t0\t1\t",
+        "1\t1\t1.000000\t1\t0\t0\t1\t1\t0\t0\t1\t",
+        "1\t1\t1.000000\t1\t0\t0\t1\t1\t0\t0\t1\t-\n",
+    );
     let grid = grid(rt.alloc(), &each, &each)?;
-    writes(&rt, rt.alloc(), &grid, CONFLICT, &small, &large)
+    writes(&rt, rt.alloc(), &grid, CONFLICT, table(small, large));
+    Ok(())
 }
 
 #[test]
@@ -253,9 +254,8 @@ fn nothing_is_written_for_a_faulty_trace(rt: HostRuntime) -> Result<(), Fail> {
 
 /// How many bytes the table over the trace of a conflict has.
 pub(super) fn table_len() -> usize {
-    let lines = CONFLICT_SMALL
-        .len()
-        .saturating_add(CONFLICT_LARGE.len())
-        .saturating_add(REFUSED.len());
-    lines.saturating_add(HEADS.len()).saturating_add(9)
+    let lengths = table(CONFLICT_SMALL, CONFLICT_LARGE).map(|part| part.len());
+    lengths
+        .iter()
+        .fold(0usize, |sum, length| sum.saturating_add(*length))
 }

@@ -5,6 +5,7 @@ use cache_core::{Counts, PerClass};
 use din_trace::FromWrite;
 use grid_run::{Columns, Figures, ShadowMisses, write_counted, write_heads, write_refused};
 use stage_core::Totals;
+use std::alloc::Global;
 use std::process::Abort;
 use std::test::Fail;
 
@@ -60,19 +61,36 @@ fn figures() -> Figures {
     }
 }
 
+fn heads(rt: &impl Abort, alloc: Global, names: &[&str]) -> Result<Vec<u8>, Fail> {
+    let names = words_of(alloc, names)?;
+    let mut written = Vec::new(alloc);
+    write_heads(Columns::Plain, &names, &mut FromWrite::new(&mut written)).expect(rt, "heads");
+    Ok(written)
+}
+
+fn line(
+    rt: &impl Abort,
+    alloc: Global,
+    words: &[&str],
+    figures: &Figures,
+) -> Result<Vec<u8>, Fail> {
+    let words = words_of(alloc, words)?;
+    let mut written = Vec::new(alloc);
+    let mut writer = FromWrite::new(&mut written);
+    write_counted(Columns::Plain, &words, figures, &mut writer).expect(rt, "a line");
+    Ok(written)
+}
+
 #[test]
 fn heads_come_first(rt: HostRuntime) -> Result<(), Fail> {
-    let mut written = Vec::new(rt.alloc());
-    write_heads(Columns::Plain, &[], &mut FromWrite::new(&mut written))?;
+    let written = heads(&rt, rt.alloc(), &[])?;
     assert!(rt; written.as_slice() == HEADS.as_bytes());
     Ok(())
 }
 
 #[test]
 fn names_come_before_the_heads(rt: HostRuntime) -> Result<(), Fail> {
-    let names = words_of(rt.alloc(), &["l1-dsize", "l1-dassoc"])?;
-    let mut written = Vec::new(rt.alloc());
-    write_heads(Columns::Plain, &names, &mut FromWrite::new(&mut written))?;
+    let written = heads(&rt, rt.alloc(), &["l1-dsize", "l1-dassoc"])?;
     assert!(rt;
         written
             .as_slice()
@@ -83,14 +101,7 @@ fn names_come_before_the_heads(rt: HostRuntime) -> Result<(), Fail> {
 
 #[test]
 fn figures_are_in_their_columns(rt: HostRuntime) -> Result<(), Fail> {
-    let words = words_of(rt.alloc(), &["1k", "2"])?;
-    let mut written = Vec::new(rt.alloc());
-    write_counted(
-        Columns::Plain,
-        &words,
-        &figures(),
-        &mut FromWrite::new(&mut written),
-    )?;
+    let written = line(&rt, rt.alloc(), &["1k", "2"], &figures())?;
     let expected = concat!(
         "1k\t2\t3\t1\t0.333333\t4\t5\t6\t7\t8\t9\t10\t11\t",
         "43210\t43210\t1.000000\t0\t0\t0\t12\t18446744073709551615\t0\t0\t0\t",
@@ -112,13 +123,7 @@ fn rates_are_rounded_down(rt: HostRuntime) -> Result<(), Fail> {
     ] {
         wanted.totals.i.misses = instrs(misses);
         wanted.totals.i.fetches = instrs(fetches);
-        let mut written = Vec::new(rt.alloc());
-        write_counted(
-            Columns::Plain,
-            &[],
-            &wanted,
-            &mut FromWrite::new(&mut written),
-        )?;
+        let written = line(&rt, rt.alloc(), &[], &wanted)?;
         let text = str::from_utf8(&written)?;
         assert_eq!(rt; text.split('\t').nth(2), Some(rate));
     }
