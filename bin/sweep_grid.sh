@@ -4,8 +4,7 @@
 # of_grid PROGRAM [WORD..]: a program of awk, which reads the grid's description, and then the lines
 # on standard input.
 of_grid() {
-    { cat "$described" && echo rows && cat; } |
-        LC_ALL=C awk -f "$here/sweep_grid.awk" -f "$here/$1" "${@:2}"
+    LC_ALL=C awk -f "$here/sweep_grid.awk" -f "$here/$1" "${@:2}" "$described" <(echo rows) -
 }
 
 # no_room: for the files that a sweep keeps for itself.
@@ -178,11 +177,12 @@ prepare() {
 }
 
 # plan WORD..: the runs that are left to make, and the lines of shell that make them. The words say
-# how to cut the grid.
+# how to cut the grid. Sets `run_lines` to a line for each run, and `runs` to how many there are.
 plan() {
     { of_grid sweep_plan.awk "$@" < "$work/pending" > "$work/runs" &&
         of_grid sweep_commands.awk < "$work/runs" > "$work/commands"; } 2>/dev/null || no_room
-    runs=$(wc -l < "$work/runs")
+    mapfile -t run_lines < "$work/runs"
+    runs=${#run_lines[@]}
 }
 
 # claim FOLDER: the folder of the reports is of this grid, from now on or since an earlier call.

@@ -26,14 +26,14 @@ put_lines() {
 
 # read_run N: sets `ended` and `fault`, and puts the rows of the run into the file `rows`.
 read_run() {
-    local raw=$work/raw/$1
+    local raw=$work/raw/$1 line=${run_lines[$1 - 1]}
     [ -f "$raw" ] || raw=/dev/null
     {
-        { sed -n "$1p" "$work/runs" && cat "$raw"; } | of_grid sweep_rows.awk > "$work/made" &&
+        { echo "$line" && cat "$raw"; } | of_grid sweep_rows.awk > "$work/made" &&
             IFS=$'\t' read -r ended fault < "$work/made" &&
             tail -n +2 "$work/made" > "$work/rows"
     } 2>/dev/null || no_room
-    trace=${traces[$(sed -n "$1s/\t.*//p" "$work/runs") - 1]}
+    trace=${traces[${line%%$'\t'*} - 1]}
 }
 
 # tell_fault: that of a run, once.

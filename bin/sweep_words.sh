@@ -36,10 +36,12 @@ take() {
 
 # vary OPTION VALUES
 vary() {
-    local twice
+    local value seen=,
     take "$1" "$2"
-    twice=$(tr , '\n' <<<"$2" | LC_ALL=C sort | LC_ALL=C uniq -d | head -n 1)
-    [ -z "$twice" ] || refuse "$1: $twice stands there twice"
+    for value in ${2//,/ }; do
+        [[ $seen != *",$value,"* ]] || refuse "$1: $value stands there twice"
+        seen+=$value,
+    done
     varied+=("$1")
     values+=("$2")
 }
@@ -129,18 +131,22 @@ check_words() {
 
 # check_options: the simulator has each that is given, and each that it requires is given.
 check_options() {
-    local option value given
+    local option value given=' ' known=' '
     options=$(list_options)
-    given=$(printf '%s\n' "${fixed[@]}" "${varied[@]}" "${tied[@]}" | sed -n 's/^--//p')
-    for option in $given; do
-        [ "$option" != ring ] ||
+    while read -r option value; do
+        known+="--$option "
+    done <<<"$options"
+    for option in "${fixed[@]}" "${varied[@]}" "${tied[@]}"; do
+        [[ $option == --* ]] || continue
+        [ "$option" != --ring ] ||
             refuse '--ring is an option of dinero_pipe, and changes no count'
-        [ "$option" != threads ] ||
+        [ "$option" != --threads ] ||
             refuse '--threads: each run has one thread, and --jobs says how many run at once'
-        grep -qE "^$option( |\$)" <<<"$options" || refuse "unknown option: --$option"
+        [[ $known == *" $option "* ]] || refuse "unknown option: $option"
+        given+="$option "
     done
     while read -r option value; do
-        [ -n "$value" ] || grep -qxFe "$option" <<<"$given" || refuse "--$option is required"
+        [ -n "$value" ] || [[ $given == *" --$option "* ]] || refuse "--$option is required"
     done <<<"$options"
 }
 
