@@ -33,6 +33,11 @@ def open_goal(function, said):
     return None
 
 
+def is_proved(function, said):
+    """Whether the function is said to be proved."""
+    return f"fn {function.name}: proved" in said
+
+
 def waits(said):
     """Each function that is not proved, with those that it calls and that are not proved either."""
     found = {}

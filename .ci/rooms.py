@@ -1,4 +1,4 @@
-"""Copies of the repository in which crates are checked, beside the work that earlier checks kept."""
+"""Copies of a crate in which it is checked, beside the work that earlier checks kept."""
 
 import contextlib
 import heapq
@@ -9,6 +9,7 @@ import shutil
 import subprocess
 import threading
 import time
+from functools import cache
 from pathlib import Path
 
 from wrong_body import planted
@@ -22,24 +23,20 @@ class Unsure(Exception):
     """A check came to no end that says anything of the code."""
 
 
-class NotProved(Unsure):
-    """A crate is not proved before anything wrong is planted in it."""
-
-    def __init__(self, crate, said):
-        super().__init__(f"{crate} without wrong bodies is not proved:\n{said}")
-        self.crate = crate
-
-
 def lines_of(top):
     """The lines of crates.txt, by crate."""
     lines = (top / "crates.txt").read_text(encoding="utf-8").splitlines()
     return {re.match(r"\w+", it)[0]: it for it in lines if it[:1].isalpha()}
 
 
+def words_of(top):
+    """The crates of crates.txt, in its order, each with all libraries that it uses."""
+    return {name: line.partition(":")[2].split() for name, line in lines_of(top).items()}
+
+
 def crates_of(top):
-    """The crates of crates.txt, in its order, each with those of the repository that it uses."""
-    lines = lines_of(top)
-    uses = {name: line.partition(":")[2].split() for name, line in lines.items()}
+    """The same with the libraries of the repository alone."""
+    uses = words_of(top)
     return {name: [it for it in uses[name] if it in uses] for name in uses}
 
 
@@ -50,13 +47,11 @@ def all_below(crates, crate):
     return found
 
 
-def chains_above(crates):
-    """For each crate, how many crates stand on one another above it, at most."""
-    above = dict.fromkeys(crates, 0)
-    for name in reversed(crates):
-        for it in crates[name]:
-            above[it] = max(above[it], above[name] + 1)
-    return above
+@cache
+def kit():
+    """The folder of the toolchain."""
+    page = subprocess.run(["rt", "doc"], check=True, capture_output=True, text=True).stdout
+    return Path(page.strip()).parent
 
 
 class Lanes:
@@ -84,49 +79,45 @@ class Lanes:
 
 
 def link(source, target):
-    """Copies kept work. A check writes a module's file anew and changes none, so these can be the
+    """Copies what a check made. Such files are replaced and never changed, so the copies can be the
     same files."""
 
     def copy(one, other):
-        return (os.link if one.endswith(".oantt") else shutil.copy2)(one, other)
+        try:
+            return os.link(one, other)
+        except OSError:
+            return shutil.copy2(one, other)
 
     shutil.copytree(source, target, symlinks=True, copy_function=copy)
 
 
 class Rooms:
-    """`shop` is a copy of the crates as they stood at the start, with their controls. Each is proved
-    once, in a room of its own, its home: a check locks the crates below, so checks in one folder
-    would wait for one another. Every check with something planted begins with that work, in a room
-    of its own too."""
+    """Runs the checks. Each has a room of its own, with a copy of the crate in which something may
+    be planted. The first check of a crate begins from nothing; the others begin with what it kept,
+    so they prove again only what is planted in them. The libraries below are those that the run of
+    `rt ci` makes which writes this log, or, without one, those that `rt lib` makes here."""
 
-    def __init__(self, top, work, jobs):
-        self.work, self.shop = work, work / "shop"
-        self.crates = crates_of(top)
-        self.above = chains_above(self.crates)
+    def __init__(self, top, work, jobs, log=None):
+        self.top, self.work, self.log = top, work, log
+        self.crates, self.uses = crates_of(top), words_of(top)
+        # The largest crates take longest, so they go first.
+        self.ranks = {it: -size_of(top / "crates" / it) for it in self.crates}
         self.lanes = Lanes(jobs)
         self.alone = threading.Lock()
+        self.building = threading.Lock()
         self.running = set()
         self.ended = False
-        self.begun = {it: threading.Lock() for it in self.crates}
-        self.seeded = {}
-        self.homes = {}
+        self.kept = {}
         self.number = 0
-        self.furnish(self.shop, top, self.crates)
 
-    def furnish(self, room, source, crates):
-        """Copies these crates, without what was made of them."""
-        room.mkdir()
-        shutil.copy2(source / "HANDLES", room / "HANDLES")
-        lines = lines_of(source)
-        (room / "crates.txt").write_text("\n".join(lines[it] for it in crates) + "\n")
-        for name in crates:
-            for part in PARTS:
-                path = Path("crates", name, part)
-                if (source / path).is_dir():
-                    shutil.copytree(source / path, room / path)
+    def end(self, *_):
+        """Ends what runs, and begins nothing more: what is not told then is not tried."""
+        self.ended = True
+        for check in list(self.running):
+            check.terminate()
 
-    def rt(self, words, room, crate, rank):
-        """Runs `rt` in a crate of the room, when a lane and memory are free."""
+    def run(self, words, folder, rank):
+        """Runs a command when a lane and memory are free: its status, and the lines it printed."""
         with self.lanes.lane(rank):
             with self.alone:
                 while self.running and free_gigabytes() < GIGABYTES:
@@ -134,8 +125,8 @@ class Rooms:
                 if self.ended:
                     raise Unsure("the run was ended")
                 check = subprocess.Popen(
-                    ["rt", *words],
-                    cwd=room / "crates" / crate,
+                    words,
+                    cwd=folder,
                     stdin=subprocess.DEVNULL,
                     stdout=subprocess.PIPE,
                     stderr=subprocess.STDOUT,
@@ -146,56 +137,89 @@ class Rooms:
             self.running.discard(check)
         return check.returncode, said.split("\n")
 
-    def end(self, *_):
-        """Ends what runs, and begins nothing more: what is not told then is not tried."""
-        self.ended = True
-        for check in list(self.running):
-            check.terminate()
+    def furnish(self, room, crate):
+        """Copies the crate, without what was made of it."""
+        room.mkdir(parents=True)
+        for part in PARTS:
+            if (self.top / "crates" / crate / part).is_dir():
+                shutil.copytree(self.top / "crates" / crate / part, room / part)
 
-    def keep_planted(self, body):
-        """Plants a body in the shop, and so in all rooms, before anything is proved there."""
-        folder = self.shop / "crates" / body.crate
-        for path, text in planted([body], folder).items():
-            (folder / path).write_text(text, encoding="utf-8")
+    def library(self, crate):
+        """The library of a crate below, as soon as it is made."""
+        made = self.work / "libraries" / f"{crate}.rlib"
+        if self.log:
+            self.wait_for(crate)
+        with self.building:
+            if not made.is_dir():
+                source = self.top if self.log else self.build(crate)
+                link(source / "crates" / crate / "out/rlib" / made.name, made)
+        return made
 
-    def open_room(self, crate):
-        """A room with the crate and those below it, whose libraries are made."""
+    def wait_for(self, crate):
+        """Waits until the log says that the crate is proved."""
+        while not self.ended:
+            told = self.log.read_text(encoding="utf-8", errors="replace")
+            if re.search(rf"^rt: {crate} (proved$|is kept:)", told, re.M):
+                return
+            if re.search(rf"^rt: {crate} NOT PROVED|^\d+ passed, \d+ failed", told, re.M):
+                break
+            time.sleep(1)
+        raise Unsure(f"there is no library of {crate}")
+
+    def build(self, crate):
+        """Makes the library in a copy of the repository, and returns the copy."""
+        shop = self.work / "shop"
+        if not shop.is_dir():
+            shop.mkdir()
+            for name in ("HANDLES", "crates.txt"):
+                shutil.copy2(self.top / name, shop / name)
+            for name in self.crates:
+                self.furnish(shop / "crates" / name, name)
+        status, said = self.run(["rt", "lib"], shop / "crates" / crate, self.ranks[crate])
+        if status:
+            raise Unsure(f"there is no library of {crate}:\n" + "\n".join(said[-20:]))
+        return shop
+
+    def command(self, crate):
+        """The words that check a crate."""
+        root = next(it for it in ("lib", "main") if self.source(crate, it).is_file())
+        words = [f"{kit()}/bin/rattle", "check", "--crate-name", crate, f"src/{root}.rt"]
+        of_kit = ["std", *(it for it in self.uses[crate] if it not in self.crates)]
+        words += [f"--extern={it}={kit()}/rlibs/{it}.rlib" for it in of_kit]
+        words += [f"--extern={it}={self.library(it)}" for it in self.crates[crate]]
+        for name in all_below(self.crates, crate):
+            self.library(name)
+        words += ["-L", f"dependency={kit()}/rlibs", "-L", f"dependency={self.work}/libraries"]
+        words += ["--antt-project", f"{kit()}/rattle/logic/antt-project.json"]
+        return [*words, "--logic-built", f"{kit()}/logic_built", "--jobs", "1"]
+
+    def source(self, crate, name):
+        return self.top / "crates" / crate / "src" / f"{name}.rt"
+
+    def check(self, crate, bodies):
+        """Checks the functions in which these bodies are planted, or the whole crate if one of them
+        doesn't tell: the status, and the lines that were said."""
+        words = self.command(crate)
         with self.alone:
             self.number += 1
             room = self.work / f"room{self.number}"
-        below = all_below(self.crates, crate)
-        self.furnish(room, self.shop, [*below, crate])
-        for name in below:
-            path = Path("crates", name, "out/rlib")
-            link(self.homes[name] / path, room / path)
-        return room
-
-    def seed(self, crate):
-        """Proves the crate, and makes the library that those above it use."""
-        for name in all_below(self.crates, crate):
-            self.seed(name)
-        with self.begun[crate]:
-            if crate not in self.seeded:
-                is_library = (self.shop / "crates" / crate / "src/lib.rt").is_file()
-                verb = "lib" if is_library else "check"
-                # The longest chain of crates decides how long all takes, so it goes first.
-                rank = -self.above[crate]
-                self.homes[crate] = self.open_room(crate)
-                status, said = self.rt([verb, "--jobs", "1"], self.homes[crate], crate, rank)
-                self.seeded[crate] = None if status == 0 else "\n".join(said[-20:])
-        if self.seeded[crate]:
-            raise NotProved(crate, self.seeded[crate])
-
-    def check(self, crate, bodies):
-        """Checks the crate with these bodies planted: the status, and the lines that were said."""
-        room, folder = self.open_room(crate), Path("crates", crate)
-        path = folder / "out/incremental"
-        link(self.homes[crate] / path, room / path)
-        for path, text in planted(bodies, self.shop / folder).items():
-            (room / folder / path).write_text(text, encoding="utf-8")
-        told = self.rt(["check", "--jobs", "1"], room, crate, 1)
-        shutil.rmtree(room, ignore_errors=True)
+        self.furnish(room, crate)
+        for path, text in planted(bodies, self.top / "crates" / crate).items():
+            (room / path).write_text(text, encoding="utf-8")
+        if all(it.checked for it in bodies):
+            words += [f"--only={it}" for body in bodies for it in body.checked]
+        if crate in self.kept:
+            link(self.kept[crate], room / "kept")
+        told = self.run([*words, "--incremental", "kept"], room, self.ranks[crate])
+        if self.kept.setdefault(crate, room / "kept") != room / "kept":
+            shutil.rmtree(room, ignore_errors=True)
         return told
+
+
+def size_of(folder):
+    """The bytes of the parts of a crate."""
+    files = (it for part in PARTS for it in (folder / part).rglob("*"))
+    return sum(it.stat().st_size for it in files)
 
 
 def free_gigabytes():

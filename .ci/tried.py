@@ -22,15 +22,9 @@ def sum_of_files(folder):
     return found.hexdigest()
 
 
-def text_of_control(folder):
-    file = folder / "wrong-bodies/control.edit"
-    return file.read_bytes() if file.is_file() else b""
-
-
 class Tried:
     """A file for each body that was refused, with the line that says so. Its name is the sum of the
-    toolchain, of the crate with those below it and their controls, of these scripts, and of the
-    edit itself."""
+    toolchain, of the crate with those below it, of these scripts, and of the edit itself."""
 
     def __init__(self, given, crate, crates):
         cache_home = os.environ.get("XDG_CACHE_HOME") or Path.home() / ".cache"
@@ -44,7 +38,6 @@ class Tried:
         for name in [*all_below(crates, crate), crate]:
             folder = given.top / "crates" / name
             base.update(f"{lines_of(given.top)[name]}\n{sum_of_files(folder)}\n".encode())
-            base.update(text_of_control(folder))
         self.base = base.hexdigest()
 
     def file(self, body):

@@ -4,7 +4,10 @@ import re
 from dataclasses import dataclass
 from pathlib import Path
 
+CONTROL = "control"
 HEAD = re.compile(r"( *)(?:pub(?:\([^)]*\))? )?(?:const |unsafe )*fn (\w+)")
+TRAIT = re.compile(r"(?:pub(?:\([^)]*\))? )?trait (\w+)")
+TYPE = re.compile(r"^(?:pub(?:\([^)]*\))? )?(?:struct|enum|union) (\w+)", re.M)
 
 
 class BadEdit(Exception):
@@ -41,9 +44,26 @@ class WrongBody:
     functions: frozenset
 
     @property
+    def is_control(self):
+        """Whether it has no bug."""
+        return self.name == CONTROL
+
+    @property
     def by_type(self):
         """A word of what the compiler says of its types, if that has to refuse it."""
-        found = re.search(r"^by its type: (.+)$", self.text, re.M)
+        return self.word("by its type")
+
+    @property
+    def checked(self):
+        """The functions that are to be checked, by their paths below the crate; none if it changes
+        something else and doesn't say which function has to be refused."""
+        place = self.word("refused in")
+        names = [it.name.partition("::")[2] for it in self.functions or ()]
+        return [place] if place else sorted(names)
+
+    def word(self, name):
+        """What a line with this name says."""
+        found = re.search(f"^{name}: (.+)$", self.text, re.M)
         return found[1] if found else None
 
     @property
@@ -52,8 +72,12 @@ class WrongBody:
 
 
 def type_above(lines, number):
-    """The type whose `impl` holds the line, followed by the trait, if there is one."""
+    """The type whose `impl` holds the line, followed by the trait, if there is one; or the trait
+    whose own text holds it."""
     for line in reversed(lines[: number - 1]):
+        trait = TRAIT.match(line)
+        if trait:
+            return trait[1]
         if line.startswith("impl"):
             while "<" in line:
                 bare = re.sub(r"<[^<>]*>", "", line)
@@ -65,10 +89,25 @@ def type_above(lines, number):
     return None
 
 
-def functions_of(crate, path, lines):
+def module_of(path):
+    """The module that a file is, as a list of names."""
+    return [it for it in path[4:-3].split("/") if it not in ("lib", "main")]
+
+
+def types_of(folder):
+    """The modules of the types of a crate, by their names."""
+    found = {}
+    for file in sorted((folder / "src").rglob("*.rt")):
+        for name in TYPE.findall(file.read_text(encoding="utf-8")):
+            found.setdefault(name, []).append(module_of(str(file.relative_to(folder))))
+    return found
+
+
+def functions_of(crate, path, lines, types):
     """The functions of a file. `rt fmt` puts the brace that ends a function, and after a contract
-    also the one that begins its code, below the first letter of its head."""
-    modules = [it for it in path[4:-3].split("/") if it not in ("lib", "main")]
+    also the one that begins its code, below the first letter of its head. The prover names a method
+    by the module of its type, wherever its `impl` stands."""
+    here = module_of(path)
     for number, line in enumerate(lines, 1):
         head = HEAD.match(line)
         if not head:
@@ -81,6 +120,8 @@ def functions_of(crate, path, lines):
         last = number if line.endswith("}") else next(ends, number - 1) + 1
         begins = (at for at in range(number, last) if lines[at] == head[1] + "{")
         body = next(begins, number - 1) + 1
+        homes = types.get(own, [here])
+        modules = here if here in homes else homes[0]
         name = "::".join([crate, *modules, *([own] if own else []), head[2]])
         yield Function(name, path, first, body, last)
 
@@ -119,7 +160,7 @@ def read_edit(folder, file):
     changes, functions = {}, set()
     for path, whole in after.items():
         lines, edited = before[path].split("\n"), whole.split("\n")
-        inside = list(functions_of(folder.name, path, lines))
+        inside = list(functions_of(folder.name, path, lines, types_of(folder)))
         for number, (line, other) in enumerate(zip(lines, edited), 1):
             if line != other:
                 changes[path, number] = other
