@@ -18,11 +18,12 @@ use Rattle.grid_core.specs.declared.slots.Slot.{Slot}
 use Rattle.grid_core.specs.Ways.{with_ways, IsStacked, stack_distance}
 use Rattle.grid_core.specs.Slots.{holds, index_of, next_slots, no_slot, used_slot, level_of}
 use Rattle.grid_core.specs.Slots.{level_after}
+use Rattle.grid_core.specs.Levels.{dirty_level}
 use Rattle.grid_core.specs.Pushed.{dirty_in}
 use Rattle.grid_core.specs.Standing.{slots_of}
 use Rattle.grid_core.proofs.Distances.{hits-distance}
-use Rattle.grid_core.proofs.Fronts.{moved-back}
-use Rattle.grid_core.proofs.SlotTurns.{index-slots, slots-here, slots-other}
+use Rattle.grid_core.proofs.Fronts.{low-level, moved-back}
+use Rattle.grid_core.proofs.SlotTurns.{index-slots, seen-level, slots-here, slots-other}
 use Rattle.grid_core.proofs.Victims.{back-is}
 
 -- the last of the first n slots of a row stands among all slots
@@ -55,6 +56,17 @@ module _ (r : Rules) (st : IsStacked r) (h : History) (x : Access) (xs : List Sl
   -- so does the distance of the block
   pub position-now : (p : ℕ) → p ≡ index_of (holds b) (row r.assoc s xs) → p ≡ stack_distance r h b
   position-now p is = is ∙ ap (index_of (holds b)) (rows s inside) ∙ index-slots r st h b
+
+  -- so does the level of its slot tell its dirty level, where it is first
+  pub level-first : (l : ℕ) → l ≡ option_map_or level_of (find (holds b) (row r.assoc s xs))
+      (length (row r.assoc s xs)) → stack_distance r h b ≡ 0 → l ≡ dirty_level r h b
+  level-first l is near =
+      let ys = slots_of r h s in
+      let v = option_map_or level_of (find (holds b) ys) (length ys) in
+      is ∙ ap (λ zs. option_map_or level_of (find (holds b) zs) (length zs)) (rows s inside)
+      ∙ sym (low-level v) ∙ ap (level_after false v) (sym (index-slots r st h b ∙ near))
+      ∙ seen-level r st h b false
+      ∙ ap (level_after false (dirty_level r h b)) near ∙ low-level (dirty_level r h b)
 
   -- the rows are those after the access
   pub rows-next : (ys : List Slot) → row r.assoc s ys ≡ next_slots b (is_write x) (row r.assoc s xs)

@@ -34,19 +34,6 @@ fn bring_front(row: &mut [Slot], position: usize, front: Slot)
     row[0] = front;
 }
 
-/// The dirty level of the block at this position of a row, or the length of the row past its end.
-fn level_at(row: &[Slot], position: usize) -> usize
-    ensures level { (p : Slot → Bool) → position ≡ index_of p row.now →
-        result ≡ option_map_or level_of (find p row.now) (length row.now) }
-    ensures small { length row.now < 2 ^ 32 → result < 2 ^ 32 }
-{
-    if position < row.len() {
-        row[position].level as usize
-    } else {
-        row.len()
-    }
-}
-
 /// The dirty level of a block after an access that found it like this.
 fn level_now(write: bool, seen: Seen) -> usize
     ensures { result ≡ level_after write seen.level seen.position }
@@ -60,19 +47,21 @@ fn level_now(write: bool, seen: Seen) -> usize
     }
 }
 
-/// Serves one access to the block at this position of a row, or past its end: it is loaded.
-fn move_front(row: &mut [Slot], position: usize, block: u64, write: bool)
+/// Serves one access to the block that was seen so in a row: past its end it is loaded.
+fn move_front(row: &mut [Slot], seen: Seen, block: u64, write: bool)
     requires small { length row.old < 2 ^ 32 }
-    requires position { position ≡ index_of (holds block) row.old }
+    requires position { seen.position ≡ index_of (holds block) row.old }
+    requires level { seen.level
+        ≡ option_map_or level_of (find (holds block) row.old) (length row.old) }
+    requires low { seen.level < 2 ^ 32 }
     ensures { row.new ≡ next_slots block write row.old }
 {
-    let level = level_at(row, position);
     let front = Slot {
         block,
         valid: true,
-        level: level_now(write, Seen { position, level }) as u32,
+        level: level_now(write, seen) as u32,
     };
-    bring_front(row, position, front);
+    bring_front(row, seen.position, front);
 }
 
 /// Serves one access to the block that is first in a row.
@@ -85,24 +74,26 @@ fn keep_front(row: &mut [Slot], block: u64, write: bool)
     }
 }
 
-/// Serves one access to a row, in which its block has this position.
-fn touch_row(row: &mut [Slot], position: usize, block: u64, write: bool)
+/// Serves one access to a row, in which its block was seen so.
+fn touch_row(row: &mut [Slot], seen: Seen, block: u64, write: bool)
     requires small { length row.old < 2 ^ 32 }
-    requires position { position ≡ index_of (holds block) row.old }
+    requires position { seen.position ≡ index_of (holds block) row.old }
+    requires level { seen.level
+        ≡ option_map_or level_of (find (holds block) row.old) (length row.old) }
+    requires low { seen.level < 2 ^ 32 }
     ensures { row.new ≡ next_slots block write row.old }
 {
-    if position == 0 {
+    if seen.position == 0 {
         keep_front(row, block, write);
     } else {
-        move_front(row, position, block, write);
+        move_front(row, seen, block, write);
     }
 }
 
-/// Where the block of an access stood in its row, or the length of the row if it was not there, and
-/// the slot that was the last.
+/// How the block of an access was seen in its row, and the slot that was the last.
 #[derive(Clone, Copy, Debug)]
 pub(crate) struct Turned {
-    pub position: usize,
+    pub seen: Seen,
     pub last: Slot,
 }
 
@@ -120,13 +111,15 @@ fn last_of(row: &[Slot]) -> Slot
 fn turn_row(row: &mut [Slot], block: u64, write: bool) -> Turned
     requires { length row.old < 2 ^ 32 }
     ensures row { row.new ≡ next_slots block write row.old }
-    ensures position { result.position ≡ index_of (holds block) row.old }
+    ensures position { result.seen.position ≡ index_of (holds block) row.old }
+    ensures level { result.seen.level
+        ≡ option_map_or level_of (find (holds block) row.old) (length row.old) }
     ensures last { result.last ≡ get_or row.old (length row.old - 1) no_slot }
 {
-    let position = look(row, block).position;
+    let seen = look(row, block);
     let last = last_of(row);
-    touch_row(row, position, block, write);
-    Turned { position, last }
+    touch_row(row, seen, block, write);
+    Turned { seen, last }
 }
 
 /// Serves one access to the row of its set.
@@ -136,7 +129,9 @@ fn turn(slots: &mut [Slot], set: usize, ways: usize, block: u64, write: bool) ->
     ensures slots { row ways set slots.new ≡ next_slots block write (row ways set slots.old) }
     ensures others { (s : ℕ) → s ≢ set → row ways s slots.new ≡ row ways s slots.old }
     ensures len { length slots.new ≡ length slots.old }
-    ensures position { result.position ≡ index_of (holds block) (row ways set slots.old) }
+    ensures position { result.seen.position ≡ index_of (holds block) (row ways set slots.old) }
+    ensures level { result.seen.level ≡ option_map_or level_of
+        (find (holds block) (row ways set slots.old)) (length (row ways set slots.old)) }
     ensures last { result.last ≡ get_or (row ways set slots.old) (ways - 1) no_slot }
 {
     let start = set * ways;
@@ -159,7 +154,9 @@ pub(crate) fn turn_in(
     ensures others { (s : ℕ) → s ≢ set →
         row ways s slots.new.items ≡ row ways s slots.old.items }
     ensures len { vec_len slots.new ≡ vec_len slots.old }
-    ensures position { result.position ≡ index_of (holds block) (row ways set slots.old.items) }
+    ensures position { result.seen.position ≡ index_of (holds block) (row ways set slots.old.items) }
+    ensures level { result.seen.level ≡ option_map_or level_of
+        (find (holds block) (row ways set slots.old.items)) (length (row ways set slots.old.items)) }
     ensures last { result.last ≡ get_or (row ways set slots.old.items) (ways - 1) no_slot }
 {
     turn(slots, set, ways, block, write)

@@ -81,6 +81,7 @@ pub(crate) fn look(row: &[Slot], block: u64) -> Seen
     ensures position { result.position ≡ index_of (holds block) row.now }
     ensures level { result.level
         ≡ option_map_or level_of (find (holds block) row.now) (length row.now) }
+    ensures low { length row.now < 2 ^ 32 → result.level < 2 ^ 32 }
 {
     for (index, slot) in row.iter().enumerate() {
         if slot.block == block && slot.valid {

@@ -1,13 +1,14 @@
 //! The sets of one number, for caches of every number of ways up to the widest.
 
 ghost use Rattle.std.specs.Prelude.{◌≡◌, ◌<◌, ◌+◌, ◌*◌, ◌^◌, ℕ, vec_len};
+ghost use Rattle.std.specs.Prelude.{◌==◌, ◌&&◌, ◌||◌, not};
 ghost use Rattle.cache_core.specs.History.{is_write};
 ghost use Rattle.cache_core.specs.Geometry.{bsize_of, sets_of, assoc_of};
 ghost use Rattle.cache_core.specs.Row.{row};
 ghost use Rattle.grid_core.specs.Slots.{HaveBytes};
 
 use crate::front::turn_in;
-use crate::slots::{Slot, clear_in, dirty_rising, empty_slot, empty_slots, pushed};
+use crate::slots::{Seen, Slot, clear_in, dirty_rising, empty_slot, empty_slots, pushed};
 use cache_core::{Access, Class, Geometry};
 use std::alloc::{AllocError, Global};
 
@@ -51,6 +52,14 @@ fn address(access: Access) -> u64
     access.addr
 }
 
+/// Whether an access changes nothing in a row in which its block was seen so: the block was the
+/// first, and dirty in all numbers of ways if this is a write.
+fn changes_nothing(write: bool, seen: Seen) -> bool
+    ensures { result ≡ (seen.position == 0 && (not write || seen.level == 0)) }
+{
+    seen.position == 0 && (!write || seen.level == 0)
+}
+
 #[tactic(auto, unfolding(crate::specs::Standing::rules_of, crate::specs::Standing::found_in))]
 impl Stack {
     ghost use Rattle.std.specs.Prelude.{◌≡◌, ◌<◌, ◌≤◌, ◌*◌, ◌%◌, ◌∷◌, ℕ, true, [], IfOk};
@@ -61,6 +70,7 @@ impl Stack {
     ghost use Rattle.grid_core.specs.Ways.{with_ways};
     ghost use Rattle.grid_core.specs.Standing.{StandsFor, rules_of, stack_rules};
     ghost use Rattle.grid_core.specs.Standing.{HasMoved, found_in, behind_in, back_at, Suits};
+    ghost use Rattle.grid_core.specs.Standing.{StaysFirst};
 
     /// Empty rows, of as many sets as the geometry has, and of its number of ways.
     pub fn new(
@@ -95,11 +105,14 @@ impl Stack {
     }
 
     /// Serves one access: its block is then the one used last in its set. Where it stood before
-    /// stays known, and so does what was pushed out.
-    pub fn serve(&mut self, access: Access)
+    /// stays known, and so does what was pushed out. Answers whether its block was first, and
+    /// dirty in all numbers of ways if this is a write: then no row has changed.
+    pub fn serve(&mut self, access: Access) -> bool
         ensures stands { (h : History) → StandsFor self.old h →
             StandsFor self.new (accessed access ∷ h) }
         ensures moved { (h : History) → StandsFor self.old h → HasMoved h access self.new }
+        ensures stays { result ≡ true → (h : History) → StandsFor self.old h →
+            StaysFirst (rules_of self.old) h access }
         ensures rules { rules_of self.new ≡ rules_of self.old }
     {
         let write = writes(access);
@@ -108,8 +121,27 @@ impl Stack {
         let set = self.set_of(block);
         let turned = turn_in(&mut self.slots, set, self.ways, block, write);
         self.set = set;
-        self.found = turned.position;
+        self.found = turned.seen.position;
         self.last = turned.last;
+        changes_nothing(write, turned.seen)
+    }
+
+    /// Passes over an access whose block stays first in its row: the rows are as they were.
+    pub fn pass(&mut self)
+        ensures stands { (h : History) (x : Access) → StandsFor self.old h →
+            StaysFirst (rules_of self.old) h x → StandsFor self.new (accessed x ∷ h) }
+        ensures moved { (h : History) (x : Access) → StandsFor self.old h →
+            StaysFirst (rules_of self.old) h x → HasMoved h x self.new }
+        ensures rules { rules_of self.new ≡ rules_of self.old }
+    {
+        self.found = 0;
+    }
+
+    /// The number of the last set.
+    pub fn last_set(&self) -> u64
+        ensures { result + 1 ≡ (rules_of self.now).sets }
+    {
+        self.last_set
     }
 
     /// Where the block of the last access stood in its row before, or the most ways if it was not

@@ -1,17 +1,22 @@
 use Rattle.std.proofs.Common.{◌≡◌, ℕ, ◌+◌, ◌-◌, ◌*◌, ◌/◌, ◌%◌, ◌<◌, ◌≤◌, ◌^◌, ltb}
+use Rattle.std.proofs.Common.{◌||◌, not, eqb, true, length}
 use Rattle.std.proofs.Common.{get_or, if◌then◌else◌, sym, ap, subst, ◌∙◌, refl, arith}
+use Rattle.std.specs.List.{find}
+use Rattle.std.specs.Option.{option_map_or}
 use Rattle.std.proofs.Math.Nat.{mod-lt, mul-le-mul_right, div-mul-le_self}
-use Rattle.std.proofs.lemmas.Bool.{ltb-false}
+use Rattle.std.proofs.lemmas.Bool.{eqb-true, ltb-false}
 use Rattle.cache_core.specs.Geometry.{bsize_of, sets_of, assoc_of}
 use Rattle.cache_core.specs.Row.{row}
 use Rattle.cache_core.proofs.Lawful.{sane_of}
 use Rattle.grid_core.specs.declared.slots.Slot.{Slot}
-use Rattle.grid_core.specs.Slots.{holds, index_of, no_slot}
+use Rattle.grid_core.specs.Slots.{holds, index_of, level_of, no_slot}
 use Rattle.grid_core.specs.Standing.{rules_of, found_in}
+use Rattle.grid_core.specs.Ways.{IsStacked, stack_distance}
 use Rattle.grid_core.proofs.StackStep.{rows-next, hits-now, position-now, back-now, behind-is}
-use Rattle.grid_core.proofs.StackStep.{row-long, suc-pred}
+use Rattle.grid_core.proofs.StackStep.{level-first, row-long, suc-pred}
 use Rattle.grid_core.proofs.Bytes.{bytes-next}
 use Rattle.grid_core.proofs.Fronts.{few-ways}
+use Rattle.grid_core.proofs.Hitting.{both-true}
 use Rattle.grid_core.proofs.stack.Stack.serve.Goals as goal
 
 pub turn_in-turned-requires-clause-room : goal.turn_in-turned-requires-clause-room
@@ -64,7 +69,7 @@ returns-clause-moved c = λ h st.
     let xs = old.slots.items in
     let ys = c.turn_in-turned.new.slots.items in
     let s = c.set_of-set.result in
-    let p = c.turn_in-turned.result.position in
+    let p = c.turn_in-turned.result.seen.position in
     let last = c.turn_in-turned.result.last in
     let block-is : c.block-block.result ≡ b = c.block-block.ensures
     ∙ ap (λ a. a / bsize_of g) c.address-addr.ensures in
@@ -99,6 +104,49 @@ returns-clause-moved c = λ h st.
           ∙ ap (λ k. get_or (row k s xs) (n - 1) no_slot) old.width
           ∙ ap (λ t. get_or (row (assoc_of g) t xs) (n - 1) no_slot) set-is)
           miss;
+    }
+
+pub returns-clause-stays : goal.returns-clause-stays
+unfolding rules_of
+returns-clause-stays c = λ yes h st.
+    let old = c.args.self.now in
+    let g = old.geometry in
+    let x = c.args.access in
+    let b = x.addr / bsize_of g in
+    let xs = old.slots.items in
+    let s = c.set_of-set.result in
+    let seen = c.turn_in-turned.result.seen in
+    let w = c.writes-write.result in
+    let block-is : c.block-block.result ≡ b = c.block-block.ensures
+    ∙ ap (λ a. a / bsize_of g) c.address-addr.ensures in
+    let set-is : s ≡ b % sets_of g = c.set_of-set.ensures
+    ∙ ap (λ z. z % sets_of g) block-is in
+    let below = mod-lt b (sane_of g).sets_pos in
+    let each = both-true (eqb seen.position 0) (not w || eqb seen.level 0)
+    (sym c.changes_nothing.ensures ∙ yes) in
+    let same : row old.ways s xs ≡ row (assoc_of g) (b % sets_of g) xs =
+    ap (λ t. row old.ways t xs) set-is ∙ ap (λ n. row n (b % sets_of g) xs) old.width in
+    let position : seen.position ≡ index_of (holds b) (row (assoc_of g) (b % sets_of g) xs) =
+    c.turn_in-turned.ensures.position
+    ∙ ap (λ z. index_of (holds z) (row old.ways s xs)) block-is
+    ∙ ap (index_of (holds b)) same in
+    let level : seen.level ≡ option_map_or level_of
+    (find (holds b) (row (assoc_of g) (b % sets_of g) xs))
+    (length (row (assoc_of g) (b % sets_of g) xs)) =
+    c.turn_in-turned.ensures.level
+    ∙ ap (λ z. option_map_or level_of (find (holds z) (row old.ways s xs))
+    (length (row old.ways s xs))) block-is
+    ∙ ap (λ l. option_map_or level_of (find (holds b) l) (length l)) same in
+    let lru : IsStacked (rules_of old) = record { lru = refl; allocates = refl } in
+    let near : stack_distance (rules_of old) h b ≡ 0 =
+    sym (position-now (rules_of old) lru h x xs st.rows below seen.position position)
+    ∙ eqb-true seen.position 0 each.0 in
+    record {
+      first = near;
+      dirty = λ writes.
+          sym (level-first (rules_of old) lru h x xs st.rows below seen.level level near)
+          ∙ eqb-true seen.level 0 (subst (λ t. (not t || eqb seen.level 0) ≡ true)
+          (c.writes-write.ensures ∙ writes) each.1);
     }
 
 pub invariant_of-self-clause-bytes : goal.invariant_of-self-clause-bytes
