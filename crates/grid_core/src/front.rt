@@ -2,13 +2,12 @@
 
 ghost use Rattle.std.specs.Prelude.{◌≡◌, ◌≢◌, ◌≤◌, ◌<◌, ◌+◌, ◌-◌};
 ghost use Rattle.std.specs.Prelude.{◌*◌, ◌^◌, ℕ, Bool, length, vec_len};
-ghost use Rattle.std.specs.Prelude.{nat_lt, if◌then◌else◌};
+ghost use Rattle.std.specs.Prelude.{nat_lt, if◌then◌else◌, ◌==◌, ◌&&◌, ◌||◌, not};
 ghost use Rattle.std.specs.List.{find};
 ghost use Rattle.std.specs.Option.{option_map_or};
 ghost use Rattle.cache_core.specs.Row.{shifted, row};
-ghost use Rattle.std.specs.Prelude.{get_or};
 ghost use Rattle.grid_core.specs.Slots.{holds, level_of, index_of, level_after, next_slots};
-ghost use Rattle.grid_core.specs.Slots.{no_slot};
+ghost use Rattle.grid_core.specs.Slots.{level_in, lost_in, stays_in};
 
 use crate::slots::{Seen, Slot, empty_slot, look};
 
@@ -51,8 +50,7 @@ fn level_now(write: bool, seen: Seen) -> usize
 fn move_front(row: &mut [Slot], seen: Seen, block: u64, write: bool)
     requires small { length row.old < 2 ^ 32 }
     requires position { seen.position ≡ index_of (holds block) row.old }
-    requires level { seen.level
-        ≡ option_map_or level_of (find (holds block) row.old) (length row.old) }
+    requires level { seen.level ≡ level_in block row.old }
     requires low { seen.level < 2 ^ 32 }
     ensures { row.new ≡ next_slots block write row.old }
 {
@@ -78,8 +76,7 @@ fn keep_front(row: &mut [Slot], block: u64, write: bool)
 fn touch_row(row: &mut [Slot], seen: Seen, block: u64, write: bool)
     requires small { length row.old < 2 ^ 32 }
     requires position { seen.position ≡ index_of (holds block) row.old }
-    requires level { seen.level
-        ≡ option_map_or level_of (find (holds block) row.old) (length row.old) }
+    requires level { seen.level ≡ level_in block row.old }
     requires low { seen.level < 2 ^ 32 }
     ensures { row.new ≡ next_slots block write row.old }
 {
@@ -90,18 +87,29 @@ fn touch_row(row: &mut [Slot], seen: Seen, block: u64, write: bool)
     }
 }
 
-/// How the block of an access was seen in its row, and the slot that was the last.
-#[derive(Clone, Copy, Debug)]
-pub(crate) struct Turned {
-    pub seen: Seen,
-    pub last: Slot,
+/// Whether an access changes nothing in a row in which its block was seen so: the block was the
+/// first, and dirty in all numbers of ways if this is a write.
+fn changes_nothing(write: bool, seen: Seen) -> bool
+    ensures { result ≡ (seen.position == 0 && (not write || seen.level == 0)) }
+{
+    seen.position == 0 && (!write || seen.level == 0)
 }
 
-/// The last slot of a row.
-fn last_of(row: &[Slot]) -> Slot
-    ensures { result ≡ get_or row.now (length row.now - 1) no_slot }
+/// Where the block of an access stood in its row, or the length of the row if it was not there,
+/// the slot that the row lost, if any, and whether the row stays as it was.
+#[derive(Clone, Copy, Debug)]
+pub(crate) struct Turned {
+    pub position: usize,
+    pub last: Slot,
+    pub stays: bool,
+}
+
+/// The slot that leaves a row in which the block of an access has this position: an empty one if it
+/// is there.
+fn lost_by(row: &[Slot], position: usize) -> Slot
+    ensures { result ≡ lost_in position row.now }
 {
-    if row.len() == 0 {
+    if position < row.len() || row.len() == 0 {
         return empty_slot();
     }
     row[row.len() - 1]
@@ -111,15 +119,19 @@ fn last_of(row: &[Slot]) -> Slot
 fn turn_row(row: &mut [Slot], block: u64, write: bool) -> Turned
     requires { length row.old < 2 ^ 32 }
     ensures row { row.new ≡ next_slots block write row.old }
-    ensures position { result.seen.position ≡ index_of (holds block) row.old }
-    ensures level { result.seen.level
-        ≡ option_map_or level_of (find (holds block) row.old) (length row.old) }
-    ensures last { result.last ≡ get_or row.old (length row.old - 1) no_slot }
+    ensures position { result.position ≡ index_of (holds block) row.old }
+    ensures stays { result.stays ≡ stays_in block write row.old }
+    ensures last { result.last ≡ lost_in (index_of (holds block) row.old) row.old }
 {
     let seen = look(row, block);
-    let last = last_of(row);
+    let last = lost_by(row, seen.position);
+    let stays = changes_nothing(write, seen);
     touch_row(row, seen, block, write);
-    Turned { seen, last }
+    Turned {
+        position: seen.position,
+        last,
+        stays,
+    }
 }
 
 /// Serves one access to the row of its set.
@@ -129,10 +141,10 @@ fn turn(slots: &mut [Slot], set: usize, ways: usize, block: u64, write: bool) ->
     ensures slots { row ways set slots.new ≡ next_slots block write (row ways set slots.old) }
     ensures others { (s : ℕ) → s ≢ set → row ways s slots.new ≡ row ways s slots.old }
     ensures len { length slots.new ≡ length slots.old }
-    ensures position { result.seen.position ≡ index_of (holds block) (row ways set slots.old) }
-    ensures level { result.seen.level ≡ option_map_or level_of
-        (find (holds block) (row ways set slots.old)) (length (row ways set slots.old)) }
-    ensures last { result.last ≡ get_or (row ways set slots.old) (ways - 1) no_slot }
+    ensures position { result.position ≡ index_of (holds block) (row ways set slots.old) }
+    ensures stays { result.stays ≡ stays_in block write (row ways set slots.old) }
+    ensures last { result.last ≡ lost_in (index_of (holds block) (row ways set slots.old))
+        (row ways set slots.old) }
 {
     let start = set * ways;
     let end = start + ways;
@@ -154,10 +166,10 @@ pub(crate) fn turn_in(
     ensures others { (s : ℕ) → s ≢ set →
         row ways s slots.new.items ≡ row ways s slots.old.items }
     ensures len { vec_len slots.new ≡ vec_len slots.old }
-    ensures position { result.seen.position ≡ index_of (holds block) (row ways set slots.old.items) }
-    ensures level { result.seen.level ≡ option_map_or level_of
-        (find (holds block) (row ways set slots.old.items)) (length (row ways set slots.old.items)) }
-    ensures last { result.last ≡ get_or (row ways set slots.old.items) (ways - 1) no_slot }
+    ensures position { result.position ≡ index_of (holds block) (row ways set slots.old.items) }
+    ensures stays { result.stays ≡ stays_in block write (row ways set slots.old.items) }
+    ensures last { result.last ≡ lost_in (index_of (holds block) (row ways set slots.old.items))
+        (row ways set slots.old.items) }
 {
     turn(slots, set, ways, block, write)
 }

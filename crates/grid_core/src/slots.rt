@@ -9,7 +9,7 @@ ghost use Rattle.std.specs.Ordering.{nat_cmp};
 ghost use Rattle.std.specs.Option.{option_map, option_map_or};
 ghost use Rattle.cache_core.specs.Row.{row};
 ghost use Rattle.grid_core.specs.Pushed.{dirty_in};
-ghost use Rattle.grid_core.specs.Slots.{holds, level_of, index_of, no_slot};
+ghost use Rattle.grid_core.specs.Slots.{holds, index_of, level_in, no_slot};
 ghost use Rattle.grid_core.specs.Slots.{HaveBytes, dirty_bytes, dirty_in_rows};
 
 use std::alloc::{AllocError, Global};
@@ -99,8 +99,7 @@ fn seen_at(row: &[Slot], index: usize) -> Seen
 /// Searches a row for a block, four slots in a turn.
 pub(crate) fn look(row: &[Slot], block: u64) -> Seen
     ensures position { result.position ≡ index_of (holds block) row.now }
-    ensures level { result.level
-        ≡ option_map_or level_of (find (holds block) row.now) (length row.now) }
+    ensures level { result.level ≡ level_in block row.now }
     ensures low { length row.now < 2 ^ 32 → result.level < 2 ^ 32 }
 {
     let len = row.len();

@@ -1,14 +1,13 @@
 //! The sets of one number, for caches of every number of ways up to the widest.
 
 ghost use Rattle.std.specs.Prelude.{◌≡◌, ◌<◌, ◌+◌, ◌*◌, ◌^◌, ℕ, vec_len};
-ghost use Rattle.std.specs.Prelude.{◌==◌, ◌&&◌, ◌||◌, not};
 ghost use Rattle.cache_core.specs.History.{is_write};
 ghost use Rattle.cache_core.specs.Geometry.{bsize_of, sets_of, assoc_of};
 ghost use Rattle.cache_core.specs.Row.{row};
 ghost use Rattle.grid_core.specs.Slots.{HaveBytes};
 
 use crate::front::turn_in;
-use crate::slots::{Seen, Slot, clear_in, dirty_rising, empty_slot, empty_slots, pushed};
+use crate::slots::{Slot, clear_in, dirty_rising, empty_slot, empty_slots, pushed};
 use cache_core::{Access, Class, Geometry};
 use std::alloc::{AllocError, Global};
 
@@ -24,7 +23,7 @@ pub struct Stack {
     /// The set of the last access, and where its block stood there before.
     set: usize,
     found: usize,
-    /// The slot that was the last of that set before.
+    /// The slot that its row lost, or an empty one.
     last: Slot,
     ghost width: { ways ≡ assoc_of geometry },
     ghost numbered: { last_set + 1 ≡ sets_of geometry },
@@ -50,14 +49,6 @@ fn address(access: Access) -> u64
     ensures { result ≡ access.addr }
 {
     access.addr
-}
-
-/// Whether an access changes nothing in a row in which its block was seen so: the block was the
-/// first, and dirty in all numbers of ways if this is a write.
-fn changes_nothing(write: bool, seen: Seen) -> bool
-    ensures { result ≡ (seen.position == 0 && (not write || seen.level == 0)) }
-{
-    seen.position == 0 && (!write || seen.level == 0)
 }
 
 #[tactic(auto, unfolding(crate::specs::Standing::rules_of, crate::specs::Standing::found_in))]
@@ -121,9 +112,9 @@ impl Stack {
         let set = self.set_of(block);
         let turned = turn_in(&mut self.slots, set, self.ways, block, write);
         self.set = set;
-        self.found = turned.seen.position;
+        self.found = turned.position;
         self.last = turned.last;
-        changes_nothing(write, turned.seen)
+        turned.stays
     }
 
     /// Passes over an access whose block stays first in its row: the rows are as they were.

@@ -1,22 +1,18 @@
 use Rattle.std.proofs.Common.{◌≡◌, ℕ, ◌+◌, ◌-◌, ◌*◌, ◌/◌, ◌%◌, ◌<◌, ◌≤◌, ◌^◌, ltb}
-use Rattle.std.proofs.Common.{◌||◌, not, eqb, true, length}
 use Rattle.std.proofs.Common.{get_or, if◌then◌else◌, sym, ap, subst, ◌∙◌, refl, arith}
-use Rattle.std.specs.List.{find}
-use Rattle.std.specs.Option.{option_map_or}
 use Rattle.std.proofs.Math.Nat.{mod-lt, mul-le-mul_right, div-mul-le_self}
-use Rattle.std.proofs.lemmas.Bool.{eqb-true, ltb-false}
+use Rattle.std.proofs.lemmas.Bool.{ltb-false}
 use Rattle.cache_core.specs.Geometry.{bsize_of, sets_of, assoc_of}
+use Rattle.cache_core.specs.History.{is_write}
 use Rattle.cache_core.specs.Row.{row}
 use Rattle.cache_core.proofs.Lawful.{sane_of}
 use Rattle.grid_core.specs.declared.slots.Slot.{Slot}
-use Rattle.grid_core.specs.Slots.{holds, index_of, level_of, no_slot}
+use Rattle.grid_core.specs.Slots.{holds, index_of, no_slot, stays_in}
 use Rattle.grid_core.specs.Standing.{rules_of, found_in}
-use Rattle.grid_core.specs.Ways.{IsStacked, stack_distance}
 use Rattle.grid_core.proofs.StackStep.{rows-next, hits-now, position-now, back-now, behind-is}
-use Rattle.grid_core.proofs.StackStep.{level-first, row-long, suc-pred}
+use Rattle.grid_core.proofs.StackStep.{first-now, lost-fits, row-long, suc-pred}
 use Rattle.grid_core.proofs.Bytes.{bytes-next}
 use Rattle.grid_core.proofs.Fronts.{few-ways}
-use Rattle.grid_core.proofs.Hitting.{both-true}
 use Rattle.grid_core.proofs.stack.Stack.serve.Goals as goal
 
 pub turn_in-turned-requires-clause-room : goal.turn_in-turned-requires-clause-room
@@ -69,7 +65,7 @@ returns-clause-moved c = λ h st.
     let xs = old.slots.items in
     let ys = c.turn_in-turned.new.slots.items in
     let s = c.set_of-set.result in
-    let p = c.turn_in-turned.result.seen.position in
+    let p = c.turn_in-turned.result.position in
     let last = c.turn_in-turned.result.last in
     let block-is : c.block-block.result ≡ b = c.block-block.ensures
     ∙ ap (λ a. a / bsize_of g) c.address-addr.ensures in
@@ -115,39 +111,17 @@ returns-clause-stays c = λ yes h st.
     let b = x.addr / bsize_of g in
     let xs = old.slots.items in
     let s = c.set_of-set.result in
-    let seen = c.turn_in-turned.result.seen in
-    let w = c.writes-write.result in
     let block-is : c.block-block.result ≡ b = c.block-block.ensures
     ∙ ap (λ a. a / bsize_of g) c.address-addr.ensures in
     let set-is : s ≡ b % sets_of g = c.set_of-set.ensures
     ∙ ap (λ z. z % sets_of g) block-is in
-    let below = mod-lt b (sane_of g).sets_pos in
-    let each = both-true (eqb seen.position 0) (not w || eqb seen.level 0)
-    (sym c.changes_nothing.ensures ∙ yes) in
-    let same : row old.ways s xs ≡ row (assoc_of g) (b % sets_of g) xs =
-    ap (λ t. row old.ways t xs) set-is ∙ ap (λ n. row n (b % sets_of g) xs) old.width in
-    let position : seen.position ≡ index_of (holds b) (row (assoc_of g) (b % sets_of g) xs) =
-    c.turn_in-turned.ensures.position
-    ∙ ap (λ z. index_of (holds z) (row old.ways s xs)) block-is
-    ∙ ap (index_of (holds b)) same in
-    let level : seen.level ≡ option_map_or level_of
-    (find (holds b) (row (assoc_of g) (b % sets_of g) xs))
-    (length (row (assoc_of g) (b % sets_of g) xs)) =
-    c.turn_in-turned.ensures.level
-    ∙ ap (λ z. option_map_or level_of (find (holds z) (row old.ways s xs))
-    (length (row old.ways s xs))) block-is
-    ∙ ap (λ l. option_map_or level_of (find (holds b) l) (length l)) same in
-    let lru : IsStacked (rules_of old) = record { lru = refl; allocates = refl } in
-    let near : stack_distance (rules_of old) h b ≡ 0 =
-    sym (position-now (rules_of old) lru h x xs st.rows below seen.position position)
-    ∙ eqb-true seen.position 0 each.0 in
-    record {
-      first = near;
-      dirty = λ writes.
-          sym (level-first (rules_of old) lru h x xs st.rows below seen.level level near)
-          ∙ eqb-true seen.level 0 (subst (λ t. (not t || eqb seen.level 0) ≡ true)
-          (c.writes-write.ensures ∙ writes) each.1);
-    }
+    first-now (rules_of old) (record { lru = refl; allocates = refl }) h x xs st.rows
+    (mod-lt b (sane_of g).sets_pos)
+    (sym (c.turn_in-turned.ensures.stays
+    ∙ ap (λ z. stays_in z c.writes-write.result (row old.ways s xs)) block-is
+    ∙ ap (λ w. stays_in b w (row old.ways s xs)) c.writes-write.ensures
+    ∙ ap (λ t. stays_in b (is_write x) (row old.ways t xs)) set-is
+    ∙ ap (λ n. stays_in b (is_write x) (row n (b % sets_of g) xs)) old.width) ∙ yes)
 
 pub invariant_of-self-clause-bytes : goal.invariant_of-self-clause-bytes
 invariant_of-self-clause-bytes c =
@@ -184,4 +158,5 @@ invariant_of-self-clause-fits c =
     let wide = old.width in
     let some = (sane_of g).assoc_pos in
     subst (λ (v : Slot). v.block * bsize_of g < 2 ^ 64) (sym c.turn_in-turned.ensures.last)
-    (old.bytes s lt (old.ways - 1) no_slot (omega arith))
+    (lost-fits (bsize_of g) (index_of (holds c.block-block.result) (row old.ways s xs))
+    (row old.ways s xs) (omega arith) (old.bytes s lt))
