@@ -3,7 +3,7 @@ use Rattle.std.proofs.Common.{◌≡◌, ℕ, suc, ◌+◌, ◌-◌, ◌*◌, �
 use Rattle.std.proofs.Common.{cond, eqb, ltb, List, [], ◌∷◌, length, take, refl, sym, ap, subst, ◌∙◌}
 use Rattle.std.proofs.Common.{inl, inr, arith}
 use Rattle.std.proofs.Math.Pow.{pow-add, pow-lt}
-use Rattle.std.proofs.lemmas.Bool.{cases_lt, eqb-true, eq-eqb, false≢true, lt-ltb, ltb-true, ltb-false}
+use Rattle.std.proofs.lemmas.Bool.{cases_lt, eqb-true, eq-eqb, false≢true, ltb-true, ltb-false}
 use Rattle.std.specs.Int.{◌∣◌}
 use native.Mathlib.Nat.{mod-mod_of_dvd, dvd-mul_right}
 use Rattle.cache_core.specs.declared.access.Access.{Access}
@@ -11,7 +11,7 @@ use Rattle.cache_core.specs.declared.geometry.Geometry.{Geometry}
 use Rattle.cache_core.specs.Geometry.{size_of, bsize_of, assoc_of, sets_of}
 use Rattle.cache_core.specs.History.{History, Rules, access, flush, block_of, is_write}
 use Rattle.cache_core.specs.Order.{ranked}
-use Rattle.cache_core.specs.Residents.{before, hits, is_resident, renewals}
+use Rattle.cache_core.specs.Residents.{before, is_resident, renewals}
 use Rattle.cache_core.proofs.Cases.{by_cases}
 use Rattle.cache_core.proofs.Masks.{zeros, sets_is}
 use Rattle.cache_core.proofs.Reuse.{has}
@@ -22,8 +22,8 @@ use Rattle.grid_core.specs.Levels.{dirty_level}
 use Rattle.grid_core.specs.Recent.{used_last}
 use Rattle.grid_core.specs.Slots.{level_after}
 use Rattle.grid_core.specs.Standing.{StaysFirst, rules_of}
-use Rattle.grid_core.specs.Ways.{IsStacked, stack_distance, with_ways}
-use Rattle.grid_core.proofs.Distances.{distance-place, hits-distance, place_in, renews-all}
+use Rattle.grid_core.specs.Ways.{IsStacked, stack_distance}
+use Rattle.grid_core.proofs.Distances.{distance-place, place_in, renews-all}
 use Rattle.grid_core.proofs.Fronts.{low-level}
 use Rattle.grid_core.proofs.Levels.{level-other, level-step}
 use Rattle.grid_core.proofs.Repeats.{distance-last}

@@ -1,4 +1,4 @@
-use Rattle.std.proofs.Common.{◌≡◌, ◌≢◌, ℕ, ◌+◌, ◌*◌, ◌^◌, ◌≤◌, ◌<◌, ◌∷◌, get_or, length, sym, ap, subst}
+use Rattle.std.proofs.Common.{◌≡◌, ◌≢◌, ℕ, ◌<◌, ◌∷◌, get_or, length, sym, ap, subst}
 use Rattle.std.proofs.Common.{◌∙◌, refl, arith, get_or-set_other}
 use Rattle.std.specs.List.{All}
 use Rattle.std.proofs.Math.Seq.{map-set_same}

@@ -1,4 +1,4 @@
-use Rattle.std.proofs.Common.{◌≡◌, ◌+◌, ◌≤◌, sym, ap, ◌∙◌, arith}
+use Rattle.std.proofs.Common.{◌≡◌, ◌+◌, ◌≤◌, ap, ◌∙◌, arith}
 use Rattle.cache_core.specs.History.{Rules}
 use Rattle.grid_core.specs.Standing.{rules_of}
 use Rattle.grid_core.proofs.Firsts.{stays-more}
