@@ -1,7 +1,8 @@
 -- Inside the crate: a row of slots, and what one access does to it.
 use Rattle.std.specs.Prelude.{ℕ, zero, suc, ◌*◌, ◌^◌}
 use Rattle.std.specs.Prelude.{◌<◌, Bool, true, false, not, ◌&&◌, ◌||◌, ◌==◌, cond}
-use Rattle.std.specs.Prelude.{nat_lt, if◌then◌else◌, get_or, ◌-◌, List, [], ◌∷◌, ◌++◌, length, take, drop}
+use Rattle.std.specs.Prelude.{nat_lt, if◌then◌else◌, get_or, ◌-◌, List, [], ◌∷◌, ◌++◌, length}
+use Rattle.std.specs.Prelude.{take, drop}
 use Rattle.std.specs.List.{find, All}
 use Rattle.std.specs.Option.{option_map_or}
 use Rattle.cache_core.specs.Row.{shifted, row}

@@ -3,10 +3,10 @@
 ghost use Rattle.std.specs.Prelude.{◌≡◌, ◌≤◌, ◌<◌, ◌+◌, ◌*◌, ℕ, length, vec_len, replicate};
 ghost use Rattle.std.specs.Prelude.{IfOk, get_or};
 ghost use Rattle.std.specs.Prelude.{List, nat_eq, ◌++◌, ◌^◌, OnOk};
-ghost use Rattle.std.specs.List.{find, dedup};
+ghost use Rattle.std.specs.List.{dedup};
 ghost use Rattle.std.specs.List.Sorted.{IsPermutation, IsSorted};
 ghost use Rattle.std.specs.Ordering.{nat_cmp};
-ghost use Rattle.std.specs.Option.{option_map, option_map_or};
+ghost use Rattle.std.specs.Option.{option_map};
 ghost use Rattle.cache_core.specs.Row.{row};
 ghost use Rattle.grid_core.specs.Pushed.{dirty_in};
 ghost use Rattle.grid_core.specs.Slots.{holds, index_of, level_in, no_slot};

@@ -96,7 +96,8 @@ invariant_of-self-2 c =
           (c.in-Ok.ensures.recent
           ∙ ap (λ d. after_use d (is_write x) (recent_in old.shadows)) block)
           c.in-Ok.ensures.far c.serve_cells-all_hit.ensures.shapes
-          (c.serve_cells-all_hit.ensures.serves h (c.serve_rows.ensures.moved (bsize_of g) h old.one_size st.rows)
+          (c.serve_cells-all_hit.ensures.serves h
+          (c.serve_rows.ensures.moved (bsize_of g) h old.one_size st.rows)
           (cells-due g h x old.cells.items c.in-Ok.prior prior st.counted)));
     }
 
@@ -129,7 +130,8 @@ returns-clause-stands c = λ h e.
           (c.in-Ok.ensures.recent
           ∙ ap (λ d. after_use d (is_write x) (recent_in old.shadows)) block)
           c.in-Ok.ensures.far c.serve_cells-all_hit.ensures.shapes
-          (c.serve_cells-all_hit.ensures.serves h (c.serve_rows.ensures.moved (bsize_of g) h old.one_size st.rows)
+          (c.serve_cells-all_hit.ensures.serves h
+          (c.serve_rows.ensures.moved (bsize_of g) h old.one_size st.rows)
           (cells-due g h x old.cells.items c.in-Ok.prior prior st.counted));
     }
 
@@ -159,7 +161,8 @@ returns-clause-answers c = λ h e.
           (sym c.is_silent-self.ensures ∙ none) in
           hits-send-nothing h x old.wback c.sends_on.result
           c.serve_cells-all_hit.new.cells.items
-          (c.serve_cells-all_hit.ensures.hits each.0 h (c.serve_rows.ensures.moved (bsize_of g) h old.one_size st.rows))
+          (c.serve_cells-all_hit.ensures.hits each.0 h
+          (c.serve_rows.ensures.moved (bsize_of g) h old.one_size st.rows))
           (subst (λ (l : List Shape). All (λ s. s.wback ≡ old.wback) l)
           (sym c.serve_cells-all_hit.ensures.shapes) old.one_policy)
           (c.sends_on.ensures ∙ ap (λ t. t && not old.wback) c.writes-write.ensures)
