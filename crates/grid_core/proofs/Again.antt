@@ -79,7 +79,7 @@ known-again n b r (access y ∷ h) same e c =
     twice false t = refl
 
 -- the block size of the rows at an index
-size-at : (n : ℕ) (stacks : List Stack) → HaveBsize n stacks → (k : ℕ) (d : Stack)
+pub size-at : (n : ℕ) (stacks : List Stack) → HaveBsize n stacks → (k : ℕ) (d : Stack)
     → k < length stacks → (rules_of (get_or stacks k d)).bsize ≡ n
 size-at n stacks all k d lt =
     let long : k < length (map rules_of stacks) = omega (arith, length-map stacks rules_of) in

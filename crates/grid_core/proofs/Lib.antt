@@ -19,6 +19,8 @@ pub mod Sizes
 pub mod Served
 pub mod Placed
 pub mod Repeats
+pub mod Firsts
+pub mod Staying
 pub mod After
 pub mod Again
 pub mod OtherWays

@@ -163,21 +163,27 @@ module _ (r : Rules) (st : IsStacked r) (b : ℕ) where
             ∙ low-level 0
       ]) each.1
 
-  -- its row stays
+  -- the row of the block that is first stays, if the block is dirty in all numbers of ways or this
+  -- is no write
+  pub row-first : (h : History) (write : Bool) → stack_distance r h b ≡ 0
+      → (write ≡ true → dirty_level r h b ≡ 0)
+      → slots_of r h (b % r.sets) ≡ next_slots b write (slots_of r h (b % r.sets))
+  row-first h write near dirty =
+      let row = slots_of r h (b % r.sets) in
+      let first : 0 ≡ index_of (holds b) row = sym (index-slots r st h b ∙ near) in
+      let read : row ≡ next_slots b false row = sym (read-first b row first) in
+      (elim write as (λ w. (w ≡ true → dirty_level r h b ≡ 0) → row ≡ next_slots b w row) [
+        | true ↦ λ dirty.
+            let low : level_after false (dirty_level r h b) (stack_distance r h b) ≡ 0 =
+            ap (λ l. level_after false l (stack_distance r h b)) (dirty refl)
+            ∙ ap (level_after false 0) near ∙ low-level 0 in
+            read ∙ ap (λ l. shifted (holds b) (used_slot b l) row) (seen-level r st h b false ∙ low)
+        | false ↦ λ dirty. read
+      ]) dirty
+
+  -- so does that of the block that was used last
   pub row-again : 0 < r.assoc → (h : History) (write : Bool) → used_last r.bsize b h ≡ true
       → (write ≡ true → written_last r.bsize b h ≡ true)
       → slots_of r h (b % r.sets) ≡ next_slots b write (slots_of r h (b % r.sets))
   row-again some h write last written =
-      let row = slots_of r h (b % r.sets) in
-      let near : stack_distance r h b ≡ 0 = distance-last some h last in
-      let first : 0 ≡ index_of (holds b) row = sym (index-slots r st h b ∙ near) in
-      let read : row ≡ next_slots b false row = sym (read-first b row first) in
-      (elim write as (λ w. (w ≡ true → written_last r.bsize b h ≡ true)
-      → row ≡ next_slots b w row) [
-        | true ↦ λ dirty.
-            let low : level_after false (dirty_level r h b) (stack_distance r h b) ≡ 0 =
-            ap (λ l. level_after false l (stack_distance r h b)) (level-last some h (dirty refl))
-            ∙ ap (level_after false 0) near ∙ low-level 0 in
-            read ∙ ap (λ l. shifted (holds b) (used_slot b l) row) (seen-level r st h b false ∙ low)
-        | false ↦ λ dirty. read
-      ]) written
+      row-first h write (distance-last some h last) (λ w. level-last some h (written w))

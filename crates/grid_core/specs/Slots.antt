@@ -1,7 +1,8 @@
 -- Inside the crate: a row of slots, and what one access does to it.
 use Rattle.std.specs.Prelude.{ℕ, zero, suc, ◌*◌, ◌^◌}
-use Rattle.std.specs.Prelude.{◌<◌, Bool, true, false, ◌&&◌, ◌==◌, cond}
-use Rattle.std.specs.Prelude.{nat_lt, if◌then◌else◌, List, [], ◌∷◌, ◌++◌, length, take, drop}
+use Rattle.std.specs.Prelude.{◌<◌, Bool, true, false, not, ◌&&◌, ◌||◌, ◌==◌, cond}
+use Rattle.std.specs.Prelude.{nat_lt, if◌then◌else◌, get_or, ◌-◌, List, [], ◌∷◌, ◌++◌, length}
+use Rattle.std.specs.Prelude.{take, drop}
 use Rattle.std.specs.List.{find, All}
 use Rattle.std.specs.Option.{option_map_or}
 use Rattle.cache_core.specs.Row.{shifted, row}
@@ -28,6 +29,20 @@ abbrev pub index_of : {X : Type 0} → (X → Bool) → List X → ℕ
 index_of p [] = 0
 index_of p (x ∷ xs) = cond (p x) 0 (suc (index_of p xs))
 
+-- the dirty level of block b in a row, or the length of the row if it is not there
+abbrev pub level_in : ℕ → List Slot → ℕ
+level_in b row = option_map_or level_of (find (holds b) row) (length row)
+
+-- an access to block b leaves the row as it is: the block is the first, and if this is a write, its
+-- level is 0
+abbrev pub stays_in : ℕ → Bool → List Slot → Bool
+stays_in b write row = index_of (holds b) row == 0 && (not write || level_in b row == 0)
+
+-- the slot that leaves a row in which the block of an access has this position: none if it is there
+abbrev pub lost_in : ℕ → List Slot → Slot
+lost_in position row =
+    if nat_lt position (length row) then no_slot else get_or row (length row - 1) no_slot
+
 -- the dirty level after an access, by the level and the distance before it
 abbrev pub level_after : Bool → ℕ → ℕ → ℕ
 level_after write level distance =
@@ -35,8 +50,8 @@ level_after write level distance =
 
 -- the row after an access to block b
 abbrev pub next_slots : ℕ → Bool → List Slot → List Slot
-next_slots b write row = shifted (holds b) (used_slot b (level_after write
-    (option_map_or level_of (find (holds b) row) (length row)) (index_of (holds b) row))) row
+next_slots b write row = shifted (holds b) (used_slot b (level_after write (level_in b row)
+    (index_of (holds b) row))) row
 
 -- each block of a row has a first byte, where blocks have n bytes
 abbrev pub HaveBytes : ℕ → List Slot → Type 0

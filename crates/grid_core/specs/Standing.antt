@@ -4,7 +4,7 @@ use Rattle.std.specs.Prelude.{false, Bool, Option, get_or, nat_lt, if◌then◌e
 use Rattle.std.specs.Option.{option_map}
 use Rattle.cache_core.specs.declared.geometry.Geometry.{Geometry}
 use Rattle.cache_core.specs.declared.access.Access.{Access}
-use Rattle.cache_core.specs.History.{History, Rules, block_of}
+use Rattle.cache_core.specs.History.{History, Rules, block_of, is_write}
 use Rattle.cache_core.specs.Residents.{hits, renewals}
 use Rattle.cache_core.specs.Parts.{outcome_of}
 use Rattle.cache_core.specs.Order.{ranked}
@@ -68,6 +68,17 @@ pub record HasMoved (h : History) (x : Access) (s : Stack) : Type 0 where
   pub backs : (n : ℕ) → 0 < n → n ≤ (rules_of s).assoc
       → hits (with_ways n (rules_of s)) (renewals (with_ways n (rules_of s)) h) x ≡ false
       → (outcome_of (with_ways n (rules_of s)) h x).back ≡ back_at s n
+
+-- after the history h the block of the access x is the first of its set, and if x writes, dirty in
+-- all numbers of ways: x changes no row
+pub record StaysFirst (r : Rules) (h : History) (x : Access) : Type 0 where
+  pub first : stack_distance r h (block_of r x) ≡ 0
+  pub dirty : is_write x ≡ true → dirty_level r h (block_of r x) ≡ 0
+
+-- so it is in all rows of more than m sets, where blocks have n bytes
+abbrev pub StayFirstFrom : ℕ → ℕ → History → Access → Type 0
+StayFirstFrom n m h x = (s : Stack) → (rules_of s).bsize ≡ n → m < (rules_of s).sets →
+    StaysFirst (rules_of s) h x
 
 -- a cache of this geometry and write policy, of so many ways, has as many sets, and no more ways
 pub record Suits (r : Rules) (g : Geometry) (ways : ℕ) (wback : Bool) : Type 0 where

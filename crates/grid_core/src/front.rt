@@ -2,13 +2,10 @@
 
 ghost use Rattle.std.specs.Prelude.{◌≡◌, ◌≢◌, ◌≤◌, ◌<◌, ◌+◌, ◌-◌};
 ghost use Rattle.std.specs.Prelude.{◌*◌, ◌^◌, ℕ, Bool, length, vec_len};
-ghost use Rattle.std.specs.Prelude.{nat_lt, if◌then◌else◌};
-ghost use Rattle.std.specs.List.{find};
-ghost use Rattle.std.specs.Option.{option_map_or};
+ghost use Rattle.std.specs.Prelude.{nat_lt, if◌then◌else◌, ◌==◌, ◌&&◌, ◌||◌, not};
 ghost use Rattle.cache_core.specs.Row.{shifted, row};
-ghost use Rattle.std.specs.Prelude.{get_or};
-ghost use Rattle.grid_core.specs.Slots.{holds, level_of, index_of, level_after, next_slots};
-ghost use Rattle.grid_core.specs.Slots.{no_slot};
+ghost use Rattle.grid_core.specs.Slots.{holds, index_of, level_after, next_slots};
+ghost use Rattle.grid_core.specs.Slots.{level_in, lost_in, stays_in};
 
 use crate::slots::{Seen, Slot, empty_slot, look};
 
@@ -34,19 +31,6 @@ fn bring_front(row: &mut [Slot], position: usize, front: Slot)
     row[0] = front;
 }
 
-/// The dirty level of the block at this position of a row, or the length of the row past its end.
-fn level_at(row: &[Slot], position: usize) -> usize
-    ensures level { (p : Slot → Bool) → position ≡ index_of p row.now →
-        result ≡ option_map_or level_of (find p row.now) (length row.now) }
-    ensures small { length row.now < 2 ^ 32 → result < 2 ^ 32 }
-{
-    if position < row.len() {
-        row[position].level as usize
-    } else {
-        row.len()
-    }
-}
-
 /// The dirty level of a block after an access that found it like this.
 fn level_now(write: bool, seen: Seen) -> usize
     ensures { result ≡ level_after write seen.level seen.position }
@@ -60,19 +44,20 @@ fn level_now(write: bool, seen: Seen) -> usize
     }
 }
 
-/// Serves one access to the block at this position of a row, or past its end: it is loaded.
-fn move_front(row: &mut [Slot], position: usize, block: u64, write: bool)
+/// Serves one access to the block that was seen so in a row: past its end it is loaded.
+fn move_front(row: &mut [Slot], seen: Seen, block: u64, write: bool)
     requires small { length row.old < 2 ^ 32 }
-    requires position { position ≡ index_of (holds block) row.old }
+    requires position { seen.position ≡ index_of (holds block) row.old }
+    requires level { seen.level ≡ level_in block row.old }
+    requires low { seen.level < 2 ^ 32 }
     ensures { row.new ≡ next_slots block write row.old }
 {
-    let level = level_at(row, position);
     let front = Slot {
         block,
         valid: true,
-        level: level_now(write, Seen { position, level }) as u32,
+        level: level_now(write, seen) as u32,
     };
-    bring_front(row, position, front);
+    bring_front(row, seen.position, front);
 }
 
 /// Serves one access to the block that is first in a row.
@@ -85,32 +70,44 @@ fn keep_front(row: &mut [Slot], block: u64, write: bool)
     }
 }
 
-/// Serves one access to a row, in which its block has this position.
-fn touch_row(row: &mut [Slot], position: usize, block: u64, write: bool)
+/// Serves one access to a row, in which its block was seen so.
+fn touch_row(row: &mut [Slot], seen: Seen, block: u64, write: bool)
     requires small { length row.old < 2 ^ 32 }
-    requires position { position ≡ index_of (holds block) row.old }
+    requires position { seen.position ≡ index_of (holds block) row.old }
+    requires level { seen.level ≡ level_in block row.old }
+    requires low { seen.level < 2 ^ 32 }
     ensures { row.new ≡ next_slots block write row.old }
 {
-    if position == 0 {
+    if seen.position == 0 {
         keep_front(row, block, write);
     } else {
-        move_front(row, position, block, write);
+        move_front(row, seen, block, write);
     }
 }
 
-/// Where the block of an access stood in its row, or the length of the row if it was not there, and
-/// the slot that was the last.
+/// Whether an access changes nothing in a row in which its block was seen so: the block was the
+/// first, and dirty in all numbers of ways if this is a write.
+fn changes_nothing(write: bool, seen: Seen) -> bool
+    ensures { result ≡ (seen.position == 0 && (not write || seen.level == 0)) }
+{
+    seen.position == 0 && (!write || seen.level == 0)
+}
+
+/// Where the block of an access stood in its row, or the length of the row if it was not there,
+/// the slot that the row lost, if any, and whether the row stays as it was.
 #[derive(Clone, Copy, Debug)]
 pub(crate) struct Turned {
     pub position: usize,
     pub last: Slot,
+    pub stays: bool,
 }
 
-/// The last slot of a row.
-fn last_of(row: &[Slot]) -> Slot
-    ensures { result ≡ get_or row.now (length row.now - 1) no_slot }
+/// The slot that leaves a row in which the block of an access has this position: an empty one if it
+/// is there.
+fn lost_by(row: &[Slot], position: usize) -> Slot
+    ensures { result ≡ lost_in position row.now }
 {
-    if row.len() == 0 {
+    if position < row.len() || row.len() == 0 {
         return empty_slot();
     }
     row[row.len() - 1]
@@ -121,12 +118,18 @@ fn turn_row(row: &mut [Slot], block: u64, write: bool) -> Turned
     requires { length row.old < 2 ^ 32 }
     ensures row { row.new ≡ next_slots block write row.old }
     ensures position { result.position ≡ index_of (holds block) row.old }
-    ensures last { result.last ≡ get_or row.old (length row.old - 1) no_slot }
+    ensures stays { result.stays ≡ stays_in block write row.old }
+    ensures last { result.last ≡ lost_in (index_of (holds block) row.old) row.old }
 {
-    let position = look(row, block).position;
-    let last = last_of(row);
-    touch_row(row, position, block, write);
-    Turned { position, last }
+    let seen = look(row, block);
+    let last = lost_by(row, seen.position);
+    let stays = changes_nothing(write, seen);
+    touch_row(row, seen, block, write);
+    Turned {
+        position: seen.position,
+        last,
+        stays,
+    }
 }
 
 /// Serves one access to the row of its set.
@@ -137,7 +140,9 @@ fn turn(slots: &mut [Slot], set: usize, ways: usize, block: u64, write: bool) ->
     ensures others { (s : ℕ) → s ≢ set → row ways s slots.new ≡ row ways s slots.old }
     ensures len { length slots.new ≡ length slots.old }
     ensures position { result.position ≡ index_of (holds block) (row ways set slots.old) }
-    ensures last { result.last ≡ get_or (row ways set slots.old) (ways - 1) no_slot }
+    ensures stays { result.stays ≡ stays_in block write (row ways set slots.old) }
+    ensures last { result.last ≡ lost_in (index_of (holds block) (row ways set slots.old))
+        (row ways set slots.old) }
 {
     let start = set * ways;
     let end = start + ways;
@@ -160,7 +165,9 @@ pub(crate) fn turn_in(
         row ways s slots.new.items ≡ row ways s slots.old.items }
     ensures len { vec_len slots.new ≡ vec_len slots.old }
     ensures position { result.position ≡ index_of (holds block) (row ways set slots.old.items) }
-    ensures last { result.last ≡ get_or (row ways set slots.old.items) (ways - 1) no_slot }
+    ensures stays { result.stays ≡ stays_in block write (row ways set slots.old.items) }
+    ensures last { result.last ≡ lost_in (index_of (holds block) (row ways set slots.old.items))
+        (row ways set slots.old.items) }
 {
     turn(slots, set, ways, block, write)
 }

@@ -2,7 +2,8 @@
 
 ghost use Rattle.std.specs.Prelude.{◌≡◌, ℕ, [], map, true, IfOk, OnOk};
 ghost use Rattle.std.specs.List.{All};
-ghost use Rattle.cache_core.specs.Geometry.{bsize_of, blocks_of};
+ghost use Rattle.std.specs.List.Sorted.{IsPermutation, IsNonDecreasingBy};
+ghost use Rattle.cache_core.specs.Geometry.{bsize_of, blocks_of, sets_of};
 ghost use Rattle.grid_core.specs.Standing.{StandsFor, rules_of, stack_rules};
 ghost use Rattle.grid_core.specs.declared.cells.Shape.{Shape as Cut};
 ghost use Rattle.grid_core.specs.Shapes.{has_size, HaveBsize, IsSuitedShape};
@@ -20,6 +21,36 @@ use std::alloc::{AllocError, Global};
 pub(crate) struct Parts {
     pub stacks: Vec<Stack>,
     pub cells: Vec<Cell>,
+}
+
+/// The geometries in the order of their numbers of sets.
+fn by_sets(alloc: Global, geometries: &[Geometry]) -> Result<Vec<Geometry>, AllocError>
+    ensures same { IfOk result (λ ordered. IsPermutation geometries.now ordered.items) }
+    ensures rising { IfOk result (λ ordered. IsNonDecreasingBy (λ g. sets_of g) ordered.items) }
+{
+    let mut ordered = Vec::from_slice(alloc, geometries)?;
+    ordered.sort_unstable_by_key(|geometry| geometry.sets());
+    Ok(ordered)
+}
+
+/// Empty rows for these geometries, those of fewer sets before those of more: an access that leaves
+/// some as they are passes over the ones behind.
+fn rows_for(
+    alloc: Global,
+    geometries: &[Geometry],
+    first: Geometry,
+    wback: bool,
+) -> Result<Vec<Stack>, AllocError>
+    requires { All (λ g. bsize_of g ≡ bsize_of first) geometries.now }
+    ensures one_size { IfOk result (λ stacks. HaveBsize (bsize_of first) stacks.items) }
+    ensures stands { IfOk result (λ stacks. All (λ s. StandsFor s []) stacks.items) }
+{
+    let ordered = by_sets(alloc, geometries)?;
+    let mut stacks = Vec::new(alloc);
+    for geometry in ordered.iter() {
+        stack_for(alloc, &mut stacks, geometries, *geometry, wback)?;
+    }
+    Ok(stacks)
 }
 
 /// A cell that has counted nothing, for a geometry, and rows for it.
@@ -73,7 +104,7 @@ pub(crate) fn parts_for(
     ensures stands { IfOk result (λ parts. All (λ s. StandsFor s []) parts.stacks.items) }
     ensures fresh { IfOk result (λ parts. All IsFresh parts.cells.items) }
 {
-    let mut stacks = Vec::new(alloc);
+    let mut stacks = rows_for(alloc, geometries, first, wback)?;
     let mut cells = Vec::new(alloc);
     for geometry in geometries {
         let cell = cell_for(alloc, &mut stacks, geometries, *geometry, sizes, wback)?;

@@ -1,15 +1,15 @@
 //! The blocks of a set, the one that was used last first, as many as the widest cache holds.
 
 ghost use Rattle.std.specs.Prelude.{◌≡◌, ◌≤◌, ◌<◌, ◌+◌, ◌*◌, ℕ, length, vec_len, replicate};
-ghost use Rattle.std.specs.Prelude.{IfOk};
+ghost use Rattle.std.specs.Prelude.{IfOk, get_or};
 ghost use Rattle.std.specs.Prelude.{List, nat_eq, ◌++◌, ◌^◌, OnOk};
-ghost use Rattle.std.specs.List.{find, dedup};
+ghost use Rattle.std.specs.List.{dedup};
 ghost use Rattle.std.specs.List.Sorted.{IsPermutation, IsSorted};
 ghost use Rattle.std.specs.Ordering.{nat_cmp};
-ghost use Rattle.std.specs.Option.{option_map, option_map_or};
+ghost use Rattle.std.specs.Option.{option_map};
 ghost use Rattle.cache_core.specs.Row.{row};
 ghost use Rattle.grid_core.specs.Pushed.{dirty_in};
-ghost use Rattle.grid_core.specs.Slots.{holds, level_of, index_of, no_slot};
+ghost use Rattle.grid_core.specs.Slots.{holds, index_of, level_in, no_slot};
 ghost use Rattle.grid_core.specs.Slots.{HaveBytes, dirty_bytes, dirty_in_rows};
 
 use std::alloc::{AllocError, Global};
@@ -76,23 +76,58 @@ pub(crate) fn pushed(slot: Slot, wback: bool, ways: usize, bsize: u64) -> Option
     }
 }
 
-/// Searches a row for a block.
+/// Whether a slot holds a block.
+fn has_block(slot: Slot, block: u64) -> bool
+    ensures { result ≡ holds block slot }
+{
+    slot.block == block && slot.valid
+}
+
+/// What is seen of the block that the slot at an index holds.
+fn seen_at(row: &[Slot], index: usize) -> Seen
+    requires { index < length row.now }
+    ensures position { result.position ≡ index }
+    ensures level { result.level ≡ (get_or row.now index no_slot).level }
+    ensures low { result.level < 2 ^ 32 }
+{
+    Seen {
+        position: index,
+        level: row[index].level as usize,
+    }
+}
+
+/// Searches a row for a block, four slots in a turn.
 pub(crate) fn look(row: &[Slot], block: u64) -> Seen
     ensures position { result.position ≡ index_of (holds block) row.now }
-    ensures level { result.level
-        ≡ option_map_or level_of (find (holds block) row.now) (length row.now) }
+    ensures level { result.level ≡ level_in block row.now }
+    ensures low { length row.now < 2 ^ 32 → result.level < 2 ^ 32 }
 {
-    for (index, slot) in row.iter().enumerate() {
-        if slot.block == block && slot.valid {
-            return Seen {
-                position: index,
-                level: slot.level as usize,
-            };
+    let len = row.len();
+    let mut index = 0;
+    'fours: while len - index >= 4 {
+        if has_block(row[index], block) {
+            return seen_at(row, index);
         }
+        if has_block(row[index + 1], block) {
+            return seen_at(row, index + 1);
+        }
+        if has_block(row[index + 2], block) {
+            return seen_at(row, index + 2);
+        }
+        if has_block(row[index + 3], block) {
+            return seen_at(row, index + 3);
+        }
+        index += 4;
+    }
+    'ones: while index < len {
+        if has_block(row[index], block) {
+            return seen_at(row, index);
+        }
+        index += 1;
     }
     Seen {
-        position: row.len(),
-        level: row.len(),
+        position: len,
+        level: len,
     }
 }
 

@@ -23,7 +23,7 @@ pub struct Stack {
     /// The set of the last access, and where its block stood there before.
     set: usize,
     found: usize,
-    /// The slot that was the last of that set before.
+    /// The slot that its row lost, or an empty one.
     last: Slot,
     ghost width: { ways ≡ assoc_of geometry },
     ghost numbered: { last_set + 1 ≡ sets_of geometry },
@@ -61,6 +61,7 @@ impl Stack {
     ghost use Rattle.grid_core.specs.Ways.{with_ways};
     ghost use Rattle.grid_core.specs.Standing.{StandsFor, rules_of, stack_rules};
     ghost use Rattle.grid_core.specs.Standing.{HasMoved, found_in, behind_in, back_at, Suits};
+    ghost use Rattle.grid_core.specs.Standing.{StaysFirst};
 
     /// Empty rows, of as many sets as the geometry has, and of its number of ways.
     pub fn new(
@@ -95,11 +96,14 @@ impl Stack {
     }
 
     /// Serves one access: its block is then the one used last in its set. Where it stood before
-    /// stays known, and so does what was pushed out.
-    pub fn serve(&mut self, access: Access)
+    /// stays known, and so does what was pushed out. Answers whether its block was first, and
+    /// dirty in all numbers of ways if this is a write: then no row has changed.
+    pub fn serve(&mut self, access: Access) -> bool
         ensures stands { (h : History) → StandsFor self.old h →
             StandsFor self.new (accessed access ∷ h) }
         ensures moved { (h : History) → StandsFor self.old h → HasMoved h access self.new }
+        ensures stays { result ≡ true → (h : History) → StandsFor self.old h →
+            StaysFirst (rules_of self.old) h access }
         ensures rules { rules_of self.new ≡ rules_of self.old }
     {
         let write = writes(access);
@@ -110,6 +114,25 @@ impl Stack {
         self.set = set;
         self.found = turned.position;
         self.last = turned.last;
+        turned.stays
+    }
+
+    /// Passes over an access whose block stays first in its row: the rows are as they were.
+    pub fn pass(&mut self)
+        ensures stands { (h : History) (x : Access) → StandsFor self.old h →
+            StaysFirst (rules_of self.old) h x → StandsFor self.new (accessed x ∷ h) }
+        ensures moved { (h : History) (x : Access) → StandsFor self.old h →
+            StaysFirst (rules_of self.old) h x → HasMoved h x self.new }
+        ensures rules { rules_of self.new ≡ rules_of self.old }
+    {
+        self.found = 0;
+    }
+
+    /// The number of the last set.
+    pub fn last_set(&self) -> u64
+        ensures { result + 1 ≡ (rules_of self.now).sets }
+    {
+        self.last_set
     }
 
     /// Where the block of the last access stood in its row before, or the most ways if it was not

@@ -7,11 +7,12 @@ use Rattle.grid_core.proofs.front.move_front.Goals as goal
 pub overflow_cast-front : goal.overflow_cast-front
 overflow_cast-front c =
     let xs = c.args.row.now in
+    let seen = c.args.seen in
     let small = c.requires.small in
-    let level = c.level_at-level.ensures.small small in
+    let low = c.requires.low in
     let is = c.requires.position in
     let inside = index-le (holds c.args.block) xs in
-    let le = after-le c.args.write c.level_at-level.result c.args.position (2 ^ 32 - 1)
+    let le = after-le c.args.write seen.level seen.position (2 ^ 32 - 1)
     (omega arith) (omega arith) in
     let e = c.level_now.ensures in
     omega arith

@@ -1,35 +1,65 @@
-use Rattle.std.proofs.Common.{◌≢◌, ◌<◌, ◌∷◌, length, sym, subst, ◌∙◌, arith}
-use Rattle.std.proofs.Common.{get_or-set_other}
+use Rattle.std.proofs.Common.{◌≡◌, ◌≢◌, ℕ, ◌<◌, ◌∷◌, get_or, length, sym, ap, subst}
+use Rattle.std.proofs.Common.{◌∙◌, refl, arith, get_or-set_other}
+use Rattle.std.specs.List.{All}
 use Rattle.std.proofs.Math.Seq.{map-set_same}
 use Rattle.std.proofs.lemmas.List.Elements.{AllWithin-more_set}
-use Rattle.cache_core.specs.History.{access as accessed}
-use Rattle.grid_core.specs.Standing.{StandsFor, HasMoved, rules_of}
+use Rattle.cache_core.specs.History.{History, access as accessed}
+use Rattle.grid_core.specs.declared.stack.Stack.{Stack}
+use Rattle.grid_core.specs.Shapes.{HaveBsize}
+use Rattle.grid_core.specs.Standing.{StandsFor, HasMoved, StayFirstFrom, rules_of}
+use Rattle.grid_core.proofs.Again.{size-at}
+use Rattle.grid_core.proofs.StackRules.{few-sets}
 use Rattle.grid_core.proofs.stacks.serve_all.Goals as goal
+
+pub loop-stack-init : goal.loop-stack-init
+loop-stack-init c = record {
+  rules = refl;
+  stands = λ n h sizes all k d low lt. absurd (omega arith);
+  moved = λ n h sizes all k d low lt. absurd (omega arith);
+  stays = λ n h sizes all s same more. let few = few-sets s in absurd (omega arith);
+  left = λ k d low. refl;
+}
 
 pub loop-stack-preserved : goal.loop-stack-preserved
 loop-stack-preserved c =
     let i = c.loop-stack.stack-index in
     let xs = c.loop-stack.stacks in
-    let v = c.serve.new.self in
+    let v = c.serve_one-least.new.stack in
     let e = c.stack-item.result in
     let first = c.args.stacks.now in
+    let x = c.args.access in
+    let one = c.serve_one-least.ensures in
     let inside : i < length xs = omega arith in
     let inside' : i < length first = omega arith in
+    let same : get_or xs i e ≡ get_or first i e =
+    c.loop-stack.invariant.left i e (omega arith) in
+    let size : (n : ℕ) → HaveBsize n first → n ≡ (rules_of (get_or xs i e)).bsize =
+    λ n sizes. sym (ap (λ (s : Stack). (rules_of s).bsize) same ∙ size-at n first sizes i e inside')
+    in
+    let here : (h : History) → All (λ s. StandsFor s h) first → StandsFor (get_or xs i e) h =
+    λ h all. subst (λ s. StandsFor s h) (sym same) (all i e inside') in
+    let stay : (n : ℕ) (h : History) → HaveBsize n first → All (λ s. StandsFor s h) first
+    → StayFirstFrom (rules_of (get_or xs i e)).bsize c.loop-stack.least h x =
+    λ n h sizes all. subst (λ m. StayFirstFrom m c.loop-stack.least h x) (size n sizes)
+    (c.loop-stack.invariant.stays n h sizes all) in
     record {
-      rules = map-set_same rules_of xs i v e c.serve.ensures.rules ∙ c.loop-stack.invariant.rules;
-      stands = λ h all. AllWithin-more_set xs i v inside (λ s. StandsFor s
-          (accessed c.args.access ∷ h))
-          (c.loop-stack.invariant.stands h all)
-          (c.serve.ensures.stands h (subst (λ s. StandsFor s h)
-          (sym (c.loop-stack.invariant.left i e (omega arith))) (all i e inside')));
-      moved = λ h all. AllWithin-more_set xs i v inside (HasMoved h c.args.access)
-          (c.loop-stack.invariant.moved h all)
-          (c.serve.ensures.moved h (subst (λ s. StandsFor s h)
-          (sym (c.loop-stack.invariant.left i e (omega arith))) (all i e inside')));
+      rules = map-set_same rules_of xs i v e one.rules ∙ c.loop-stack.invariant.rules;
+      stands = λ n h sizes all. AllWithin-more_set xs i v inside
+          (λ s. StandsFor s (accessed x ∷ h)) (c.loop-stack.invariant.stands n h sizes all)
+          (one.stands h (here h all) (stay n h sizes all));
+      moved = λ n h sizes all. AllWithin-more_set xs i v inside (HasMoved h x)
+          (c.loop-stack.invariant.moved n h sizes all)
+          (one.moved h (here h all) (stay n h sizes all));
+      stays = λ n h sizes all. subst (λ m. StayFirstFrom m c.serve_one-least.result h x)
+          (sym (size n sizes)) (one.stays h (here h all) (stay n h sizes all));
       left = λ k d lt. let ne : k ≢ i = omega arith in get_or-set_other xs i k v d ne
           ∙ c.loop-stack.invariant.left k d (omega arith);
     }
 
+pub returns-clause-stands : goal.returns-clause-stands
+returns-clause-stands c = λ n h sizes all k d lt.
+    c.loop-stack.invariant.stands n h sizes all k d (omega arith) (omega arith)
+
 pub returns-clause-moved : goal.returns-clause-moved
-returns-clause-moved c = λ h all k d lt.
-    c.loop-stack.invariant.moved h all k d (omega arith) (omega arith)
+returns-clause-moved c = λ n h sizes all k d lt.
+    c.loop-stack.invariant.moved n h sizes all k d (omega arith) (omega arith)

@@ -3,13 +3,14 @@ use Rattle.std.proofs.Common.{get_or, if◌then◌else◌, sym, ap, subst, ◌�
 use Rattle.std.proofs.Math.Nat.{mod-lt, mul-le-mul_right, div-mul-le_self}
 use Rattle.std.proofs.lemmas.Bool.{ltb-false}
 use Rattle.cache_core.specs.Geometry.{bsize_of, sets_of, assoc_of}
+use Rattle.cache_core.specs.History.{is_write}
 use Rattle.cache_core.specs.Row.{row}
 use Rattle.cache_core.proofs.Lawful.{sane_of}
 use Rattle.grid_core.specs.declared.slots.Slot.{Slot}
-use Rattle.grid_core.specs.Slots.{holds, index_of, no_slot}
+use Rattle.grid_core.specs.Slots.{holds, index_of, no_slot, stays_in}
 use Rattle.grid_core.specs.Standing.{rules_of, found_in}
 use Rattle.grid_core.proofs.StackStep.{rows-next, hits-now, position-now, back-now, behind-is}
-use Rattle.grid_core.proofs.StackStep.{row-long, suc-pred}
+use Rattle.grid_core.proofs.StackStep.{first-now, lost-fits, row-long, suc-pred}
 use Rattle.grid_core.proofs.Bytes.{bytes-next}
 use Rattle.grid_core.proofs.Fronts.{few-ways}
 use Rattle.grid_core.proofs.stack.Stack.serve.Goals as goal
@@ -101,6 +102,27 @@ returns-clause-moved c = λ h st.
           miss;
     }
 
+pub returns-clause-stays : goal.returns-clause-stays
+unfolding rules_of
+returns-clause-stays c = λ yes h st.
+    let old = c.args.self.now in
+    let g = old.geometry in
+    let x = c.args.access in
+    let b = x.addr / bsize_of g in
+    let xs = old.slots.items in
+    let s = c.set_of-set.result in
+    let block-is : c.block-block.result ≡ b = c.block-block.ensures
+    ∙ ap (λ a. a / bsize_of g) c.address-addr.ensures in
+    let set-is : s ≡ b % sets_of g = c.set_of-set.ensures
+    ∙ ap (λ z. z % sets_of g) block-is in
+    first-now (rules_of old) (record { lru = refl; allocates = refl }) h x xs st.rows
+    (mod-lt b (sane_of g).sets_pos)
+    (sym (c.turn_in-turned.ensures.stays
+    ∙ ap (λ z. stays_in z c.writes-write.result (row old.ways s xs)) block-is
+    ∙ ap (λ w. stays_in b w (row old.ways s xs)) c.writes-write.ensures
+    ∙ ap (λ t. stays_in b (is_write x) (row old.ways t xs)) set-is
+    ∙ ap (λ n. stays_in b (is_write x) (row n (b % sets_of g) xs)) old.width) ∙ yes)
+
 pub invariant_of-self-clause-bytes : goal.invariant_of-self-clause-bytes
 invariant_of-self-clause-bytes c =
     let old = c.args.self.now in
@@ -136,4 +158,5 @@ invariant_of-self-clause-fits c =
     let wide = old.width in
     let some = (sane_of g).assoc_pos in
     subst (λ (v : Slot). v.block * bsize_of g < 2 ^ 64) (sym c.turn_in-turned.ensures.last)
-    (old.bytes s lt (old.ways - 1) no_slot (omega arith))
+    (lost-fits (bsize_of g) (index_of (holds c.block-block.result) (row old.ways s xs))
+    (row old.ways s xs) (omega arith) (old.bytes s lt))

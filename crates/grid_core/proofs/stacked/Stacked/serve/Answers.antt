@@ -89,14 +89,15 @@ invariant_of-self-2 c =
           after-access g h x old.stacks.items c.serve_rows.new.stacks.items old.shadows
           c.touch.new.self old.cells.items new c.in-Ok.prior st
           prior
-          (c.serve_rows.ensures.stands h st.rows)
+          (c.serve_rows.ensures.stands (bsize_of g) h old.one_size st.rows)
           (λ zs held. subst (λ b. HoldsOrder c.touch.new.self (brought_front b zs)) block
           (c.in-Ok.ensures.order zs held))
           (λ q. c.in-Ok.ensures.adds q ∙ ap (λ b. b == q || is_known old.shadows q) block)
           (c.in-Ok.ensures.recent
           ∙ ap (λ d. after_use d (is_write x) (recent_in old.shadows)) block)
           c.in-Ok.ensures.far c.serve_cells-all_hit.ensures.shapes
-          (c.serve_cells-all_hit.ensures.serves h (c.serve_rows.ensures.moved h st.rows)
+          (c.serve_cells-all_hit.ensures.serves h
+          (c.serve_rows.ensures.moved (bsize_of g) h old.one_size st.rows)
           (cells-due g h x old.cells.items c.in-Ok.prior prior st.counted)));
     }
 
@@ -122,14 +123,15 @@ returns-clause-stands c = λ h e.
       state = after-access g h x old.stacks.items c.serve_rows.new.stacks.items old.shadows
           c.touch.new.self old.cells.items new c.in-Ok.prior st
           prior
-          (c.serve_rows.ensures.stands h st.rows)
+          (c.serve_rows.ensures.stands (bsize_of g) h old.one_size st.rows)
           (λ zs held. subst (λ b. HoldsOrder c.touch.new.self (brought_front b zs)) block
           (c.in-Ok.ensures.order zs held))
           (λ q. c.in-Ok.ensures.adds q ∙ ap (λ b. b == q || is_known old.shadows q) block)
           (c.in-Ok.ensures.recent
           ∙ ap (λ d. after_use d (is_write x) (recent_in old.shadows)) block)
           c.in-Ok.ensures.far c.serve_cells-all_hit.ensures.shapes
-          (c.serve_cells-all_hit.ensures.serves h (c.serve_rows.ensures.moved h st.rows)
+          (c.serve_cells-all_hit.ensures.serves h
+          (c.serve_rows.ensures.moved (bsize_of g) h old.one_size st.rows)
           (cells-due g h x old.cells.items c.in-Ok.prior prior st.counted));
     }
 
@@ -150,7 +152,7 @@ returns-clause-answers c = λ h e.
     record {
       write = c.writes-write.ensures;
       again = λ e. absurd (false≢true e);
-      moved = λ _. c.serve_rows.ensures.moved h st.rows;
+      moved = λ _. c.serve_rows.ensures.moved (bsize_of g) h old.one_size st.rows;
       prior = λ _ k d lt. shape-at (λ s. KnowsPrior s h x c.in-Ok.prior) old.cells.items new
           c.serve_cells-all_hit.ensures.shapes
           prior k d lt;
@@ -159,7 +161,8 @@ returns-clause-answers c = λ h e.
           (sym c.is_silent-self.ensures ∙ none) in
           hits-send-nothing h x old.wback c.sends_on.result
           c.serve_cells-all_hit.new.cells.items
-          (c.serve_cells-all_hit.ensures.hits each.0 h (c.serve_rows.ensures.moved h st.rows))
+          (c.serve_cells-all_hit.ensures.hits each.0 h
+          (c.serve_rows.ensures.moved (bsize_of g) h old.one_size st.rows))
           (subst (λ (l : List Shape). All (λ s. s.wback ≡ old.wback) l)
           (sym c.serve_cells-all_hit.ensures.shapes) old.one_policy)
           (c.sends_on.ensures ∙ ap (λ t. t && not old.wback) c.writes-write.ensures)

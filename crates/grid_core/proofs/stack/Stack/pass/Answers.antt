@@ -1,0 +1,19 @@
+use Rattle.std.proofs.Common.{sym, ◌∙◌}
+use Rattle.std.proofs.lemmas.Bool.{false≢true}
+use Rattle.grid_core.specs.Standing.{rules_of, found_in}
+use Rattle.grid_core.proofs.Staying.{none-misses, rows-stay}
+use Rattle.grid_core.proofs.stack.Stack.pass.Goals as goal
+
+pub returns-clause-stands : goal.returns-clause-stands
+unfolding rules_of
+returns-clause-stands c = λ h x st first. record {
+  rows = rows-stay c.args.self.now h x first st;
+}
+
+pub returns-clause-moved : goal.returns-clause-moved
+unfolding rules_of found_in
+returns-clause-moved c = λ h x st first. record {
+  found = sym first.first;
+  backs = λ n some fits miss.
+      absurd (false≢true (sym miss ∙ none-misses c.args.self.now h x first n some fits));
+}
