@@ -2,7 +2,7 @@
 //! also one for the words themselves, it fails with the name of the refusal and nothing else.
 
 use super::grids::{has_data_caches, parsed};
-use super::refusals::names_all_but_the_rings;
+use super::refusals::{UNREAD, names_all_but_the_rings};
 use dinero_options::{Opt, WordsFault};
 use grid_options::{GridWordsFault, ParsedGrid, grid_help_text};
 use std::process::Abort;
@@ -81,7 +81,7 @@ fn bad_threads_are_named_or_memory_is_wanted(rt: HostRuntime) -> Result<(), Fail
 #[test]
 fn an_unknown_option_is_refused_or_memory_is_wanted(rt: HostRuntime) -> Result<(), Fail> {
     let answer = parsed(rt.alloc(), "--l1-dsize 16 --ring 2")?;
-    Ok(is_refused(&rt, answer, GridWordsFault::Words(WordsFault::Words))?)
+    Ok(is_refused(&rt, answer, UNREAD)?)
 }
 
 #[test]

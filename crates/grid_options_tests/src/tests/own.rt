@@ -1,7 +1,7 @@
 //! The options that the program has of its own.
 
 use super::grids::{has_data_caches, has_rows, made, parsed};
-use super::refusals::{are_refused, refusal};
+use super::refusals::{UNREAD, are_refused, refusal};
 use cache_core::GeometryFault;
 use dinero_options::{Opt, WordsFault};
 use grid_options::{GridWordsFault, ParsedGrid, grid_help_text};
@@ -61,23 +61,14 @@ fn takes_threads_once_and_with_a_number(rt: HostRuntime) -> Result<(), Fail> {
         "--l1-dsize 16 --threads",
         "--threads --l1-dsize 16",
     ];
-    are_refused(
-        &rt,
-        rt.alloc(),
-        &lines,
-        GridWordsFault::Words(WordsFault::Words),
-    )
+    are_refused(&rt, rt.alloc(), &lines, UNREAD)
 }
 
 #[test]
 fn names_the_threads_behind_other_options(rt: HostRuntime) -> Result<(), Fail> {
     let flushes = GridWordsFault::Words(WordsFault::Number(Opt::Flushcount));
-    are_refused(
-        &rt,
-        rt.alloc(),
-        &["--threads x --l1-dsize 16 --flushcount x"],
-        flushes,
-    )
+    let lines = ["--threads x --l1-dsize 16 --flushcount x"];
+    are_refused(&rt, rt.alloc(), &lines, flushes)
 }
 
 #[test]
@@ -172,12 +163,7 @@ fn takes_the_flag_once_and_without_a_value(rt: HostRuntime) -> Result<(), Fail> 
         "--l1-dsize 16 --full true",
         "--l1-dsize 16 --full --full",
     ];
-    are_refused(
-        &rt,
-        rt.alloc(),
-        &lines,
-        GridWordsFault::Words(WordsFault::Words),
-    )?;
+    are_refused(&rt, rt.alloc(), &lines, UNREAD)?;
     assert_eq!(rt; refusal(rt.alloc(), "--full --l1-dsize 16")?, None);
     Ok(())
 }

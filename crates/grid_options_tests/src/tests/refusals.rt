@@ -8,6 +8,9 @@ use std::alloc::{AllocError, Global};
 use std::process::Abort;
 use std::test::Fail;
 
+/// Words that name no option, or not as they have to.
+pub const UNREAD: GridWordsFault = GridWordsFault::Words(WordsFault::Words);
+
 /// Why these words, behind those of `OTHERS`, are refused.
 pub fn refusal(alloc: Global, line: &str) -> Result<Option<GridWordsFault>, AllocError> {
     match parsed(alloc, line)? {
@@ -95,12 +98,8 @@ fn refuses_an_empty_value(rt: HostRuntime) -> Result<(), Fail> {
         "--l1-dsize ,",
         "--l1-dsize=",
     ];
-    are_refused(
-        &rt,
-        rt.alloc(),
-        &lines,
-        GridWordsFault::Words(WordsFault::Number(Opt::L1Dsize)),
-    )?;
+    let size = GridWordsFault::Words(WordsFault::Number(Opt::L1Dsize));
+    are_refused(&rt, rt.alloc(), &lines, size)?;
     assert_eq!(rt; refusal(rt.alloc(), "--l1-dsize 16,32")?, None);
     Ok(())
 }
@@ -142,18 +141,9 @@ fn leaves_rings_and_unknown_options_to_clap(rt: HostRuntime) -> Result<(), Fail>
         "--l1-dsize x --l3-usize 16",
         "--l1-dassoc 1",
     ];
-    are_refused(
-        &rt,
-        rt.alloc(),
-        &lines,
-        GridWordsFault::Words(WordsFault::Words),
-    )?;
-    are_refused(
-        &rt,
-        rt.alloc(),
-        &["--help"],
-        GridWordsFault::Words(WordsFault::Help),
-    )
+    are_refused(&rt, rt.alloc(), &lines, UNREAD)?;
+    let help = GridWordsFault::Words(WordsFault::Help);
+    are_refused(&rt, rt.alloc(), &["--help"], help)
 }
 
 /// Is this what is said of the fault?
@@ -175,10 +165,7 @@ fn tells_what_is_wrong_with_the_words(rt: HostRuntime) -> Result<(), Fail> {
             GridWordsFault::Threads,
             "--threads: not a number from 0 to 1024",
         ),
-        (
-            GridWordsFault::Words(WordsFault::Words),
-            "command line refused, try --help",
-        ),
+        (UNREAD, "command line refused, try --help"),
         (
             GridWordsFault::Words(WordsFault::Number(Opt::L1Dsize)),
             "--l1-dsize: not a number",
