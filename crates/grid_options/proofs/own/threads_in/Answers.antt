@@ -1,18 +1,14 @@
-use Rattle.std.proofs.Common.{◌≡◌, ◌∙◌, Some, None, codes, sym}
-use Rattle.clap.specs.Words.{first_of, found_of, rows_of}
+use Rattle.std.proofs.Common.{◌∙◌, codes, sym}
+use Rattle.clap.specs.Words.{found_of}
 use Rattle.clap.proofs.WalkLemmas.{first_value-rows}
 use Rattle.grid_options.proofs.own.threads_in.Goals as goal
 
 pub returns-in-Some : goal.returns-in-Some
 returns-in-Some c =
-    let f = found_of c.args.matches.now in
-    let found : first_of (codes "threads") (rows_of f) ≡ Some c.in-Some.text.now =
-    sym (first_value-rows f (codes "threads")) ∙ sym c.in-Some.ensures in
-    rw found c.read_threads.ensures
+    rw (sym (first_value-rows (found_of c.args.matches.now) (codes "threads"))
+    ∙ sym c.in-Some.ensures) c.read_threads.ensures
 
 pub returns-in-None : goal.returns-in-None
 returns-in-None c =
-    let f = found_of c.args.matches.now in
-    let found : first_of (codes "threads") (rows_of f) ≡ None =
-    sym (first_value-rows f (codes "threads")) ∙ sym c.in-None.ensures in
-    rw found c.read_threads-in-None.ensures
+    rw (sym (first_value-rows (found_of c.args.matches.now) (codes "threads"))
+    ∙ sym c.in-None.ensures) c.read_threads-in-None.ensures
