@@ -1,7 +1,11 @@
-# Calls of a program as a user makes them. Read by the scripts that try command lines, which count
-# with tally.sh; $program is what is called, $work a folder for what it prints, $trace a good trace
-# and $nothing an empty file.
+# Calls of a program as a user makes them. Read by the scripts that try command lines: $program is
+# what is called, $trace a good trace and $nothing an empty file. It makes $work, a folder for what
+# is printed, which goes at the end. tally.sh counts.
 # shellcheck shell=bash disable=SC2154
+
+work=$(mktemp -d)
+trap 'rm -rf "$work"' EXIT
+. "$(dirname "${BASH_SOURCE[0]}")/tally.sh"
 
 # judge NAME STATUS OUTPUT LINE: compares the call that has just left its streams and its status.
 judge() {

@@ -4,9 +4,6 @@
 set -u
 top=$(cd "$(dirname "$0")/.." && pwd)
 program=${1:-$top/bin/dinero_pipe}
-work=$(mktemp -d)
-trap 'rm -rf "$work"' EXIT
-. "$(dirname "$0")/tally.sh"
 . "$(dirname "$0")/calls.sh"
 
 caches=(--l1-isize 16 --l1-ibsize 4 --l1-dsize 16 --l1-dbsize 4 --l1-dassoc 2

@@ -5,9 +5,6 @@
 set -u
 top=$(cd "$(dirname "$0")/.." && pwd)
 program=${1:-$top/bin/dinero_grid}
-work=$(mktemp -d)
-trap 'rm -rf "$work"' EXIT
-. "$(dirname "$0")/tally.sh"
 . "$(dirname "$0")/calls.sh"
 
 # The caches but for the size of the data cache.
