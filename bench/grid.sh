@@ -18,15 +18,9 @@ rounds=${2:-5}
 top=$(cd "$(dirname "$0")/.." && pwd)
 plain=$(printf '%q' "$top/crates/plain_bench/out/plain_bench")
 grid=$(printf '%q' "$top/crates/grid_bench/out/grid_bench")
-folder=$(mktemp -d)
-trap 'rm -rf "$folder"' EXIT
+. "$top/bench/build.sh"
 . "$top/bench/traces.sh"
-
-# rt run builds a program if it is missing or older than the sources.
-for crate in plain_bench grid_bench; do
-    (cd "$top/crates/$crate" && mapfile -t words < args && rt run -- "${words[@]}" < stdin) \
-        > "$folder/build.log" 2>&1 || { cat "$folder/build.log" >&2; exit 1; }
-done
+build plain_bench grid_bench
 
 sizes=1024,2048,4096,8192,16384,32768,65536
 names=('plain_bench' 'grid of 4' 'grid of 28' 'grid of 60')

@@ -11,14 +11,8 @@ set -euo pipefail
 records=${1:-10000000}
 top=$(cd "$(dirname "$0")/.." && pwd)
 program=$top/crates/reader_bench/out/reader_bench
-folder=$(mktemp -d)
-trap 'rm -rf "$folder"' EXIT
-
-# rt run builds the program if it is missing or older than the sources.
-(cd "$top/crates/reader_bench" && rt run --jobs 1 < stdin > "$folder/build.log" 2>&1) || {
-    cat "$folder/build.log" >&2
-    exit 1
-}
+. "$top/bench/build.sh"
+build reader_bench
 
 # make FORM RECORDS: prints a trace with labels 0 to 4 and addresses of 6 to 8 digits, in a form.
 make() {

@@ -11,14 +11,8 @@ set -euo pipefail
 messages=${1:-10000000}
 top=$(cd "$(dirname "$0")/.." && pwd)
 program=$top/crates/ring_bench/out/ring_bench
-folder=$(mktemp -d)
-trap 'rm -rf "$folder"' EXIT
-
-# rt run builds the program if it is missing or older than the sources.
-(cd "$top/crates/ring_bench" && rt run --jobs 1 -- 1000 > "$folder/build.log" 2>&1) || {
-    cat "$folder/build.log" >&2
-    exit 1
-}
+. "$top/bench/build.sh"
+build ring_bench
 
 for _ in 1 2 3 4 5 6 7 8 9; do
     "$program" "$messages" time | grep 'a second'

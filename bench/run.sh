@@ -15,7 +15,7 @@ rounds=${2:-5}
 top=$(cd "$(dirname "$0")/.." && pwd)
 plain=$top/crates/plain_bench/out/plain_bench
 threads=$top/crates/dinero_pipe/out/dinero_pipe
-folder=$(mktemp -d)
+. "$top/bench/build.sh"
 burners=()
 finish() {
     for burner in "${burners[@]}"; do kill "$burner" 2> /dev/null || true; done
@@ -25,8 +25,7 @@ trap finish EXIT
 . "$top/bench/traces.sh"
 trace=$folder/made.din
 
-(cd "$top/crates/plain_bench" && mapfile -t words < args && rt run -- "${words[@]}" < stdin) \
-    > "$folder/build.log" 2>&1 || { cat "$folder/build.log" >&2; exit 1; }
+build plain_bench
 "$top/bin/dinero_pipe" --help > /dev/null
 
 tame > "$trace"
