@@ -1,14 +1,14 @@
 //! Traces whose outcomes were worked out by hand, served one access at a time.
 
 use cache_core::{
-    Access, Cache, Class, Counts, Geometry, MAX_EVENTS, MissKind, NoMemory, Outcome, PerClass,
-    Policy, Repl,
+    Access, Cache, Class, Counts, Geometry, MAX_EVENTS, MissKind, NoMemory, Outcome, Policy, Repl,
 };
 use std::alloc::Global;
 use std::fmt::Debug;
 use std::process::Abort;
 
 mod against_slow;
+mod counts;
 mod flushes;
 mod geometries;
 mod many_ways;
@@ -52,25 +52,6 @@ const FIFO: Policy = Policy {
 const CAPACITY: Outcome = Outcome {
     kind: Some(MissKind::Capacity),
     ..NEW
-};
-
-const NONE: PerClass = PerClass {
-    instr: 0,
-    read: 0,
-    write: 0,
-    misc: 0,
-};
-
-const NO_COUNTS: Counts = Counts {
-    fetches: NONE,
-    misses: NONE,
-    compulsory: NONE,
-    capacity: NONE,
-    conflict: NONE,
-    loaded: 0,
-    written_back: 0,
-    sent_on: 0,
-    flushes: 0,
 };
 
 /// What came has to be what is wanted, in this place of this case.

@@ -1,6 +1,8 @@
 //! Small traces. The expected values were worked out by hand.
 
+mod counts;
 mod memory;
+mod messages;
 mod network;
 mod policies;
 mod rings;
@@ -12,7 +14,8 @@ mod totals;
 mod worked;
 
 use cache_core::{Policy, Repl};
-use din_trace::{DinRecord, Label};
+use din_trace::DinRecord;
+use messages::record;
 use stage_core::{CacheSpec, Config};
 use std::fmt::Debug;
 use std::process::Abort;
@@ -27,61 +30,28 @@ fn push<T: Drop>(rt: &impl Abort, list: &mut Vec<T>, item: T) {
 }
 
 fn read(addr: u64) -> DinRecord {
-    DinRecord {
-        label: Label::Read,
-        addr,
-    }
+    record!(Read, addr)
 }
 
-const READ_0: DinRecord = DinRecord {
-    label: Label::Read,
-    addr: 0,
-};
+const READ_0: DinRecord = record!(Read, 0);
 
-const READ_8: DinRecord = DinRecord {
-    label: Label::Read,
-    addr: 8,
-};
+const READ_8: DinRecord = record!(Read, 8);
 
-const READ_16: DinRecord = DinRecord {
-    label: Label::Read,
-    addr: 16,
-};
+const READ_16: DinRecord = record!(Read, 16);
 
-const WRITE_0: DinRecord = DinRecord {
-    label: Label::Write,
-    addr: 0,
-};
+const WRITE_0: DinRecord = record!(Write, 0);
 
-const WRITE_2: DinRecord = DinRecord {
-    label: Label::Write,
-    addr: 2,
-};
+const WRITE_2: DinRecord = record!(Write, 2);
 
-const WRITE_8: DinRecord = DinRecord {
-    label: Label::Write,
-    addr: 8,
-};
+const WRITE_8: DinRecord = record!(Write, 8);
 
-const INSTR_0: DinRecord = DinRecord {
-    label: Label::Instr,
-    addr: 0,
-};
+const INSTR_0: DinRecord = record!(Instr, 0);
 
-const INSTR_4: DinRecord = DinRecord {
-    label: Label::Instr,
-    addr: 4,
-};
+const INSTR_4: DinRecord = record!(Instr, 4);
 
-const INSTR_8: DinRecord = DinRecord {
-    label: Label::Instr,
-    addr: 8,
-};
+const INSTR_8: DinRecord = record!(Instr, 8);
 
-const FLUSH: DinRecord = DinRecord {
-    label: Label::Flush,
-    addr: 0,
-};
+const FLUSH: DinRecord = record!(Flush, 0);
 
 const LRU: Policy = Policy {
     repl: Repl::Lru,

@@ -1,23 +1,19 @@
 //! Small traces with flushes.
 
+use super::counts::{by_class, first_misses};
 use super::{
-    CAPACITY, DATA, HIT, LRU, NEW, NO_COUNTS, NONE, Step, cache_of, expect, flush, has, push, walk,
-    walk_new,
+    CAPACITY, DATA, HIT, LRU, NEW, Step, cache_of, expect, flush, has, push, walk, walk_new,
 };
-use cache_core::{Cache, Class, Counts, Outcome, PerClass};
+use cache_core::{Cache, Class, Counts, Outcome};
 use std::alloc::Global;
 use std::process::Abort;
 
 #[test]
 fn a_flush_writes_back_by_rising_address(rt: HostRuntime) {
     const COUNTS: Counts = Counts {
-        fetches: PerClass { write: 2, ..NONE },
-        misses: PerClass { write: 2, ..NONE },
-        compulsory: PerClass { write: 2, ..NONE },
-        loaded: 2,
         written_back: 2,
         flushes: 1,
-        ..NO_COUNTS
+        ..first_misses!(by_class!(write: 2), by_class!(write: 2), 2)
     };
     static STEPS: [Step<'static>; 3] = [
         Step::Serve(Class::Write, &[(8, NEW), (0, NEW)]),
@@ -76,17 +72,9 @@ fn a_block_stays_known_over_a_flush(rt: HostRuntime) {
 #[test]
 fn a_dirty_block_is_flushed_once(rt: HostRuntime) {
     const COUNTS: Counts = Counts {
-        fetches: PerClass {
-            read: 1,
-            write: 1,
-            ..NONE
-        },
-        misses: PerClass { write: 1, ..NONE },
-        compulsory: PerClass { write: 1, ..NONE },
-        loaded: 1,
         written_back: 1,
         flushes: 1,
-        ..NO_COUNTS
+        ..first_misses!(by_class!(read: 1, write: 1), by_class!(write: 1), 1)
     };
     static STEPS: [Step<'static>; 4] = [
         Step::Serve(Class::Write, &[(0, NEW)]),

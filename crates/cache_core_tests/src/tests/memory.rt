@@ -1,10 +1,9 @@
 //! Failing allocations. Each test passes if there is enough memory. If an allocation is refused, it
 //! checks the state after that, and then fails with the name of the refusal and nothing else.
 
-use super::{
-    FIFO, LRU, NEW, NO_COUNTS, NONE, Shape, expect_state, has, same, try_flush, try_new, try_serve,
-};
-use cache_core::{Cache, Class, Counts, NoMemory, Outcome, PerClass, Policy};
+use super::counts::{by_class, first_misses};
+use super::{FIFO, LRU, NEW, Shape, expect_state, has, same, try_flush, try_new, try_serve};
+use cache_core::{Cache, Class, Counts, NoMemory, Outcome, Policy};
 use std::alloc::Global;
 use std::process::Abort;
 use std::test::Fail;
@@ -74,18 +73,11 @@ fn flushed(rt: &impl Abort, cache: &mut Cache, out: &mut Vec<u64>) -> Result<(),
 
 /// The counts of so many writes, each to a block of its own, and of the flush after them.
 fn written_and_flushed(blocks: u64) -> Counts {
-    let writes = PerClass {
-        write: blocks,
-        ..NONE
-    };
+    let writes = by_class!(write: blocks);
     Counts {
-        fetches: writes,
-        misses: writes,
-        compulsory: writes,
-        loaded: blocks,
         written_back: blocks,
         flushes: 1,
-        ..NO_COUNTS
+        ..first_misses!(writes, writes, blocks)
     }
 }
 

@@ -1,7 +1,8 @@
 //! A slow reference cache, written straight from the definitions: it keeps lists of all that
 //! happened and searches them at each access. Sets as rows and sets as maps have to agree with it.
 
-use super::{NO_COUNTS, Shape, push};
+use super::counts::NO_COUNTS;
+use super::{Shape, push};
 use cache_core::{Access, Class, Counts, MissKind, Outcome, PerClass, Policy, Repl};
 use std::alloc::Global;
 use std::process::Abort;

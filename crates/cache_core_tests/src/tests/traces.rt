@@ -1,21 +1,13 @@
 //! Small traces, each for one rule.
 
-use super::{
-    CAPACITY, CONFLICT, DATA, FIFO, HIT, LRU, NEW, NO_COUNTS, NONE, Step, cache_of, serve, walk,
-    walk_new,
-};
+use super::counts::{by_class, first_misses};
+use super::{CAPACITY, CONFLICT, DATA, FIFO, HIT, LRU, NEW, Step, cache_of, serve, walk, walk_new};
 use cache_core::{Cache, Class, Counts, Outcome, PerClass, Policy};
 use std::process::Abort;
 
 #[test]
 fn lru_keeps_the_block_used_last(rt: HostRuntime) {
-    const COUNTS: Counts = Counts {
-        fetches: PerClass { read: 5, ..NONE },
-        misses: PerClass { read: 3, ..NONE },
-        compulsory: PerClass { read: 3, ..NONE },
-        loaded: 3,
-        ..NO_COUNTS
-    };
+    const COUNTS: Counts = first_misses!(by_class!(read: 5), by_class!(read: 3), 3);
     const TRACE: &[(u64, Outcome)] = &[(0, NEW), (8, NEW), (0, HIT), (16, NEW), (0, HIT)];
     static STEPS: [Step<'static>; 2] = [Step::Serve(Class::Read, TRACE), Step::Count(COUNTS, 5)];
     walk_new(&rt, rt.alloc(), DATA, LRU, &STEPS);
@@ -24,12 +16,9 @@ fn lru_keeps_the_block_used_last(rt: HostRuntime) {
 #[test]
 fn fifo_lets_the_block_loaded_first_go(rt: HostRuntime) {
     const COUNTS: Counts = Counts {
-        fetches: PerClass { read: 5, ..NONE },
-        misses: PerClass { read: 4, ..NONE },
-        compulsory: PerClass { read: 3, ..NONE },
-        conflict: PerClass { read: 1, ..NONE },
-        loaded: 4,
-        ..NO_COUNTS
+        compulsory: by_class!(read: 3),
+        conflict: by_class!(read: 1),
+        ..first_misses!(by_class!(read: 5), by_class!(read: 4), 4)
     };
     const TRACE: &[(u64, Outcome)] = &[(0, NEW), (8, NEW), (0, HIT), (16, NEW), (0, CONFLICT)];
     static STEPS: [Step<'static>; 2] = [Step::Serve(Class::Read, TRACE), Step::Count(COUNTS, 5)];
@@ -38,18 +27,10 @@ fn fifo_lets_the_block_loaded_first_go(rt: HostRuntime) {
 
 #[test]
 fn writes_a_dirty_victim_back(rt: HostRuntime) {
-    const ALL: PerClass = PerClass {
-        read: 2,
-        write: 1,
-        ..NONE
-    };
+    const ALL: PerClass = by_class!(read: 2, write: 1);
     const COUNTS: Counts = Counts {
-        fetches: ALL,
-        misses: ALL,
-        compulsory: ALL,
-        loaded: 3,
         written_back: 1,
-        ..NO_COUNTS
+        ..first_misses!(ALL, ALL, 3)
     };
     assert!(rt; COUNTS.misses.total() == 3);
     const VICTIM: Outcome = Outcome {
@@ -95,12 +76,8 @@ fn write_through_sends_each_write_on(rt: HostRuntime) {
         ..HIT
     };
     const COUNTS: Counts = Counts {
-        fetches: PerClass { write: 2, ..NONE },
-        misses: PerClass { write: 1, ..NONE },
-        compulsory: PerClass { write: 1, ..NONE },
-        loaded: 1,
         sent_on: 2,
-        ..NO_COUNTS
+        ..first_misses!(by_class!(write: 2), by_class!(write: 1), 1)
     };
     static STEPS: [Step<'static>; 3] = [
         Step::Serve(Class::Write, &[(2, SENT_ON), (2, AGAIN)]),
@@ -123,19 +100,12 @@ fn without_allocation_a_write_miss_brings_nothing_in(rt: HostRuntime) {
         walloc: false,
         ..LRU
     };
-    const BOTH: PerClass = PerClass {
-        read: 1,
-        write: 1,
-        ..NONE
-    };
+    const BOTH: PerClass = by_class!(read: 1, write: 1);
     const COUNTS: Counts = Counts {
-        fetches: BOTH,
-        misses: BOTH,
-        compulsory: PerClass { write: 1, ..NONE },
-        capacity: PerClass { read: 1, ..NONE },
-        loaded: 1,
+        compulsory: by_class!(write: 1),
+        capacity: by_class!(read: 1),
         sent_on: 1,
-        ..NO_COUNTS
+        ..first_misses!(BOTH, BOTH, 1)
     };
     static STEPS: [Step<'static>; 3] = [
         Step::Serve(Class::Write, &[(0, SENT)]),
@@ -166,12 +136,9 @@ fn fifo_without_allocation_marks_a_write_hit(rt: HostRuntime) {
 #[test]
 fn one_way_has_a_conflict(rt: HostRuntime) {
     const COUNTS: Counts = Counts {
-        fetches: PerClass { instr: 3, ..NONE },
-        misses: PerClass { instr: 3, ..NONE },
-        compulsory: PerClass { instr: 2, ..NONE },
-        conflict: PerClass { instr: 1, ..NONE },
-        loaded: 3,
-        ..NO_COUNTS
+        compulsory: by_class!(instr: 2),
+        conflict: by_class!(instr: 1),
+        ..first_misses!(by_class!(instr: 3), by_class!(instr: 3), 3)
     };
     const TRACE: &[(u64, Outcome)] = &[(0, NEW), (16, NEW), (0, CONFLICT)];
     static STEPS: [Step<'static>; 2] = [Step::Serve(Class::Instr, TRACE), Step::Count(COUNTS, 3)];
@@ -199,21 +166,9 @@ fn sweep(rt: &impl Abort, cache: &mut Cache) {
 #[test]
 fn a_long_sweep_misses_where_two_blocks_share_a_set(rt: HostRuntime) {
     const COUNTS: Counts = Counts {
-        fetches: PerClass {
-            instr: 32_770,
-            ..NONE
-        },
-        misses: PerClass {
-            instr: 16_387,
-            ..NONE
-        },
-        compulsory: PerClass {
-            instr: 16_385,
-            ..NONE
-        },
-        capacity: PerClass { instr: 2, ..NONE },
-        loaded: 16_387,
-        ..NO_COUNTS
+        compulsory: by_class!(instr: 16_385),
+        capacity: by_class!(instr: 2),
+        ..first_misses!(by_class!(instr: 32_770), by_class!(instr: 16_387), 16_387)
     };
     static STEPS: [Step<'static>; 1] = [Step::Count(COUNTS, 32_770)];
     let mut cache = cache_of(&rt, rt.alloc(), (65_536, 4, 1), LRU);

@@ -1,6 +1,7 @@
 //! Failing allocations. Each test passes if there is enough memory. If an allocation is refused, it
 //! checks the state after that, and then fails with the name of the refusal and nothing else.
 
+use super::messages::{part, refers};
 use super::stages::{
     finished, receive, second_of, second_state, sent_next, serve, stage_of, state,
 };
@@ -39,53 +40,25 @@ fn answers_all(rt: &impl Abort, stage: &mut L1Stage, rows: &[Row<'_>]) -> Result
 // Two writes, a flush that writes both blocks back, and the end.
 static DATA_ROWS: [Row<'static>; 4] = [
     (
-        ToStage::Ref {
-            place: 1,
-            class: Class::Write,
-            addr: 8,
-        },
+        refers!(1, Write, 8),
         &[
-            FromStage::Part {
-                place: 1,
-                part: 1,
-                what: What::Fetch(Class::Read, 8),
-            },
+            part!(1, 1, What::Fetch(Class::Read, 8)),
             FromStage::Done { place: 1, parts: 1 },
         ],
     ),
     (
-        ToStage::Ref {
-            place: 2,
-            class: Class::Write,
-            addr: 0,
-        },
+        refers!(2, Write, 0),
         &[
-            FromStage::Part {
-                place: 2,
-                part: 1,
-                what: What::Fetch(Class::Read, 0),
-            },
+            part!(2, 1, What::Fetch(Class::Read, 0)),
             FromStage::Done { place: 2, parts: 1 },
         ],
     ),
     (
         ToStage::Flush { place: 3 },
         &[
-            FromStage::Part {
-                place: 3,
-                part: 1,
-                what: What::Back(0),
-            },
-            FromStage::Part {
-                place: 3,
-                part: 2,
-                what: What::Back(8),
-            },
-            FromStage::Part {
-                place: 3,
-                part: 3,
-                what: What::FlushAll,
-            },
+            part!(3, 1, What::Back(0)),
+            part!(3, 2, What::Back(8)),
+            part!(3, 3, What::FlushAll),
             FromStage::Done { place: 3, parts: 3 },
         ],
     ),
@@ -108,17 +81,9 @@ fn the_data_stage_answers_or_fails(rt: HostRuntime) -> Result<(), Fail> {
 
 static INSTRUCTION_ROWS: [Row<'static>; 3] = [
     (
-        ToStage::Ref {
-            place: 1,
-            class: Class::Instr,
-            addr: 6,
-        },
+        refers!(1, Instr, 6),
         &[
-            FromStage::Part {
-                place: 1,
-                part: 1,
-                what: What::Fetch(Class::Instr, 4),
-            },
+            part!(1, 1, What::Fetch(Class::Instr, 4)),
             FromStage::Done { place: 1, parts: 1 },
         ],
     ),

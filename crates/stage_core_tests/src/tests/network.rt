@@ -1,7 +1,8 @@
 //! Runs of the network, step by step.
 
+use super::counts::NO_COUNTS;
 use super::worked::{
-    FLUSHED, FLUSHED_TOTALS, NO_COUNTS, PUT_IN_TOTALS, SWEEP_TOTALS, VICTIM, VICTIM_TOTALS, sweep,
+    FLUSHED, FLUSHED_TOTALS, PUT_IN_TOTALS, SWEEP_TOTALS, VICTIM, VICTIM_TOTALS, sweep,
 };
 use super::{LRU, config_of, push, same};
 use din_trace::{DinRecord, MAX_LIMIT};

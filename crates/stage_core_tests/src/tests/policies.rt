@@ -1,9 +1,9 @@
 //! The counts of runs over a few references, by the policy of the data cache.
 
+use super::counts::{NO_COUNTS, by_class, first_misses};
 use super::totals::{Run, come_to};
-use super::worked::{NO_COUNTS, NONE};
 use super::{AROUND, LRU, READ_0, READ_8, READ_16, THROUGH, WRITE_0, WRITE_2};
-use cache_core::{Counts, PerClass, Policy, Repl};
+use cache_core::{Counts, Policy, Repl};
 use stage_core::{NoMemory, Totals};
 
 const FIFO: Policy = Policy {
@@ -19,20 +19,8 @@ static RUNS: [Run; 4] = [
         &[READ_0, READ_8, READ_0, READ_16, READ_0],
         Totals {
             i: NO_COUNTS,
-            d: Counts {
-                fetches: PerClass { read: 5, ..NONE },
-                misses: PerClass { read: 3, ..NONE },
-                compulsory: PerClass { read: 3, ..NONE },
-                loaded: 3,
-                ..NO_COUNTS
-            },
-            u: Counts {
-                fetches: PerClass { read: 3, ..NONE },
-                misses: PerClass { read: 3, ..NONE },
-                compulsory: PerClass { read: 3, ..NONE },
-                loaded: 3,
-                ..NO_COUNTS
-            },
+            d: first_misses!(by_class!(read: 5), by_class!(read: 3), 3),
+            u: first_misses!(by_class!(read: 3), by_class!(read: 3), 3),
         },
     ),
     (
@@ -43,20 +31,11 @@ static RUNS: [Run; 4] = [
         Totals {
             i: NO_COUNTS,
             d: Counts {
-                fetches: PerClass { read: 5, ..NONE },
-                misses: PerClass { read: 4, ..NONE },
-                compulsory: PerClass { read: 3, ..NONE },
-                conflict: PerClass { read: 1, ..NONE },
-                loaded: 4,
-                ..NO_COUNTS
+                compulsory: by_class!(read: 3),
+                conflict: by_class!(read: 1),
+                ..first_misses!(by_class!(read: 5), by_class!(read: 4), 4)
             },
-            u: Counts {
-                fetches: PerClass { read: 4, ..NONE },
-                misses: PerClass { read: 3, ..NONE },
-                compulsory: PerClass { read: 3, ..NONE },
-                loaded: 3,
-                ..NO_COUNTS
-            },
+            u: first_misses!(by_class!(read: 4), by_class!(read: 3), 3),
         },
     ),
     (
@@ -67,24 +46,10 @@ static RUNS: [Run; 4] = [
         Totals {
             i: NO_COUNTS,
             d: Counts {
-                fetches: PerClass { write: 2, ..NONE },
-                misses: PerClass { write: 1, ..NONE },
-                compulsory: PerClass { write: 1, ..NONE },
-                loaded: 1,
                 sent_on: 2,
-                ..NO_COUNTS
+                ..first_misses!(by_class!(write: 2), by_class!(write: 1), 1)
             },
-            u: Counts {
-                fetches: PerClass {
-                    read: 1,
-                    write: 2,
-                    ..NONE
-                },
-                misses: PerClass { read: 1, ..NONE },
-                compulsory: PerClass { read: 1, ..NONE },
-                loaded: 1,
-                ..NO_COUNTS
-            },
+            u: first_misses!(by_class!(read: 1, write: 2), by_class!(read: 1), 1),
         },
     ),
     (
@@ -95,33 +60,16 @@ static RUNS: [Run; 4] = [
         Totals {
             i: NO_COUNTS,
             d: Counts {
-                fetches: PerClass {
-                    read: 1,
-                    write: 1,
-                    ..NONE
-                },
-                misses: PerClass {
-                    read: 1,
-                    write: 1,
-                    ..NONE
-                },
-                compulsory: PerClass { write: 1, ..NONE },
-                capacity: PerClass { read: 1, ..NONE },
-                loaded: 1,
+                compulsory: by_class!(write: 1),
+                capacity: by_class!(read: 1),
                 sent_on: 1,
-                ..NO_COUNTS
+                ..first_misses!(
+                    by_class!(read: 1, write: 1),
+                    by_class!(read: 1, write: 1),
+                    1
+                )
             },
-            u: Counts {
-                fetches: PerClass {
-                    read: 1,
-                    write: 1,
-                    ..NONE
-                },
-                misses: PerClass { write: 1, ..NONE },
-                compulsory: PerClass { write: 1, ..NONE },
-                loaded: 1,
-                ..NO_COUNTS
-            },
+            u: first_misses!(by_class!(read: 1, write: 1), by_class!(write: 1), 1),
         },
     ),
 ];

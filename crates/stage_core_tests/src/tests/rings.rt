@@ -1,5 +1,6 @@
 //! The messages that each machine sends.
 
+use super::messages::{part, refers};
 use super::streams::{Streams, is_merged, streams_of};
 use super::{FLUSH, LRU, READ_8, READ_16, WRITE_0, WRITE_8, same};
 use cache_core::Class;
@@ -32,47 +33,19 @@ fn streams_of_a_victim(rt: HostRuntime) {
         order: &[Turn::D, Turn::D, Turn::D, Turn::Finish],
         to_i: &[ToStage::Finish],
         to_d: &[
-            ToStage::Ref {
-                place: 1,
-                class: Class::Write,
-                addr: 0,
-            },
-            ToStage::Ref {
-                place: 2,
-                class: Class::Read,
-                addr: 8,
-            },
-            ToStage::Ref {
-                place: 3,
-                class: Class::Read,
-                addr: 16,
-            },
+            refers!(1, Write, 0),
+            refers!(2, Read, 8),
+            refers!(3, Read, 16),
             ToStage::Finish,
         ],
         from_i: &[FromStage::Finish],
         from_d: &[
-            FromStage::Part {
-                place: 1,
-                part: 1,
-                what: What::Fetch(Class::Read, 0),
-            },
+            part!(1, 1, What::Fetch(Class::Read, 0)),
             FromStage::Done { place: 1, parts: 1 },
-            FromStage::Part {
-                place: 2,
-                part: 1,
-                what: What::Fetch(Class::Read, 8),
-            },
+            part!(2, 1, What::Fetch(Class::Read, 8)),
             FromStage::Done { place: 2, parts: 1 },
-            FromStage::Part {
-                place: 3,
-                part: 1,
-                what: What::Back(0),
-            },
-            FromStage::Part {
-                place: 3,
-                part: 2,
-                what: What::Fetch(Class::Read, 16),
-            },
+            part!(3, 1, What::Back(0)),
+            part!(3, 2, What::Fetch(Class::Read, 16)),
             FromStage::Done { place: 3, parts: 2 },
             FromStage::Finish,
         ],
@@ -98,48 +71,20 @@ fn streams_of_a_flush(rt: HostRuntime) {
         order: &[Turn::D, Turn::D, Turn::Both, Turn::Finish],
         to_i: &[ToStage::Flush { place: 3 }, ToStage::Finish],
         to_d: &[
-            ToStage::Ref {
-                place: 1,
-                class: Class::Write,
-                addr: 8,
-            },
-            ToStage::Ref {
-                place: 2,
-                class: Class::Write,
-                addr: 0,
-            },
+            refers!(1, Write, 8),
+            refers!(2, Write, 0),
             ToStage::Flush { place: 3 },
             ToStage::Finish,
         ],
         from_i: &[FromStage::Done { place: 3, parts: 0 }, FromStage::Finish],
         from_d: &[
-            FromStage::Part {
-                place: 1,
-                part: 1,
-                what: What::Fetch(Class::Read, 8),
-            },
+            part!(1, 1, What::Fetch(Class::Read, 8)),
             FromStage::Done { place: 1, parts: 1 },
-            FromStage::Part {
-                place: 2,
-                part: 1,
-                what: What::Fetch(Class::Read, 0),
-            },
+            part!(2, 1, What::Fetch(Class::Read, 0)),
             FromStage::Done { place: 2, parts: 1 },
-            FromStage::Part {
-                place: 3,
-                part: 1,
-                what: What::Back(0),
-            },
-            FromStage::Part {
-                place: 3,
-                part: 2,
-                what: What::Back(8),
-            },
-            FromStage::Part {
-                place: 3,
-                part: 3,
-                what: What::FlushAll,
-            },
+            part!(3, 1, What::Back(0)),
+            part!(3, 2, What::Back(8)),
+            part!(3, 3, What::FlushAll),
             FromStage::Done { place: 3, parts: 3 },
             FromStage::Finish,
         ],

@@ -1,10 +1,11 @@
 //! What the second level sees.
 
+use super::messages::record;
 use super::selections::events_of;
 use super::streams::{is_merged, streams_of};
 use super::{AROUND, LRU, READ_0, READ_8, READ_16, THROUGH, WRITE_0, WRITE_2};
 use cache_core::{Class, Policy};
-use din_trace::{DinRecord, Label};
+use din_trace::DinRecord;
 use stage_core::What;
 use std::alloc::Global;
 use std::process::Abort;
@@ -18,18 +19,9 @@ fn is_seen(rt: &impl Abort, alloc: Global, policy: Policy, events: &[DinRecord],
 #[test]
 fn a_fetch_is_of_the_whole_block(rt: HostRuntime) {
     static EVENTS: [DinRecord; 3] = [
-        DinRecord {
-            label: Label::Read,
-            addr: 0x1f,
-        },
-        DinRecord {
-            label: Label::Write,
-            addr: 0xffff_ffff,
-        },
-        DinRecord {
-            label: Label::Read,
-            addr: u64::MAX,
-        },
+        record!(Read, 0x1f),
+        record!(Write, 0xffff_ffff),
+        record!(Read, u64::MAX),
     ];
     static WANTED: [What; 3] = [
         What::Fetch(Class::Read, 0x1c),

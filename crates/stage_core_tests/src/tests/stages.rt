@@ -1,8 +1,9 @@
 //! What one stage sends, and what the second level serves.
 
-use super::worked::{NO_COUNTS, NONE};
+use super::counts::{by_class, first_misses};
+use super::messages::{part, refers};
 use super::{LRU, config_of, push, same};
-use cache_core::{Class, Counts, MAX_EVENTS, PerClass};
+use cache_core::{Class, Counts, MAX_EVENTS};
 use stage_core::{Config, FromStage, L1Stage, L2Stage, NoMemory, Side, ToStage, What};
 use std::alloc::Global;
 use std::process::Abort;
@@ -101,19 +102,11 @@ pub(super) fn answer(
 // Answers a reference, and then the end.
 fn finishes(rt: &impl Abort, stage: &mut L1Stage, sent: &mut Vec<FromStage>) {
     static WANTED: [FromStage; 3] = [
-        FromStage::Part {
-            place: 1,
-            part: 1,
-            what: What::Fetch(Class::Read, 0),
-        },
+        part!(1, 1, What::Fetch(Class::Read, 0)),
         FromStage::Done { place: 1, parts: 1 },
         FromStage::Finish,
     ];
-    let message = ToStage::Ref {
-        place: 1,
-        class: Class::Write,
-        addr: 0,
-    };
+    let message = refers!(1, Write, 0);
     answer(rt, stage, message, sent);
     assert!(rt; !finished(stage));
     answer(rt, stage, ToStage::Finish, sent);
@@ -171,17 +164,9 @@ pub(super) fn serve(rt: &impl Abort, stage: &mut L2Stage, sent: &[What]) -> Resu
 fn the_second_level_serves_each_part(rt: HostRuntime) -> Result<(), NoMemory> {
     static SENT: [What; 3] = [What::Fetch(Class::Read, 0), What::Back(4), What::FlushAll];
     static COUNTS: Counts = Counts {
-        fetches: PerClass {
-            read: 1,
-            write: 1,
-            ..NONE
-        },
-        misses: PerClass { read: 1, ..NONE },
-        compulsory: PerClass { read: 1, ..NONE },
-        loaded: 1,
         written_back: 1,
         flushes: 1,
-        ..NO_COUNTS
+        ..first_misses!(by_class!(read: 1, write: 1), by_class!(read: 1), 1)
     };
     let mut stage = second_of(rt.alloc(), &config_of(&rt, LRU, 2))?;
     serve(&rt, &mut stage, &SENT)?;

@@ -1,12 +1,13 @@
 //! The counts of whole runs.
 
+use super::counts::{NO_COUNTS, by_class, first_misses};
+use super::messages::record;
 use super::worked::{
-    FLUSHED, FLUSHED_TOTALS, NO_COUNTS, NONE, ONE_FLUSH, PUT_IN_TOTALS, SWEEP_TOTALS, VICTIM,
-    VICTIM_TOTALS, sweep,
+    FLUSHED, FLUSHED_TOTALS, ONE_FLUSH, PUT_IN_TOTALS, SWEEP_TOTALS, VICTIM, VICTIM_TOTALS, sweep,
 };
 use super::{DATA, FLUSH, INSTR_0, INSTRUCTIONS, LRU, READ_0, SECOND, config_of, same};
-use cache_core::{Counts, GeometryFault, PerClass, Policy};
-use din_trace::{DinRecord, Label, MAX_LIMIT};
+use cache_core::{Counts, GeometryFault, Policy};
+use din_trace::{DinRecord, MAX_LIMIT};
 use stage_core::{
     CacheName, CacheSpec, Config, ConfigFault, NoMemory, Selection, Totals, run_plain,
 };
@@ -48,14 +49,16 @@ pub(super) fn come_to(rt: &impl Abort, alloc: Global, runs: &[Run]) -> Result<()
     Ok(())
 }
 
-const MISC_0: DinRecord = DinRecord {
-    label: Label::Misc,
-    addr: 0,
-};
+const MISC_0: DinRecord = record!(Misc, 0);
 
-const READ_WIDE: DinRecord = DinRecord {
-    label: Label::Read,
-    addr: 0x1_0000_0000,
+const READ_WIDE: DinRecord = record!(Read, 0x1_0000_0000);
+
+// A block that is read, flushed and read again.
+const LOADED_TWICE: Counts = Counts {
+    compulsory: by_class!(read: 1),
+    capacity: by_class!(read: 1),
+    flushes: 1,
+    ..first_misses!(by_class!(read: 2), by_class!(read: 2), 2)
 };
 
 static RUNS: [Run; 8] = [
@@ -81,24 +84,8 @@ static RUNS: [Run; 8] = [
         &[READ_0, FLUSH, READ_0],
         Totals {
             i: ONE_FLUSH,
-            d: Counts {
-                fetches: PerClass { read: 2, ..NONE },
-                misses: PerClass { read: 2, ..NONE },
-                compulsory: PerClass { read: 1, ..NONE },
-                capacity: PerClass { read: 1, ..NONE },
-                loaded: 2,
-                flushes: 1,
-                ..NO_COUNTS
-            },
-            u: Counts {
-                fetches: PerClass { read: 2, ..NONE },
-                misses: PerClass { read: 2, ..NONE },
-                compulsory: PerClass { read: 1, ..NONE },
-                capacity: PerClass { read: 1, ..NONE },
-                loaded: 2,
-                flushes: 1,
-                ..NO_COUNTS
-            },
+            d: LOADED_TWICE,
+            u: LOADED_TWICE,
         },
     ),
     (
@@ -107,31 +94,9 @@ static RUNS: [Run; 8] = [
         0,
         &[READ_0, INSTR_0],
         Totals {
-            i: Counts {
-                fetches: PerClass { instr: 1, ..NONE },
-                misses: PerClass { instr: 1, ..NONE },
-                compulsory: PerClass { instr: 1, ..NONE },
-                loaded: 1,
-                ..NO_COUNTS
-            },
-            d: Counts {
-                fetches: PerClass { read: 1, ..NONE },
-                misses: PerClass { read: 1, ..NONE },
-                compulsory: PerClass { read: 1, ..NONE },
-                loaded: 1,
-                ..NO_COUNTS
-            },
-            u: Counts {
-                fetches: PerClass {
-                    instr: 1,
-                    read: 1,
-                    ..NONE
-                },
-                misses: PerClass { read: 1, ..NONE },
-                compulsory: PerClass { read: 1, ..NONE },
-                loaded: 1,
-                ..NO_COUNTS
-            },
+            i: first_misses!(by_class!(instr: 1), by_class!(instr: 1), 1),
+            d: first_misses!(by_class!(read: 1), by_class!(read: 1), 1),
+            u: first_misses!(by_class!(instr: 1, read: 1), by_class!(read: 1), 1),
         },
     ),
     (
@@ -140,31 +105,9 @@ static RUNS: [Run; 8] = [
         0,
         &[INSTR_0, READ_0],
         Totals {
-            i: Counts {
-                fetches: PerClass { instr: 1, ..NONE },
-                misses: PerClass { instr: 1, ..NONE },
-                compulsory: PerClass { instr: 1, ..NONE },
-                loaded: 1,
-                ..NO_COUNTS
-            },
-            d: Counts {
-                fetches: PerClass { read: 1, ..NONE },
-                misses: PerClass { read: 1, ..NONE },
-                compulsory: PerClass { read: 1, ..NONE },
-                loaded: 1,
-                ..NO_COUNTS
-            },
-            u: Counts {
-                fetches: PerClass {
-                    instr: 1,
-                    read: 1,
-                    ..NONE
-                },
-                misses: PerClass { instr: 1, ..NONE },
-                compulsory: PerClass { instr: 1, ..NONE },
-                loaded: 1,
-                ..NO_COUNTS
-            },
+            i: first_misses!(by_class!(instr: 1), by_class!(instr: 1), 1),
+            d: first_misses!(by_class!(read: 1), by_class!(read: 1), 1),
+            u: first_misses!(by_class!(instr: 1, read: 1), by_class!(instr: 1), 1),
         },
     ),
     (
@@ -174,24 +117,8 @@ static RUNS: [Run; 8] = [
         &[MISC_0, READ_0],
         Totals {
             i: NO_COUNTS,
-            d: Counts {
-                fetches: PerClass {
-                    read: 1,
-                    misc: 1,
-                    ..NONE
-                },
-                misses: PerClass { misc: 1, ..NONE },
-                compulsory: PerClass { misc: 1, ..NONE },
-                loaded: 1,
-                ..NO_COUNTS
-            },
-            u: Counts {
-                fetches: PerClass { read: 1, ..NONE },
-                misses: PerClass { read: 1, ..NONE },
-                compulsory: PerClass { read: 1, ..NONE },
-                loaded: 1,
-                ..NO_COUNTS
-            },
+            d: first_misses!(by_class!(read: 1, misc: 1), by_class!(misc: 1), 1),
+            u: first_misses!(by_class!(read: 1), by_class!(read: 1), 1),
         },
     ),
     (
@@ -201,20 +128,8 @@ static RUNS: [Run; 8] = [
         &[READ_WIDE, READ_0],
         Totals {
             i: NO_COUNTS,
-            d: Counts {
-                fetches: PerClass { read: 2, ..NONE },
-                misses: PerClass { read: 2, ..NONE },
-                compulsory: PerClass { read: 2, ..NONE },
-                loaded: 2,
-                ..NO_COUNTS
-            },
-            u: Counts {
-                fetches: PerClass { read: 2, ..NONE },
-                misses: PerClass { read: 2, ..NONE },
-                compulsory: PerClass { read: 2, ..NONE },
-                loaded: 2,
-                ..NO_COUNTS
-            },
+            d: first_misses!(by_class!(read: 2), by_class!(read: 2), 2),
+            u: first_misses!(by_class!(read: 2), by_class!(read: 2), 2),
         },
     ),
 ];
