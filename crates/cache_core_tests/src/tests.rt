@@ -8,7 +8,6 @@ use std::fmt::Debug;
 use std::process::Abort;
 
 mod against_slow;
-mod counts;
 mod flushes;
 mod geometries;
 mod many_ways;

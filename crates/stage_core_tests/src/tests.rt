@@ -1,6 +1,5 @@
 //! Small traces. The expected values were worked out by hand.
 
-mod counts;
 mod memory;
 mod messages;
 mod network;

@@ -1,10 +1,10 @@
 //! Small traces with flushes.
 
-use super::counts::{by_class, first_misses};
 use super::{
     CAPACITY, DATA, HIT, LRU, NEW, Step, cache_of, expect, flush, has, push, walk, walk_new,
 };
 use cache_core::{Cache, Class, Counts, Outcome};
+use expected_counts::{by_class, first_misses};
 use std::alloc::Global;
 use std::process::Abort;
 

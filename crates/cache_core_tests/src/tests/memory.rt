@@ -1,9 +1,9 @@
 //! Failing allocations. Each test passes if there is enough memory. If an allocation is refused, it
 //! checks the state after that, and then fails with the name of the refusal and nothing else.
 
-use super::counts::{by_class, first_misses};
 use super::{FIFO, LRU, NEW, Shape, expect_state, has, same, try_flush, try_new, try_serve};
 use cache_core::{Cache, Class, Counts, NoMemory, Outcome, Policy};
+use expected_counts::{by_class, first_misses};
 use std::alloc::Global;
 use std::process::Abort;
 use std::test::Fail;

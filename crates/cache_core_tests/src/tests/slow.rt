@@ -1,9 +1,9 @@
 //! A slow reference cache, written straight from the definitions: it keeps lists of all that
 //! happened and searches them at each access. Sets as rows and sets as maps have to agree with it.
 
-use super::counts::NO_COUNTS;
 use super::{Shape, push};
 use cache_core::{Access, Class, Counts, MissKind, Outcome, PerClass, Policy, Repl};
+use expected_counts::NO_COUNTS;
 use std::alloc::Global;
 use std::process::Abort;
 

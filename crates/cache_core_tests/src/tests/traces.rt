@@ -1,8 +1,8 @@
 //! Small traces, each for one rule.
 
-use super::counts::{by_class, first_misses};
 use super::{CAPACITY, CONFLICT, DATA, FIFO, HIT, LRU, NEW, Step, cache_of, serve, walk, walk_new};
 use cache_core::{Cache, Class, Counts, Outcome, PerClass, Policy};
+use expected_counts::{by_class, first_misses};
 use std::process::Abort;
 
 #[test]

@@ -1,9 +1,9 @@
 //! Runs whose gates show that the stages run at the same time, and which messages pass. A gate
 //! gives up after many looks and notes it, so that each test ends.
 
-use super::{EVERYTHING, config, first_misses, instrs, reads, run_in_threads, simulated};
-use cache_core::PerClass;
+use super::{EVERYTHING, config, run_in_threads, simulated};
 use din_trace::MAX_LIMIT;
+use expected_counts::{by_class, first_misses};
 use sim_run::{Gate, Who};
 use stage_core::{Selection, Totals};
 use std::alloc::Global;
@@ -70,14 +70,11 @@ impl Gate for Hold {
 
 /// The totals of a fetch and a read of one block.
 fn a_fetch_and_a_read() -> Totals {
-    let fetches = PerClass {
-        instr: 1,
-        ..reads!(1)
-    };
+    let fetches = by_class!(instr: 1, read: 1);
     Totals {
-        i: first_misses!(instrs!(1), instrs!(1), 1),
-        d: first_misses!(reads!(1), reads!(1), 1),
-        u: first_misses!(fetches, instrs!(1), 1),
+        i: first_misses!(by_class!(instr: 1), by_class!(instr: 1), 1),
+        d: first_misses!(by_class!(read: 1), by_class!(read: 1), 1),
+        u: first_misses!(fetches, by_class!(instr: 1), 1),
     }
 }
 
@@ -153,7 +150,8 @@ fn a_gate_of_arrive_alone_sees_a_message_before_it_is_handled(rt: HostRuntime) {
     let trace = b"0 0\n0 0\n".as_slice();
     let ended = run_in_threads(&rt, rt.alloc(), trace, &gate, Vec::new(rt.alloc()));
     let data = ended.map(|totals| totals.d);
-    assert_eq!(rt; data, Ok(first_misses!(reads!(2), reads!(1), 1)));
+    let wanted = first_misses!(by_class!(read: 2), by_class!(read: 1), 1);
+    assert_eq!(rt; data, Ok(wanted));
     assert!(rt; !gate.sign.was_missed());
     assert_eq!(rt; gate.early.load(Ordering::SeqCst), 0);
 }

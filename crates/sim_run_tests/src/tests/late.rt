@@ -4,7 +4,8 @@
 ghost use Rattle.std.specs.Prelude.{true};
 
 use super::gates::Sign;
-use super::{first_misses, instrs, run_in_threads};
+use super::run_in_threads;
+use expected_counts::{by_class, first_misses};
 use sim_run::{Gate, Who};
 use std::alloc::Global;
 use std::io::{self, Read};
@@ -83,7 +84,8 @@ fn run_late<H: Threads + Wait + Abort + Sync>(
     };
     let ended = run_in_threads(rt, alloc, reader, &gate, Vec::new(alloc));
     let instructions = ended.map(|totals| totals.i);
-    assert_eq!(rt; instructions, Ok(first_misses!(instrs!(2), instrs!(2), 2)));
+    let wanted = first_misses!(by_class!(instr: 2), by_class!(instr: 2), 2);
+    assert_eq!(rt; instructions, Ok(wanted));
     assert!(rt; !gate.sign.was_missed());
 }
 
@@ -195,6 +197,7 @@ fn threads_that_sleep_without_a_limit_are_woken(rt: HostRuntime) {
     };
     let ended = run_in_threads(&rt, rt.alloc(), reader, &merged, Vec::new(rt.alloc()));
     let instructions = ended.map(|totals| totals.i);
-    assert_eq!(rt; instructions, Ok(first_misses!(instrs!(3), instrs!(3), 3)));
+    let wanted = first_misses!(by_class!(instr: 3), by_class!(instr: 3), 3);
+    assert_eq!(rt; instructions, Ok(wanted));
     assert!(rt; !merged.was_missed());
 }

@@ -1,9 +1,9 @@
 //! The bytes of a report.
 
-use super::counts::{NO_COUNTS, NONE};
 use super::{EVERYTHING, config, writes_text};
 use cache_core::{Counts, PerClass};
 use din_trace::FromWrite;
+use expected_counts::{NO_COUNTS, NONE};
 use sim_run::write_block;
 
 /// The report of a write and two reads, the second of which evicts the written block.

@@ -1,11 +1,8 @@
 //! The counts of each level over short traces.
 
-use super::counts::{NO_COUNTS, NO_TOTALS, NONE};
-use super::{
-    EVERYTHING, USUAL, config_with, first_misses, instrs, is_counted, reads, reads_and_writes,
-    reports, writes,
-};
-use cache_core::{Counts, PerClass, Policy, Repl};
+use super::{EVERYTHING, NO_TOTALS, USUAL, config_with, is_counted, reports};
+use cache_core::{Counts, Policy, Repl};
+use expected_counts::{NO_COUNTS, by_class, first_misses};
 use stage_core::Totals;
 
 #[test]
@@ -15,7 +12,7 @@ fn an_empty_trace_counts_nothing(rt: HostRuntime) {
 
 #[test]
 fn a_first_fetch_misses_at_both_levels(rt: HostRuntime) {
-    let one = first_misses!(instrs!(1), instrs!(1), 1);
+    let one = first_misses!(by_class!(instr: 1), by_class!(instr: 1), 1);
     let totals = Totals {
         i: one,
         u: one,
@@ -27,8 +24,8 @@ fn a_first_fetch_misses_at_both_levels(rt: HostRuntime) {
 #[test]
 fn fetches_share_a_block_of_the_second_level(rt: HostRuntime) {
     let totals = Totals {
-        i: first_misses!(instrs!(3), instrs!(2), 2),
-        u: first_misses!(instrs!(2), instrs!(1), 1),
+        i: first_misses!(by_class!(instr: 3), by_class!(instr: 2), 2),
+        u: first_misses!(by_class!(instr: 2), by_class!(instr: 1), 1),
         ..NO_TOTALS
     };
     let traces: [&[u8]; 2] = [b"2 0\n2 0\n2 4\n", b"2 0\n2 4\n2 0\n"];
@@ -40,13 +37,13 @@ fn fetches_share_a_block_of_the_second_level(rt: HostRuntime) {
 #[test]
 fn a_loop_that_does_not_fit_misses_in_one_set(rt: HostRuntime) {
     let i = Counts {
-        compulsory: instrs!(5),
-        capacity: instrs!(2),
-        ..first_misses!(instrs!(10), instrs!(7), 7)
+        compulsory: by_class!(instr: 5),
+        capacity: by_class!(instr: 2),
+        ..first_misses!(by_class!(instr: 10), by_class!(instr: 7), 7)
     };
     let totals = Totals {
         i,
-        u: first_misses!(instrs!(7), instrs!(3), 3),
+        u: first_misses!(by_class!(instr: 7), by_class!(instr: 3), 3),
         ..NO_TOTALS
     };
     let trace = b"2 0\n2 4\n2 8\n2 c\n2 10\n2 0\n2 4\n2 8\n2 c\n2 10\n";
@@ -56,10 +53,10 @@ fn a_loop_that_does_not_fit_misses_in_one_set(rt: HostRuntime) {
 #[test]
 fn a_flush_empties_the_instruction_cache(rt: HostRuntime) {
     let again = Counts {
-        compulsory: instrs!(1),
-        capacity: instrs!(1),
+        compulsory: by_class!(instr: 1),
+        capacity: by_class!(instr: 1),
         flushes: 1,
-        ..first_misses!(instrs!(2), instrs!(2), 2)
+        ..first_misses!(by_class!(instr: 2), by_class!(instr: 2), 2)
     };
     let d = Counts {
         flushes: 1,
@@ -76,11 +73,11 @@ fn a_flush_empties_the_instruction_cache(rt: HostRuntime) {
 #[test]
 fn blocks_of_one_set_conflict(rt: HostRuntime) {
     let i = Counts {
-        compulsory: instrs!(2),
-        conflict: instrs!(1),
-        ..first_misses!(instrs!(3), instrs!(3), 3)
+        compulsory: by_class!(instr: 2),
+        conflict: by_class!(instr: 1),
+        ..first_misses!(by_class!(instr: 3), by_class!(instr: 3), 3)
     };
-    let u = first_misses!(instrs!(3), instrs!(2), 2);
+    let u = first_misses!(by_class!(instr: 3), by_class!(instr: 2), 2);
     let totals = Totals { i, u, ..NO_TOTALS };
     is_counted(&rt, rt.alloc(), b"2 0\n2 10\n2 0\n", &totals);
 }
@@ -88,8 +85,8 @@ fn blocks_of_one_set_conflict(rt: HostRuntime) {
 #[test]
 fn a_block_in_use_stays(rt: HostRuntime) {
     let totals = Totals {
-        d: first_misses!(reads!(5), reads!(3), 3),
-        u: first_misses!(reads!(3), reads!(3), 3),
+        d: first_misses!(by_class!(read: 5), by_class!(read: 3), 3),
+        u: first_misses!(by_class!(read: 3), by_class!(read: 3), 3),
         ..NO_TOTALS
     };
     let trace = b"0 0\n0 8\n0 0\n0 10\n0 0\n";
@@ -106,11 +103,11 @@ fn first_in_first_out_forgets_uses(rt: HostRuntime) {
         },
     );
     let d = Counts {
-        compulsory: reads!(3),
-        conflict: reads!(1),
-        ..first_misses!(reads!(5), reads!(4), 4)
+        compulsory: by_class!(read: 3),
+        conflict: by_class!(read: 1),
+        ..first_misses!(by_class!(read: 5), by_class!(read: 4), 4)
     };
-    let u = first_misses!(reads!(4), reads!(3), 3);
+    let u = first_misses!(by_class!(read: 4), by_class!(read: 3), 3);
     let totals = Totals { d, u, ..NO_TOTALS };
     let trace = b"0 0\n0 8\n0 0\n0 10\n0 0\n";
     reports(&rt, rt.alloc(), &fifo, &EVERYTHING, trace, &totals);
@@ -127,9 +124,9 @@ fn each_write_is_sent_on_under_write_through(rt: HostRuntime) {
     );
     let d = Counts {
         sent_on: 2,
-        ..first_misses!(writes!(2), writes!(1), 1)
+        ..first_misses!(by_class!(write: 2), by_class!(write: 1), 1)
     };
-    let u = first_misses!(reads_and_writes!(1, 2), reads!(1), 1);
+    let u = first_misses!(by_class!(read: 1, write: 2), by_class!(read: 1), 1);
     let totals = Totals { d, u, ..NO_TOTALS };
     reports(
         &rt,
@@ -150,13 +147,14 @@ fn a_write_miss_without_allocation_loads_nothing(rt: HostRuntime) {
             ..USUAL
         },
     );
+    let both = by_class!(read: 1, write: 1);
     let d = Counts {
-        compulsory: writes!(1),
-        capacity: reads!(1),
+        compulsory: by_class!(write: 1),
+        capacity: by_class!(read: 1),
         sent_on: 1,
-        ..first_misses!(reads_and_writes!(1, 1), reads_and_writes!(1, 1), 1)
+        ..first_misses!(both, both, 1)
     };
-    let u = first_misses!(reads_and_writes!(1, 1), writes!(1), 1);
+    let u = first_misses!(both, by_class!(write: 1), 1);
     let totals = Totals { d, u, ..NO_TOTALS };
     reports(
         &rt,
@@ -177,12 +175,12 @@ fn a_flush_writes_dirty_blocks_back_through_both_levels(rt: HostRuntime) {
     let d = Counts {
         written_back: 2,
         flushes: 1,
-        ..first_misses!(writes!(2), writes!(2), 2)
+        ..first_misses!(by_class!(write: 2), by_class!(write: 2), 2)
     };
     let u = Counts {
         written_back: 2,
         flushes: 1,
-        ..first_misses!(reads_and_writes!(2, 2), reads!(2), 2)
+        ..first_misses!(by_class!(read: 2, write: 2), by_class!(read: 2), 2)
     };
     let trace = b"1 8\n1 0\n4 0\n";
     is_counted(&rt, rt.alloc(), trace, &Totals { i, d, u });
@@ -195,10 +193,10 @@ fn a_flush_empties_but_does_not_forget(rt: HostRuntime) {
         ..NO_COUNTS
     };
     let again = Counts {
-        compulsory: reads!(1),
-        capacity: reads!(1),
+        compulsory: by_class!(read: 1),
+        capacity: by_class!(read: 1),
         flushes: 1,
-        ..first_misses!(reads!(2), reads!(2), 2)
+        ..first_misses!(by_class!(read: 2), by_class!(read: 2), 2)
     };
     let totals = Totals {
         i,
@@ -210,39 +208,29 @@ fn a_flush_empties_but_does_not_forget(rt: HostRuntime) {
 
 #[test]
 fn the_first_level_to_miss_loads_the_second(rt: HostRuntime) {
-    let i = first_misses!(instrs!(1), instrs!(1), 1);
-    let d = first_misses!(reads!(1), reads!(1), 1);
-    let fetches = PerClass {
-        instr: 1,
-        ..reads!(1)
-    };
+    let i = first_misses!(by_class!(instr: 1), by_class!(instr: 1), 1);
+    let d = first_misses!(by_class!(read: 1), by_class!(read: 1), 1);
+    let fetches = by_class!(instr: 1, read: 1);
     let read_first = Totals {
         i,
         d,
-        u: first_misses!(fetches, reads!(1), 1),
+        u: first_misses!(fetches, by_class!(read: 1), 1),
     };
     is_counted(&rt, rt.alloc(), b"0 0\n2 0\n", &read_first);
     let fetch_first = Totals {
         i,
         d,
-        u: first_misses!(fetches, instrs!(1), 1),
+        u: first_misses!(fetches, by_class!(instr: 1), 1),
     };
     is_counted(&rt, rt.alloc(), b"2 0\n0 0\n", &fetch_first);
 }
 
 #[test]
 fn a_miscellaneous_reference_is_fetched_as_a_read(rt: HostRuntime) {
-    let misc = PerClass { misc: 1, ..NONE };
+    let misc = by_class!(misc: 1);
     let totals = Totals {
-        d: first_misses!(
-            PerClass {
-                misc: 1,
-                ..reads!(1)
-            },
-            misc,
-            1,
-        ),
-        u: first_misses!(reads!(1), reads!(1), 1),
+        d: first_misses!(by_class!(read: 1, misc: 1), misc, 1),
+        u: first_misses!(by_class!(read: 1), by_class!(read: 1), 1),
         ..NO_TOTALS
     };
     is_counted(&rt, rt.alloc(), b"3 0\n0 0\n", &totals);

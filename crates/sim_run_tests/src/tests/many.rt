@@ -1,14 +1,11 @@
 //! Many runs of `simulate` through small rings. Each has to end, and always with the same result.
 //! The tests of sim_run itself make them with outboxes of one message too.
 
-use super::counts::NO_COUNTS;
 use super::layout::ONE_WRITE_BACK;
-use super::{
-    EVERYTHING, USUAL, bad, config_of, first_misses, instrs, reads, reported, simulated,
-    writes_text,
-};
-use cache_core::{Counts, PerClass};
+use super::{EVERYTHING, USUAL, bad, config_of, reported, simulated, writes_text};
+use cache_core::Counts;
 use din_trace::{MAX_LIMIT, Why};
+use expected_counts::{NO_COUNTS, by_class, first_misses};
 use sim_run::{OpenGate, RunFault};
 use stage_core::{Config, Totals};
 use std::alloc::Global;
@@ -89,22 +86,19 @@ fn rounds(alloc: Global) -> Result<Vec<u8>, Fail> {
 /// level, where the read finds it.
 fn totals_of_rounds() -> Totals {
     let i = Counts {
-        compulsory: instrs!(1),
-        capacity: instrs!(ROUNDS - 1),
+        compulsory: by_class!(instr: 1),
+        capacity: by_class!(instr: ROUNDS - 1),
         flushes: ROUNDS,
-        ..first_misses!(instrs!(ROUNDS), instrs!(ROUNDS), ROUNDS)
+        ..first_misses!(by_class!(instr: ROUNDS), by_class!(instr: ROUNDS), ROUNDS)
     };
     let d = Counts {
-        compulsory: reads!(1),
-        capacity: reads!(ROUNDS - 1),
+        compulsory: by_class!(read: 1),
+        capacity: by_class!(read: ROUNDS - 1),
         flushes: ROUNDS,
-        ..first_misses!(reads!(ROUNDS), reads!(ROUNDS), ROUNDS)
+        ..first_misses!(by_class!(read: ROUNDS), by_class!(read: ROUNDS), ROUNDS)
     };
     let u = Counts {
-        fetches: PerClass {
-            instr: ROUNDS,
-            ..reads!(ROUNDS)
-        },
+        fetches: by_class!(instr: ROUNDS, read: ROUNDS),
         ..i
     };
     Totals { i, d, u }
@@ -129,9 +123,9 @@ const LONG: u64 = 2_000_000;
 /// The totals of so many fetches of one block.
 fn totals_of_fetches() -> Totals {
     Totals {
-        i: first_misses!(instrs!(LONG), instrs!(1), 1),
+        i: first_misses!(by_class!(instr: LONG), by_class!(instr: 1), 1),
         d: NO_COUNTS,
-        u: first_misses!(instrs!(1), instrs!(1), 1),
+        u: first_misses!(by_class!(instr: 1), by_class!(instr: 1), 1),
     }
 }
 

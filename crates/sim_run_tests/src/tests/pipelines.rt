@@ -1,12 +1,11 @@
 //! The pipeline without a report, and long traces through small rings.
 
-use super::counts::NO_TOTALS;
 use super::{
-    EVERYTHING, USUAL, bad, config_of, ends_with, first_misses, is_counted, reads,
-    reads_and_writes, reports, run_source,
+    EVERYTHING, NO_TOTALS, USUAL, bad, config_of, ends_with, is_counted, reports, run_source,
 };
 use cache_core::Counts;
 use din_trace::{MAX_LIMIT, TraceFault, Why};
+use expected_counts::{by_class, first_misses};
 use sim_run::RunFault;
 use stage_core::Totals;
 use std::alloc::Global;
@@ -14,13 +13,14 @@ use std::test::Fail;
 
 /// The totals of a write and two reads, the second of which evicts the written block.
 fn one_written_back() -> Totals {
+    let all = by_class!(read: 2, write: 1);
     let d = Counts {
         written_back: 1,
-        ..first_misses!(reads_and_writes!(2, 1), reads_and_writes!(2, 1), 3)
+        ..first_misses!(all, all, 3)
     };
     Totals {
         d,
-        u: first_misses!(reads_and_writes!(3, 1), reads!(3), 3),
+        u: first_misses!(by_class!(read: 3, write: 1), by_class!(read: 3), 3),
         ..NO_TOTALS
     }
 }
@@ -62,14 +62,14 @@ fn rounds(alloc: Global) -> Result<Vec<u8>, Fail> {
 #[test]
 fn many_records_go_through_rings_of_one_place(rt: HostRuntime) -> Result<(), Fail> {
     let d = Counts {
-        compulsory: reads!(16),
-        capacity: reads!(9984),
-        ..first_misses!(reads!(10_000), reads!(10_000), 10_000)
+        compulsory: by_class!(read: 16),
+        capacity: by_class!(read: 9984),
+        ..first_misses!(by_class!(read: 10_000), by_class!(read: 10_000), 10_000)
     };
     let u = Counts {
-        compulsory: reads!(8),
-        capacity: reads!(4992),
-        ..first_misses!(reads!(10_000), reads!(5000), 5000)
+        compulsory: by_class!(read: 8),
+        capacity: by_class!(read: 4992),
+        ..first_misses!(by_class!(read: 10_000), by_class!(read: 5000), 5000)
     };
     let totals = Totals { d, u, ..NO_TOTALS };
     let narrow = config_of(&rt, USUAL, 1);

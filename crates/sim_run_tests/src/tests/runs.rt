@@ -1,12 +1,9 @@
 //! Whole runs with selections, all forms of a line, wide addresses and cut texts.
 
-use super::counts::{NO_COUNTS, NO_TOTALS};
-use super::{
-    EVERYTHING, bad, config, ends, first_misses, instrs, is_counted, reads, reads_and_writes,
-    reports,
-};
-use cache_core::{Counts, PerClass};
+use super::{EVERYTHING, NO_TOTALS, bad, config, ends, is_counted, reports};
+use cache_core::Counts;
 use din_trace::{MAX_LIMIT, Why};
+use expected_counts::{NO_COUNTS, by_class, first_misses};
 use sim_run::RunFault;
 use stage_core::{Selection, Totals};
 
@@ -20,15 +17,16 @@ fn a_selection_puts_flushes_in(rt: HostRuntime) {
         flushes: 1,
         ..NO_COUNTS
     };
+    let all = by_class!(read: 2, write: 1);
     let d = Counts {
         written_back: 1,
         flushes: 1,
-        ..first_misses!(reads_and_writes!(2, 1), reads_and_writes!(2, 1), 3)
+        ..first_misses!(all, all, 3)
     };
     let u = Counts {
         written_back: 1,
         flushes: 1,
-        ..first_misses!(reads_and_writes!(3, 1), reads!(3), 3)
+        ..first_misses!(by_class!(read: 3, write: 1), by_class!(read: 3), 3)
     };
     let trace = b"1 0\n0 8\n0 10\n";
     reports(
@@ -48,7 +46,7 @@ fn only_what_is_selected_is_simulated(rt: HostRuntime) {
         max: 1,
         ..EVERYTHING
     };
-    let one = first_misses!(instrs!(1), instrs!(1), 1);
+    let one = first_misses!(by_class!(instr: 1), by_class!(instr: 1), 1);
     let totals = Totals {
         i: one,
         u: one,
@@ -84,9 +82,10 @@ fn lines_that_are_not_selected_are_judged(rt: HostRuntime) {
 
 #[test]
 fn a_line_may_have_blanks_a_prefix_and_a_comment(rt: HostRuntime) {
+    let both = by_class!(read: 1, write: 1);
     let totals = Totals {
-        d: first_misses!(reads_and_writes!(1, 1), reads_and_writes!(1, 1), 2),
-        u: first_misses!(reads!(2), reads!(2), 2),
+        d: first_misses!(both, both, 2),
+        u: first_misses!(by_class!(read: 2), by_class!(read: 2), 2),
         ..NO_TOTALS
     };
     let trace = b"0 0x1F comment\r\n 1 ffffffff";
@@ -97,8 +96,8 @@ fn a_line_may_have_blanks_a_prefix_and_a_comment(rt: HostRuntime) {
 fn an_address_may_have_zeros_before_it_or_a_prefix(rt: HostRuntime) {
     // Each block is read twice, with its address written in two ways.
     let totals = Totals {
-        d: first_misses!(reads!(4), reads!(2), 2),
-        u: first_misses!(reads!(2), reads!(2), 2),
+        d: first_misses!(by_class!(read: 4), by_class!(read: 2), 2),
+        u: first_misses!(by_class!(read: 2), by_class!(read: 2), 2),
         ..NO_TOTALS
     };
     let trace = b"0 00000000000ffffffff\n0 ffffffff\n0 0Xab\n0 ab\n";
@@ -109,16 +108,9 @@ fn an_address_may_have_zeros_before_it_or_a_prefix(rt: HostRuntime) {
 fn the_highest_address_lies_in_the_last_block(rt: HostRuntime) {
     // The fetch that follows hits the second level, in the block that the read loaded there.
     let totals = Totals {
-        i: first_misses!(instrs!(1), instrs!(1), 1),
-        d: first_misses!(reads!(1), reads!(1), 1),
-        u: first_misses!(
-            PerClass {
-                instr: 1,
-                ..reads!(1)
-            },
-            reads!(1),
-            1,
-        ),
+        i: first_misses!(by_class!(instr: 1), by_class!(instr: 1), 1),
+        d: first_misses!(by_class!(read: 1), by_class!(read: 1), 1),
+        u: first_misses!(by_class!(instr: 1, read: 1), by_class!(read: 1), 1),
     };
     let traces: [&[u8]; 2] = [
         b"0 ffffffffffffffff\n2 fffffffffffffff8\n",
@@ -131,7 +123,7 @@ fn the_highest_address_lies_in_the_last_block(rt: HostRuntime) {
 
 #[test]
 fn addresses_keep_their_high_bits(rt: HostRuntime) {
-    let two = first_misses!(reads!(2), reads!(2), 2);
+    let two = first_misses!(by_class!(read: 2), by_class!(read: 2), 2);
     let totals = Totals {
         d: two,
         u: two,
@@ -172,8 +164,9 @@ fn a_cut_text_has_a_report_unless_its_last_line_is_cut(rt: HostRuntime) {
 #[test]
 fn a_shorter_address_at_the_cut_is_simulated(rt: HostRuntime) {
     // Cut after the first digit of the last address, which is then 1, in the first block.
-    let d = first_misses!(reads_and_writes!(2, 1), reads_and_writes!(1, 1), 2);
-    let u = first_misses!(reads!(2), reads!(2), 2);
+    let missed = by_class!(read: 1, write: 1);
+    let d = first_misses!(by_class!(read: 2, write: 1), missed, 2);
+    let u = first_misses!(by_class!(read: 2), by_class!(read: 2), 2);
     let totals = Totals { d, u, ..NO_TOTALS };
     is_counted(&rt, rt.alloc(), b"1 0\n0 8\n0 1", &totals);
 }

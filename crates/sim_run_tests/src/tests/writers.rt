@@ -1,9 +1,9 @@
 //! Writers that fail, and when a writer is flushed.
 
-use super::counts::{NO_COUNTS, NO_TOTALS};
-use super::fault_of_both;
 use super::layout::ONE_WRITE_BACK;
+use super::{NO_TOTALS, fault_of_both};
 use din_trace::FromWrite;
+use expected_counts::NO_COUNTS;
 use sim_run::{RunFault, write_block, write_report};
 use std::alloc::Global;
 use std::io;

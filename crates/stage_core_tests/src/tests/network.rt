@@ -1,11 +1,11 @@
 //! Runs of the network, step by step.
 
-use super::counts::NO_COUNTS;
 use super::worked::{
     FLUSHED, FLUSHED_TOTALS, PUT_IN_TOTALS, SWEEP_TOTALS, VICTIM, VICTIM_TOTALS, sweep,
 };
 use super::{LRU, config_of, push, same};
 use din_trace::{DinRecord, MAX_LIMIT};
+use expected_counts::NO_COUNTS;
 use stage_core::{Core, NoMemory, Selection, Totals, drive};
 use std::alloc::Global;
 use std::process::Abort;

@@ -1,9 +1,9 @@
 //! The counts of runs over a few references, by the policy of the data cache.
 
-use super::counts::{NO_COUNTS, by_class, first_misses};
 use super::totals::{Run, come_to};
 use super::{AROUND, LRU, READ_0, READ_8, READ_16, THROUGH, WRITE_0, WRITE_2};
 use cache_core::{Counts, Policy, Repl};
+use expected_counts::{NO_COUNTS, by_class, first_misses};
 use stage_core::{NoMemory, Totals};
 
 const FIFO: Policy = Policy {

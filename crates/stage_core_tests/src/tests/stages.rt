@@ -1,9 +1,9 @@
 //! What one stage sends, and what the second level serves.
 
-use super::counts::{by_class, first_misses};
 use super::messages::{part, refers};
 use super::{LRU, config_of, push, same};
 use cache_core::{Class, Counts, MAX_EVENTS};
+use expected_counts::{by_class, first_misses};
 use stage_core::{Config, FromStage, L1Stage, L2Stage, NoMemory, Side, ToStage, What};
 use std::alloc::Global;
 use std::process::Abort;

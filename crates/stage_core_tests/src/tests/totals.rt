@@ -1,6 +1,5 @@
 //! The counts of whole runs.
 
-use super::counts::{NO_COUNTS, by_class, first_misses};
 use super::messages::record;
 use super::worked::{
     FLUSHED, FLUSHED_TOTALS, ONE_FLUSH, PUT_IN_TOTALS, SWEEP_TOTALS, VICTIM, VICTIM_TOTALS, sweep,
@@ -8,6 +7,7 @@ use super::worked::{
 use super::{DATA, FLUSH, INSTR_0, INSTRUCTIONS, LRU, READ_0, SECOND, config_of, same};
 use cache_core::{Counts, GeometryFault, Policy};
 use din_trace::{DinRecord, MAX_LIMIT};
+use expected_counts::{NO_COUNTS, by_class, first_misses};
 use stage_core::{
     CacheName, CacheSpec, Config, ConfigFault, NoMemory, Selection, Totals, run_plain,
 };

@@ -1,9 +1,9 @@
 //! Traces with their counts on the small caches, worked out by hand.
 
-use super::counts::{NO_COUNTS, by_class, first_misses};
 use super::{FLUSH, READ_8, READ_16, WRITE_0, WRITE_8, push, read};
 use cache_core::{Counts, PerClass};
 use din_trace::DinRecord;
+use expected_counts::{NO_COUNTS, by_class, first_misses};
 use stage_core::Totals;
 use std::alloc::Global;
 use std::process::Abort;

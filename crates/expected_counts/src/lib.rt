@@ -1,18 +1,22 @@
-//! Expected counts, as literals: the proof of a test goes through each call that it makes.
+//! The counts that tests expect, as literals: the proof of a test goes through each call that it
+//! makes. The tests of several crates share them.
+#![tactic(auto)]
 
 use cache_core::{Counts, PerClass};
 
-/// So many accesses of these classes, and none of the others.
+/// So many accesses of these classes, as in `by_class!(read: 2, write: 1)`, and none of the others.
+#[macro_export]
 macro_rules! by_class {
     ($($class:ident: $count:expr),+) => {
         cache_core::PerClass {
             $($class: $count,)+
-            ..$crate::tests::counts::NONE
+            ..$crate::NONE
         }
     };
 }
 
 /// Counts in which each miss is compulsory, and this many blocks were loaded.
+#[macro_export]
 macro_rules! first_misses {
     ($fetches:expr, $misses:expr, $loaded:expr) => {
         cache_core::Counts {
@@ -20,16 +24,13 @@ macro_rules! first_misses {
             misses: $misses,
             compulsory: $misses,
             loaded: $loaded,
-            ..$crate::tests::counts::NO_COUNTS
+            ..$crate::NO_COUNTS
         }
     };
 }
 
-pub(super) use by_class;
-pub(super) use first_misses;
-
 /// No access.
-pub(super) const NONE: PerClass = PerClass {
+pub const NONE: PerClass = PerClass {
     instr: 0,
     read: 0,
     write: 0,
@@ -37,7 +38,7 @@ pub(super) const NONE: PerClass = PerClass {
 };
 
 /// Nothing counted in a cache.
-pub(super) const NO_COUNTS: Counts = Counts {
+pub const NO_COUNTS: Counts = Counts {
     fetches: NONE,
     misses: NONE,
     compulsory: NONE,
