@@ -229,11 +229,64 @@ is_ready() {
     done
 }
 
-# prove_several LOGS CRATES: tells of each as soon as it is proved.
+# prove_several LOGS CRATES: tells of each as soon as it is proved. A proof of several jobs ends
+# sooner, but takes half as much work again: so the largest crate, which the next ones wait for, has
+# as many jobs as rt chooses, and those beside it have one.
 prove_several() {
+    export -f prove_library take_made link_library link_part all_below
     # shellcheck disable=SC2016,SC2086  # the inner shell's words; names of crates
-    printf '%s\n' $2 | top=$top logs=$1 self=$self xargs -P "$(nproc)" -n 1 sh -c \
-        'cd "$top/crates/$1" && rt lib > "$logs/$1" 2>&1 && echo "$self: $1 is proved" >&2' lib
+    by_size $2 | sed '2,$s/$/ --jobs 1/' | top=$top logs=$1 self=$self xargs -P "$(nproc)" -L 1 \
+        bash -c 'prove_library "$@" > "$logs/$1" 2>&1 && echo "$self: $1 is proved" >&2' lib
+}
+
+# by_size CRATE..: the same, the largest first.
+by_size() {
+    local name
+    for name; do
+        echo "$(find "$top/crates/$name"/{src,specs,proofs} -type f -printf '%s\n' 2>/dev/null |
+            awk '{ bytes += $1 } END { print bytes + 0 }') $name"
+    done | LC_ALL=C sort -k 1,1nr -k 2 | cut -d ' ' -f 2
+}
+
+# prove_library CRATE WORD..: rt lets no two proofs use one folder of a library at a time. So this
+# proves the crate in a room of its own, and then takes what was made there, also where the proof
+# failed: the next one goes on from it.
+prove_library() {
+    local name status=0 out=$top/crates/$1/out
+    local room=$out/room
+    local made=$room/crates/$1/out
+    take_made incremental "$made" "$out" && rm -rf -- "$room" && mkdir -p -- "$room/crates" &&
+        cp -- "$top/HANDLES" "$room" || return
+    for name in $(all_below "$1"); do
+        link_library "$name" "$room" || return
+    done
+    link_part incremental "$out" "$made" || return
+    (cd "$room/crates/$1" && rt lib "${@:2}") || status=$?
+    take_made incremental "$made" "$out" && take_made rlib "$made" "$out" && rm -rf -- "$room" &&
+        return "$status"
+}
+
+# take_made PART FROM TO: in place of the part that is there, if it was made.
+take_made() {
+    [ ! -e "$2/$1" ] || { rm -rf -- "${3:?}/$1" && mv -- "$2/$1" "$3"; }
+}
+
+# link_library CRATE ROOM: the crate with what was made of it, as links to the same files: they are
+# replaced, and never changed.
+link_library() {
+    local part from=$top/crates/$1 to=$2/crates/$1
+    grep -E "^$1( [^:]*)?:" "$top/crates.txt" >> "$2/crates.txt" && mkdir -p -- "$to/out" || return
+    for part in src specs proofs; do
+        link_part "$part" "$from" "$to" || return
+    done
+    link_part rlib "$from/out" "$to/out"
+}
+
+# link_part PART FROM TO: copies, where the file system has no links.
+link_part() {
+    [ ! -e "$2/$1" ] || cp -al -- "$2/$1" "$3" 2>/dev/null || {
+        rm -rf -- "${3:?}/$1" && cp -a -- "$2/$1" "$3"
+    }
 }
 
 # run_once NAME
