@@ -208,6 +208,9 @@ build() {
 prove_libraries() {
     local proved=' ' name ready left
     left=$(all_below "$1" | head -n -1)
+    for name in $left; do
+        leftovers+=("$(room_of "$name")")
+    done
     while [ -n "$left" ]; do
         ready=
         for name in $left; do
@@ -233,7 +236,7 @@ is_ready() {
 # sooner, but takes half as much work again: so the largest crate, which the next ones wait for, has
 # as many jobs as rt chooses, and those beside it have one.
 prove_several() {
-    export -f prove_library take_made link_library link_part all_below
+    export -f prove_library room_of take_made link_library link_part all_below
     # shellcheck disable=SC2016,SC2086  # the inner shell's words; names of crates
     by_size $2 | sed '2,$s/$/ --jobs 1/' | top=$top logs=$1 self=$self xargs -P "$(nproc)" -L 1 \
         bash -c 'prove_library "$@" > "$logs/$1" 2>&1 && echo "$self: $1 is proved" >&2' lib
@@ -248,15 +251,20 @@ by_size() {
     done | LC_ALL=C sort -k 1,1nr -k 2 | cut -d ' ' -f 2
 }
 
+# room_of CRATE: where its proof works. It goes at the end of the command, since rt refuses a
+# repository in which it stands.
+room_of() {
+    echo "$top/crates/$1/out/room"
+}
+
 # prove_library CRATE WORD..: rt lets no two proofs use one folder of a library at a time. So this
 # proves the crate in a room of its own, and then takes what was made there, also where the proof
 # failed: the next one goes on from it.
 prove_library() {
-    local name status=0 out=$top/crates/$1/out
-    local room=$out/room
-    local made=$room/crates/$1/out
-    take_made incremental "$made" "$out" && rm -rf -- "$room" && mkdir -p -- "$room/crates" &&
-        cp -- "$top/HANDLES" "$room" || return
+    local name room made status=0 out=$top/crates/$1/out
+    room=$(room_of "$1")
+    made=$room/crates/$1/out
+    rm -rf -- "$room" && mkdir -p -- "$room/crates" && cp -- "$top/HANDLES" "$room" || return
     for name in $(all_below "$1"); do
         link_library "$name" "$room" || return
     done
