@@ -1,7 +1,7 @@
 #!/usr/bin/env bash
-# What a grid of caches costs. grid_bench serves the data references of a trace in 4, 28 and 60
-# caches at once, all of blocks of 32 bytes, write back and write allocation. plain_bench simulates
-# the same trace on one thread: an instruction cache, one data cache, and a second level.
+# What a grid of caches costs. `measure grid` serves the data references of a trace in 4, 28 and 60
+# caches at once, all of blocks of 32 bytes, write back and write allocation. `measure run`
+# simulates the same trace on one thread: an instruction cache, one data cache, and a second level.
 #
 #   bench/grid.sh [REFERENCES [ROUNDS]]      1,000,000 references and 5 rounds, if none are given
 #
@@ -10,25 +10,24 @@
 # over 1 and 16 MiB. The third is recorded from ls; without valgrind it is left out.
 #
 # All runs of a table read the same file, in turn. Below the table stands how many times the
-# processor time of one run of plain_bench each took, by the medians, and how much more memory. With
+# processor time of one `measure run` each took, by the medians, and how much more memory. With
 # valgrind the script also prints the instructions for each reference.
 set -euo pipefail
 references=${1:-1000000}
 rounds=${2:-5}
 top=$(cd "$(dirname "$0")/.." && pwd)
-plain=$(printf '%q' "$top/crates/plain_bench/out/plain_bench")
-grid=$(printf '%q' "$top/crates/grid_bench/out/grid_bench")
+program=$(printf '%q' "$top/crates/measure/out/measure")
 . "$top/bench/build.sh"
 . "$top/bench/traces.sh"
-build plain_bench grid_bench
+build measure
 
 sizes=1024,2048,4096,8192,16384,32768,65536
-names=('plain_bench' 'grid of 4' 'grid of 28' 'grid of 60')
+names=('one run' 'grid of 4' 'grid of 28' 'grid of 60')
 commands=(
-    "$plain 8192 32 2 8192 32 2 262144 32 4"
-    "$grid 32 4096,16384 1,4"
-    "$grid 32 $sizes 1,2,4,8"
-    "$grid 32 512,$sizes,131072,262144,524288,1048576 1,2,4,8,16"
+    "$program run /dev/stdin 8192 32 2 8192 32 2 262144 32 4"
+    "$program grid /dev/stdin 32 4096,16384 1,4"
+    "$program grid /dev/stdin 32 $sizes 1,2,4,8"
+    "$program grid /dev/stdin 32 512,$sizes,131072,262144,524288,1048576 1,2,4,8,16"
 )
 
 # instructions TRACE COMMAND..: how many the processor takes for it.

@@ -1,6 +1,6 @@
 #!/usr/bin/env bash
 # How fast whole runs are. dinero_pipe runs its stages in four threads, with rings of several
-# capacities. plain_bench runs the same machines on one thread. The script compares them on all
+# capacities. `measure run` runs the same machines on one thread. The script compares them on all
 # cores, on two and on one; with four runs at once; while four other programs only burn time; and
 # with a real program's trace.
 #
@@ -13,7 +13,7 @@ set -euo pipefail
 references=${1:-3000000}
 rounds=${2:-5}
 top=$(cd "$(dirname "$0")/.." && pwd)
-plain=$top/crates/plain_bench/out/plain_bench
+measure=$top/crates/measure/out/measure
 threads=$top/crates/dinero_pipe/out/dinero_pipe
 . "$top/bench/build.sh"
 burners=()
@@ -25,7 +25,7 @@ trap finish EXIT
 . "$top/bench/traces.sh"
 trace=$folder/made.din
 
-build plain_bench
+build measure
 "$top/bin/dinero_pipe" --help > /dev/null
 
 tame > "$trace"
@@ -51,7 +51,7 @@ caches() {
     local words=(--l1-isize "$1" --l1-ibsize "$2" --l1-iassoc "$3" --l1-dsize "$1" --l1-dbsize "$2"
         --l1-dassoc "$3" --l2-usize "$4" --l2-ubsize "$5" --l2-uassoc "$6")
     rm -f "$folder/first"
-    same 'one thread' "$plain" "${@:1:3}" "${@:1:3}" "${@:4:3}" > "$folder/runs"
+    same 'one thread' "$measure" run "$trace" "${@:1:3}" "${@:1:3}" "${@:4:3}" > "$folder/runs"
     for ring in 64 1024 65536; do
         same "threads, ring $ring" "$threads" "${words[@]}" --ring "$ring" >> "$folder/runs"
     done

@@ -1,23 +1,18 @@
 //! Serves the same generated references to caches of one size and 1, 8, 256 and 4,096 ways, and
 //! prints the misses.
 //!
-//! Arguments: the number of references, and `time` to print the time of one access too.
-#![tactic(auto)]
+//! Words: `cache`, or `cache-times` to print the time of one access too; then the number of
+//! references.
 
-use anyhow::{Context, bail};
-use cache_core::{Access, Cache, Class, Geometry, MAX_EVENTS, NoMemory, Policy, Repl};
-use std::env;
+use crate::POLICY;
+use anyhow::bail;
+use cache_core::{Access, Cache, Class, Geometry, MAX_EVENTS, NoMemory};
+use std::env::Args;
 use std::time::Instant;
 
 const SIZE: u64 = 65_536;
 
 const BLOCK: u64 = 16;
-
-const POLICY: Policy = Policy {
-    repl: Repl::Lru,
-    wback: true,
-    walloc: true,
-};
 
 /// The next state of the generator, a linear congruence with Knuth's constants.
 fn next(state: u64) -> u64 {
@@ -55,7 +50,8 @@ fn serve_all(cache: &mut Cache, references: u64) -> Result<(), NoMemory> {
     Ok(())
 }
 
-fn measure(rt: &HostRuntime, ways: u64, references: u64, timed: bool) -> anyhow::Result<()> {
+/// Serves this many references to a cache of so many ways.
+fn measure_ways(rt: &HostRuntime, ways: u64, references: u64, timed: bool) -> anyhow::Result<()> {
     let Ok(geometry) = Geometry::new(SIZE, BLOCK, ways) else {
         bail!("no lawful geometry");
     };
@@ -85,14 +81,11 @@ fn measure(rt: &HostRuntime, ways: u64, references: u64, timed: bool) -> anyhow:
     Ok(())
 }
 
-fn main(rt: HostRuntime) -> anyhow::Result<()> {
-    let mut words = env::args(&rt)?;
-    let _program = words.next();
-    let references = words.next().context("how many references?")?;
-    let references: u64 = references.parse()?;
-    let timed = words.next().is_some();
+/// Serves as many references as the next word says to each cache.
+pub fn measure(rt: &HostRuntime, words: &mut Args, timed: bool) -> anyhow::Result<()> {
+    let references = crate::number(words)?;
     for ways in [1, 8, 256, 4_096] {
-        measure(&rt, ways, references, timed)?;
+        measure_ways(rt, ways, references, timed)?;
     }
     Ok(())
 }

@@ -1,27 +1,22 @@
-//! Serves the data references of the trace on standard input in a grid of caches at once, and
-//! prints what each cache counted.
+//! Serves the data references of a trace in a grid of caches at once, and prints what each cache
+//! counted.
 //!
-//! It measures an engine of grid_core. The caches write back and allocate at writes. Arguments: the
-//! block size, then the sizes in bytes, joined by commas, and the numbers of ways.
-#![tactic(auto)]
+//! It measures an engine of grid_core. The caches write back and allocate at writes. Words: `grid`,
+//! the trace, the block size, then the sizes in bytes, joined by commas, and the numbers of ways.
 
+use crate::POLICY;
 use anyhow::{Context, bail};
-use cache_core::{Access, Class, Counts, Geometry, MAX_EVENTS, NoMemory, Policy, Repl};
+use cache_core::{Access, Class, Counts, Geometry, MAX_EVENTS, NoMemory};
 use din_trace::{DinRecord, FromRead, Label, MAX_LIMIT, Source};
 use grid_core::{Engine, share_block_size};
 use std::alloc::Global;
-use std::env;
+use std::env::Args;
+use std::fs::File;
 use std::io::{BufWriter, Write};
 
-/// The policy of all caches.
-static POLICY: Policy = Policy {
-    repl: Repl::Lru,
-    wback: true,
-    walloc: true,
-};
-
-/// The numbers of a word, which commas join.
-fn numbers(alloc: Global, word: &str) -> anyhow::Result<Vec<u64>> {
+/// The numbers of the next word, which commas join.
+fn numbers(alloc: Global, words: &mut Args) -> anyhow::Result<Vec<u64>> {
+    let word = words.next().context("numbers are missing")?;
     let mut numbers = Vec::new(alloc);
     for part in word.split(',') {
         numbers.push(part.parse()?)?;
@@ -69,9 +64,9 @@ fn serve(engine: &mut Engine, record: DinRecord) -> Result<(), NoMemory> {
     Ok(())
 }
 
-/// Serves all records of standard input.
-fn serve_all(rt: &HostRuntime, engine: &mut Engine) -> anyhow::Result<()> {
-    let mut source = Source::new(FromRead::new(rt.stdin()), MAX_LIMIT);
+/// Serves all records of a trace.
+fn serve_all(engine: &mut Engine, trace: FromRead<File>) -> anyhow::Result<()> {
+    let mut source = Source::new(trace, MAX_LIMIT);
     for _ in 0..u64::MAX {
         match source.next() {
             Ok(Some(record)) => {
@@ -114,22 +109,33 @@ fn report(rt: &HostRuntime, geometries: &[Geometry], engine: &Engine) -> anyhow:
     Ok(())
 }
 
-fn main(rt: HostRuntime) -> anyhow::Result<()> {
-    let mut words = env::args(&rt)?;
-    let _program = words.next();
-    let bsize: u64 = words.next().context("which block size?")?.parse()?;
-    let sizes = numbers(rt.alloc(), &words.next().context("which sizes?")?)?;
-    let ways = numbers(rt.alloc(), &words.next().context("how many ways?")?)?;
-    let geometries = grid(rt.alloc(), bsize, &sizes, &ways)?;
+/// The geometries that the next three words ask for.
+fn asked_for(alloc: Global, words: &mut Args) -> anyhow::Result<Vec<Geometry>> {
+    let bsize = crate::number(words)?;
+    let sizes = numbers(alloc, words)?;
+    let ways = numbers(alloc, words)?;
+    grid(alloc, bsize, &sizes, &ways)
+}
+
+/// An engine of these geometries.
+fn engine_of(alloc: Global, geometries: &[Geometry]) -> anyhow::Result<Engine> {
     let Some(first) = geometries.first().copied() else {
         bail!("no lawful geometry");
     };
-    if !share_block_size(&geometries, first) {
+    if !share_block_size(geometries, first) {
         bail!("several block sizes");
     }
-    let Ok(mut engine) = Engine::new(rt.alloc(), &geometries, first, POLICY) else {
-        bail!("no memory");
-    };
-    serve_all(&rt, &mut engine)?;
-    report(&rt, &geometries, &engine)
+    match Engine::new(alloc, geometries, first, POLICY) {
+        Ok(engine) => Ok(engine),
+        Err(_) => bail!("no memory"),
+    }
+}
+
+/// Serves the trace that the next word names.
+pub fn measure(rt: &HostRuntime, words: &mut Args) -> anyhow::Result<()> {
+    let trace = crate::trace(rt, words)?;
+    let geometries = asked_for(rt.alloc(), words)?;
+    let mut engine = engine_of(rt.alloc(), &geometries)?;
+    serve_all(&mut engine, trace)?;
+    report(rt, &geometries, &engine)
 }
