@@ -1,6 +1,8 @@
-//! Tests of grid_options by its public calls. They are a crate of their own, so that the library is
-//! proved without them, and a test without the library's proofs.
+//! Tests of grid_options and of dinero_options by their public calls. They are a crate of their
+//! own, so that the libraries are proved without them, and a test without the libraries' proofs.
 #![tactic(auto)]
 
+#[cfg(test)]
+mod of_dinero_options;
 #[cfg(test)]
 mod tests;
