@@ -12,7 +12,7 @@ import time
 from functools import cache
 from pathlib import Path
 
-from wrong_body import planted
+from wrong_body import Planted
 
 PARTS = ("src", "specs", "proofs")
 # A check takes up to this much memory. A second one begins only if there is as much.
@@ -198,22 +198,24 @@ class Rooms:
 
     def check(self, crate, bodies):
         """Checks the functions in which these bodies are planted, or the whole crate if one of them
-        doesn't tell: the status, and the lines that were said."""
+        doesn't tell: the status, the lines that were said, and what was planted."""
         words = self.command(crate)
         with self.alone:
             self.number += 1
             room = self.work / f"room{self.number}"
         self.furnish(room, crate)
-        for path, text in planted(bodies, self.top / "crates" / crate).items():
-            (room / path).write_text(text, encoding="utf-8")
-        if all(it.checked for it in bodies):
-            words += [f"--only={it}" for body in bodies for it in body.checked]
+        planted = Planted(bodies, self.top / "crates" / crate)
+        planted.write(room)
+        checked = [planted.checked(it) for it in bodies]
+        if all(checked):
+            words += [f"--only={it}" for names in checked for it in names]
         if crate in self.kept:
             link(self.kept[crate], room / "kept")
-        told = self.run([*words, "--incremental", "kept"], room, self.ranks[crate])
-        if self.kept.setdefault(crate, room / "kept") != room / "kept":
+        status, said = self.run([*words, "--incremental", "kept"], room, self.ranks[crate])
+        # A check that can't read the code keeps nothing.
+        if not (room / "kept").is_dir() or self.kept.setdefault(crate, room / "kept").parent != room:
             shutil.rmtree(room, ignore_errors=True)
-        return told
+        return status, said, planted
 
 
 def size_of(folder):
