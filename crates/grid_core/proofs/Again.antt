@@ -1,5 +1,5 @@
 -- The state of the caches after one more use of the block that was used last: it is as before.
-use Rattle.std.proofs.Common.{◌≡◌, ℕ, ◌%◌, ◌/◌, ◌<◌, Bool, true, false, not, ◌&&◌, ◌||◌, ◌==◌, ltb}
+use Rattle.std.proofs.Common.{◌≡◌, ℕ, ◌%◌, ◌/◌, ◌<◌, Bool, true, false, not, ◌||◌, ◌==◌, ltb}
 use Rattle.std.proofs.Common.{List, [], ◌∷◌, length, get_or, map, refl, sym, ap, subst, ◌∙◌, arith}
 use Rattle.std.specs.List.{All, list_any}
 use Rattle.std.proofs.Math.Nat.{mod-lt}
@@ -18,38 +18,27 @@ use Rattle.cache_core.proofs.Lawful.{sane_of}
 use Rattle.cache_core.proofs.Steps.{counts-step}
 use Rattle.marked_list.specs.Recency.{brought_front}
 use Rattle.marked_list.proofs.LevelLaws.{front-brought}
-use Rattle.grid_core.specs.declared.cells.Cell.{Cell}
 use Rattle.grid_core.specs.declared.cells.Shape.{Shape}
 use Rattle.grid_core.specs.declared.shadows.Shadows.{Shadows}
 use Rattle.grid_core.specs.declared.stack.Stack.{Stack}
 use Rattle.grid_core.specs.FullyAssociative.{shadow_misses}
-use Rattle.grid_core.specs.Cells.{HitsIn, IsCounted, IsPlacedAmong, IsPlacedOn, own_counts}
-use Rattle.grid_core.specs.Cells.{shape_in, shape_rules, with_own}
+use Rattle.grid_core.specs.Cells.{HitsIn, IsPlacedAmong, IsPlacedOn, shape_rules}
 use Rattle.grid_core.specs.Recent.{IsAgain, used_last, written_last}
-use Rattle.grid_core.specs.Shadows.{HoldsOrder, recent_in}
+use Rattle.grid_core.specs.Shadows.{HoldsOrder, recent_in, shadow_sizes}
 use Rattle.grid_core.specs.Shapes.{HaveBsize}
 use Rattle.grid_core.specs.Slots.{next_slots}
-use Rattle.grid_core.specs.Standing.{StandsFor, rules_of}
+use Rattle.grid_core.specs.Standing.{StandsFor, StaysFirst, rules_of}
 use Rattle.grid_core.specs.State.{IsAfter, IsRanked, base_rules}
 use Rattle.grid_core.specs.Ways.{IsStacked}
 use Rattle.grid_core.specs.Written.{no_rules}
 use Rattle.grid_core.proofs.After.{referenced-next}
-use Rattle.grid_core.proofs.Hitting.{hit-own, with-none}
-use Rattle.grid_core.proofs.Placed.{shape-at}
-use Rattle.grid_core.proofs.Repeats.{distance-last, front-again, recent-again, renewed-last}
-use Rattle.grid_core.proofs.Repeats.{resident-last, row-again}
+use Rattle.grid_core.proofs.Counted.{counted-first}
+use Rattle.grid_core.proofs.Hitting.{with-none}
+use Rattle.grid_core.proofs.Repeats.{distance-last, front-again, level-last, recent-again}
+use Rattle.grid_core.proofs.Repeats.{renewed-last, resident-last, row-again}
 use Rattle.grid_core.proofs.Served.{hit-is}
 use Rattle.grid_core.proofs.StackRules.{some-sets, some-ways, stacked}
 use Rattle.grid_core.proofs.StackStep.{rows-next}
-
--- a cell that hits keeps its counts
-counted-again : (h : History) (x : Access) (c : Cell) → HitsIn h x c.shape → IsCounted h c
-    → IsCounted (access x ∷ h) c
-counted-again h x c hit own =
-    let r = shape_rules c.shape in
-    let k = own_counts (counts_of r h) in
-    own ∙ sym (hit-own x (is_write x && not c.shape.wback) k)
-    ∙ ap (λ o. with_own x o k) (sym hit) ∙ ap own_counts (counts-step r h x)
 
 -- a shadow that hits has missed as often as before
 far-again : (r : Rules) (h : History) (x : Access)
@@ -114,55 +103,77 @@ module _ (n : ℕ) (h : History) (x : Access) (last : used_last n (x.addr / n) h
       resident-last w (record { lru = refl; allocates = refl }) (block_of w x)
       (sane_of s.geometry).blocks_pos h (last-in w size)
 
-  -- rows stay as they are
-  stands-again : (is_write x ≡ true → written_last n (x.addr / n) h ≡ true) → (s : Stack)
-      → (rules_of s).bsize ≡ n → StandsFor s h → StandsFor s (access x ∷ h)
-  stands-again written s same st =
-      let r = rules_of s in
-      let b = block_of r x in
-      let xs = s.slots.items in
-      let inside : b % r.sets < r.sets = mod-lt b (some-sets s) in
-      let stays = row-again r (stacked s) b (some-ways s) h (is_write x) (last-in r same)
-      (λ w. subst (λ m. written_last m (x.addr / m) h ≡ true) (sym same) (written w)) in
-      record {
-        rows = rows-next r (stacked s) h x xs st.rows inside xs
-            (st.rows (b % r.sets) inside ∙ stays
-            ∙ ap (next_slots b (is_write x)) (sym (st.rows (b % r.sets) inside)))
-            (λ t apart. refl);
-      }
+  -- the block stays first in its row
+  module _ (written : is_write x ≡ true → written_last n (x.addr / n) h ≡ true) (s : Stack)
+      (same : (rules_of s).bsize ≡ n) where
+    written-in : is_write x ≡ true → written_last (rules_of s).bsize (block_of (rules_of s) x) h
+        ≡ true
+    written-in w = subst (λ m. written_last m (x.addr / m) h ≡ true) (sym same) (written w)
 
--- each cell hits
+    pub stays-first : StaysFirst (rules_of s) h x
+    stays-first =
+        let r = rules_of s in
+        let b = block_of r x in
+        record {
+          first = distance-last r (stacked s) b (some-ways s) h (last-in r same);
+          dirty = λ w. level-last r (stacked s) b (some-ways s) h (written-in w);
+        }
+
+    -- rows stay as they are
+    pub stands-again : StandsFor s h → StandsFor s (access x ∷ h)
+    stands-again st =
+        let r = rules_of s in
+        let b = block_of r x in
+        let xs = s.slots.items in
+        let inside : b % r.sets < r.sets = mod-lt b (some-sets s) in
+        let stays = row-again r (stacked s) b (some-ways s) h (is_write x) (last-in r same)
+        written-in in
+        record {
+          rows = rows-next r (stacked s) h x xs st.rows inside xs
+              (st.rows (b % r.sets) inside ∙ stays
+              ∙ ap (next_slots b (is_write x)) (sym (st.rows (b % r.sets) inside)))
+              (λ t apart. refl);
+        }
+
+-- each cache hits
 pub all-again : (g : Geometry) (h : History) (x : Access) (sizes : List ℕ) (stacks : List Stack)
-    (cells : List Cell) → used_last (bsize_of g) (x.addr / bsize_of g) h ≡ true
-    → All (λ s. IsPlacedAmong (map rules_of stacks) s) (map shape_in cells)
-    → All (IsRanked sizes g) (map shape_in cells) → All (λ c. HitsIn h x c.shape) cells
-all-again g h x sizes stacks cells last placed ranked k d lt =
-    let s = (get_or cells k d).shape in
+    (shapes : List Shape) → used_last (bsize_of g) (x.addr / bsize_of g) h ≡ true
+    → All (λ s. IsPlacedAmong (map rules_of stacks) s) shapes
+    → All (IsRanked sizes g) shapes → All (HitsIn h x) shapes
+all-again g h x sizes stacks shapes last placed ranked k d lt =
+    let s = get_or shapes k d in
     let rs = map rules_of stacks in
-    let on = shape-at (IsPlacedAmong rs) cells cells refl placed k d lt in
-    let rank = shape-at (IsRanked sizes g) cells cells refl ranked k d lt in
-    hits-again (bsize_of g) h x last (get_or rs s.stack no_rules) s (on.placed no_rules) rank.same
+    hits-again (bsize_of g) h x last (get_or rs s.stack no_rules) s
+    ((placed k d lt).placed no_rules) (ranked k d lt).same
 
 -- what is known of the block that was used last
 pub last-of : (g : Geometry) (h : History) (stacks : List Stack) (shadows : Shadows)
-    (cells : List Cell) (b : ℕ) (write : Bool) → IsAfter g stacks shadows cells h
+    (shapes : List Shape) (b : ℕ) (write : Bool) → IsAfter g stacks shadows shapes h
     → IsAgain b write (recent_in shadows) → used_last (bsize_of g) b h ≡ true
-last-of g h stacks shadows cells b write st again =
+last-of g h stacks shadows shapes b write st again =
     subst (λ c. used_last (bsize_of g) c h ≡ true) again.block (st.recent.used again.used)
+
+-- it is no first access
+pub known-last : (g : Geometry) (h : History) (b : ℕ) → used_last (bsize_of g) b h ≡ true
+    → list_any (λ t. t == b) (referenced_blocks (base_rules g) h) ≡ true
+unfolding used_last referenced_blocks
+known-last g [] b e = absurd (false≢true e)
+known-last g (flush ∷ h) b e = absurd (false≢true e)
+known-last g (access y ∷ h) b e =
+    ap (λ t. t || list_any (λ t. t == b) (referenced_blocks (base_rules g) h)) e
 
 -- nothing changes
 pub after-again : (g : Geometry) (h : History) (x : Access) (sizes : List ℕ) (stacks : List Stack)
-    (shadows : Shadows) (cells : List Cell) → HaveBsize (bsize_of g) stacks
-    → All (λ s. IsPlacedAmong (map rules_of stacks) s) (map shape_in cells)
-    → All (IsRanked sizes g) (map shape_in cells)
+    (shadows : Shadows) (shapes : List Shape) → HaveBsize (bsize_of g) stacks
+    → All (IsRanked sizes g) shapes
     → IsAgain (x.addr / bsize_of g) (is_write x) (recent_in shadows)
-    → IsAfter g stacks shadows cells h → IsAfter g stacks shadows cells (access x ∷ h)
-after-again g h x sizes stacks shadows cells same placed ranked again st =
+    → IsAfter g stacks shadows shapes h → IsAfter g stacks shadows shapes (access x ∷ h)
+after-again g h x sizes stacks shadows shapes same ranked again st =
     let n = bsize_of g in
     let b = x.addr / n in
     let r = base_rules g in
     let w = shadow_of r in
-    let last = last-of g h stacks shadows cells b (is_write x) st again in
+    let last = last-of g h stacks shadows shapes b (is_write x) st again in
     let written : is_write x ≡ true → written_last n b h ≡ true = λ e.
     subst (λ c. written_last n c h ≡ true) again.block (st.recent.written (again.written e)) in
     let front = renewed-last w (record { lru = refl; allocates = refl }) b h last in
@@ -174,10 +185,12 @@ after-again g h x sizes stacks shadows cells same placed ranked again st =
           (size-at n stacks same k d lt) (st.rows k d lt);
       order = subst (HoldsOrder shadows) order st.order;
       known = λ c. st.known c ∙ known-again n b r h refl last c ∙ referenced-next g h x c;
-      counted = λ k d lt. counted-again h x (get_or cells k d)
-          (all-again g h x sizes stacks cells last placed ranked k d lt) (st.counted k d lt);
+      counted = λ k d lt.
+          let s = get_or stacks k d in
+          counted-first (rules_of s) (shadow_sizes shadows) h x s.histogram
+          (stays-first n h x last written s (size-at n stacks same k d lt)) (st.counted k d lt);
       far = λ k d lt.
-          let s = get_or (map shape_in cells) k d in
+          let s = get_or shapes k d in
           st.far k d lt ∙ far-again (shape_rules s) h x
           (shadow-again n h x last s (ranked k d lt).same);
       recent = recent-again n (recent_in shadows) h x again st.recent;

@@ -8,14 +8,9 @@ use Rattle.cache_core.specs.History.{Rules, History, flush}
 use Rattle.cache_core.specs.Residents.{renewals}
 use Rattle.cache_core.specs.Order.{ranked}
 use Rattle.cache_core.specs.Row.{row}
-use Rattle.cache_core.specs.Counts.{tally, counts_of, flushes_in, flushed_back}
-use Rattle.cache_core.specs.Counts.{no_counts, none_by_class}
 use Rattle.cache_core.proofs.Nothing.{renewals-start, renewals-flush}
-use Rattle.grid_core.specs.declared.cells.Shape.{Shape}
 use Rattle.grid_core.specs.Slots.{no_slot}
 use Rattle.grid_core.specs.Standing.{slot_at, slots_of}
-use Rattle.grid_core.specs.FullyAssociative.{shadow_misses}
-use Rattle.grid_core.specs.Cells.{shape_rules, own_counts}
 
 module _ (r : Rules) where
   ranked-none : (s : ℕ) → ranked r s [] ≡ []
@@ -47,9 +42,3 @@ module _ (r : Rules) where
   pub rows-flushed : (h : History) (t : ℕ) → t < r.sets
       → row r.assoc t (replicate (r.sets * r.assoc) no_slot) ≡ slots_of r (flush ∷ h) t
   rows-flushed h = rows-none (flush ∷ h) (renewals-flush r h)
-
--- a cell that has counted nothing
-pub counted-none : (s : Shape) → (no_counts ≡ own_counts (counts_of (shape_rules s) []))
-    × (none_by_class ≡ shadow_misses (shape_rules s) [])
-unfolding counts_of tally flushes_in flushed_back shadow_misses
-counted-none s = (refl, refl)

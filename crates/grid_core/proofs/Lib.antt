@@ -12,7 +12,9 @@ pub mod Empty
 pub mod MoreSets
 pub mod Narrowed
 pub mod Bytes
-pub mod Owing
+pub mod Onces
+pub mod WriteBacks
+pub mod DirtySlots
 pub mod Numbering
 pub mod Geometries
 pub mod Sizes
@@ -22,6 +24,7 @@ pub mod Repeats
 pub mod Firsts
 pub mod Staying
 pub mod After
+pub mod Counted
 pub mod Again
 pub mod OtherWays
 pub mod Seats
@@ -30,3 +33,7 @@ pub mod Silence
 pub mod Sharing
 pub mod Totals
 pub mod MissParts
+pub mod Tables
+pub mod WrittenBack
+pub mod CountsOf
+pub mod StackBounds

@@ -1,30 +1,22 @@
 -- The shapes of cells, and the rows that they name.
 use Rattle.std.proofs.Common.{◌≡◌, ℕ, zero, suc, ◌*◌, ◌<◌, Bool, false, List, [], ◌∷◌}
-use Rattle.std.proofs.Common.{length, get_or, map}
+use Rattle.std.proofs.Common.{length, get_or, ltb, map}
 use Rattle.std.proofs.Common.{sym, ap, subst, ◌∙◌, arith}
 use Rattle.std.specs.List.{All}
 use Rattle.std.proofs.lemmas.List.{length-map, get_or-map}
 use Rattle.cache_core.specs.declared.geometry.Geometry.{Geometry}
 use Rattle.cache_core.specs.History.{Rules}
 use Rattle.cache_core.specs.Geometry.{bsize_of, sets_of, assoc_of, blocks_of}
-use Rattle.grid_core.specs.declared.cells.Cell.{Cell}
 use Rattle.grid_core.specs.declared.cells.Shape.{Shape}
 use Rattle.grid_core.specs.declared.stack.Stack.{Stack}
+use Rattle.grid_core.specs.declared.stacked.Stacked.{Stacked}
 use Rattle.grid_core.specs.Ways.{with_ways, IsStacked}
-use Rattle.grid_core.specs.Standing.{Suits, rules_of, stack_rules}
-use Rattle.grid_core.specs.Cells.{IsPlacedOn, IsPlacedAmong, shape_in}
+use Rattle.grid_core.specs.Standing.{Suits, found_in, rules_of, stack_rules}
+use Rattle.grid_core.specs.Cells.{IsPlacedOn, IsPlacedAmong, hit_at, shape_rules}
 use Rattle.grid_core.specs.Shapes.{IsSuitedShape}
+use Rattle.grid_core.specs.StackedCells.{stacked_rules}
 use Rattle.grid_core.proofs.Geometries.{sets-blocks}
 use Rattle.grid_core.proofs.StackRules.{stacked}
-
--- what holds of each shape at the start holds of that of each cell
-pub shape-at : (P : Shape → Type 0) (first xs : List Cell) → map shape_in xs ≡ map shape_in first
-    → All P (map shape_in first) → (i : ℕ) (e : Cell) → i < length xs → P (get_or xs i e).shape
-shape-at P first xs same all i e lt =
-    let long : i < length (map shape_in first) =
-    omega (arith, ap length same, length-map xs shape_in) in
-    subst P (ap (λ l. get_or l i e.shape) (sym same) ∙ get_or-map shape_in xs i e e.shape lt)
-    (all i e.shape long)
 
 -- the rules of the rows at an index
 pub rules-at : (stacks : List Stack) (j : ℕ) (v : Stack) (s : Shape) → v ≡ get_or stacks j v
@@ -83,3 +75,27 @@ suited-placed stacks s own = record {
         fits = (own.suited.suits d).fits;
       });
 }
+
+-- the index of a cache is that of its shape
+pub shape-there : (e : Stacked) {i : ℕ} → i < length (stacked_rules e) → i < length e.shapes.items
+unfolding stacked_rules
+shape-there e lt = omega (arith, lt, length-map e.shapes.items shape_rules)
+
+-- the shape at an index, and the rows that it names
+module _ (stacks : List Stack) (shapes : List Shape)
+    (placed : All (λ s. IsPlacedAmong (map rules_of stacks) s) shapes) (i : ℕ)
+    (lt : i < length shapes) (v : Shape) (is : v ≡ get_or shapes i v) where
+  pub placed-at : IsPlacedAmong (map rules_of stacks) v
+  placed-at = subst (IsPlacedAmong (map rules_of stacks)) (sym is) (placed i v lt)
+
+  pub inside-at : v.stack < length stacks
+  inside-at = names-rows stacks v placed-at
+
+  pub on-at : (w : Stack) → w ≡ get_or stacks v.stack w → IsPlacedOn (rules_of w) v
+  on-at w here = rules-at stacks v.stack w v here inside-at placed-at.placed
+
+-- whether the last access hit in the cache of a shape, by where the rows found its block
+pub hit-here : (stacks : List Stack) (v : Shape) (w : Stack) → w ≡ get_or stacks v.stack w
+    → v.stack < length stacks → hit_at (map found_in stacks) v ≡ ltb (found_in w) v.ways
+hit-here stacks v w here inside = ap (λ n. ltb n v.ways)
+    (get_or-map found_in stacks v.stack w 0 inside ∙ ap found_in (sym here))

@@ -98,12 +98,6 @@ hit-is r st s on h x near =
     (outcome-through r st n on.fits h x)
     ∙ ap (λ (w : Rules). hit_made (is_write x && not w.wback)) on.same
 
--- whether it hits, by the position that was found
-pub hit-flag : (r : Rules) → IsStacked r → (s : Shape) → IsPlacedOn r s → (h : History) (x : Access)
-    → (outcome_of (shape_rules s) h x).hit ≡ ltb (stack_distance r h (block_of r x)) s.ways
-hit-flag r st s on h x = ap (λ w. (outcome_of w h x).hit) (sym on.same)
-    ∙ outcome-hit r st s.ways on.fits h x
-
 -- the misses of the shadow after an access
 pub far-step : (s : Shape) (h : History) (x : Access) (p : Prior) → KnowsPrior s h x p
     → with_one x (ltb s.rank p.level) (shadow_misses (shape_rules s) h)

@@ -5,26 +5,23 @@ use Rattle.std.specs.List.{All}
 use Rattle.cache_core.specs.declared.access.Access.{Access}
 use Rattle.cache_core.specs.History.{History, Rules, is_write}
 use Rattle.cache_core.specs.Parts.{outcome_of}
-use Rattle.grid_core.specs.declared.cells.Cell.{Cell}
+use Rattle.grid_core.specs.declared.cells.Shape.{Shape}
 use Rattle.grid_core.specs.declared.places.Place.{Place}
 use Rattle.grid_core.specs.declared.places.Place.TheVariants.{Together, Apart}
-use Rattle.grid_core.specs.Cells.{HitsIn, shape_in, shape_rules}
+use Rattle.grid_core.specs.Cells.{HitsIn, shape_rules}
 use Rattle.grid_core.specs.Hits.{hit_made}
 use Rattle.grid_core.specs.Places.{IsPlace, rules_placed}
 use Rattle.grid_core.specs.Written.{SendsNothing, rules_at}
-use Rattle.grid_core.proofs.Placed.{shape-at}
 
 -- where all hit, and no write is sent on, nothing is sent
-pub hits-send-nothing : (h : History) (x : Access) (wback through : Bool) (cells : List Cell)
-    → All (λ c. HitsIn h x c.shape) cells → All (λ s. s.wback ≡ wback) (map shape_in cells)
+pub hits-send-nothing : (h : History) (x : Access) (wback through : Bool) (shapes : List Shape)
+    → All (HitsIn h x) shapes → All (λ s. s.wback ≡ wback) shapes
     → through ≡ (is_write x && not wback) → through ≡ false
-    → All (λ c. SendsNothing (outcome_of (shape_rules c.shape) h x)) cells
-hits-send-nothing h x wback through cells hit policy is none k d lt =
-    let s = (get_or cells k d).shape in
-    let same : s.wback ≡ wback =
-    shape-at (λ s. s.wback ≡ wback) cells cells refl policy k d lt in
+    → All (λ s. SendsNothing (outcome_of (shape_rules s) h x)) shapes
+hits-send-nothing h x wback through shapes hit policy is none k d lt =
+    let s = get_or shapes k d in
     let made : outcome_of (shape_rules s) h x ≡ hit_made false = hit k d lt
-    ∙ ap (λ t. hit_made (is_write x && not t)) same ∙ ap hit_made (sym is ∙ none) in
+    ∙ ap (λ t. hit_made (is_write x && not t)) (policy k d lt) ∙ ap hit_made (sym is ∙ none) in
     subst SendsNothing (sym made) (record { back = refl; fetch = refl; through = refl })
 
 -- what holds of the rules of each holds of those at an index

@@ -26,14 +26,14 @@ use Rattle.grid_core.proofs.Distances.{renews-all, distance-place}
 use Rattle.grid_core.proofs.Levels.{level-step, level-other}
 use Rattle.grid_core.proofs.Positions.{index-padded}
 
--- no distance, and no level, is above the number of ways
 resident-lt : (r : Rules) (ms : List ℕ) (b : ℕ) → is_resident r ms b ≡ true
     → reuse_distance r ms b < r.assoc
 unfolding is_resident
 resident-lt r ms b e = ltb-true (reuse_distance r ms b) r.assoc
     (and_parts (has ms b) (ltb (reuse_distance r ms b) r.assoc) e).1
 
-distance-le : (r : Rules) (h : History) (b : ℕ) → stack_distance r h b ≤ r.assoc
+-- no distance is above the number of ways
+pub distance-le : (r : Rules) (h : History) (b : ℕ) → stack_distance r h b ≤ r.assoc
 unfolding stack_distance
 distance-le r h b = (elim (is_resident r (renewals r h) b) as (λ t.
     is_resident r (renewals r h) b ≡ t
@@ -42,11 +42,13 @@ distance-le r h b = (elim (is_resident r (renewals r h) b) as (λ t.
       | false ↦ λ e. omega arith
     ]) refl
 
+-- a bound of a level and of a distance is one of the level after an access
 pub after-le : (w : Bool) (l d n : ℕ) → l ≤ n → d ≤ n → level_after w l d ≤ n
 after-le true l d n a b = omega arith
 after-le false l d n a b = (elim (ltb l d) as (λ t. cond t d l ≤ n) [ true ↦ b | false ↦ a ])
 
-level-le : (r : Rules) (h : History) (b : ℕ) → dirty_level r h b ≤ r.assoc
+-- no level is above the number of ways
+pub level-le : (r : Rules) (h : History) (b : ℕ) → dirty_level r h b ≤ r.assoc
 unfolding dirty_level
 level-le r [] b = omega arith
 level-le r (flush ∷ h) b = omega arith

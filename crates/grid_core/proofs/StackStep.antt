@@ -1,30 +1,37 @@
 -- One access to all rows.
-use Rattle.std.proofs.Common.{◌≡◌, ◌≢◌, ℕ, suc, ◌+◌, ◌-◌, ◌*◌, ◌%◌, ◌^◌, ◌<◌, ◌≤◌, Bool, true}
-use Rattle.std.proofs.Common.{false, not, ◌||◌, ltb, eqb, List, ◌∷◌, if◌then◌else◌, refl}
-use Rattle.std.proofs.Common.{get_or, drop, length, sym, ap, subst, ◌∙◌, arith}
+use Rattle.std.proofs.Common.{◌≡◌, ◌≢◌, ℕ, suc, ◌+◌, ◌-◌, ◌*◌, ◌/◌, ◌%◌, ◌^◌, ◌<◌, ◌≤◌, Bool}
+use Rattle.std.proofs.Common.{true, false, not, ◌||◌, ltb, eqb, List, ◌∷◌, if◌then◌else◌, refl}
+use Rattle.std.proofs.Common.{get_or, drop, length, min, sym, ap, subst, ◌∙◌, arith}
 use Rattle.std.specs.List.{find}
 use Rattle.std.specs.Option.{option_map, option_map_or}
 use Rattle.std.proofs.lemmas.Bool.{eqb-true, eqb-false, le-ltb, ltb-true, ltb-false}
 use Rattle.std.proofs.lemmas.List.{length-take-le, length-drop}
-use Rattle.std.proofs.Math.Nat.{mul-le-mul_right}
+use Rattle.std.proofs.Math.Nat.{mod-lt, mul-le-mul_right}
 use Rattle.std.proofs.Math.Seq.{get_or-take, get_or-drop}
 use Rattle.cache_core.specs.declared.access.Access.{Access}
+use Rattle.cache_core.specs.declared.geometry.Geometry.{Geometry}
+use Rattle.cache_core.specs.Geometry.{assoc_of, bsize_of, sets_of}
 use Rattle.cache_core.specs.History.{Rules, History, access, block_of, is_write}
 use Rattle.cache_core.specs.Residents.{hits, renewals}
 use Rattle.cache_core.specs.Parts.{outcome_of}
 use Rattle.cache_core.specs.Row.{row}
 use Rattle.cache_core.proofs.Cases.{by_cases}
+use Rattle.cache_core.proofs.Lawful.{sane_of}
 use Rattle.grid_core.specs.declared.slots.Slot.{Slot}
+use Rattle.grid_core.specs.declared.stack.Stack.{Stack}
 use Rattle.grid_core.specs.Ways.{with_ways, IsStacked, stack_distance}
 use Rattle.grid_core.specs.Slots.{holds, index_of, next_slots, no_slot, used_slot, level_of}
-use Rattle.grid_core.specs.Slots.{HaveBytes, level_after, level_in, lost_in, stays_in}
+use Rattle.grid_core.specs.Slots.{HaveBytes, clean_in, level_after, level_in, lost_in, stays_in}
+use Rattle.grid_core.specs.Histograms.{clean_ways}
 use Rattle.grid_core.specs.Levels.{dirty_level}
 use Rattle.grid_core.specs.Pushed.{dirty_in}
-use Rattle.grid_core.specs.Standing.{StaysFirst, slots_of}
+use Rattle.grid_core.specs.Standing.{StandsFor, StaysFirst, rules_of, slots_of}
 use Rattle.grid_core.proofs.Distances.{hits-distance}
 use Rattle.grid_core.proofs.Fronts.{low-level, moved-back}
 use Rattle.grid_core.proofs.Hitting.{both-true}
-use Rattle.grid_core.proofs.SlotTurns.{index-slots, seen-level, slots-here, slots-other}
+use Rattle.grid_core.proofs.SlotTurns.{after-le, distance-le, index-slots, level-le, seen-level}
+use Rattle.grid_core.proofs.SlotTurns.{slots-here, slots-other}
+use Rattle.grid_core.proofs.StackRules.{stacked}
 use Rattle.grid_core.proofs.Victims.{back-is}
 
 -- the last of the first n slots of a row stands among all slots
@@ -48,15 +55,25 @@ module _ (r : Rules) (st : IsStacked r) (h : History) (x : Access) (xs : List Sl
   s = b % r.sets
 
   -- the position tells the hits of all numbers of ways
-  pub hits-now : (p : ℕ) → p ≡ index_of (holds b) (row r.assoc s xs) → (n : ℕ) → n ≤ r.assoc
+  hits-now : (p : ℕ) → p ≡ index_of (holds b) (row r.assoc s xs) → (n : ℕ) → n ≤ r.assoc
       → hits (with_ways n r) (renewals (with_ways n r) h) x ≡ ltb p n
   hits-now p is n le = hits-distance r st n le h x
       ∙ ap (λ d. ltb d n)
       (sym (is ∙ ap (index_of (holds b)) (rows s inside) ∙ index-slots r st h b))
 
   -- so does the distance of the block
-  pub position-now : (p : ℕ) → p ≡ index_of (holds b) (row r.assoc s xs) → p ≡ stack_distance r h b
+  position-now : (p : ℕ) → p ≡ index_of (holds b) (row r.assoc s xs) → p ≡ stack_distance r h b
   position-now p is = is ∙ ap (index_of (holds b)) (rows s inside) ∙ index-slots r st h b
+
+  -- so is it told in how many ways the block is not dirty
+  clean-now : (q : ℕ) → q ≡ clean_in (level_in b (row r.assoc s xs))
+      (index_of (holds b) (row r.assoc s xs)) r.assoc → q ≡ clean_ways r h b
+  clean-now q is =
+      let le = after-le false (dirty_level r h b) (stack_distance r h b) r.assoc (level-le r h b)
+      (distance-le r h b) in
+      let low : min (clean_ways r h b) r.assoc ≡ clean_ways r h b = omega arith in
+      is ∙ ap (λ l. clean_in (level_in b l) (index_of (holds b) l) r.assoc) (rows s inside)
+      ∙ ap (λ n. min n r.assoc) (seen-level r st h b false) ∙ low
 
   -- so does the level of its slot tell its dirty level, where it is first
   level-first : stack_distance r h b ≡ 0 → level_in b (row r.assoc s xs) ≡ dirty_level r h b
@@ -68,7 +85,7 @@ module _ (r : Rules) (st : IsStacked r) (h : History) (x : Access) (xs : List Sl
       ∙ ap (level_after false (dirty_level r h b)) near ∙ low-level (dirty_level r h b)
 
   -- a row that stays as it is tells that the block is first, and dirty if the access writes
-  pub first-now : stays_in b (is_write x) (row r.assoc s xs) ≡ true → StaysFirst r h x
+  first-now : stays_in b (is_write x) (row r.assoc s xs) ≡ true → StaysFirst r h x
   first-now e =
       let p = index_of (holds b) (row r.assoc s xs) in
       let l = level_in b (row r.assoc s xs) in
@@ -91,7 +108,7 @@ module _ (r : Rules) (st : IsStacked r) (h : History) (x : Access) (xs : List Sl
       ∙ sym (slots-other r st h x t e))
 
   -- what the cache of n ways writes back
-  pub back-now : (n m : ℕ) → n ≡ suc m → n ≤ r.assoc → (v : Slot)
+  back-now : (n m : ℕ) → n ≡ suc m → n ≤ r.assoc → (v : Slot)
       → v ≡ get_or (row r.assoc s xs) m no_slot
       → hits (with_ways n r) (renewals (with_ways n r) h) x ≡ false
       → (outcome_of (with_ways n r) h x).back ≡ option_map (λ z. z * r.bsize) (dirty_in r.wback n v)
@@ -100,7 +117,7 @@ module _ (r : Rules) (st : IsStacked r) (h : History) (x : Access) (xs : List Sl
       (sym (is ∙ ap (λ l. get_or l m no_slot) (rows s inside)))
 
 -- a row is as long as it has ways
-pub row-long : (ways s : ℕ) (xs : List Slot) → s * ways + ways ≤ length xs
+row-long : (ways s : ℕ) (xs : List Slot) → s * ways + ways ≤ length xs
     → length (row ways s xs) ≡ ways
 row-long ways s xs inside =
     let rest = length-drop (s * ways) xs in
@@ -108,7 +125,7 @@ row-long ways s xs inside =
 
 -- behind the first n of a row stands the slot that was the last of them, where the block of the
 -- access did not stand among them
-pub behind-is : (ways s b : ℕ) (write : Bool) (xs ys : List Slot) (last : Slot) (n m : ℕ)
+behind-is : (ways s b : ℕ) (write : Bool) (xs ys : List Slot) (last : Slot) (n m : ℕ)
     → n ≡ suc m → n ≤ ways → length (row ways s xs) ≡ ways
     → n ≤ index_of (holds b) (row ways s xs)
     → row ways s ys ≡ next_slots b write (row ways s xs)
@@ -137,6 +154,15 @@ behind-is ways s b write xs ys last n m size le long far now lost = (elim (ltb n
           ∙ ap (λ k. get_or old k no_slot) at
     ]) refl
 
+-- a row of a stack is as long as it has ways
+pub row-whole : (v : Stack) (s : ℕ) → s < sets_of v.geometry
+    → length (row v.ways s v.slots.items) ≡ v.ways
+row-whole v s lt =
+    let up : s + 1 ≤ sets_of v.geometry = omega arith in
+    let le = mul-le-mul_right v.ways up in
+    let room = v.room in
+    row-long v.ways s v.slots.items (omega (arith, v.slots.ok.0))
+
 -- the block of the slot that a row lost has a first byte
 pub lost-fits : (n p : ℕ) (row : List Slot) → 0 < length row → HaveBytes n row
     → (lost_in p row).block * n < 2 ^ 64
@@ -145,3 +171,90 @@ lost-fits n p row some all = (elim (ltb p (length row)) as (λ t.
       | true ↦ omega arith
       | false ↦ all (length row - 1) no_slot (omega arith)
     ])
+
+-- an access to a stack, by the block and the set that the code works out for it
+module _ (v : Stack) (h : History) (st : StandsFor v h) (x : Access) {address block set : ℕ}
+    {write : Bool} (address-is : address ≡ x.addr)
+    (block-is : block ≡ address / bsize_of v.geometry) (set-is : set ≡ block % sets_of v.geometry)
+    (write-is : write ≡ is_write x) where
+  abbrev g : Geometry
+  g = v.geometry
+
+  abbrev xs : List Slot
+  xs = v.slots.items
+
+  abbrev at : ℕ
+  at = x.addr / bsize_of g
+
+  below : at % sets_of g < sets_of g
+  below = mod-lt at (sane_of g).sets_pos
+
+  -- what holds of this block, set and number of ways holds of those of the rules
+  as-ruled : {X : Type 0} (f : ℕ → ℕ → ℕ → X)
+      → f block set v.ways ≡ f at (at % sets_of g) (assoc_of g)
+  as-ruled f =
+      let same : block ≡ at = block-is ∙ ap (λ a. a / bsize_of g) address-is in
+      ap (λ b. f b set v.ways) same
+      ∙ ap (λ t. f at t v.ways) (set-is ∙ ap (λ b. b % sets_of g) same)
+      ∙ ap (f at (at % sets_of g)) v.width
+
+  found-at : {p : ℕ} → p ≡ index_of (holds block) (row v.ways set xs)
+      → p ≡ index_of (holds at) (row (assoc_of g) (at % sets_of g) xs)
+  found-at is = is ∙ as-ruled (λ b t n. index_of (holds b) (row n t xs))
+
+  -- where the code finds the block is its distance
+  pub distance-turned : {p : ℕ} → p ≡ index_of (holds block) (row v.ways set xs)
+      → p ≡ stack_distance (rules_of v) h (block_of (rules_of v) x)
+  unfolding rules_of
+  distance-turned {p} is =
+      position-now (rules_of v) (stacked v) h x xs st.rows below p (found-at is)
+
+  -- and in how many ways it finds it clean, it is so
+  pub clean-turned : {q : ℕ} → q ≡ clean_in (level_in block (row v.ways set xs))
+      (index_of (holds block) (row v.ways set xs)) v.ways
+      → q ≡ clean_ways (rules_of v) h (block_of (rules_of v) x)
+  unfolding rules_of
+  clean-turned {q} is = clean-now (rules_of v) (stacked v) h x xs st.rows below q (is
+      ∙ as-ruled (λ b t n. clean_in (level_in b (row n t xs)) (index_of (holds b) (row n t xs)) n))
+
+  -- a row that the code leaves as it is tells that the block is first
+  pub first-turned : stays_in block write (row v.ways set xs) ≡ true → StaysFirst (rules_of v) h x
+  unfolding rules_of
+  first-turned e = first-now (rules_of v) (stacked v) h x xs st.rows below
+      (sym (ap (λ w. stays_in block w (row v.ways set xs)) write-is
+      ∙ as-ruled (λ b t n. stays_in b (is_write x) (row n t xs))) ∙ e)
+
+  -- the rows that the code leaves are those after the access
+  pub rows-turned : (ys : List Slot)
+      → row v.ways set ys ≡ next_slots block write (row v.ways set xs)
+      → ((t : ℕ) → t ≢ set → row v.ways t ys ≡ row v.ways t xs) → (t : ℕ)
+      → t < (rules_of v).sets → row (rules_of v).assoc t ys ≡ slots_of (rules_of v) (access x ∷ h) t
+  unfolding rules_of
+  rows-turned ys now others = rows-next (rules_of v) (stacked v) h x xs st.rows below ys
+      (sym (as-ruled (λ b t n. row n t ys)) ∙ now
+      ∙ ap (λ w. next_slots block w (row v.ways set xs)) write-is
+      ∙ as-ruled (λ b t n. next_slots b (is_write x) (row n t xs)))
+      (λ t apart. subst (λ n. row n t ys ≡ row n t xs) v.width
+      (others t (λ e. apart (e ∙ as-ruled (λ b t n. t)))))
+
+  -- the slot behind the first n of the row that it leaves tells what n ways write back
+  pub back-turned : (ys : List Slot) (last : Slot)
+      → row v.ways set ys ≡ next_slots block write (row v.ways set xs)
+      → last ≡ lost_in (index_of (holds block) (row v.ways set xs)) (row v.ways set xs)
+      → (n : ℕ) → 0 < n → n ≤ (rules_of v).assoc
+      → hits (with_ways n (rules_of v)) (renewals (with_ways n (rules_of v)) h) x ≡ false
+      → (outcome_of (with_ways n (rules_of v)) h x).back
+      ≡ option_map (λ z. z * (rules_of v).bsize) (dirty_in (rules_of v).wback n
+      (if ltb n v.ways then get_or ys (set * v.ways + n) no_slot else last))
+  unfolding rules_of
+  back-turned ys last now lost n some fits miss =
+      let p = index_of (holds block) (row v.ways set xs) in
+      let far : n ≤ p = ltb-false p n (sym (hits-now (rules_of v) (stacked v) h x xs st.rows below p
+      (found-at refl) n fits) ∙ miss) in
+      let wide = v.width in
+      let long = row-whole v set (rw set-is (mod-lt block (sane_of g).sets_pos)) in
+      back-now (rules_of v) (stacked v) h x xs st.rows below n (n - 1) (suc-pred n some) fits
+      (if ltb n v.ways then get_or ys (set * v.ways + n) no_slot else last)
+      (behind-is v.ways set block write xs ys last n (n - 1) (suc-pred n some) (omega arith) long
+      far now lost ∙ as-ruled (λ b t m. get_or (row m t xs) (n - 1) no_slot))
+      miss

@@ -1,8 +1,8 @@
 -- Counts by class, added.
-use Rattle.std.proofs.Common.{◌≡◌, ℕ, zero, suc, ◌+◌, ◌<◌, ◌≤◌, true, false, List, [], ◌∷◌, length}
+use Rattle.std.proofs.Common.{◌≡◌, ℕ, zero, suc, ◌<◌, ◌≤◌, true, false, List, [], ◌∷◌, length}
 use Rattle.std.proofs.Common.{get_or, set, drop, replicate, cond, ltb, refl, sym, ap, ◌∙◌, arith}
 use Rattle.std.proofs.lemmas.Bool.{ltb-true, ltb-false}
-use Rattle.std.proofs.Common.{take, ◌-◌, add-one}
+use Rattle.std.proofs.Common.{take, ◌-◌}
 use Rattle.std.proofs.lemmas.List.{take_rest}
 use Rattle.cache_core.specs.declared.access.Access.{Access}
 use Rattle.cache_core.specs.declared.counts.PerClass.{PerClass}
@@ -25,12 +25,12 @@ pub none-added : (p : PerClass) → added none_by_class p ≡ p
 none-added p = same-classes (added none_by_class p) p (omega arith) (omega arith) (omega arith)
     (omega arith)
 
-one-first : (x : Access) (p q : PerClass)
+pub one-first : (x : Access) (p q : PerClass)
     → added (with_one x true p) q ≡ with_one x true (added p q)
 one-first x p q = same-classes (added (with_one x true p) q) (with_one x true (added p q))
     (omega arith) (omega arith) (omega arith) (omega arith)
 
-one-later : (x : Access) (p q : PerClass)
+pub one-later : (x : Access) (p q : PerClass)
     → added p (with_one x true q) ≡ with_one x true (added p q)
 one-later x p q = same-classes (added p (with_one x true q)) (with_one x true (added p q))
     (omega arith) (omega arith) (omega arith) (omega arith)
@@ -43,7 +43,7 @@ total-set x (p ∷ ps) zero lt = one-first x p (total ps)
 total-set x (p ∷ ps) (suc i) lt =
     ap (added p) (total-set x ps i (omega arith)) ∙ one-later x p (total ps)
 
-far-in : (x : Access) (ps : List PerClass) (i k : ℕ) → i < length ps → k ≤ i
+pub far-in : (x : Access) (ps : List PerClass) (i k : ℕ) → i < length ps → k ≤ i
     → total (drop k (set ps i (with_one x true (get_or ps i none_by_class))))
     ≡ with_one x true (total (drop k ps))
 far-in x [] i k lt le = absurd (omega arith)
@@ -51,7 +51,7 @@ far-in x (p ∷ ps) i zero lt le = total-set x (p ∷ ps) i lt
 far-in x (p ∷ ps) zero (suc k) lt le = absurd (omega arith)
 far-in x (p ∷ ps) (suc i) (suc k) lt le = far-in x ps i k (omega arith) (omega arith)
 
-far-out : (ps : List PerClass) (i k : ℕ) (v : PerClass) → i < k
+pub far-out : {X : Type 0} (ps : List X) (i k : ℕ) (v : X) → i < k
     → drop k (set ps i v) ≡ drop k ps
 far-out [] i k v lt = refl
 far-out (p ∷ ps) i zero v lt = absurd (omega arith)
@@ -71,6 +71,15 @@ total-behind x ps i k lt = (elim (ltb k i) as (λ t. ltb k i ≡ t
           ap total (far-out ps i (suc k) more (omega arith))
           ∙ sym (with-none x (total (drop (suc k) ps)))
     ]) refl
+
+-- a larger bound holds too
+pub within-more : (p : PerClass) (n m : ℕ) → n ≤ m → IsWithin p n → IsWithin p m
+within-more p n m le h =
+    let a = h.instr in
+    let b = h.read in
+    let c = h.write in
+    let d = h.misc in
+    record { instr = omega arith; read = omega arith; write = omega arith; misc = omega arith }
 
 -- a bound of all is one of each
 pub within-each : (n : ℕ) (ps : List PerClass) (i : ℕ) → i < length ps → IsWithin (total ps) n
@@ -115,8 +124,7 @@ level-le (m ∷ sizes) ys b = (elim (is_among b ys m) as (λ t.
       | false ↦ let le = level-le sizes ys b in omega arith
     ])
 
--- those behind k are the rest of a list from k + 1 on
-pub behind-is : (xs ps : List PerClass) (k : ℕ) → xs ≡ ps
-    → take (length xs - (k + 1)) (drop (k + 1) xs) ≡ drop (suc k) ps
-behind-is xs ps k same = take_rest xs (k + 1) ∙ ap (λ n. drop n xs) (add-one k)
-    ∙ ap (drop (suc k)) same
+-- the rest of a list from k on
+pub rest-is : (xs ps : List PerClass) (k : ℕ) → xs ≡ ps
+    → take (length xs - k) (drop k xs) ≡ drop k ps
+rest-is xs ps k same = take_rest xs k ∙ ap (drop k) same

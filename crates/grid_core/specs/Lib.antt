@@ -1,9 +1,11 @@
 pub mod Ways
 pub mod Levels
+pub mod WriteBacks
 pub mod FullyAssociative
 pub mod Slots
 pub mod Pushed
 pub mod Hits
+pub mod Histograms
 pub mod Standing
 pub mod Recent
 pub mod Shadows

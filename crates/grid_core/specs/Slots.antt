@@ -2,7 +2,7 @@
 use Rattle.std.specs.Prelude.{ℕ, zero, suc, ◌*◌, ◌^◌}
 use Rattle.std.specs.Prelude.{◌<◌, Bool, true, false, not, ◌&&◌, ◌||◌, ◌==◌, cond}
 use Rattle.std.specs.Prelude.{nat_lt, if◌then◌else◌, get_or, ◌-◌, List, [], ◌∷◌, ◌++◌, length}
-use Rattle.std.specs.Prelude.{take, drop}
+use Rattle.std.specs.Prelude.{take, drop, min}
 use Rattle.std.specs.List.{find, All}
 use Rattle.std.specs.Option.{option_map_or}
 use Rattle.cache_core.specs.Row.{shifted, row}
@@ -47,6 +47,10 @@ lost_in position row =
 abbrev pub level_after : Bool → ℕ → ℕ → ℕ
 level_after write level distance =
     if write then 0 else (if nat_lt level distance then distance else level)
+
+-- the number of ways up to which a block of this level is not dirty at this distance, of n ways
+abbrev pub clean_in : ℕ → ℕ → ℕ → ℕ
+clean_in level distance n = min (level_after false level distance) n
 
 -- the row after an access to block b
 abbrev pub next_slots : ℕ → Bool → List Slot → List Slot

@@ -1,5 +1,7 @@
 -- How the rows of slots relate to the history.
-use Rattle.std.specs.Prelude.{◌≡◌, ℕ, ◌<◌, ◌≤◌, ◌+◌, ◌*◌, ◌++◌, List, map, take, replicate, true}
+use Rattle.std.specs.Prelude.{◌≡◌, ℕ, ◌<◌, ◌≤◌, ◌+◌, ◌-◌, ◌*◌, ◌++◌, List, map, take, replicate}
+use Rattle.std.specs.Prelude.{true}
+use Rattle.std.specs.Prelude.{length, []}
 use Rattle.std.specs.Prelude.{false, Bool, Option, get_or, nat_lt, if◌then◌else◌}
 use Rattle.std.specs.Option.{option_map}
 use Rattle.cache_core.specs.declared.geometry.Geometry.{Geometry}
@@ -12,7 +14,8 @@ use Rattle.cache_core.specs.Row.{row}
 use Rattle.cache_core.specs.Geometry.{bsize_of, assoc_of, sets_of, blocks_of}
 use Rattle.grid_core.specs.declared.slots.Slot.{Slot}
 use Rattle.grid_core.specs.declared.stack.Stack.{Stack}
-use Rattle.grid_core.specs.Slots.{used_slot, no_slot}
+use Rattle.grid_core.specs.Slots.{used_slot, no_slot, dirty_in_rows}
+use Rattle.grid_core.specs.Histograms.{HasCounted, IsWithinHistogram, first_in, told_levels}
 use Rattle.grid_core.specs.Pushed.{dirty_in}
 use Rattle.grid_core.specs.Ways.{with_ways, stack_distance}
 use Rattle.grid_core.specs.Levels.{dirty_level}
@@ -86,3 +89,30 @@ pub record Suits (r : Rules) (g : Geometry) (ways : ℕ) (wback : Bool) : Type 0
   pub same_sets : r.sets ≡ sets_of g
   pub same_wback : r.wback ≡ wback
   pub fits : ways ≤ r.assoc
+
+-- the stack has counted the accesses of the history, with levels in the shadows of these sizes
+abbrev pub IsCountedIn : List ℕ → History → Stack → Type 0
+IsCountedIn sizes h s = HasCounted (rules_of s) sizes h s.histogram
+
+-- how many levels in the shadows the stack tells apart
+abbrev pub told_in : Stack → ℕ
+told_in s = told_levels s.histogram
+
+-- no count of the stack is above n
+abbrev pub IsWithinStack : ℕ → Stack → Type 0
+IsWithinStack n s = IsWithinHistogram n s.histogram
+
+-- how many slots are dirty in n ways
+abbrev pub dirty_slots : Stack → ℕ → ℕ
+dirty_slots s n = length (dirty_in_rows 1 s.wback n s.ways s.slots.items (sets_of s.geometry))
+
+-- how many blocks a cache of n ways has written back
+abbrev pub written_at : Stack → ℕ → ℕ
+written_at s n = if s.wback then (first_in s.histogram n).write - dirty_slots s n else 0
+
+-- the stack is empty and has counted nothing, and tells so many levels apart
+pub record IsEmptyStack (levels : ℕ) (s : Stack) : Type 0 where
+  pub stands : StandsFor s []
+  pub counted : (sizes : List ℕ) → IsCountedIn sizes [] s
+  pub within : IsWithinStack 0 s
+  pub told : told_in s ≡ levels

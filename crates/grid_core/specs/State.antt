@@ -1,38 +1,56 @@
 -- The state of the caches that are served together, after a history.
-use Rattle.std.specs.Prelude.{◌≡◌, ℕ, ◌<◌, ◌==◌, Bool, true, List, [], length, get_or, map}
+use Rattle.std.specs.Prelude.{◌≡◌, ℕ, ◌<◌, ◌≤◌, ◌+◌, ◌==◌, Bool, true, not, List, length, get_or}
+use Rattle.std.specs.Prelude.{map}
 use Rattle.std.specs.List.{All, list_any}
 use Rattle.cache_core.specs.declared.geometry.Geometry.{Geometry}
 use Rattle.cache_core.specs.declared.counts.Counts.{Counts}
 use Rattle.cache_core.specs.declared.counts.PerClass.{PerClass}
+use Rattle.cache_core.specs.Counting.{IsWithin}
+use Rattle.cache_core.specs.Counts.{by_class, flushes_in, none_by_class, total_of}
 use Rattle.cache_core.specs.Geometry.{bsize_of, blocks_of}
-use Rattle.cache_core.specs.History.{History, Rules}
+use Rattle.cache_core.specs.History.{History, Rules, block_of}
 use Rattle.cache_core.specs.Residents.{distinct, renewals}
 use Rattle.cache_core.specs.Kinds.{referenced_blocks, shadow_of}
-use Rattle.grid_core.specs.declared.cells.Cell.{Cell}
+use Rattle.grid_core.specs.declared.cells.Alike.{Alike}
 use Rattle.grid_core.specs.declared.cells.Shape.{Shape}
 use Rattle.grid_core.specs.declared.shadows.Shadows.{Shadows}
 use Rattle.grid_core.specs.declared.stack.Stack.{Stack}
-use Rattle.grid_core.specs.Standing.{StandsFor, stack_rules}
+use Rattle.grid_core.specs.Standing.{IsCountedIn, StandsFor, stack_rules, written_at}
+use Rattle.grid_core.specs.Histograms.{past_in}
 use Rattle.grid_core.specs.Recent.{IsRecent}
-use Rattle.grid_core.specs.Shadows.{HoldsOrder, far_in, is_known, recent_in}
-use Rattle.grid_core.specs.Cells.{IsCounted, IsWithinCell, shape_in, shape_rules, whole_counts}
+use Rattle.grid_core.specs.Shadows.{HoldsOrder, far_in, is_known, recent_in, shadow_sizes}
+use Rattle.grid_core.specs.Cells.{sent_on_of, shape_rules}
 use Rattle.grid_core.specs.FullyAssociative.{shadow_misses}
 use Rattle.grid_core.specs.Shapes.{IsSuitedShape}
+use Rattle.grid_core.specs.Totals.{lessened}
 
 -- rules of the block size of a geometry, for what all caches of the block size share
 abbrev pub base_rules : Geometry → Rules
 base_rules g = stack_rules g true
 
--- rows, shadows and cells after a history
-pub record IsAfter (g : Geometry) (stacks : List Stack) (shadows : Shadows) (cells : List Cell)
+-- rows, shadows and what they have counted, for caches of these shapes after a history
+pub record IsAfter (g : Geometry) (stacks : List Stack) (shadows : Shadows) (shapes : List Shape)
     (h : History) : Type 0 where
   pub rows : All (λ s. StandsFor s h) stacks
   pub order : HoldsOrder shadows (distinct (renewals (shadow_of (base_rules g)) h))
   pub known : (b : ℕ) → is_known shadows b
       ≡ list_any (λ t. t == b) (referenced_blocks (base_rules g) h)
-  pub counted : All (IsCounted h) cells
-  pub far : All (λ s. far_in shadows s.rank ≡ shadow_misses (shape_rules s) h) (map shape_in cells)
+  pub counted : All (IsCountedIn (shadow_sizes shadows) h) stacks
+  pub far : All (λ s. far_in shadows s.rank ≡ shadow_misses (shape_rules s) h) shapes
   pub recent : IsRecent (bsize_of g) (recent_in shadows) h
+
+-- what all caches count alike, after a history
+pub record IsAlike (g : Geometry) (h : History) (a : Alike) : Type 0 where
+  pub fetches : a.fetches ≡ by_class (λ g x. true) h
+  pub firsts : a.firsts ≡ by_class (λ e x. not (list_any (λ b. b == block_of (base_rules g) x)
+      (referenced_blocks (base_rules g) e))) h
+  pub flushes : a.flushes ≡ flushes_in h
+
+-- no count that all caches have alike is above n
+pub record IsWithinAlike (n : ℕ) (a : Alike) : Type 0 where
+  pub fetches : IsWithin a.fetches n
+  pub firsts : IsWithin a.firsts n
+  pub flushes : a.flushes ≤ n
 
 -- the rank of a shape is that of its number of blocks, and it has the block size of g
 pub record IsRanked (sizes : List ℕ) (g : Geometry) (s : Shape) : Type 0 where
@@ -40,22 +58,44 @@ pub record IsRanked (sizes : List ℕ) (g : Geometry) (s : Shape) : Type 0 where
   pub found : get_or sizes s.rank 0 ≡ blocks_of s.geometry
   pub same : bsize_of s.geometry ≡ bsize_of g
 
--- a cell that has counted nothing
-pub record IsFresh (c : Cell) : Type 0 where
-  pub counted : IsCounted [] c
-  pub within : IsWithinCell 0 c
+-- the shape for a geometry and a write policy
+pub record IsShapeFor (sizes : List ℕ) (stacks : List Stack) (g : Geometry) (wback : Bool)
+    (s : Shape) : Type 0 where
+  pub geometry : s.geometry ≡ g
+  pub same_wback : s.wback ≡ wback
+  pub suited : IsSuitedShape stacks s
+  pub inside : s.rank < length sizes
+  pub found : get_or sizes s.rank 0 ≡ blocks_of g
 
--- a new cell for a geometry and a write policy
-pub record IsCellFor (sizes : List ℕ) (stacks : List Stack) (g : Geometry) (wback : Bool) (c : Cell)
-    : Type 0 where
-  pub geometry : c.shape.geometry ≡ g
-  pub same_wback : c.shape.wback ≡ wback
-  pub suited : IsSuitedShape stacks c.shape
-  pub inside : c.shape.rank < length sizes
-  pub found : get_or sizes c.shape.rank 0 ≡ blocks_of g
-  pub fresh : IsFresh c
+-- the accesses that missed in the cache of a shape, and in the first k of the shadows
+abbrev pub past_at : List Stack → Shape → ℕ → PerClass
+past_at stacks s k = get_or (map (λ t. past_in t.histogram) stacks) s.stack
+    (λ n k. none_by_class) s.ways k
 
--- what is kept for a cell, where all cells have these fetches and shadows: its counts, and the
--- misses of its shadow
-abbrev pub kept_by : PerClass → Shadows → Cell → Counts × PerClass
-kept_by fetches shadows c = (whole_counts fetches c, far_in shadows c.shape.rank)
+-- how many blocks the cache of a shape has written back
+abbrev pub backs_at : List Stack → Shape → ℕ
+backs_at stacks s = get_or (map written_at stacks) s.stack (λ n. 0) s.ways
+
+-- all counts of a cache, by what all caches count alike, its misses, those of them that miss in its
+-- shadow too, and the blocks that it wrote back
+abbrev pub whole_counts : Alike → PerClass → PerClass → ℕ → Bool → Counts
+whole_counts a misses far backs wback = record {
+  fetches = a.fetches;
+  misses = misses;
+  compulsory = a.firsts;
+  capacity = lessened far a.firsts;
+  conflict = lessened misses far;
+  loaded = total_of misses;
+  written_back = backs;
+  sent_on = sent_on_of wback a.fetches.write;
+  flushes = a.flushes;
+}
+
+-- the counts of the cache of a shape
+abbrev pub counts_at : Alike → List Stack → Shape → Counts
+counts_at a stacks s = whole_counts a (past_at stacks s 0) (past_at stacks s (s.rank + 1))
+    (backs_at stacks s) s.wback
+
+-- what is kept for a cache: its counts, and the misses of its shadow
+abbrev pub kept_by : Alike → List Stack → Shadows → Shape → Counts × PerClass
+kept_by a stacks shadows s = (counts_at a stacks s, far_in shadows s.rank)

@@ -6,7 +6,7 @@ ghost use Rattle.cache_core.specs.History.{History, access as accessed, flush as
 ghost use Rattle.grid_core.specs.Cells.{items_of};
 ghost use Rattle.grid_core.specs.Caches.{FollowsStacked, StackedFollowed};
 ghost use Rattle.grid_core.specs.StackedCells.{stacked_rules, stacked_served, stacked_kept};
-ghost use Rattle.grid_core.specs.StackedCells.{stacked_failed, AreDirtyIn};
+ghost use Rattle.grid_core.specs.StackedCells.{stacked_failed};
 ghost use Rattle.grid_core.specs.Written.{written_by};
 
 use crate::places::{Place, Seat, lists_of};
@@ -48,7 +48,6 @@ fn serve_stacked(stacked: &mut Stacked, access: Access) -> Result<(), AllocError
 
 /// What a flush writes back in each of the caches that are served together.
 fn written_stacked(stacked: &Stacked) -> Result<Vec<Vec<u64>>, AllocError>
-    ensures dirty { IfOk result (λ lists. AreDirtyIn stacked.now lists.items) }
     ensures lists { IfOk result (λ lists. (h : History) → FollowsStacked h stacked.now →
         map items_of lists.items ≡ map (written_by h) (stacked_rules stacked.now)) }
     ensures len { IfOk result (λ lists. length lists.items ≡ length (stacked_rules stacked.now)) }
@@ -58,11 +57,9 @@ fn written_stacked(stacked: &Stacked) -> Result<Vec<Vec<u64>>, AllocError>
 }
 
 /// Flushes the caches that are served together, if there are any.
-fn flush_stacked(stacked: &mut Stacked, lists: &Vec<Vec<u64>>)
+fn flush_stacked(stacked: &mut Stacked)
     requires few { stacked_served stacked.old < 2 ^ 44 }
     requires works { stacked_failed stacked.old ≡ false }
-    requires len { length lists.now.items ≡ length (stacked_rules stacked.old) }
-    requires lists { AreDirtyIn stacked.old lists.now.items }
     ensures stands { (h : History) → FollowsStacked h stacked.old →
         FollowsStacked (flushed ∷ h) stacked.new }
     ensures served { stacked_served stacked.new ≤ stacked_served stacked.old + 1 }
@@ -72,7 +69,7 @@ fn flush_stacked(stacked: &mut Stacked, lists: &Vec<Vec<u64>>)
     if stacked.cells() == 0 {
         return;
     }
-    stacked.flush(lists);
+    stacked.flush();
 }
 
 impl Caches {
@@ -125,7 +122,7 @@ impl Caches {
         let apart = flush_in(alloc, &mut self.singles)?;
         let together = written_stacked(&self.stacked)?;
         let lists = lists_of(alloc, seats, &together, &apart)?;
-        flush_stacked(&mut self.stacked, &together);
+        flush_stacked(&mut self.stacked);
         settle_in(&mut self.singles);
         Ok(lists)
     }

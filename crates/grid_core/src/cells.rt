@@ -1,23 +1,23 @@
-//! The caches of one engine: what each counts, and what each did last.
+//! The caches of one engine that are served together: what each counts, and what each did last.
 
-ghost use Rattle.std.specs.Prelude.{◌≡◌, ◌<◌, ◌^◌, ◌+◌, ◌∷◌, ℕ, map, [], IfOk, length, true};
-ghost use Rattle.std.specs.List.{All};
-ghost use Rattle.cache_core.specs.History.{History, is_write, access as accessed};
+ghost use Rattle.std.specs.Prelude.{◌≡◌, ◌<◌, ◌≤◌, ◌+◌, ◌^◌, map, nat_lt, IfOk, length, true};
+ghost use Rattle.std.specs.List.{All, list_all};
+ghost use Rattle.cache_core.specs.History.{History, is_write};
+ghost use Rattle.cache_core.specs.declared.access.Access.{Access as Accessed};
 ghost use Rattle.cache_core.specs.Parts.{outcome_of};
-ghost use Rattle.cache_core.specs.Counts.{no_counts};
-ghost use Rattle.grid_core.specs.Standing.{StandsFor, HasMoved, rules_of};
-ghost use Rattle.grid_core.specs.Cells.{IsPlacedOn, IsPlacedAmong, shape_rules, shape_in};
-ghost use Rattle.grid_core.specs.Cells.{KnowsPrior, IsDue, IsCounted, IsWithinCell};
-ghost use Rattle.grid_core.specs.Cells.{HaveRoom, AreFlushedBy, flushed_by, dirty_bytes_of};
-ghost use Rattle.grid_core.specs.Cells.{items_of, HitsIn, whole_counts};
+ghost use Rattle.grid_core.specs.Cells.{IsPlacedOn, IsPlacedAmong, shape_rules};
+ghost use Rattle.grid_core.specs.Cells.{KnowsPrior, dirty_bytes_of, hit_at, items_of, HitsIn};
 ghost use Rattle.grid_core.specs.Cells.{sent_on_of};
+ghost use Rattle.grid_core.specs.Histograms.{past_in};
+ghost use Rattle.grid_core.specs.Standing.{StandsFor, HasMoved, found_in, rules_of, written_at};
+ghost use Rattle.grid_core.specs.Standing.{IsWithinStack, told_in};
+ghost use Rattle.grid_core.specs.State.{whole_counts};
 
-use crate::counting::count_miss;
-use crate::misses::missed;
+use crate::misses::less;
 use crate::outcome::outcome_in;
 use crate::shadows::Prior;
-use crate::stack::{Stack, writes};
-use cache_core::{Access, Counts, Geometry, Outcome, PerClass};
+use crate::stack::Stack;
+use cache_core::{Counts, Geometry, Outcome, PerClass};
 use std::alloc::{AllocError, Global};
 
 /// Which cache a cell is: its geometry and write policy, the rows of its number of sets, its number
@@ -31,107 +31,59 @@ pub(crate) struct Shape {
     pub rank: usize,
 }
 
-/// One cache: its shape, and its counts. The fetches and the writes that are sent on are not
-/// counted here, since they are the same for all cells; nor are the misses and the loads, which
-/// follow from the kinds of the misses.
+/// What all caches that are served together count alike: the accesses by class, those of them whose
+/// blocks were never accessed before, and the flushes.
 #[derive(Clone, Copy, Debug)]
-pub(crate) struct Cell {
-    pub shape: Shape,
-    pub counts: Counts,
+pub(crate) struct Alike {
+    pub fetches: PerClass,
+    pub firsts: PerClass,
+    pub flushes: u64,
 }
 
-/// Counts that are all zero.
-fn zero_counts() -> Counts
-    ensures { result ≡ no_counts }
+/// Whether the last access hit in the cache of a shape.
+fn has_hit(shape: Shape, stack: &Stack) -> bool
+    requires { IsPlacedOn (rules_of stack.now) shape }
+    ensures is { result ≡ nat_lt (found_in stack.now) shape.ways }
+    ensures hits { result ≡ true → (h : History) (x : Accessed) → HasMoved h x stack.now →
+        HitsIn h x shape }
 {
-    Counts::default()
+    stack.position() < shape.ways
 }
 
-/// A cell that has counted nothing.
-pub(crate) fn fresh_cell(shape: Shape) -> Cell
-    ensures shape { result.shape ≡ shape }
-    ensures counted { IsCounted [] result }
-    ensures within { IsWithinCell 0 result }
+/// Whether the last access hit in the caches of all shapes.
+fn have_hit(shapes: &[Shape], stacks: &[Stack]) -> bool
+    requires { All (λ s. IsPlacedAmong (map rules_of stacks.now) s) shapes.now }
+    ensures is { result ≡ list_all (hit_at (map found_in stacks.now)) shapes.now }
+    ensures hits { result ≡ true → (h : History) (x : Accessed) →
+        All (HasMoved h x) stacks.now → All (HitsIn h x) shapes.now }
 {
-    Cell {
-        shape,
-        counts: zero_counts(),
+    for shape in shapes {
+        if !has_hit(*shape, &stacks[shape.stack]) {
+            return false;
+        }
     }
+    true
 }
 
-/// Serves an access in the cache of one cell. A hit changes nothing. Answers whether it hits, in
-/// this cache as in those before.
-fn serve_cell(cell: &mut Cell, stack: &Stack, access: Access, prior: Prior, before: bool) -> bool
-    requires placed { IsPlacedOn (rules_of stack.now) cell.old.shape }
-    requires within { (n : ℕ) × IsWithinCell n cell.old × (n < 2 ^ 46) }
-    ensures shape { cell.new.shape ≡ cell.old.shape }
-    ensures serves { (h : History) → HasMoved h access stack.now →
-        IsDue h access prior cell.old → IsCounted (accessed access ∷ h) cell.new }
-    ensures bounds { (n : ℕ) → IsWithinCell n cell.old → IsWithinCell (n + 1) cell.new }
-    ensures hits { result ≡ true → (before ≡ true) × ((h : History) →
-        HasMoved h access stack.now → HitsIn h access cell.old.shape) }
+/// The same for vectors.
+pub(crate) fn all_have_hit(shapes: &Vec<Shape>, stacks: &Vec<Stack>) -> bool
+    requires { All (λ s. IsPlacedAmong (map rules_of stacks.now.items) s) shapes.now.items }
+    ensures is { result ≡ list_all (hit_at (map found_in stacks.now.items)) shapes.now.items }
+    ensures hits { result ≡ true → (h : History) (x : Accessed) →
+        All (HasMoved h x) stacks.now.items → All (HitsIn h x) shapes.now.items }
 {
-    if stack.position() < cell.shape.ways {
-        return before;
-    }
-    let outcome = outcome_in(stack, cell.shape, writes(access), prior);
-    count_miss(&mut cell.counts, access, outcome);
-    false
+    have_hit(shapes, stacks)
 }
 
-/// Serves an access in the caches of all cells, and answers whether it hits in each.
-fn serve_all(cells: &mut [Cell], stacks: &[Stack], access: Access, prior: Prior) -> bool
-    requires placed { All (λ s. IsPlacedAmong (map rules_of stacks.now) s)
-        (map shape_in cells.old) }
-    requires within { (n : ℕ) × All (IsWithinCell n) cells.old × (n < 2 ^ 46) }
-    ensures shapes { map shape_in cells.new ≡ map shape_in cells.old }
-    ensures serves { (h : History) → All (HasMoved h access) stacks.now →
-        All (IsDue h access prior) cells.old → All (IsCounted (accessed access ∷ h)) cells.new }
-    ensures bounds { (n : ℕ) → All (IsWithinCell n) cells.old →
-        All (IsWithinCell (n + 1)) cells.new }
-    ensures hits { result ≡ true → (h : History) → All (HasMoved h access) stacks.now →
-        All (λ c. HitsIn h access c.shape) cells.new }
-{
-    let mut all_hit = true;
-    for cell in cells.iter_mut() {
-        let stack = &stacks[cell.shape.stack];
-        all_hit = serve_cell(cell, stack, access, prior, all_hit);
-    }
-    all_hit
-}
-
-/// The same for the cells of a vector.
-pub(crate) fn serve_cells(
-    cells: &mut Vec<Cell>,
-    stacks: &Vec<Stack>,
-    access: Access,
-    prior: Prior,
-) -> bool
-    requires placed { All (λ s. IsPlacedAmong (map rules_of stacks.now.items) s)
-        (map shape_in cells.old.items) }
-    requires within { (n : ℕ) × All (IsWithinCell n) cells.old.items × (n < 2 ^ 46) }
-    ensures shapes { map shape_in cells.new.items ≡ map shape_in cells.old.items }
-    ensures serves { (h : History) → All (HasMoved h access) stacks.now.items →
-        All (IsDue h access prior) cells.old.items →
-        All (IsCounted (accessed access ∷ h)) cells.new.items }
-    ensures bounds { (n : ℕ) → All (IsWithinCell n) cells.old.items →
-        All (IsWithinCell (n + 1)) cells.new.items }
-    ensures hits { result ≡ true → (h : History) →
-        All (HasMoved h access) stacks.now.items →
-        All (λ c. HitsIn h access c.shape) cells.new.items }
-{
-    serve_all(cells, stacks, access, prior)
-}
-
-/// What the last access did in the cache of a cell, by whether it was a write, and what was known
+/// What the last access did in the cache of a shape, by whether it was a write, and what was known
 /// of its block.
-pub(crate) fn answer_in(cell: &Cell, stacks: &Vec<Stack>, write: bool, prior: Prior) -> Outcome
-    requires { IsPlacedAmong (map rules_of stacks.now.items) cell.now.shape }
-    ensures { (h : History) (x : Access) → All (HasMoved h x) stacks.now.items →
-        KnowsPrior cell.now.shape h x prior → write ≡ is_write x →
-        result ≡ outcome_of (shape_rules cell.now.shape) h x }
+pub(crate) fn answer_in(shape: Shape, stacks: &Vec<Stack>, write: bool, prior: Prior) -> Outcome
+    requires { IsPlacedAmong (map rules_of stacks.now.items) shape }
+    ensures { (h : History) (x : Accessed) → All (HasMoved h x) stacks.now.items →
+        KnowsPrior shape h x prior → write ≡ is_write x →
+        result ≡ outcome_of (shape_rules shape) h x }
 {
-    outcome_in(&stacks[cell.shape.stack], cell.shape, write, prior)
+    outcome_in(&stacks[shape.stack], shape, write, prior)
 }
 
 /// How many writes are sent on, of so many.
@@ -141,22 +93,35 @@ fn sent_of(writes: u64, wback: bool) -> u64
     if wback { 0 } else { writes }
 }
 
-/// All counts of a cell, with the fetches of all cells. Each miss loads its block.
-pub(crate) fn counts_in(cell: &Cell, fetches: PerClass) -> Counts
-    requires { IsWithinCell (2 ^ 46) cell.now }
-    ensures { result ≡ whole_counts fetches cell.now }
+/// All counts of the cache of a shape, which these rows serve. Each miss loads its block. A miss is
+/// compulsory if its block was never accessed before. Of the others, those that miss in the shadow
+/// too are capacity misses, and the rest conflicts.
+pub(crate) fn counts_in(shape: Shape, stack: &Stack, alike: Alike) -> Counts
+    requires ways { shape.ways ≤ (rules_of stack.now).assoc }
+    requires some { 0 < shape.ways }
+    requires rank { shape.rank + 1 ≤ told_in stack.now }
+    requires few { shape.rank < usize.MAX }
+    requires within { IsWithinStack (2 ^ 46) stack.now }
+    ensures { result ≡ whole_counts alike (past_in stack.now.histogram shape.ways 0)
+        (past_in stack.now.histogram shape.ways (shape.rank + 1))
+        (written_at stack.now shape.ways) shape.wback }
 {
-    let misses = missed(&cell.counts);
+    let misses = stack.past(shape.ways, 0);
+    let far = stack.past(shape.ways, shape.rank + 1);
     Counts {
-        fetches,
+        fetches: alike.fetches,
         misses,
+        compulsory: alike.firsts,
+        capacity: less(far, alike.firsts),
+        conflict: less(misses, far),
         loaded: misses.total() as u64,
-        sent_on: sent_of(fetches.write, cell.shape.wback),
-        ..cell.counts
+        written_back: stack.written_back(shape.ways),
+        sent_on: sent_of(alike.fetches.write, shape.wback),
+        flushes: alike.flushes,
     }
 }
 
-/// The dirty blocks of one cell, by their first bytes, in rising order.
+/// The dirty blocks of the cache of a shape, by their first bytes, in rising order.
 fn dirty_in(alloc: Global, stacks: &Vec<Stack>, shape: Shape) -> Result<Vec<u64>, AllocError>
     requires { IsPlacedAmong (map rules_of stacks.now.items) shape }
     ensures { IfOk result (λ bytes. (h : History) → All (λ s. StandsFor s h) stacks.now.items →
@@ -166,55 +131,22 @@ fn dirty_in(alloc: Global, stacks: &Vec<Stack>, shape: Shape) -> Result<Vec<u64>
     Ok(bytes)
 }
 
-/// The dirty blocks of each cell.
+/// The dirty blocks of each cache.
 pub(crate) fn dirty_lists(
     alloc: Global,
     stacks: &Vec<Stack>,
-    cells: &Vec<Cell>,
+    shapes: &Vec<Shape>,
 ) -> Result<Vec<Vec<u64>>, AllocError>
-    requires { All (λ s. IsPlacedAmong (map rules_of stacks.now.items) s)
-        (map shape_in cells.now.items) }
+    requires { All (λ s. IsPlacedAmong (map rules_of stacks.now.items) s) shapes.now.items }
     ensures lists { IfOk result (λ lists. (h : History)
         → All (λ s. StandsFor s h) stacks.now.items →
-        map items_of lists.items ≡ map (dirty_bytes_of h) (map shape_in cells.now.items)) }
-    ensures len { IfOk result (λ lists. length lists.items ≡ length cells.now.items) }
+        map items_of lists.items ≡ map (dirty_bytes_of h) shapes.now.items) }
+    ensures len { IfOk result (λ lists. length lists.items ≡ length shapes.now.items) }
 {
     let mut lists = Vec::new(alloc);
-    for cell in cells.iter() {
-        let bytes = dirty_in(alloc, stacks, cell.shape)?;
+    for shape in shapes.iter() {
+        let bytes = dirty_in(alloc, stacks, *shape)?;
         lists.push(bytes)?;
     }
     Ok(lists)
-}
-
-/// Counts a flush of one cell, which wrote so many blocks back.
-fn count_flush(cell: &mut Cell, written: u64)
-    requires room { cell.old.counts.written_back + written < 2 ^ 64 }
-    requires flushes { cell.old.counts.flushes < 2 ^ 46 }
-    ensures { cell.new ≡ flushed_by cell.old written }
-{
-    cell.counts.written_back += written;
-    cell.counts.flushes += 1;
-}
-
-/// Counts a flush of all cells, each of which wrote its list of blocks back.
-fn count_flushes(cells: &mut [Cell], lists: &[Vec<u64>])
-    requires len { length lists.now ≡ length cells.old }
-    requires room { HaveRoom cells.old lists.now }
-    ensures { AreFlushedBy lists.now cells.old cells.new }
-{
-    for (index, cell) in cells.iter_mut().enumerate() {
-        let written = lists[index].len() as u64;
-        count_flush(cell, written);
-    }
-}
-
-/// The same for the cells of a vector.
-pub(crate) fn flush_in(cells: &mut Vec<Cell>, lists: &Vec<Vec<u64>>)
-    requires len { length lists.now.items ≡ length cells.old.items }
-    requires room { HaveRoom cells.old.items lists.now.items }
-    ensures flushed { AreFlushedBy lists.now.items cells.old.items cells.new.items }
-    ensures len { length cells.new.items ≡ length cells.old.items }
-{
-    count_flushes(cells, lists);
 }

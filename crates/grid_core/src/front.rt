@@ -5,7 +5,7 @@ ghost use Rattle.std.specs.Prelude.{◌*◌, ◌^◌, ℕ, Bool, length, vec_len
 ghost use Rattle.std.specs.Prelude.{nat_lt, if◌then◌else◌, ◌==◌, ◌&&◌, ◌||◌, not};
 ghost use Rattle.cache_core.specs.Row.{shifted, row};
 ghost use Rattle.grid_core.specs.Slots.{holds, index_of, level_after, next_slots};
-ghost use Rattle.grid_core.specs.Slots.{level_in, lost_in, stays_in};
+ghost use Rattle.grid_core.specs.Slots.{clean_in, level_in, lost_in, stays_in};
 
 use crate::slots::{Seen, Slot, empty_slot, look};
 
@@ -93,11 +93,13 @@ fn changes_nothing(write: bool, seen: Seen) -> bool
     seen.position == 0 && (!write || seen.level == 0)
 }
 
-/// Where the block of an access stood in its row, or the length of the row if it was not there,
-/// the slot that the row lost, if any, and whether the row stays as it was.
+/// Where the block of an access stood in its row, or the length of the row if it was not there; the
+/// number of ways up to which it was not dirty; the slot that the row lost, if any; and whether the
+/// row stays as it was.
 #[derive(Clone, Copy, Debug)]
 pub(crate) struct Turned {
     pub position: usize,
+    pub clean: usize,
     pub last: Slot,
     pub stays: bool,
 }
@@ -113,20 +115,31 @@ fn lost_by(row: &[Slot], position: usize) -> Slot
     row[row.len() - 1]
 }
 
+/// The number of ways up to which a block is not dirty that was seen so in a row of `len` slots.
+fn clean_of(seen: Seen, len: usize) -> usize
+    ensures { result ≡ clean_in seen.level seen.position len }
+{
+    level_now(false, seen).min(len)
+}
+
 /// Serves one access to a row.
 fn turn_row(row: &mut [Slot], block: u64, write: bool) -> Turned
     requires { length row.old < 2 ^ 32 }
     ensures row { row.new ≡ next_slots block write row.old }
     ensures position { result.position ≡ index_of (holds block) row.old }
+    ensures clean { result.clean ≡ clean_in (level_in block row.old)
+        (index_of (holds block) row.old) (length row.old) }
     ensures stays { result.stays ≡ stays_in block write row.old }
     ensures last { result.last ≡ lost_in (index_of (holds block) row.old) row.old }
 {
     let seen = look(row, block);
+    let clean = clean_of(seen, row.len());
     let last = lost_by(row, seen.position);
     let stays = changes_nothing(write, seen);
     touch_row(row, seen, block, write);
     Turned {
         position: seen.position,
+        clean,
         last,
         stays,
     }
@@ -140,6 +153,8 @@ fn turn(slots: &mut [Slot], set: usize, ways: usize, block: u64, write: bool) ->
     ensures others { (s : ℕ) → s ≢ set → row ways s slots.new ≡ row ways s slots.old }
     ensures len { length slots.new ≡ length slots.old }
     ensures position { result.position ≡ index_of (holds block) (row ways set slots.old) }
+    ensures clean { result.clean ≡ clean_in (level_in block (row ways set slots.old))
+        (index_of (holds block) (row ways set slots.old)) ways }
     ensures stays { result.stays ≡ stays_in block write (row ways set slots.old) }
     ensures last { result.last ≡ lost_in (index_of (holds block) (row ways set slots.old))
         (row ways set slots.old) }
@@ -165,6 +180,8 @@ pub(crate) fn turn_in(
         row ways s slots.new.items ≡ row ways s slots.old.items }
     ensures len { vec_len slots.new ≡ vec_len slots.old }
     ensures position { result.position ≡ index_of (holds block) (row ways set slots.old.items) }
+    ensures clean { result.clean ≡ clean_in (level_in block (row ways set slots.old.items))
+        (index_of (holds block) (row ways set slots.old.items)) ways }
     ensures stays { result.stays ≡ stays_in block write (row ways set slots.old.items) }
     ensures last { result.last ≡ lost_in (index_of (holds block) (row ways set slots.old.items))
         (row ways set slots.old.items) }

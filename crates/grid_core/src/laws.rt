@@ -2,6 +2,7 @@
 
 ghost use Rattle.grid_core.specs.Ways.{WiderWaysHoldMore, StackDistancesAreHits, MoreSetsHoldMore};
 ghost use Rattle.grid_core.specs.Levels.{DirtyLevelsAreDirtyBlocks};
+ghost use Rattle.grid_core.specs.WriteBacks.{WriteBacksAreFirstWrites};
 
 /// Inclusion (Mattson and others): of two LRU caches of as many sets that allocate at writes, the
 /// one of more ways holds all that the other holds.
@@ -25,4 +26,11 @@ pub fn dirty_levels_are_dirty_blocks()
 /// was used last in its set of every larger number of sets.
 pub fn more_sets_hold_more()
     ensures { MoreSetsHoldMore }
+{}
+
+/// A write that finds its block not dirty makes it dirty, and the block is then written back once,
+/// or is dirty still (Thompson and Smith). So under write back, where writes allocate, the blocks
+/// that were written back and those that are dirty are together as many as these writes.
+pub fn write_backs_are_first_writes()
+    ensures { WriteBacksAreFirstWrites }
 {}

@@ -7,9 +7,11 @@
 //! LRU caches that allocate at writes are served together (`stacked`). Those of as many sets share
 //! one row for each set, in order of last use (`stack`, `slots`): the position of a block tells for
 //! every number of ways whether it hits, and its dirty level whether it is written back. One list
-//! with a mark for each size is the shadow of all caches (`shadows`). The others, and those of more
-//! than 64 ways, are each a cache of its own (`single`). `plan` decides which cache goes where, and
-//! nobody above sees it. `laws` has what the definitions say of caches of different sizes.
+//! with a mark for each size is the shadow of all caches (`shadows`). Where blocks stood is counted
+//! once for each number of sets (`histogram`), and the counts of each cache follow from that
+//! (`cells`). The others, and those of more than 64 ways, are each a cache of its own (`single`).
+//! `plan` decides which cache goes where, and nobody above sees it. `laws` has what the definitions
+//! say of caches of different sizes.
 //!
 //! Proved for every history that an engine stands for. If an allocation fails, the counts stay, and
 //! every later access or flush answers `NoMemory`.
@@ -21,6 +23,7 @@ mod cells;
 mod counting;
 mod engine;
 mod front;
+mod histogram;
 mod laws;
 mod misses;
 mod outcome;
@@ -40,6 +43,6 @@ mod stacks;
 pub use engine::Engine;
 pub use laws::{
     dirty_levels_are_dirty_blocks, more_sets_hold_more, stack_distances_are_hits,
-    wider_ways_hold_more,
+    wider_ways_hold_more, write_backs_are_first_writes,
 };
 pub use shapes::share_block_size;

@@ -1,16 +1,17 @@
 //! Counts by class, a list of them, and their sum.
 
-ghost use Rattle.std.specs.Prelude.{◌≡◌, ◌<◌, ◌^◌, length, get_or, set, true, replicate, IfOk};
+ghost use Rattle.std.specs.Prelude.{◌≡◌, ◌<◌, ◌≤◌, ◌^◌, length, get_or, set, true, replicate};
+ghost use Rattle.std.specs.Prelude.{IfOk, drop};
 ghost use Rattle.cache_core.specs.Counts.{none_by_class};
-ghost use Rattle.cache_core.specs.Counting.{with_one, AreWithin, IsWithin};
-ghost use Rattle.grid_core.specs.Totals.{added, missed_in, total};
+ghost use Rattle.cache_core.specs.Counting.{with_one, IsWithin};
+ghost use Rattle.grid_core.specs.Totals.{added, lessened, total};
 
 use crate::counting::{count, zero_per_class};
-use cache_core::{Access, Counts, PerClass};
+use cache_core::{Access, PerClass};
 use std::alloc::{AllocError, Global};
 
 /// Two counts, added class by class.
-fn plus(first: PerClass, second: PerClass) -> PerClass
+pub(crate) fn plus(first: PerClass, second: PerClass) -> PerClass
     requires { IsWithin (added first second) (2 ^ 48) }
     ensures { result ≡ added first second }
 {
@@ -22,13 +23,16 @@ fn plus(first: PerClass, second: PerClass) -> PerClass
     }
 }
 
-/// The misses of all kinds.
-pub(crate) fn missed(counts: &Counts) -> PerClass
-    requires { AreWithin counts.now (2 ^ 46) }
-    ensures is { result ≡ missed_in counts.now }
-    ensures within { IsWithin result (2 ^ 48) }
+/// The first count without the second, class by class.
+pub(crate) fn less(first: PerClass, second: PerClass) -> PerClass
+    ensures { result ≡ lessened first second }
 {
-    plus(plus(counts.compulsory, counts.capacity), counts.conflict)
+    PerClass {
+        instr: first.instr.saturating_sub(second.instr),
+        read: first.read.saturating_sub(second.read),
+        write: first.write.saturating_sub(second.write),
+        misc: first.misc.saturating_sub(second.misc),
+    }
 }
 
 /// So many counts, all zero.
@@ -48,6 +52,15 @@ pub(crate) fn sum_of(counts: &[PerClass]) -> PerClass
         sum = plus(sum, *one);
     }
     sum
+}
+
+/// The counts from an index on, added.
+pub(crate) fn sum_from(counts: &[PerClass], index: usize) -> PerClass
+    requires inside { index ≤ length counts.now }
+    requires within { IsWithin (total (drop index counts.now)) (2 ^ 46) }
+    ensures { result ≡ total (drop index counts.now) }
+{
+    sum_of(&counts[index..])
 }
 
 /// Adds one in the count at an index, in the class of the access.

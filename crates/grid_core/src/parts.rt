@@ -1,26 +1,26 @@
-//! The rows and the cells of some geometries.
+//! The rows and the shapes of some geometries.
 
-ghost use Rattle.std.specs.Prelude.{◌≡◌, ℕ, [], map, true, IfOk, OnOk};
+ghost use Rattle.std.specs.Prelude.{◌≡◌, ◌<◌, ◌+◌, ℕ, length, map, true, IfOk, OnOk};
 ghost use Rattle.std.specs.List.{All};
 ghost use Rattle.std.specs.List.Sorted.{IsPermutation, IsNonDecreasingBy};
 ghost use Rattle.cache_core.specs.Geometry.{bsize_of, blocks_of, sets_of};
-ghost use Rattle.grid_core.specs.Standing.{StandsFor, rules_of, stack_rules};
+ghost use Rattle.grid_core.specs.Standing.{IsEmptyStack, rules_of, stack_rules};
 ghost use Rattle.grid_core.specs.declared.cells.Shape.{Shape as Cut};
 ghost use Rattle.grid_core.specs.Shapes.{has_size, HaveBsize, IsSuitedShape};
-ghost use Rattle.grid_core.specs.Cells.{IsPlacedAmong, shape_in, shape_rules};
-ghost use Rattle.grid_core.specs.State.{IsRanked, IsFresh, IsCellFor};
+ghost use Rattle.grid_core.specs.Cells.{IsPlacedAmong, shape_rules};
+ghost use Rattle.grid_core.specs.State.{IsRanked, IsShapeFor};
 
-use crate::cells::{Cell, Shape, fresh_cell};
+use crate::cells::Shape;
 use crate::shapes::{rank_of, stack_for, ways_of};
 use crate::stack::Stack;
 use cache_core::Geometry;
 use std::alloc::{AllocError, Global};
 
-/// The rows and the cells of some geometries.
+/// The rows of some geometries, and for each geometry the shape of its cache.
 #[derive(Drop)]
 pub(crate) struct Parts {
     pub stacks: Vec<Stack>,
-    pub cells: Vec<Cell>,
+    pub shapes: Vec<Shape>,
 }
 
 /// The geometries in the order of their numbers of sets.
@@ -39,50 +39,53 @@ fn rows_for(
     alloc: Global,
     geometries: &[Geometry],
     first: Geometry,
+    levels: usize,
     wback: bool,
 ) -> Result<Vec<Stack>, AllocError>
     requires { All (λ g. bsize_of g ≡ bsize_of first) geometries.now }
     ensures one_size { IfOk result (λ stacks. HaveBsize (bsize_of first) stacks.items) }
-    ensures stands { IfOk result (λ stacks. All (λ s. StandsFor s []) stacks.items) }
+    ensures empty { IfOk result (λ stacks. All (IsEmptyStack levels) stacks.items) }
 {
     let ordered = by_sets(alloc, geometries)?;
     let mut stacks = Vec::new(alloc);
     for geometry in ordered.iter() {
-        stack_for(alloc, &mut stacks, geometries, *geometry, wback)?;
+        stack_for(alloc, &mut stacks, geometries, *geometry, levels, wback)?;
     }
     Ok(stacks)
 }
 
-/// A cell that has counted nothing, for a geometry, and rows for it.
-fn cell_for(
+/// The shape of a cache of this geometry, and rows for it.
+fn shape_for(
     alloc: Global,
     stacks: &mut Vec<Stack>,
     geometries: &[Geometry],
     geometry: Geometry,
     sizes: &[usize],
     wback: bool,
-) -> Result<Cell, AllocError>
-    requires { has_size sizes.now (blocks_of geometry) ≡ true }
-    ensures own { IfOk result (λ cell. IsCellFor sizes.now stacks.new.items geometry wback cell) }
+) -> Result<Shape, AllocError>
+    requires size { has_size sizes.now (blocks_of geometry) ≡ true }
+    requires few { length sizes.now < usize.MAX }
+    ensures own { IfOk result (λ s. IsShapeFor sizes.now stacks.new.items geometry wback s) }
     ensures kept { OnOk result ((s : Cut) → IsSuitedShape stacks.old.items s →
         IsSuitedShape stacks.new.items s) }
-    ensures stands { OnOk result (All (λ s. StandsFor s []) stacks.old.items →
-        All (λ s. StandsFor s []) stacks.new.items) }
+    ensures empty { OnOk result (
+        All (IsEmptyStack (length sizes.now + 1)) stacks.old.items →
+        All (IsEmptyStack (length sizes.now + 1)) stacks.new.items) }
     ensures sizes { OnOk result ((n : ℕ) → bsize_of geometry ≡ n →
         HaveBsize n stacks.old.items → HaveBsize n stacks.new.items) }
 {
-    let stack = stack_for(alloc, stacks, geometries, geometry, wback)?;
-    let shape = Shape {
+    let levels = sizes.len() + 1;
+    let stack = stack_for(alloc, stacks, geometries, geometry, levels, wback)?;
+    Ok(Shape {
         geometry,
         wback,
         stack,
         ways: ways_of(geometry),
         rank: rank_of(sizes, geometry.blocks() as usize),
-    };
-    Ok(fresh_cell(shape))
+    })
 }
 
-/// Empty rows, and cells that have counted nothing, for these geometries.
+/// Empty rows and the shapes of the caches, for these geometries.
 pub(crate) fn parts_for(
     alloc: Global,
     geometries: &[Geometry],
@@ -91,24 +94,24 @@ pub(crate) fn parts_for(
     wback: bool,
 ) -> Result<Parts, AllocError>
     requires sizes { All (λ g. has_size sizes.now (blocks_of g) ≡ true) geometries.now }
+    requires few { length sizes.now < usize.MAX }
     requires one_size { All (λ g. bsize_of g ≡ bsize_of first) geometries.now }
-    ensures rules { IfOk result (λ parts. map shape_rules (map shape_in parts.cells.items)
+    ensures rules { IfOk result (λ parts. map shape_rules parts.shapes.items
         ≡ map (λ g. stack_rules g wback) geometries.now) }
     ensures ranked { IfOk result (λ parts.
-        All (IsRanked sizes.now first) (map shape_in parts.cells.items)) }
+        All (IsRanked sizes.now first) parts.shapes.items) }
     ensures placed { IfOk result (λ parts.
-        All (IsPlacedAmong (map rules_of parts.stacks.items)) (map shape_in parts.cells.items)) }
+        All (IsPlacedAmong (map rules_of parts.stacks.items)) parts.shapes.items) }
     ensures one_size { IfOk result (λ parts. HaveBsize (bsize_of first) parts.stacks.items) }
-    ensures one_policy { IfOk result (λ parts.
-        All (λ s. s.wback ≡ wback) (map shape_in parts.cells.items)) }
-    ensures stands { IfOk result (λ parts. All (λ s. StandsFor s []) parts.stacks.items) }
-    ensures fresh { IfOk result (λ parts. All IsFresh parts.cells.items) }
+    ensures one_policy { IfOk result (λ parts. All (λ s. s.wback ≡ wback) parts.shapes.items) }
+    ensures empty { IfOk result (λ parts.
+        All (IsEmptyStack (length sizes.now + 1)) parts.stacks.items) }
 {
-    let mut stacks = rows_for(alloc, geometries, first, wback)?;
-    let mut cells = Vec::new(alloc);
+    let mut stacks = rows_for(alloc, geometries, first, sizes.len() + 1, wback)?;
+    let mut shapes = Vec::new(alloc);
     for geometry in geometries {
-        let cell = cell_for(alloc, &mut stacks, geometries, *geometry, sizes, wback)?;
-        cells.push(cell)?;
+        let shape = shape_for(alloc, &mut stacks, geometries, *geometry, sizes, wback)?;
+        shapes.push(shape)?;
     }
-    Ok(Parts { stacks, cells })
+    Ok(Parts { stacks, shapes })
 }

@@ -9,7 +9,7 @@ ghost use Rattle.marked_list.specs.Marked.{marked_sizes};
 ghost use Rattle.grid_core.specs.AtHand.{AreRight};
 
 use crate::at_hand::{Entry, at_hand, keep_at_hand, none_at_hand};
-use crate::misses::{count_at, sum_of, zeros};
+use crate::misses::{count_at, sum_from, zeros};
 use crate::recent::{Recent, is_again, nothing_recent, used_now};
 use crate::stack::writes;
 use cache_core::{Access, PerClass};
@@ -116,7 +116,7 @@ fn used_with(used: usize, known: bool) -> usize
 }
 
 impl Shadows {
-    ghost use Rattle.std.specs.Prelude.{◌≡◌, ◌<◌, ◌==◌, ◌||◌, ℕ, List, [], IfOk, OnOk, OnErr};
+    ghost use Rattle.std.specs.Prelude.{◌≡◌, ◌<◌, ◌≤◌, ◌==◌, ◌||◌, ℕ, List, [], IfOk, OnOk, OnErr};
     ghost use Rattle.std.specs.Prelude.{true, false, ◌^◌, length, nat_lt};
     ghost use Rattle.std.specs.List.{All};
     ghost use Rattle.marked_list.specs.Recency.{level_of, brought_front};
@@ -156,6 +156,7 @@ impl Shadows {
         ensures known { IfOk result (λ prior. prior.known ≡ is_known self.old block) }
         ensures level { IfOk result (λ prior. (ys : List ℕ) → HoldsOrder self.old ys →
             prior.level ≡ level_of (shadow_sizes self.old) ys block) }
+        ensures low { IfOk result (λ prior. prior.level ≤ length (shadow_sizes self.old)) }
         ensures order { OnOk result ((ys : List ℕ) → HoldsOrder self.old ys →
             HoldsOrder self.new (brought_front block ys)) }
         ensures adds { OnOk result ((q : ℕ) →
@@ -193,7 +194,7 @@ impl Shadows {
         requires within { IsWithin (total (levels_in self.now)) (2 ^ 46) }
         ensures { result ≡ far_in self.now rank }
     {
-        sum_of(&self.levels[rank + 1..])
+        sum_from(&self.levels, rank + 1)
     }
 
     /// Whether a use of a block is one more of the block that was used last, and makes it dirty

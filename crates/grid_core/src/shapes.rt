@@ -1,13 +1,13 @@
 //! From geometries to rows and shapes.
 
-ghost use Rattle.std.specs.Prelude.{◌≡◌, ◌<◌, ◌==◌, ℕ, Bool, [], true, not, map, IfOk, OnOk};
+ghost use Rattle.std.specs.Prelude.{◌≡◌, ◌<◌, ◌==◌, ℕ, Bool, true, not, map, IfOk, OnOk};
 ghost use Rattle.std.specs.Prelude.{IfSome};
 ghost use Rattle.std.specs.List.{All};
 ghost use Rattle.cache_core.specs.Geometry.{assoc_of, blocks_of, bsize_of};
 ghost use Rattle.grid_core.specs.Slots.{index_of};
 ghost use Rattle.cache_core.specs.Dirty.{rising};
 ghost use Rattle.cache_core.specs.Policy.{is_fifo};
-ghost use Rattle.grid_core.specs.Standing.{StandsFor};
+ghost use Rattle.grid_core.specs.Standing.{IsEmptyStack};
 ghost use Rattle.grid_core.specs.Shapes.{IsWider, IsSuited, HaveBsize, has_size};
 
 use crate::stack::Stack;
@@ -121,20 +121,21 @@ fn find_stack(stacks: &[Stack], geometry: Geometry, ways: usize, wback: bool) ->
 }
 
 /// The index of rows that serve a cache of this geometry. Where there are none, new ones are made,
-/// as wide as the widest cache of as many sets.
+/// as wide as the widest cache of as many sets, which tell so many levels in the shadows apart.
 pub(crate) fn stack_for(
     alloc: Global,
     stacks: &mut Vec<Stack>,
     geometries: &[Geometry],
     geometry: Geometry,
+    levels: usize,
     wback: bool,
 ) -> Result<usize, AllocError>
     ensures suited { IfOk result (λ index.
         IsSuited stacks.new.items geometry (assoc_of geometry) wback index) }
     ensures kept { OnOk result ((g : Geometry) (ways index : ℕ) (w : Bool) →
         IsSuited stacks.old.items g ways w index → IsSuited stacks.new.items g ways w index) }
-    ensures stands { OnOk result (All (λ s. StandsFor s []) stacks.old.items →
-        All (λ s. StandsFor s []) stacks.new.items) }
+    ensures empty { OnOk result (All (IsEmptyStack levels) stacks.old.items →
+        All (IsEmptyStack levels) stacks.new.items) }
     ensures sizes { OnOk result ((n : ℕ) → bsize_of geometry ≡ n →
         HaveBsize n stacks.old.items → HaveBsize n stacks.new.items) }
 {
@@ -143,7 +144,7 @@ pub(crate) fn stack_for(
         return Ok(index);
     }
     let wide = widest(geometries, geometry);
-    let stack = Stack::new(alloc, wide, ways_of(wide), wback)?;
+    let stack = Stack::new(alloc, wide, ways_of(wide), levels, wback)?;
     let index = stacks.len();
     stacks.push(stack)?;
     Ok(index)

@@ -199,3 +199,39 @@ pub(crate) fn dirty_rising(
     bytes.dedup();
     Ok(bytes)
 }
+
+/// How many slots of a row are dirty in a cache of `ways` ways: as many as there are first bytes of
+/// their blocks, which may be of any size, so of one byte.
+fn count_in(row: &[Slot], wback: bool, ways: usize) -> usize
+    ensures count { result ≡ length (dirty_bytes 1 wback ways row.now) }
+    ensures few { result ≤ length row.now }
+{
+    let mut count = 0;
+    for slot in row {
+        if slot.valid && wback && (slot.level as usize) < ways {
+            count += 1;
+        }
+    }
+    count
+}
+
+/// How many slots of all sets are dirty in a cache of `ways` ways.
+pub(crate) fn count_dirty(
+    slots: &Vec<Slot>,
+    sets: usize,
+    most: usize,
+    wback: bool,
+    ways: usize,
+) -> usize
+    requires room { vec_len slots.now ≡ sets * most }
+    requires fits { ways ≤ most }
+    ensures { result ≡ length (dirty_in_rows 1 wback ways most slots.now.items sets) }
+{
+    let mut count = 0;
+    for set in 0..sets {
+        let start = set * most;
+        let end = start + ways;
+        count += count_in(&slots[start..end], wback, ways);
+    }
+    count
+}

@@ -4,11 +4,13 @@ ghost use Rattle.std.specs.Prelude.{◌≡◌, ◌<◌, ◌+◌, ◌*◌, ◌^�
 ghost use Rattle.cache_core.specs.History.{is_write};
 ghost use Rattle.cache_core.specs.Geometry.{bsize_of, sets_of, assoc_of};
 ghost use Rattle.cache_core.specs.Row.{row};
+ghost use Rattle.grid_core.specs.Histograms.{told_ways};
 ghost use Rattle.grid_core.specs.Slots.{HaveBytes};
 
 use crate::front::turn_in;
-use crate::slots::{Slot, clear_in, dirty_rising, empty_slot, empty_slots, pushed};
-use cache_core::{Access, Class, Geometry};
+use crate::histogram::Histogram;
+use crate::slots::{Slot, clear_in, count_dirty, dirty_rising, empty_slot, empty_slots, pushed};
+use cache_core::{Access, Class, Geometry, PerClass};
 use std::alloc::{AllocError, Global};
 
 /// The sets of the widest cache, and with them those of every narrower one of as many sets.
@@ -25,6 +27,8 @@ pub struct Stack {
     found: usize,
     /// The slot that its row lost, or an empty one.
     last: Slot,
+    /// Where the blocks of all accesses stood before.
+    histogram: Histogram,
     ghost width: { ways ≡ assoc_of geometry },
     ghost numbered: { last_set + 1 ≡ sets_of geometry },
     ghost room: { vec_len slots ≡ sets_of geometry * ways },
@@ -32,6 +36,7 @@ pub struct Stack {
         HaveBytes (bsize_of geometry) (row ways t slots.items) },
     ghost inside: { set < sets_of geometry },
     ghost fits: { last.block * bsize_of geometry < 2 ^ 64 },
+    ghost counted: { told_ways histogram ≡ ways },
 }
 
 /// Whether an access writes.
@@ -53,25 +58,32 @@ fn address(access: Access) -> u64
 
 #[tactic(auto, unfolding(crate::specs::Standing::rules_of, crate::specs::Standing::found_in))]
 impl Stack {
-    ghost use Rattle.std.specs.Prelude.{◌≡◌, ◌<◌, ◌≤◌, ◌*◌, ◌%◌, ◌∷◌, ℕ, true, [], IfOk};
-    ghost use Rattle.std.specs.Prelude.{map};
+    ghost use Rattle.std.specs.Prelude.{◌≡◌, ◌<◌, ◌≤◌, ◌+◌, ◌*◌, ◌%◌, ◌^◌, ◌∷◌, ℕ, List, true, []};
+    ghost use Rattle.std.specs.Prelude.{IfOk, map};
     ghost use Rattle.cache_core.specs.History.{History, access as accessed};
     ghost use Rattle.cache_core.specs.History.{flush as flushed};
     ghost use Rattle.cache_core.specs.Dirty.{dirty_blocks};
     ghost use Rattle.grid_core.specs.Ways.{with_ways};
     ghost use Rattle.grid_core.specs.Standing.{StandsFor, rules_of, stack_rules};
     ghost use Rattle.grid_core.specs.Standing.{HasMoved, found_in, behind_in, back_at, Suits};
-    ghost use Rattle.grid_core.specs.Standing.{StaysFirst};
+    ghost use Rattle.grid_core.specs.Standing.{StaysFirst, IsCountedIn, IsWithinStack};
+    ghost use Rattle.grid_core.specs.Standing.{told_in, written_at, dirty_slots};
+    ghost use Rattle.grid_core.specs.Histograms.{level_at, past_in};
 
-    /// Empty rows, of as many sets as the geometry has, and of its number of ways.
+    /// Empty rows, of as many sets as the geometry has, and of its number of ways. So many levels
+    /// of blocks in the shadows are told apart.
     pub fn new(
         alloc: Global,
         geometry: Geometry,
         ways: usize,
+        levels: usize,
         wback: bool,
     ) -> Result<Stack, AllocError>
         requires { assoc_of geometry ≡ ways }
         ensures stands { IfOk result (λ stack. StandsFor stack []) }
+        ensures counted { IfOk result (λ stack. (sizes : List ℕ) → IsCountedIn sizes [] stack) }
+        ensures within { IfOk result (IsWithinStack 0) }
+        ensures levels { IfOk result (λ stack. told_in stack ≡ levels) }
         ensures rules { IfOk result (λ stack. rules_of stack ≡ stack_rules geometry wback) }
     {
         let sets = geometry.sets();
@@ -85,6 +97,7 @@ impl Stack {
             set: 0,
             found: 0,
             last: empty_slot(),
+            histogram: Histogram::new(alloc, ways, levels)?,
         })
     }
 
@@ -95,15 +108,23 @@ impl Stack {
         (block & self.last_set) as usize
     }
 
-    /// Serves one access: its block is then the one used last in its set. Where it stood before
-    /// stays known, and so does what was pushed out. Answers whether its block was first, and
-    /// dirty in all numbers of ways if this is a write: then no row has changed.
-    pub fn serve(&mut self, access: Access) -> bool
+    /// Serves one access, whose block has this level in the shadows: the block is then the one used
+    /// last in its set. Where it stood before is counted and stays known, and so does what was
+    /// pushed out. Answers whether its block was first, and dirty in all numbers of ways if this is
+    /// a write: then no row has changed.
+    pub fn serve(&mut self, access: Access, level: usize) -> bool
+        requires level { level < told_in self.old }
+        requires within { (n : ℕ) × IsWithinStack n self.old × (n < 2 ^ 46) }
         ensures stands { (h : History) → StandsFor self.old h →
             StandsFor self.new (accessed access ∷ h) }
         ensures moved { (h : History) → StandsFor self.old h → HasMoved h access self.new }
         ensures stays { result ≡ true → (h : History) → StandsFor self.old h →
             StaysFirst (rules_of self.old) h access }
+        ensures counted { (sizes : List ℕ) (h : History) → StandsFor self.old h →
+            level ≡ level_at (rules_of self.old) sizes h access → IsCountedIn sizes h self.old →
+            IsCountedIn sizes (accessed access ∷ h) self.new }
+        ensures bounds { (n : ℕ) → IsWithinStack n self.old → IsWithinStack (n + 1) self.new }
+        ensures levels { told_in self.new ≡ told_in self.old }
         ensures rules { rules_of self.new ≡ rules_of self.old }
     {
         let write = writes(access);
@@ -111,6 +132,8 @@ impl Stack {
         let block = self.geometry.block(addr);
         let set = self.set_of(block);
         let turned = turn_in(&mut self.slots, set, self.ways, block, write);
+        self.histogram
+            .note(turned.position, turned.clean, level, access);
         self.set = set;
         self.found = turned.position;
         self.last = turned.last;
@@ -123,6 +146,11 @@ impl Stack {
             StaysFirst (rules_of self.old) h x → StandsFor self.new (accessed x ∷ h) }
         ensures moved { (h : History) (x : Access) → StandsFor self.old h →
             StaysFirst (rules_of self.old) h x → HasMoved h x self.new }
+        ensures counted { (sizes : List ℕ) (h : History) (x : Access) →
+            StaysFirst (rules_of self.old) h x → IsCountedIn sizes h self.old →
+            IsCountedIn sizes (accessed x ∷ h) self.new }
+        ensures bounds { (n : ℕ) → IsWithinStack n self.old → IsWithinStack n self.new }
+        ensures levels { told_in self.new ≡ told_in self.old }
         ensures rules { rules_of self.new ≡ rules_of self.old }
     {
         self.found = 0;
@@ -191,8 +219,7 @@ impl Stack {
     }
 
     /// The first bytes of the blocks that the cache of `ways` ways holds dirty, in rising order,
-    /// each
-    /// once.
+    /// each once.
     pub fn dirty(&self, alloc: Global, ways: usize) -> Result<Vec<u64>, AllocError>
         requires some { 0 < ways }
         requires fits { ways ≤ (rules_of self.now).assoc }
@@ -206,9 +233,47 @@ impl Stack {
         Ok(bytes)
     }
 
+    /// The accesses that missed in so many ways, and in the first `level` of the shadows.
+    pub fn past(&self, ways: usize, level: usize) -> PerClass
+        requires ways { ways ≤ (rules_of self.now).assoc }
+        requires level { level ≤ told_in self.now }
+        requires within { IsWithinStack (2 ^ 46) self.now }
+        ensures { result ≡ past_in self.now.histogram ways level }
+    {
+        self.histogram.past(ways, level)
+    }
+
+    /// How many blocks the cache of `ways` ways holds dirty.
+    fn dirty_count(&self, ways: usize) -> u64
+        requires { ways ≤ (rules_of self.now).assoc }
+        ensures { result ≡ dirty_slots self.now ways }
+    {
+        let sets = self.geometry.sets() as usize;
+        count_dirty(&self.slots, sets, self.ways, self.wback, ways) as u64
+    }
+
+    /// How many blocks the cache of `ways` ways has written back so far: the writes that found
+    /// their block not dirty, but for the blocks that are dirty still.
+    pub fn written_back(&self, ways: usize) -> u64
+        requires some { 0 < ways }
+        requires ways { ways ≤ (rules_of self.now).assoc }
+        requires within { IsWithinStack (2 ^ 46) self.now }
+        ensures { result ≡ written_at self.now ways }
+    {
+        if !self.wback {
+            return 0;
+        }
+        let written = self.histogram.first_writes(ways);
+        written.saturating_sub(self.dirty_count(ways))
+    }
+
     /// Empties all rows, as a flush does.
     pub fn clear(&mut self)
         ensures stands { (h : History) → StandsFor self.new (flushed ∷ h) }
+        ensures counted { (sizes : List ℕ) (h : History) → IsCountedIn sizes h self.old →
+            IsCountedIn sizes (flushed ∷ h) self.new }
+        ensures bounds { (n : ℕ) → IsWithinStack n self.old → IsWithinStack n self.new }
+        ensures levels { told_in self.new ≡ told_in self.old }
         ensures rules { rules_of self.new ≡ rules_of self.old }
     {
         clear_in(&mut self.slots);

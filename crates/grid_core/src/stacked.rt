@@ -1,19 +1,18 @@
 //! Caches that are served together by their stack order: LRU, with write allocation.
 
-ghost use Rattle.std.specs.Prelude.{◌≡◌, ◌≤◌, ◌^◌, ◌*◌, length, map, false, not, ◌&&◌};
+ghost use Rattle.std.specs.Prelude.{◌≡◌, ◌<◌, ◌≤◌, ◌+◌, ◌^◌, length, map};
 ghost use Rattle.std.specs.List.{All};
-ghost use Rattle.cache_core.specs.History.{History};
 ghost use Rattle.cache_core.specs.Dirty.{rising};
 ghost use Rattle.grid_core.specs.Shadows.{shadow_sizes, levels_in};
 ghost use Rattle.grid_core.specs.Totals.{total};
 ghost use Rattle.cache_core.specs.Geometry.{bsize_of};
 ghost use Rattle.cache_core.specs.Counting.{IsWithin};
 ghost use Rattle.grid_core.specs.Shapes.{HaveBsize};
-ghost use Rattle.grid_core.specs.Standing.{rules_of};
-ghost use Rattle.grid_core.specs.Cells.{IsPlacedAmong, IsWithinCell, shape_in};
-ghost use Rattle.grid_core.specs.State.{IsAfter, IsRanked};
+ghost use Rattle.grid_core.specs.Standing.{IsWithinStack, rules_of, told_in};
+ghost use Rattle.grid_core.specs.Cells.{IsPlacedAmong};
+ghost use Rattle.grid_core.specs.State.{IsRanked, IsWithinAlike};
 
-use crate::cells::{Cell, answer_in, counts_in, dirty_lists, flush_in, serve_cells};
+use crate::cells::{Alike, Shape, all_have_hit, answer_in, counts_in, dirty_lists};
 use crate::counting::{count, zero_per_class};
 use crate::outcome::{hit_outcome, sends_on};
 use crate::parts::parts_for;
@@ -24,9 +23,9 @@ use crate::stacks::{clear_in, serve_rows};
 use cache_core::{Access, Counts, Geometry, NoMemory, Outcome, PerClass};
 use std::alloc::{AllocError, Global};
 
-/// LRU caches of one block size that allocate at writes: rows for each number of sets, the shadows
-/// of all sizes, and a cell for each cache. After a failed allocation, every later access or flush
-/// answers `NoMemory`.
+/// LRU caches of one block size that allocate at writes: rows for each number of sets, which count
+/// where the blocks of all accesses stood, the shadows of all sizes, and a shape for each cache.
+/// After a failed allocation, every later access or flush answers `NoMemory`.
 #[derive(Drop)]
 pub(crate) struct Stacked {
     alloc: Global,
@@ -35,9 +34,8 @@ pub(crate) struct Stacked {
     wback: bool,
     stacks: Vec<Stack>,
     shadows: Shadows,
-    cells: Vec<Cell>,
-    /// The accesses by class. All caches see the same.
-    fetches: PerClass,
+    shapes: Vec<Shape>,
+    alike: Alike,
     served: u64,
     failed: bool,
     /// Whether the last access was a write.
@@ -46,30 +44,17 @@ pub(crate) struct Stacked {
     again: bool,
     /// If not, what was known of its block before.
     prior: Prior,
-    /// Whether it is known that the last access sent nothing to the next level.
-    silent: bool,
     ghost rises: { rising (shadow_sizes shadows) ≡ shadow_sizes shadows },
-    ghost placed: { All (λ s. IsPlacedAmong (map rules_of stacks.items) s)
-        (map shape_in cells.items) },
-    ghost ranked: { All (IsRanked (shadow_sizes shadows) geometry) (map shape_in cells.items) },
+    ghost placed: { All (λ s. IsPlacedAmong (map rules_of stacks.items) s) shapes.items },
+    ghost ranked: { All (IsRanked (shadow_sizes shadows) geometry) shapes.items },
     ghost one_size: { HaveBsize (bsize_of geometry) stacks.items },
-    ghost one_policy: { All (λ s. s.wback ≡ wback) (map shape_in cells.items) },
-    ghost bounded: { All (IsWithinCell (2 * served)) cells.items },
-    ghost fetched: { IsWithin fetches served },
+    ghost one_policy: { All (λ s. s.wback ≡ wback) shapes.items },
+    ghost told: { All (λ n. n ≡ length (shadow_sizes shadows) + 1) (map told_in stacks.items) },
+    ghost bounded: { All (IsWithinStack served) stacks.items },
+    ghost alike_within: { IsWithinAlike served alike },
+    ghost small: { length (shadow_sizes shadows) < 2 ^ 60 },
     ghost leveled: { IsWithin (total (levels_in shadows)) served },
     ghost few: { served ≤ 2 ^ 44 },
-    // Unless it has failed, a history of as many events made it; so a flush has room for its
-    // counts.
-    ghost lived: { failed ≡ false → ∥ ((h : History)
-        × IsAfter geometry stacks.items shadows cells.items h × (length h ≡ served)) ∥₁ },
-}
-
-/// Whether an access sends nothing on, by whether it hits in all caches, and is a write that is
-/// sent on.
-fn is_silent(all_hit: bool, through: bool) -> bool
-    ensures { result ≡ (all_hit && not through) }
-{
-    all_hit && !through
 }
 
 #[tactic(auto, unfolding(crate::specs::StackedCells::stacked_rules, crate::specs::StackedCells::stacked_served, crate::specs::StackedCells::stacked_kept, crate::specs::StackedCells::stacked_failed))]
@@ -88,8 +73,8 @@ impl Stacked {
     ghost use Rattle.grid_core.specs.Cells.{items_of};
     ghost use Rattle.grid_core.specs.Standing.{stack_rules};
     ghost use Rattle.grid_core.specs.StackedCells.{StackedStandsFor, StackedHasAnswered};
-    ghost use Rattle.grid_core.specs.StackedCells.{stacked_rules, AreDirtyIn};
-    ghost use Rattle.grid_core.specs.StackedCells.{stacked_served, stacked_kept, stacked_failed};
+    ghost use Rattle.grid_core.specs.StackedCells.{stacked_rules, stacked_served};
+    ghost use Rattle.grid_core.specs.StackedCells.{stacked_kept, stacked_failed, is_silent};
     ghost use Rattle.grid_core.specs.Written.{rules_at, written_by, none_kept, SendsNothing};
 
     /// Empty caches of these geometries, which have the block size of `first`.
@@ -115,8 +100,12 @@ impl Stacked {
             wback,
             stacks: parts.stacks,
             shadows,
-            cells: parts.cells,
-            fetches: zero_per_class(),
+            shapes: parts.shapes,
+            alike: Alike {
+                fetches: zero_per_class(),
+                firsts: zero_per_class(),
+                flushes: 0,
+            },
             served: 0,
             failed: false,
             write: false,
@@ -125,7 +114,6 @@ impl Stacked {
                 known: false,
                 level: 0,
             },
-            silent: true,
         })
     }
 
@@ -144,10 +132,9 @@ impl Stacked {
         ensures works { stacked_failed self.new ≡ false }
         ensures rules { stacked_rules self.new ≡ stacked_rules self.old }
     {
-        count(&mut self.fetches, access, true);
+        count(&mut self.alike.fetches, access, true);
         self.write = writes(access);
         self.again = true;
-        self.silent = is_silent(true, sends_on(self.write, self.wback));
         self.served += 1;
     }
 
@@ -168,18 +155,16 @@ impl Stacked {
             × (stacked_served self.new ≡ stacked_served self.old)) }
         ensures rules { stacked_rules self.new ≡ stacked_rules self.old }
     {
-        let write = writes(access);
         let Ok(prior) = self.shadows.touch(block, access) else {
             self.failed = true;
             return Err(NoMemory);
         };
-        serve_rows(&mut self.stacks, access);
-        let all_hit = serve_cells(&mut self.cells, &self.stacks, access, prior);
-        count(&mut self.fetches, access, true);
-        self.write = write;
+        serve_rows(&mut self.stacks, access, prior.level);
+        count(&mut self.alike.fetches, access, true);
+        count(&mut self.alike.firsts, access, !prior.known);
+        self.write = writes(access);
         self.again = false;
         self.prior = prior;
-        self.silent = is_silent(all_hit, sends_on(write, self.wback));
         self.served += 1;
         Ok(())
     }
@@ -214,31 +199,27 @@ impl Stacked {
     /// What a flush writes back in each cache: the first bytes of its dirty blocks, in rising
     /// order.
     pub fn written(&self) -> Result<Vec<Vec<u64>>, AllocError>
-        ensures dirty { IfOk result (λ lists. AreDirtyIn self.now lists.items) }
         ensures lists { IfOk result (λ lists. (h : History) → StackedStandsFor self.now h →
             map items_of lists.items ≡ map (written_by h) (stacked_rules self.now)) }
         ensures len { IfOk result (λ lists. length lists.items ≡ length (stacked_rules self.now)) }
     {
-        let lists = dirty_lists(self.alloc, &self.stacks, &self.cells)?;
+        let lists = dirty_lists(self.alloc, &self.stacks, &self.shapes)?;
         Ok(lists)
     }
 
-    /// Empties all caches and the shadows. `lists` is what each cache writes back. Known blocks
-    /// stay known.
-    pub fn flush(&mut self, lists: &Vec<Vec<u64>>)
+    /// Empties all caches and the shadows. Known blocks stay known.
+    pub fn flush(&mut self)
         requires few { stacked_served self.old < 2 ^ 44 }
         requires works { stacked_failed self.old ≡ false }
-        requires len { length lists.now.items ≡ length (stacked_rules self.old) }
-        requires lists { AreDirtyIn self.old lists.now.items }
         ensures stands { (h : History) → StackedStandsFor self.old h →
             StackedStandsFor self.new (flushed ∷ h) }
         ensures served { stacked_served self.new ≡ stacked_served self.old + 1 }
         ensures works { stacked_failed self.new ≡ false }
         ensures rules { stacked_rules self.new ≡ stacked_rules self.old }
     {
-        flush_in(&mut self.cells, lists);
         clear_in(&mut self.stacks);
         self.shadows.clear();
+        self.alike.flushes += 1;
         self.served += 1;
     }
 
@@ -246,7 +227,7 @@ impl Stacked {
     pub fn cells(&self) -> usize
         ensures { result ≡ length (stacked_rules self.now) }
     {
-        self.cells.len()
+        self.shapes.len()
     }
 
     /// The counts of one cache.
@@ -256,7 +237,8 @@ impl Stacked {
         ensures counted { (h : History) → StackedStandsFor self.now h →
             result ≡ counts_of (rules_at (stacked_rules self.now) index) h }
     {
-        counts_in(&self.cells[index], self.fetches)
+        let shape = self.shapes[index];
+        counts_in(shape, &self.stacks[shape.stack], self.alike)
     }
 
     /// The fully associative misses of one cache.
@@ -266,16 +248,21 @@ impl Stacked {
         ensures counted { (h : History) → StackedStandsFor self.now h →
             result ≡ shadow_misses (rules_at (stacked_rules self.now) index) h }
     {
-        self.shadows.misses(self.cells[index].shape.rank)
+        self.shadows.misses(self.shapes[index].rank)
     }
 
-    /// Whether the last access sent nothing to the next level in any cache, as far as is known.
+    /// Whether the last access sent nothing to the next level in any cache.
     pub fn sent_nothing(&self) -> bool
-        ensures { result ≡ true → (h : History) (x : Access) → StackedHasAnswered self.now h x →
+        ensures is { result ≡ is_silent self.now }
+        ensures told { result ≡ true → (h : History) (x : Access) →
+            StackedHasAnswered self.now h x →
             (index : ℕ) → index < length (stacked_rules self.now) →
             SendsNothing (outcome_of (rules_at (stacked_rules self.now) index) h x) }
     {
-        self.silent
+        if sends_on(self.write, self.wback) {
+            return false;
+        }
+        self.again || all_have_hit(&self.shapes, &self.stacks)
     }
 
     /// What the last access did in one cache.
@@ -284,10 +271,10 @@ impl Stacked {
         ensures { (h : History) (x : Access) → StackedHasAnswered self.now h x →
             result ≡ outcome_of (rules_at (stacked_rules self.now) index) h x }
     {
-        let cell = &self.cells[index];
+        let shape = self.shapes[index];
         if self.again {
-            return hit_outcome(sends_on(self.write, cell.shape.wback));
+            return hit_outcome(sends_on(self.write, shape.wback));
         }
-        answer_in(cell, &self.stacks, self.write, self.prior)
+        answer_in(shape, &self.stacks, self.write, self.prior)
     }
 }

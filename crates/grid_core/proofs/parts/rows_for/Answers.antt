@@ -18,5 +18,5 @@ loop-geometry-preserved c =
     record {
       one_size = c.in_ok-stack_for.ensures.sizes (bsize_of first)
           (ap bsize_of c.geometry-item.is ∙ all i g inside) c.loop-geometry.invariant.one_size;
-      stands = c.in_ok-stack_for.ensures.stands c.loop-geometry.invariant.stands;
+      empty = c.in_ok-stack_for.ensures.empty c.loop-geometry.invariant.empty;
     }

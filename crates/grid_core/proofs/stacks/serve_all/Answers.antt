@@ -1,12 +1,14 @@
-use Rattle.std.proofs.Common.{◌≡◌, ◌≢◌, ℕ, ◌<◌, ◌∷◌, get_or, length, sym, ap, subst}
+use Rattle.std.proofs.Common.{◌≡◌, ◌≢◌, ℕ, ◌+◌, ◌<◌, ◌∷◌, get_or, length, sym, ap, subst}
 use Rattle.std.proofs.Common.{◌∙◌, refl, arith, get_or-set_other}
 use Rattle.std.specs.List.{All}
 use Rattle.std.proofs.Math.Seq.{map-set_same}
 use Rattle.std.proofs.lemmas.List.Elements.{AllWithin-more_set}
 use Rattle.cache_core.specs.History.{History, access as accessed}
 use Rattle.grid_core.specs.declared.stack.Stack.{Stack}
+use Rattle.grid_core.specs.Histograms.{level_at}
 use Rattle.grid_core.specs.Shapes.{HaveBsize}
 use Rattle.grid_core.specs.Standing.{StandsFor, HasMoved, StayFirstFrom, rules_of}
+use Rattle.grid_core.specs.Standing.{IsCountedIn, IsWithinStack, told_in}
 use Rattle.grid_core.proofs.Again.{size-at}
 use Rattle.grid_core.proofs.StackRules.{few-sets}
 use Rattle.grid_core.proofs.stacks.serve_all.Goals as goal
@@ -17,8 +19,29 @@ loop-stack-init c = record {
   stands = λ n h sizes all k d low lt. absurd (omega arith);
   moved = λ n h sizes all k d low lt. absurd (omega arith);
   stays = λ n h sizes all s same more. let few = few-sets s in absurd (omega arith);
+  levels = refl;
+  counted = λ n sizes h same all low before k d least lt. absurd (omega arith);
+  bounds = λ n all k d low lt. absurd (omega arith);
   left = λ k d low. refl;
 }
+
+pub serve_one-least-requires-clause-level : goal.serve_one-least-requires-clause-level
+serve_one-least-requires-clause-level c =
+    let i = c.loop-stack.stack-index in
+    let e = c.stack-item.result in
+    let same = c.loop-stack.invariant.left i e (omega arith) in
+    subst (λ s. c.args.level < told_in s) (sym same) (c.requires.levels i e (omega arith))
+
+pub serve_one-least-requires-clause-within : goal.serve_one-least-requires-clause-within
+serve_one-least-requires-clause-within c =
+    let i = c.loop-stack.stack-index in
+    let e = c.stack-item.result in
+    let same = c.loop-stack.invariant.left i e (omega arith) in
+    let n = c.requires.within.0 in (
+      n,
+      subst (IsWithinStack n) (sym same) (c.requires.within.1 i e (omega arith)),
+      c.requires.within.2,
+    )
 
 pub loop-stack-preserved : goal.loop-stack-preserved
 loop-stack-preserved c =
@@ -52,6 +75,17 @@ loop-stack-preserved c =
           (one.moved h (here h all) (stay n h sizes all));
       stays = λ n h sizes all. subst (λ m. StayFirstFrom m c.serve_one-least.result h x)
           (sym (size n sizes)) (one.stays h (here h all) (stay n h sizes all));
+      levels = map-set_same told_in xs i v e one.levels ∙ c.loop-stack.invariant.levels;
+      counted = λ n sizes h same' all low before. AllWithin-more_set xs i v inside
+          (IsCountedIn sizes (accessed x ∷ h))
+          (c.loop-stack.invariant.counted n sizes h same' all low before)
+          (one.counted sizes h (here h all) (stay n h same' all)
+          (subst (λ s. c.args.level ≡ level_at (rules_of s) sizes h x) (sym same)
+          (low i e inside'))
+          (subst (IsCountedIn sizes h) (sym same) (before i e inside')));
+      bounds = λ n all. AllWithin-more_set xs i v inside (IsWithinStack (n + 1))
+          (c.loop-stack.invariant.bounds n all)
+          (one.bounds n (subst (IsWithinStack n) (sym same) (all i e inside')));
       left = λ k d lt. let ne : k ≢ i = omega arith in get_or-set_other xs i k v d ne
           ∙ c.loop-stack.invariant.left k d (omega arith);
     }
@@ -63,3 +97,11 @@ returns-clause-stands c = λ n h sizes all k d lt.
 pub returns-clause-moved : goal.returns-clause-moved
 returns-clause-moved c = λ n h sizes all k d lt.
     c.loop-stack.invariant.moved n h sizes all k d (omega arith) (omega arith)
+
+pub returns-clause-counted : goal.returns-clause-counted
+returns-clause-counted c = λ n sizes h same all low before k d lt.
+    c.loop-stack.invariant.counted n sizes h same all low before k d (omega arith) (omega arith)
+
+pub returns-clause-bounds : goal.returns-clause-bounds
+returns-clause-bounds c = λ n all k d lt.
+    c.loop-stack.invariant.bounds n all k d (omega arith) (omega arith)

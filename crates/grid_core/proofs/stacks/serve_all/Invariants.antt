@@ -1,9 +1,11 @@
-use Rattle.std.proofs.Common.{◌≡◌, ℕ, ◌≤◌, ◌∷◌, get_or, map}
+use Rattle.std.proofs.Common.{◌≡◌, ℕ, ◌+◌, ◌≤◌, ◌∷◌, List, get_or, map}
 use Rattle.std.specs.List.{All, AllWithin}
 use Rattle.cache_core.specs.History.{History, access as accessed}
 use Rattle.grid_core.specs.declared.stack.Stack.{Stack}
+use Rattle.grid_core.specs.Histograms.{level_at}
 use Rattle.grid_core.specs.Shapes.{HaveBsize}
 use Rattle.grid_core.specs.Standing.{StandsFor, HasMoved, StayFirstFrom, rules_of}
+use Rattle.grid_core.specs.Standing.{IsCountedIn, IsWithinStack, told_in}
 use Rattle.grid_core.proofs.stacks.serve_all.Given as goal
 
 -- the rows that were passed have served the access, and the others are as they were
@@ -18,6 +20,14 @@ invariant-loop-stack l = record {
       AllWithin (HasMoved h l.access) l.stacks 0 l.stack-index;
   stays : (n : ℕ) (h : History) → HaveBsize n l.initial.stacks →
       All (λ s. StandsFor s h) l.initial.stacks → StayFirstFrom n l.least h l.access;
+  levels : map told_in l.stacks ≡ map told_in l.initial.stacks;
+  counted : (n : ℕ) (sizes : List ℕ) (h : History) → HaveBsize n l.initial.stacks →
+      All (λ s. StandsFor s h) l.initial.stacks →
+      All (λ s. l.level ≡ level_at (rules_of s) sizes h l.access) l.initial.stacks →
+      All (IsCountedIn sizes h) l.initial.stacks →
+      AllWithin (IsCountedIn sizes (accessed l.access ∷ h)) l.stacks 0 l.stack-index;
+  bounds : (n : ℕ) → All (IsWithinStack n) l.initial.stacks →
+      AllWithin (IsWithinStack (n + 1)) l.stacks 0 l.stack-index;
   left : (k : ℕ) (d : Stack) → l.stack-index ≤ k →
       get_or l.stacks k d ≡ get_or l.initial.stacks k d;
 }

@@ -14,7 +14,7 @@ returns c = λ none h x answered place there.
     let caches = c.args.self.now in
     let P : Rules → Type 0 = λ r. SendsNothing (outcome_of r h x) in
     at-place P (together_rules caches) (apart_rules caches)
-    (λ i lt. c.sent_nothing.ensures c.if-not-sent_nothing.false h x
+    (λ i lt. c.sent_nothing.ensures.told c.if-not-sent_nothing.false h x
     (answered.stacked (omega arith)) i lt)
     (at-rules single_rules P caches.singles.items
     (subst (λ (l : List Single). All (λ s. P (single_rules s)) l) c.deref.ensures.value

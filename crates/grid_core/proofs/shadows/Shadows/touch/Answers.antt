@@ -21,6 +21,13 @@ count_at-requires-clause-inside c =
     let long = s.leveled in
     omega arith
 
+pub returns-clause-low : goal.returns-clause-low
+returns-clause-low c =
+    let s = c.args.self.now in
+    let is = c.in-Ok-touch.ensures.level in
+    let le = level-le (marked_sizes s.order) (order_of s.order) c.in-Ok.found.number in
+    omega arith
+
 pub returns-clause-levels : goal.returns-clause-levels
 returns-clause-levels c =
     let s = c.args.self.now in

@@ -1,6 +1,7 @@
 use Rattle.std.proofs.Common.{sym, ◌∙◌}
 use Rattle.std.proofs.lemmas.Bool.{false≢true}
 use Rattle.grid_core.specs.Standing.{rules_of, found_in}
+use Rattle.grid_core.proofs.Counted.{counted-first}
 use Rattle.grid_core.proofs.Staying.{none-misses, rows-stay}
 use Rattle.grid_core.proofs.stack.Stack.pass.Goals as goal
 
@@ -17,3 +18,9 @@ returns-clause-moved c = λ h x st first. record {
   backs = λ n some fits miss.
       absurd (false≢true (sym miss ∙ none-misses c.args.self.now h x first n some fits));
 }
+
+pub returns-clause-counted : goal.returns-clause-counted
+unfolding rules_of
+returns-clause-counted c = λ sizes h x stay counted.
+    let old = c.args.self.now in
+    counted-first (rules_of old) sizes h x old.histogram stay counted

@@ -1,39 +1,120 @@
-use Rattle.std.proofs.Common.{◌<◌, ◌*◌, ◌^◌, get_or, length, sym, ap, subst, ◌∙◌, arith}
-use Rattle.std.proofs.lemmas.List.{get_or-map}
-use Rattle.cache_core.specs.History.{Rules}
+use Rattle.std.proofs.Common.{◌≡◌, ℕ, ◌<◌, ◌+◌, ◌^◌, List, get_or, length, map, sym, ap, subst}
+use Rattle.std.proofs.Common.{◌∙◌, arith}
+use Rattle.std.proofs.lemmas.List.{get_or-map, length-map}
+use Rattle.cache_core.specs.declared.counts.Counts.{Counts}
+use Rattle.cache_core.specs.declared.counts.PerClass.{PerClass}
 use Rattle.cache_core.specs.Counts.{counts_of}
-use Rattle.grid_core.specs.declared.cells.Cell.{Cell}
-use Rattle.grid_core.specs.Cells.{IsCounted, IsWithinCell, shape_rules}
-use Rattle.grid_core.specs.StackedCells.{stacked_rules}
-use Rattle.grid_core.specs.Written.{no_rules}
-use Rattle.grid_core.proofs.After.{as-many}
-use Rattle.grid_core.proofs.Owing.{cell-more}
-use Rattle.grid_core.proofs.Sharing.{whole-is}
+use Rattle.grid_core.specs.declared.cells.Shape.{Shape}
+use Rattle.grid_core.specs.declared.stack.Stack.{Stack}
+use Rattle.grid_core.specs.declared.stacked.Stacked.{Stacked}
+use Rattle.grid_core.specs.Cells.{IsPlacedOn, shape_rules}
+use Rattle.grid_core.specs.Shadows.{shadow_sizes}
+use Rattle.grid_core.specs.StackedCells.{stacked_kept, stacked_rules}
+use Rattle.grid_core.specs.Standing.{IsCountedIn, IsWithinStack, StandsFor, rules_of, told_in}
+use Rattle.grid_core.specs.State.{IsRanked, counts_at, kept_by}
+use Rattle.grid_core.specs.Written.{no_rules, none_kept}
+use Rattle.grid_core.proofs.CountsOf.{counts-are, kept-here}
+use Rattle.grid_core.proofs.StackBounds.{within-stack}
+use Rattle.grid_core.proofs.Placed.{inside-at, on-at, shape-there}
+use Rattle.grid_core.proofs.Sizes.{rising-is}
 use Rattle.grid_core.proofs.stacked.Stacked.counts.Goals as goal
 
-pub counts_in-requires : goal.counts_in-requires
-unfolding stacked_rules
-counts_in-requires c =
+module _ (old : Stacked) {i : ℕ} (below : i < length (stacked_rules old)) {v : Shape}
+    (shape-is : v ≡ get_or old.shapes.items i v) {w : Stack}
+    (rows-are : w ≡ get_or old.stacks.items v.stack w) where
+  abbrev stacks : List Stack
+  stacks = old.stacks.items
+
+  abbrev shapes : List Shape
+  shapes = old.shapes.items
+
+  abbrev sizes : List ℕ
+  sizes = shadow_sizes old.shadows
+
+  lt : i < length shapes
+  lt = shape-there old below
+
+  inside : v.stack < length stacks
+  inside = inside-at stacks shapes old.placed i lt v shape-is
+
+  on : IsPlacedOn (rules_of w) v
+  on = on-at stacks shapes old.placed i lt v shape-is w rows-are
+
+  ranked : IsRanked sizes old.geometry v
+  ranked = subst (IsRanked sizes old.geometry) (sym shape-is) (old.ranked i v lt)
+
+  told : told_in w ≡ length sizes + 1
+  told =
+      let long : v.stack < length (map told_in stacks) = omega (
+        arith,
+        inside,
+        length-map stacks told_in,
+      ) in
+      ap told_in rows-are ∙ sym (get_or-map told_in stacks v.stack w 0 inside)
+      ∙ old.told v.stack 0 long
+
+pub counts_in-requires-clause-ways : goal.counts_in-requires-clause-ways
+counts_in-requires-clause-ways c =
+    (on c.args.self.now c.requires c.index-shape.ensures c.index.ensures).fits
+
+pub counts_in-requires-clause-some : goal.counts_in-requires-clause-some
+counts_in-requires-clause-some c =
+    (on c.args.self.now c.requires c.index-shape.ensures c.index.ensures).some
+
+pub counts_in-requires-clause-rank : goal.counts_in-requires-clause-rank
+counts_in-requires-clause-rank c =
     let old = c.args.self.now in
-    let xs = old.cells.items in
-    let i = c.args.index in
-    let v = c.index.result.now in
+    let levels = told old c.requires c.index-shape.ensures c.index.ensures in
+    let low = (ranked old c.requires c.index-shape.ensures c.index.ensures).inside in
+    omega arith
+
+pub counts_in-requires-clause-few : goal.counts_in-requires-clause-few
+counts_in-requires-clause-few c =
+    let old = c.args.self.now in
+    let low = (ranked old c.requires c.index-shape.ensures c.index.ensures).inside in
+    let small = old.small in
+    omega arith
+
+pub counts_in-requires-clause-within : goal.counts_in-requires-clause-within
+counts_in-requires-clause-within c =
+    let old = c.args.self.now in
+    let v = c.index-shape.result.now in
+    let w = c.index.result.now in
     let few = old.few in
-    let lt : i < length xs = let all = c.requires in omega (arith, as-many xs) in
-    subst (IsWithinCell (2 ^ 46)) (sym c.index.ensures)
-    (cell-more (2 * old.served) (2 ^ 46) (omega arith) (get_or xs i v) (old.bounded i v lt))
+    subst (IsWithinStack (2 ^ 46)) (sym c.index.ensures)
+    (within-stack old.served (2 ^ 46) (omega arith) (get_or old.stacks.items v.stack w)
+    (old.bounded v.stack w (inside old c.requires c.index-shape.ensures c.index.ensures)))
+
+pub returns-clause-kept : goal.returns-clause-kept
+unfolding stacked_kept
+returns-clause-kept c =
+    let old = c.args.self.now in
+    let v = c.index-shape.result.now in
+    let w = c.index.result.now in
+    let rows = old.stacks.items in
+    c.counts_in.ensures
+    ∙ kept-here rows v w c.index.ensures
+    (inside old c.requires c.index-shape.ensures c.index.ensures) old.alike
+    ∙ ap (counts_at old.alike rows) c.index-shape.ensures
+    ∙ ap (λ (p : Counts × PerClass). p.0) (sym (get_or-map
+    (kept_by old.alike rows old.shadows) old.shapes.items c.args.index v none_kept
+    (lt old c.requires c.index-shape.ensures c.index.ensures)))
 
 pub returns-clause-counted : goal.returns-clause-counted
 unfolding stacked_rules
 returns-clause-counted c = λ h e.
     let old = c.args.self.now in
-    let xs = old.cells.items in
-    let i = c.args.index in
-    let v = c.index.result.now in
-    let lt : i < length xs = let all = c.requires in omega (arith, as-many xs) in
-    let rules : Cell → Rules = λ cell. shape_rules cell.shape in
+    let v = c.index-shape.result.now in
+    let w = c.index.result.now in
+    let levels = shadow_sizes old.shadows in
+    let here = inside old c.requires c.index-shape.ensures c.index.ensures in
     c.counts_in.ensures
-    ∙ whole-is h old.fetches v e.fetches
-    (subst (IsCounted h) (sym c.index.ensures) (e.state.counted i v lt))
-    ∙ ap (λ cell. counts_of (rules cell) h) c.index.ensures
-    ∙ ap (λ r. counts_of r h) (sym (get_or-map rules xs i v no_rules lt))
+    ∙ counts-are old.geometry levels (rising-is levels old.rises) w v
+    (ranked old c.requires c.index-shape.ensures c.index.ensures)
+    (on old c.requires c.index-shape.ensures c.index.ensures) h
+    (subst (IsCountedIn levels h) (sym c.index.ensures) (e.state.counted v.stack w here))
+    (subst (λ t. StandsFor t h) (sym c.index.ensures) (e.state.rows v.stack w here))
+    old.alike e.alike
+    ∙ ap (λ s. counts_of (shape_rules s) h) c.index-shape.ensures
+    ∙ ap (λ r. counts_of r h) (sym (get_or-map shape_rules old.shapes.items c.args.index v no_rules
+    (lt old c.requires c.index-shape.ensures c.index.ensures)))

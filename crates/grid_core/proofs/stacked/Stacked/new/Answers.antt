@@ -1,58 +1,66 @@
-use Rattle.std.proofs.Common.{◌≡◌, List, ℕ, [], map, refl, sym, ap, subst, ◌∙◌, arith}
+use Rattle.std.proofs.Common.{◌≡◌, ◌<◌, ◌^◌, ◌+◌, List, ℕ, length, refl, sym, ap, subst}
+use Rattle.std.proofs.Common.{◌∙◌, arith}
 use Rattle.std.specs.List.{All}
 use Rattle.cache_core.specs.Dirty.{rising}
-use Rattle.grid_core.specs.Shadows.{shadow_sizes}
-use Rattle.grid_core.specs.Cells.{shape_in}
-use Rattle.grid_core.specs.State.{IsRanked}
-use Rattle.grid_core.specs.StackedCells.{stacked_rules, stacked_served, stacked_failed}
-use Rattle.grid_core.proofs.After.{after-start, rules-shapes}
 use Rattle.cache_core.specs.Counting.{IsWithin}
 use Rattle.cache_core.proofs.CacheFacts.{AreWithin-none}
-use Rattle.grid_core.proofs.Sharing.{fetched-start}
+use Rattle.grid_core.specs.Shadows.{shadow_sizes}
+use Rattle.grid_core.specs.Standing.{IsEmptyStack}
+use Rattle.grid_core.specs.State.{IsRanked}
+use Rattle.grid_core.specs.StackedCells.{stacked_rules, stacked_served, stacked_failed}
+use Rattle.grid_core.proofs.After.{after-start}
+use Rattle.grid_core.proofs.Sharing.{alike-start}
+use Rattle.grid_core.proofs.StackBounds.{told-all}
 use Rattle.grid_core.proofs.stacked.Stacked.new.Goals as goal
 
 pub invariant_of-result : goal.invariant_of-result
 invariant_of-result c =
     let shadows = c.in_ok-shadows.shadows in
     let stacks = c.in_ok-parts.parts.stacks.items in
-    let cells = c.in_ok-parts.parts.cells.items in
+    let shapes = c.in_ok-parts.parts.shapes.items in
     let first = c.args.first in
     let sizes : shadow_sizes shadows ≡ c.in_ok-sizes.sizes.items =
     c.in_ok-shadows.ensures.sizes ∙ c.deref.ensures.value in
-    let fresh = c.in_ok-parts.ensures.fresh in
+    let same : shadow_sizes shadows ≡ c.deref-2.result.now =
+    sizes ∙ sym c.deref-2.ensures.value in
+    let none = AreWithin-none.fetches in
+    let empty = c.in_ok-parts.ensures.empty in
     record {
       rises = ap rising sizes ∙ c.in_ok-sizes.ensures.rise ∙ sym sizes;
       placed = c.in_ok-parts.ensures.placed;
-      ranked = subst (λ (l : List ℕ). All (IsRanked l first) (map shape_in cells))
-          (sym (sizes ∙ sym c.deref-2.ensures.value)) c.in_ok-parts.ensures.ranked;
+      ranked = subst (λ (l : List ℕ). All (IsRanked l first) shapes) (sym same)
+          c.in_ok-parts.ensures.ranked;
       one_size = c.in_ok-parts.ensures.one_size;
       one_policy = c.in_ok-parts.ensures.one_policy;
-      bounded = λ k d lt. (fresh k d lt).within;
-      fetched = subst (λ p. IsWithin p 0) (sym c.zero_per_class.ensures) AreWithin-none.fetches;
-      leveled = subst (λ p. IsWithin p 0) (sym c.in_ok-shadows.ensures.levels)
-          AreWithin-none.fetches;
+      told = told-all (length (shadow_sizes shadows) + 1) stacks (subst (λ (l : List ℕ).
+          All (IsEmptyStack (length l + 1)) stacks) (sym same) empty);
+      bounded = λ k d lt. (empty k d lt).within;
+      alike_within = record {
+        fetches = subst (λ p. IsWithin p 0) (sym c.zero_per_class.ensures) none;
+        firsts = subst (λ p. IsWithin p 0) (sym c.zero_per_class-2.ensures) none;
+        flushes = omega arith;
+      };
+      small = subst (λ (l : List ℕ). length l < 2 ^ 60) (sym sizes)
+          (let ok = c.in_ok-sizes.sizes.ok in let small = c.in_ok-sizes.sizes.small in omega arith);
+      leveled = subst (λ p. IsWithin p 0) (sym c.in_ok-shadows.ensures.levels) none;
       few = omega arith;
-      lived = λ _. ∣ (
-        [],
-        after-start first stacks shadows cells c.in_ok-parts.ensures.stands
-            c.in_ok-shadows.ensures.order c.in_ok-shadows.ensures.known
-            c.in_ok-shadows.ensures.recent c.in_ok-shadows.ensures.far fresh,
-        refl,
-      ) ∣₁;
     }
 
 pub returns-clause-stands : goal.returns-clause-stands
 unfolding stacked_served stacked_failed
-returns-clause-stands c = record {
-  working = refl;
-  served = refl;
-  fetches = c.zero_per_class.ensures ∙ fetched-start;
-  state = after-start c.args.first c.in_ok-parts.parts.stacks.items c.in_ok-shadows.shadows
-      c.in_ok-parts.parts.cells.items c.in_ok-parts.ensures.stands c.in_ok-shadows.ensures.order
-      c.in_ok-shadows.ensures.known c.in_ok-shadows.ensures.recent c.in_ok-shadows.ensures.far
-      c.in_ok-parts.ensures.fresh;
-}
+returns-clause-stands c =
+    let shadows = c.in_ok-shadows.shadows in
+    let sizes = c.deref-2.result.now in
+    record {
+      working = refl;
+      served = refl;
+      alike = alike-start c.args.first _ c.zero_per_class.ensures c.zero_per_class-2.ensures refl;
+      state = after-start c.args.first c.in_ok-parts.parts.stacks.items shadows
+          c.in_ok-parts.parts.shapes.items (length sizes + 1) c.in_ok-parts.ensures.empty
+          c.in_ok-shadows.ensures.order c.in_ok-shadows.ensures.known
+          c.in_ok-shadows.ensures.recent c.in_ok-shadows.ensures.far;
+    }
 
 pub returns-clause-rules : goal.returns-clause-rules
 unfolding stacked_rules
-returns-clause-rules c = rules-shapes c.in_ok-parts.parts.cells.items ∙ c.in_ok-parts.ensures.rules
+returns-clause-rules c = c.in_ok-parts.ensures.rules
