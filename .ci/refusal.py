@@ -6,8 +6,11 @@ import re
 OPEN = re.compile(r"note: (src/\S+?):(\d+):\d+: (?:it is not proved|`search` found no proof)")
 # A proof that does not fit the function.
 UNFIT = re.compile(r"(?:\./)?(proofs/\S+?)[^/]*:\d+:\d+: error: (.*)")
-# It fits for no other reason than that it names what the edit took away, or cites such a proof.
-NAMES = re.compile(r"has no field|is not in scope|has no `|was not admitted|that depend")
+# It does not fit, but only because it names what the edit took away, or cites such a proof. The
+# words `has no field` do not always stand before the name that is nearest.
+NAMES = re.compile(
+    r"has no field|\(nearest: |is not in scope|has no `|was not admitted|that depend"
+)
 # A function that is not proved, and the functions that it waits for.
 WAITS = re.compile(r"fn (\S+): (?:no proof|not proved).*?it calls (.*), which (?:is|are) not proved")
 # The text was not understood, so that nothing was tried.
