@@ -30,7 +30,7 @@ use Rattle.grid_core.proofs.Repeats.{distance-last}
 use Rattle.grid_core.proofs.StackRules.{some-ways, stacked}
 
 -- the larger of two numbers of sets is a multiple of the other
-sets-divide : (g j : Geometry) → sets_of g ≤ sets_of j
+pub sets-divide : (g j : Geometry) → sets_of g ≤ sets_of j
     → (k : ℕ) × (sets_of j ≡ sets_of g * k)
 unfolding size_of bsize_of assoc_of
 sets-divide g j le =

@@ -2,6 +2,7 @@ pub mod Distances
 pub mod Levels
 pub mod Positions
 pub mod Hitting
+pub mod FewerSets
 pub mod Fronts
 pub mod SlotTurns
 pub mod Victims

@@ -12,7 +12,8 @@ use Rattle.cache_core.proofs.Cases.{by_cases}
 use Rattle.grid_core.specs.Ways.{with_sets, IsStacked}
 use Rattle.grid_core.proofs.Distances.{renews-all}
 
-length-less : (p : ℕ → Bool) (ms : List ℕ) → length (filter p ms) ≤ length ms
+-- a filter leaves no more
+pub length-less : (p : ℕ → Bool) (ms : List ℕ) → length (filter p ms) ≤ length ms
 length-less p [] = omega arith
 length-less p (m ∷ ms) = (elim (p m) as (λ t.
     length (cond t (m ∷ filter p ms) (filter p ms)) ≤ length (m ∷ ms)) [
@@ -91,16 +92,20 @@ module _ (r : Rules) (st : IsStacked r) (k : ℕ) where
     abbrev ranks : List ℕ
     ranks = distinct (filter in_coarser ms)
 
-    -- the order of the set of b among more sets is a part of its order among fewer
-    order-part : ranked q (b % q.sets) ms ≡ filter in_finer ranks
-    order-part = cond-false r.fifo (in_set q (b % q.sets) ms) (distinct (in_set q
-        (b % q.sets) ms)) st.lru
-        ∙ ap distinct (filter-finer in_finer in_coarser finer ms)
-        ∙ distinct-filter in_finer (filter in_coarser ms)
-
     order-whole : ranked r (b % r.sets) ms ≡ ranks
     order-whole = cond-false r.fifo (in_set r (b % r.sets) ms) (distinct (in_set r
         (b % r.sets) ms)) st.lru
+
+    -- the order of the set of b among more sets is a part of its order among fewer
+    pub order-part : distinct (filter in_finer ms) ≡ filter in_finer (ranked r (b % r.sets) ms)
+    order-part = ap distinct (filter-finer in_finer in_coarser finer ms)
+        ∙ distinct-filter in_finer (filter in_coarser ms)
+        ∙ sym (ap (filter in_finer) order-whole)
+
+    order-among : ranked q (b % q.sets) ms ≡ filter in_finer ranks
+    order-among = cond-false r.fifo (in_set q (b % q.sets) ms) (distinct (in_set q
+        (b % q.sets) ms)) st.lru
+        ∙ order-part ∙ ap (filter in_finer) order-whole
 
     pub more-holds : is_resident r (renewals r h) b ≡ true
         → is_resident q (renewals q h) b ≡ true
@@ -113,7 +118,7 @@ module _ (r : Rules) (st : IsStacked r) (k : ℕ) where
         let less = length-less in_finer (before b ranks) in
         sym (has-ways_of q (renewals q h) b)
         ∙ ap (λ l. has (take r.assoc (ranked q (b % q.sets) l)) b) (renewals-sets h)
-        ∙ ap (λ l. has (take r.assoc l) b) order-part
+        ∙ ap (λ l. has (take r.assoc l) b) order-among
         ∙ has-take r.assoc (filter in_finer ranks) b
         ∙ ap (λ t. t && ltb (length (before b (filter in_finer ranks))) r.assoc)
         (has-filter in_finer b passes ranks ∙ parts.0)

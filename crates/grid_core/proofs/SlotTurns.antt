@@ -1,11 +1,12 @@
 -- How one access moves the rows of slots.
-use Rattle.std.proofs.Common.{◌≡◌, ℕ, ◌%◌, ◌<◌, ◌≤◌, Bool, true, false, cond, eqb, ltb, List}
-use Rattle.std.proofs.Common.{[], ◌∷◌, ◌++◌, length, take, map, replicate, Some, None}
+use Rattle.std.proofs.Common.{◌≡◌, ℕ, suc, ◌%◌, ◌<◌, ◌≤◌, Bool, true, false, cond, not, ◌&&◌, ◌||◌}
+use Rattle.std.proofs.Common.{eqb, ltb, List, [], ◌∷◌, ◌++◌, length, get_or, take, map, replicate}
+use Rattle.std.proofs.Common.{Some, None}
 use Rattle.std.proofs.Common.{refl, sym, ap, ◌∙◌, arith}
 use Rattle.std.specs.List.{find}
 use Rattle.std.specs.Option.{option_map_or}
 use Rattle.std.proofs.lemmas.List.{length-append, length-replicate, length-take-le}
-use Rattle.std.proofs.lemmas.Bool.{eq-eqb, ltb-true, ltb-false, and_parts}
+use Rattle.std.proofs.lemmas.Bool.{eq-eqb, ne_eqb, ltb-true, ltb-false, and_parts}
 use Rattle.cache_core.specs.declared.access.Access.{Access}
 use Rattle.cache_core.specs.History.{Rules, History, access, flush, block_of, is_write}
 use Rattle.cache_core.specs.Residents.{renewals, before, is_resident, reuse_distance}
@@ -17,10 +18,11 @@ use Rattle.cache_core.proofs.Shift.{has-take_absent}
 use Rattle.cache_core.proofs.Shadow.{eqb-comm}
 use Rattle.cache_core.proofs.Turns.{ranked-other, ranked-lru, IsOnce-ranked, absent, renewals-yes}
 use Rattle.cache_core.proofs.Cases.{by_cases}
+use Rattle.grid_core.specs.declared.slots.Slot.{Slot}
 use Rattle.grid_core.specs.Ways.{IsStacked, stack_distance}
 use Rattle.grid_core.specs.Levels.{dirty_level}
 use Rattle.grid_core.specs.Slots.{holds, used_slot, no_slot, level_of, index_of, level_after}
-use Rattle.grid_core.specs.Slots.{next_slots}
+use Rattle.grid_core.specs.Slots.{next_slots, stays_in}
 use Rattle.grid_core.specs.Standing.{slot_at, slots_of}
 use Rattle.grid_core.proofs.Distances.{renews-all, distance-place}
 use Rattle.grid_core.proofs.Levels.{level-step, level-other}
@@ -41,6 +43,17 @@ distance-le r h b = (elim (is_resident r (renewals r h) b) as (λ t.
       | true ↦ λ e. let lt = resident-lt r (renewals r h) b e in omega arith
       | false ↦ λ e. omega arith
     ]) refl
+
+-- the first slot of a row tells whether it stays as it is
+pub stays-first : (b : ℕ) (w : Bool) (row : List Slot) (d : Slot) → 0 < length row
+    → (holds b (get_or row 0 d) && (not w || eqb (get_or row 0 d).level 0)) ≡ stays_in b w row
+stays-first b w [] d some = absurd (omega arith)
+stays-first b w (s ∷ row) d some = elim (holds b s) as (λ t. (t && (not w || eqb s.level 0))
+    ≡ (eqb (cond t 0 (suc (index_of (holds b) row))) 0 && (not w || eqb (option_map_or level_of
+    (cond t (Some s) (find (holds b) row)) (suc (length row))) 0))) [
+      | true ↦ refl
+      | false ↦ rw (ne_eqb (suc (index_of (holds b) row)) 0 (λ e. absurd (omega arith))) refl
+    ]
 
 -- a bound of a level and of a distance is one of the level after an access
 pub after-le : (w : Bool) (l d n : ℕ) → l ≤ n → d ≤ n → level_after w l d ≤ n

@@ -117,7 +117,7 @@ module _ (r : Rules) (st : IsStacked r) (h : History) (x : Access) (xs : List Sl
       (sym (is ∙ ap (λ l. get_or l m no_slot) (rows s inside)))
 
 -- a row is as long as it has ways
-row-long : (ways s : ℕ) (xs : List Slot) → s * ways + ways ≤ length xs
+pub row-long : (ways s : ℕ) (xs : List Slot) → s * ways + ways ≤ length xs
     → length (row ways s xs) ≡ ways
 row-long ways s xs inside =
     let rest = length-drop (s * ways) xs in

@@ -1,8 +1,9 @@
 -- How the rows of slots relate to the history.
 use Rattle.std.specs.Prelude.{◌≡◌, ℕ, ◌<◌, ◌≤◌, ◌+◌, ◌-◌, ◌*◌, ◌++◌, List, map, take, replicate}
-use Rattle.std.specs.Prelude.{true}
+use Rattle.std.specs.Prelude.{true, min}
 use Rattle.std.specs.Prelude.{length, []}
 use Rattle.std.specs.Prelude.{false, Bool, Option, get_or, nat_lt, if◌then◌else◌}
+use Rattle.std.specs.List.{All}
 use Rattle.std.specs.Option.{option_map}
 use Rattle.cache_core.specs.declared.geometry.Geometry.{Geometry}
 use Rattle.cache_core.specs.declared.access.Access.{Access}
@@ -14,6 +15,7 @@ use Rattle.cache_core.specs.Row.{row}
 use Rattle.cache_core.specs.Geometry.{bsize_of, assoc_of, sets_of, blocks_of}
 use Rattle.grid_core.specs.declared.slots.Slot.{Slot}
 use Rattle.grid_core.specs.declared.stack.Stack.{Stack}
+use Rattle.grid_core.specs.declared.stacks.Behind.{Behind}
 use Rattle.grid_core.specs.Slots.{used_slot, no_slot, dirty_in_rows}
 use Rattle.grid_core.specs.Histograms.{HasCounted, IsWithinHistogram, first_in, told_levels}
 use Rattle.grid_core.specs.Pushed.{dirty_in}
@@ -51,6 +53,10 @@ pub record StandsFor (s : Stack) (h : History) : Type 0 where
   pub rows : (t : ℕ) → t < (rules_of s).sets →
       row (rules_of s).assoc t s.slots.items ≡ slots_of (rules_of s) h t
 
+-- there is a history that all these rows stand for
+abbrev pub HaveLived : List Stack → Type 0
+HaveLived ss = ∥ ((h : History) × All (λ s. StandsFor s h) ss) ∥₁
+
 -- where the block of the last access stood before
 unfoldable pub found_in : Stack → ℕ
 found_in s = s.found
@@ -82,6 +88,16 @@ pub record StaysFirst (r : Rules) (h : History) (x : Access) : Type 0 where
 abbrev pub StayFirstFrom : ℕ → ℕ → History → Access → Type 0
 StayFirstFrom n m h x = (s : Stack) → (rules_of s).bsize ≡ n → m < (rules_of s).sets →
     StaysFirst (rules_of s) h x
+
+-- after the history h the block of the access x is not among the first d of its set, or in none of
+-- the ways there
+abbrev pub IsBehind : ℕ → History → Access → Rules → Type 0
+IsBehind d h x r = min d r.assoc ≤ stack_distance r h (block_of r x)
+
+-- so it is in all rows of no more sets, where blocks have n bytes
+abbrev pub AreBehind : Behind → ℕ → History → Access → Type 0
+AreBehind b n h x = (s : Stack) → (rules_of s).bsize ≡ n → (rules_of s).sets ≤ b.last_set + 1 →
+    IsBehind b.places h x (rules_of s)
 
 -- a cache of this geometry and write policy, of so many ways, has as many sets, and no more ways
 pub record Suits (r : Rules) (g : Geometry) (ways : ℕ) (wback : Bool) : Type 0 where

@@ -7,7 +7,7 @@ ghost use Rattle.cache_core.specs.Row.{shifted, row};
 ghost use Rattle.grid_core.specs.Slots.{holds, index_of, level_after, next_slots};
 ghost use Rattle.grid_core.specs.Slots.{clean_in, level_in, lost_in, stays_in};
 
-use crate::slots::{Seen, Slot, empty_slot, look};
+use crate::slots::{Seen, Slot, empty_slot, has_block, look};
 
 /// Where the slot stands that leaves a row of this length.
 fn last_moved(position: usize, len: usize) -> usize
@@ -85,23 +85,30 @@ fn touch_row(row: &mut [Slot], seen: Seen, block: u64, write: bool)
     }
 }
 
-/// Whether an access changes nothing in a row in which its block was seen so: the block was the
-/// first, and dirty in all numbers of ways if this is a write.
-fn changes_nothing(write: bool, seen: Seen) -> bool
-    ensures { result ≡ (seen.position == 0 && (not write || seen.level == 0)) }
+/// Whether an access to a block changes nothing in a row with this first slot: it holds the block,
+/// and is dirty in all numbers of ways if this is a write.
+fn keeps(first: Slot, block: u64, write: bool) -> bool
+    ensures { result ≡ (holds block first && (not write || first.level == 0)) }
 {
-    seen.position == 0 && (!write || seen.level == 0)
+    has_block(first, block) && (!write || first.level == 0)
+}
+
+/// Whether an access changes nothing in the row of its set.
+pub(crate) fn stays(slots: &Vec<Slot>, set: usize, ways: usize, block: u64, write: bool) -> bool
+    requires some { 0 < ways }
+    requires room { (set + 1) * ways ≤ vec_len slots.now }
+    ensures { result ≡ stays_in block write (row ways set slots.now.items) }
+{
+    keeps(slots[set * ways], block, write)
 }
 
 /// Where the block of an access stood in its row, or the length of the row if it was not there; the
-/// number of ways up to which it was not dirty; the slot that the row lost, if any; and whether the
-/// row stays as it was.
+/// number of ways up to which it was not dirty; and the slot that the row lost, if any.
 #[derive(Clone, Copy, Debug)]
 pub(crate) struct Turned {
     pub position: usize,
     pub clean: usize,
     pub last: Slot,
-    pub stays: bool,
 }
 
 /// The slot that leaves a row in which the block of an access has this position: an empty one if it
@@ -122,46 +129,44 @@ fn clean_of(seen: Seen, len: usize) -> usize
     level_now(false, seen).min(len)
 }
 
-/// Serves one access to a row.
-fn turn_row(row: &mut [Slot], block: u64, write: bool) -> Turned
-    requires { length row.old < 2 ^ 32 }
+/// Serves one access to a row, whose first `from` slots do not hold its block.
+fn turn_row(row: &mut [Slot], block: u64, from: usize, write: bool) -> Turned
+    requires small { length row.old < 2 ^ 32 }
+    requires far { from ≤ index_of (holds block) row.old }
     ensures row { row.new ≡ next_slots block write row.old }
     ensures position { result.position ≡ index_of (holds block) row.old }
     ensures clean { result.clean ≡ clean_in (level_in block row.old)
         (index_of (holds block) row.old) (length row.old) }
-    ensures stays { result.stays ≡ stays_in block write row.old }
     ensures last { result.last ≡ lost_in (index_of (holds block) row.old) row.old }
 {
-    let seen = look(row, block);
+    let seen = look(row, block, from);
     let clean = clean_of(seen, row.len());
     let last = lost_by(row, seen.position);
-    let stays = changes_nothing(write, seen);
     touch_row(row, seen, block, write);
     Turned {
         position: seen.position,
         clean,
         last,
-        stays,
     }
 }
 
 /// Serves one access to the row of its set.
-fn turn(slots: &mut [Slot], set: usize, ways: usize, block: u64, write: bool) -> Turned
+fn turn(slots: &mut [Slot], set: usize, ways: usize, block: u64, from: usize, write: bool) -> Turned
     requires room { (set + 1) * ways ≤ length slots.old }
     requires small { ways < 2 ^ 32 }
+    requires far { from ≤ index_of (holds block) (row ways set slots.old) }
     ensures slots { row ways set slots.new ≡ next_slots block write (row ways set slots.old) }
     ensures others { (s : ℕ) → s ≢ set → row ways s slots.new ≡ row ways s slots.old }
     ensures len { length slots.new ≡ length slots.old }
     ensures position { result.position ≡ index_of (holds block) (row ways set slots.old) }
     ensures clean { result.clean ≡ clean_in (level_in block (row ways set slots.old))
         (index_of (holds block) (row ways set slots.old)) ways }
-    ensures stays { result.stays ≡ stays_in block write (row ways set slots.old) }
     ensures last { result.last ≡ lost_in (index_of (holds block) (row ways set slots.old))
         (row ways set slots.old) }
 {
     let start = set * ways;
     let end = start + ways;
-    turn_row(&mut slots[start..end], block, write)
+    turn_row(&mut slots[start..end], block, from, write)
 }
 
 /// The same for the rows of a vector.
@@ -170,10 +175,12 @@ pub(crate) fn turn_in(
     set: usize,
     ways: usize,
     block: u64,
+    from: usize,
     write: bool,
 ) -> Turned
     requires room { (set + 1) * ways ≤ vec_len slots.old }
     requires small { ways < 2 ^ 32 }
+    requires far { from ≤ index_of (holds block) (row ways set slots.old.items) }
     ensures slots { row ways set slots.new.items
         ≡ next_slots block write (row ways set slots.old.items) }
     ensures others { (s : ℕ) → s ≢ set →
@@ -182,9 +189,8 @@ pub(crate) fn turn_in(
     ensures position { result.position ≡ index_of (holds block) (row ways set slots.old.items) }
     ensures clean { result.clean ≡ clean_in (level_in block (row ways set slots.old.items))
         (index_of (holds block) (row ways set slots.old.items)) ways }
-    ensures stays { result.stays ≡ stays_in block write (row ways set slots.old.items) }
     ensures last { result.last ≡ lost_in (index_of (holds block) (row ways set slots.old.items))
         (row ways set slots.old.items) }
 {
-    turn(slots, set, ways, block, write)
+    turn(slots, set, ways, block, from, write)
 }

@@ -1,6 +1,6 @@
 //! The rows and the shapes of some geometries.
 
-ghost use Rattle.std.specs.Prelude.{◌≡◌, ◌<◌, ◌+◌, ℕ, length, map, true, IfOk, OnOk};
+ghost use Rattle.std.specs.Prelude.{◌≡◌, ◌<◌, ◌+◌, ◌-◌, ℕ, length, map, true, IfOk, OnOk};
 ghost use Rattle.std.specs.List.{All};
 ghost use Rattle.std.specs.List.Sorted.{IsPermutation, IsNonDecreasingBy};
 ghost use Rattle.cache_core.specs.Geometry.{bsize_of, blocks_of, sets_of};
@@ -23,18 +23,19 @@ pub(crate) struct Parts {
     pub shapes: Vec<Shape>,
 }
 
-/// The geometries in the order of their numbers of sets.
+/// The geometries in the order of their numbers of sets, the most first.
 fn by_sets(alloc: Global, geometries: &[Geometry]) -> Result<Vec<Geometry>, AllocError>
     ensures same { IfOk result (λ ordered. IsPermutation geometries.now ordered.items) }
-    ensures rising { IfOk result (λ ordered. IsNonDecreasingBy (λ g. sets_of g) ordered.items) }
+    ensures falling { IfOk result (λ ordered.
+        IsNonDecreasingBy (λ g. u64.MAX - sets_of g) ordered.items) }
 {
     let mut ordered = Vec::from_slice(alloc, geometries)?;
-    ordered.sort_unstable_by_key(|geometry| geometry.sets());
+    ordered.sort_unstable_by_key(|geometry| u64::MAX - geometry.sets());
     Ok(ordered)
 }
 
-/// Empty rows for these geometries, those of fewer sets before those of more: an access that leaves
-/// some as they are passes over the ones behind.
+/// Empty rows for these geometries, those of more sets before those of fewer. So each is searched
+/// from where the block stood among more sets.
 fn rows_for(
     alloc: Global,
     geometries: &[Geometry],

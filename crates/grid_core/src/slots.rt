@@ -77,7 +77,7 @@ pub(crate) fn pushed(slot: Slot, wback: bool, ways: usize, bsize: u64) -> Option
 }
 
 /// Whether a slot holds a block.
-fn has_block(slot: Slot, block: u64) -> bool
+pub(crate) fn has_block(slot: Slot, block: u64) -> bool
     ensures { result ≡ holds block slot }
 {
     slot.block == block && slot.valid
@@ -96,14 +96,15 @@ fn seen_at(row: &[Slot], index: usize) -> Seen
     }
 }
 
-/// Searches a row for a block, four slots in a turn.
-pub(crate) fn look(row: &[Slot], block: u64) -> Seen
+/// Searches a row for a block that is not among its first `from` slots, four slots in a turn.
+pub(crate) fn look(row: &[Slot], block: u64, from: usize) -> Seen
+    requires { from ≤ index_of (holds block) row.now }
     ensures position { result.position ≡ index_of (holds block) row.now }
     ensures level { result.level ≡ level_in block row.now }
     ensures low { length row.now < 2 ^ 32 → result.level < 2 ^ 32 }
 {
     let len = row.len();
-    let mut index = 0;
+    let mut index = from;
     'fours: while len - index >= 4 {
         if has_block(row[index], block) {
             return seen_at(row, index);

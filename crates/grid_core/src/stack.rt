@@ -7,7 +7,7 @@ ghost use Rattle.cache_core.specs.Row.{row};
 ghost use Rattle.grid_core.specs.Histograms.{told_ways};
 ghost use Rattle.grid_core.specs.Slots.{HaveBytes};
 
-use crate::front::turn_in;
+use crate::front::{stays, turn_in};
 use crate::histogram::Histogram;
 use crate::slots::{Slot, clear_in, count_dirty, dirty_rising, empty_slot, empty_slots, pushed};
 use cache_core::{Access, Class, Geometry, PerClass};
@@ -66,7 +66,8 @@ impl Stack {
     ghost use Rattle.grid_core.specs.Ways.{with_ways};
     ghost use Rattle.grid_core.specs.Standing.{StandsFor, rules_of, stack_rules};
     ghost use Rattle.grid_core.specs.Standing.{HasMoved, found_in, behind_in, back_at, Suits};
-    ghost use Rattle.grid_core.specs.Standing.{StaysFirst, IsCountedIn, IsWithinStack};
+    ghost use Rattle.grid_core.specs.Standing.{IsBehind, StaysFirst, IsCountedIn};
+    ghost use Rattle.grid_core.specs.Standing.{IsWithinStack};
     ghost use Rattle.grid_core.specs.Standing.{told_in, written_at, dirty_slots};
     ghost use Rattle.grid_core.specs.Histograms.{level_at, past_in};
 
@@ -108,18 +109,30 @@ impl Stack {
         (block & self.last_set) as usize
     }
 
-    /// Serves one access, whose block has this level in the shadows: the block is then the one used
-    /// last in its set. Where it stood before is counted and stays known, and so does what was
-    /// pushed out. Answers whether its block was first, and dirty in all numbers of ways if this is
-    /// a write: then no row has changed.
-    pub fn serve(&mut self, access: Access, level: usize) -> bool
+    /// Whether the block of an access is the first of its set, and dirty in all numbers of ways if
+    /// this is a write: then the access changes no row.
+    pub fn stays(&self, access: Access) -> bool
+        ensures { result ≡ true → (h : History) → StandsFor self.now h →
+            StaysFirst (rules_of self.now) h access }
+    {
+        let write = writes(access);
+        let addr = address(access);
+        let block = self.geometry.block(addr);
+        let set = self.set_of(block);
+        stays(&self.slots, set, self.ways, block, write)
+    }
+
+    /// Serves one access, whose block has this level in the shadows, and is not among the first
+    /// `from` of its set: the block is then the one used last there. Where it stood before is
+    /// counted and stays known, and so does what was pushed out.
+    pub fn serve(&mut self, access: Access, level: usize, from: usize)
         requires level { level < told_in self.old }
         requires within { (n : ℕ) × IsWithinStack n self.old × (n < 2 ^ 46) }
+        requires behind { ∥ ((h : History) × StandsFor self.old h
+            × IsBehind from h access (rules_of self.old)) ∥₁ }
         ensures stands { (h : History) → StandsFor self.old h →
             StandsFor self.new (accessed access ∷ h) }
         ensures moved { (h : History) → StandsFor self.old h → HasMoved h access self.new }
-        ensures stays { result ≡ true → (h : History) → StandsFor self.old h →
-            StaysFirst (rules_of self.old) h access }
         ensures counted { (sizes : List ℕ) (h : History) → StandsFor self.old h →
             level ≡ level_at (rules_of self.old) sizes h access → IsCountedIn sizes h self.old →
             IsCountedIn sizes (accessed access ∷ h) self.new }
@@ -131,13 +144,13 @@ impl Stack {
         let addr = address(access);
         let block = self.geometry.block(addr);
         let set = self.set_of(block);
-        let turned = turn_in(&mut self.slots, set, self.ways, block, write);
+        let from = from.min(self.ways);
+        let turned = turn_in(&mut self.slots, set, self.ways, block, from, write);
         self.histogram
             .note(turned.position, turned.clean, level, access);
         self.set = set;
         self.found = turned.position;
         self.last = turned.last;
-        turned.stays
     }
 
     /// Passes over an access whose block stays first in its row: the rows are as they were.

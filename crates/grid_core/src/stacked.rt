@@ -1,6 +1,6 @@
 //! Caches that are served together by their stack order: LRU, with write allocation.
 
-ghost use Rattle.std.specs.Prelude.{◌≡◌, ◌<◌, ◌≤◌, ◌+◌, ◌^◌, length, map};
+ghost use Rattle.std.specs.Prelude.{◌≡◌, ◌<◌, ◌≤◌, ◌+◌, ◌^◌, false, length, map};
 ghost use Rattle.std.specs.List.{All};
 ghost use Rattle.cache_core.specs.Dirty.{rising};
 ghost use Rattle.grid_core.specs.Shadows.{shadow_sizes, levels_in};
@@ -8,7 +8,7 @@ ghost use Rattle.grid_core.specs.Totals.{total};
 ghost use Rattle.cache_core.specs.Geometry.{bsize_of};
 ghost use Rattle.cache_core.specs.Counting.{IsWithin};
 ghost use Rattle.grid_core.specs.Shapes.{HaveBsize};
-ghost use Rattle.grid_core.specs.Standing.{IsWithinStack, rules_of, told_in};
+ghost use Rattle.grid_core.specs.Standing.{HaveLived, IsWithinStack, rules_of, told_in};
 ghost use Rattle.grid_core.specs.Cells.{IsPlacedAmong};
 ghost use Rattle.grid_core.specs.State.{IsRanked, IsWithinAlike};
 
@@ -55,6 +55,7 @@ pub(crate) struct Stacked {
     ghost small: { length (shadow_sizes shadows) < 2 ^ 60 },
     ghost leveled: { IsWithin (total (levels_in shadows)) served },
     ghost few: { served ≤ 2 ^ 44 },
+    ghost lived: { failed ≡ false → HaveLived stacks.items },
 }
 
 #[tactic(auto, unfolding(crate::specs::StackedCells::stacked_rules, crate::specs::StackedCells::stacked_served, crate::specs::StackedCells::stacked_kept, crate::specs::StackedCells::stacked_failed))]

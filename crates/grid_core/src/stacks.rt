@@ -1,30 +1,69 @@
 //! The rows of all numbers of sets.
 
 ghost use Rattle.std.specs.Prelude.{◌≡◌, ◌<◌, ◌+◌, ◌^◌, ◌∷◌, List, ℕ, map};
+ghost use Rattle.std.specs.Prelude.{nat_lt, if◌then◌else◌};
 ghost use Rattle.std.specs.List.{All};
 ghost use Rattle.cache_core.specs.History.{History, access as accessed, flush as flushed};
 ghost use Rattle.grid_core.specs.Shapes.{HaveBsize};
 ghost use Rattle.grid_core.specs.Histograms.{level_at};
 ghost use Rattle.grid_core.specs.Standing.{StandsFor, HasMoved, StayFirstFrom, rules_of};
-ghost use Rattle.grid_core.specs.Standing.{IsCountedIn, IsWithinStack, told_in};
+ghost use Rattle.grid_core.specs.Standing.{AreBehind, HaveLived, IsCountedIn, IsWithinStack};
+ghost use Rattle.grid_core.specs.Standing.{told_in};
 
 use crate::stack::Stack;
 use cache_core::Access;
 
+/// In the rows of no more sets than these, the block of an access is not among the first `places`.
+#[derive(Clone, Copy, Debug)]
+pub(crate) struct Behind {
+    pub last_set: u64,
+    pub places: usize,
+}
+
+/// How many places of a row that has this last set need no search.
+fn places_in(behind: Behind, last_set: u64) -> usize
+    ensures { result ≡ (if nat_lt behind.last_set last_set then 0 else behind.places) }
+{
+    if behind.last_set < last_set {
+        0
+    } else {
+        behind.places
+    }
+}
+
+/// The last set of the rows of the fewest sets that an access leaves as they are: so it does in all
+/// rows of more sets. The rows of the fewest stand last.
+fn least_staying(stacks: &[Stack], access: Access) -> u64
+    ensures { (n : ℕ) (h : History) → HaveBsize n stacks.now →
+        All (λ s. StandsFor s h) stacks.now → StayFirstFrom n result h access }
+{
+    let mut left = stacks.len();
+    'rising: while left > 0 {
+        left -= 1;
+        let stack = &stacks[left];
+        if stack.stays(access) {
+            return stack.last_set();
+        }
+    }
+    u64::MAX
+}
+
 /// Serves an access, whose block has this level in the shadows, in the rows of one number of sets.
-/// In rows of more sets than `least`, its block stays first: those are passed over. Answers the
-/// least number of which this is known now.
-fn serve_one(stack: &mut Stack, access: Access, level: usize, least: u64) -> u64
+/// In rows of more sets than `least`, its block stays first: those are passed over. Answers where
+/// the block is not in rows of fewer sets.
+fn serve_one(stack: &mut Stack, access: Access, level: usize, least: u64, behind: Behind) -> Behind
     requires level { level < told_in stack.old }
     requires within { (n : ℕ) × IsWithinStack n stack.old × (n < 2 ^ 46) }
+    requires behind { ∥ ((h : History) × StandsFor stack.old h
+        × AreBehind behind (rules_of stack.old).bsize h access) ∥₁ }
     ensures stands { (h : History) → StandsFor stack.old h →
         StayFirstFrom (rules_of stack.old).bsize least h access →
         StandsFor stack.new (accessed access ∷ h) }
     ensures moved { (h : History) → StandsFor stack.old h →
         StayFirstFrom (rules_of stack.old).bsize least h access → HasMoved h access stack.new }
-    ensures stays { (h : History) → StandsFor stack.old h →
-        StayFirstFrom (rules_of stack.old).bsize least h access →
-        StayFirstFrom (rules_of stack.old).bsize result h access }
+    ensures behind { (h : History) → StandsFor stack.old h →
+        AreBehind behind (rules_of stack.old).bsize h access →
+        AreBehind result (rules_of stack.old).bsize h access }
     ensures counted { (sizes : List ℕ) (h : History) → StandsFor stack.old h →
         StayFirstFrom (rules_of stack.old).bsize least h access →
         level ≡ level_at (rules_of stack.old) sizes h access → IsCountedIn sizes h stack.old →
@@ -33,20 +72,24 @@ fn serve_one(stack: &mut Stack, access: Access, level: usize, least: u64) -> u64
     ensures levels { told_in stack.new ≡ told_in stack.old }
     ensures rules { rules_of stack.new ≡ rules_of stack.old }
 {
-    if least <= stack.last_set() {
+    let last_set = stack.last_set();
+    if least <= last_set {
         stack.pass();
-        return least;
+        return behind;
     }
-    if stack.serve(access, level) {
-        return stack.last_set();
+    let from = places_in(behind, last_set);
+    stack.serve(access, level, from);
+    Behind {
+        last_set,
+        places: stack.position(),
     }
-    least
 }
 
 /// Serves an access, whose block has this level in the shadows, in all rows.
 fn serve_all(stacks: &mut [Stack], access: Access, level: usize)
     requires levels { All (λ s. level < told_in s) stacks.old }
     requires within { (n : ℕ) × All (IsWithinStack n) stacks.old × (n < 2 ^ 46) }
+    requires lived { (n : ℕ) × HaveBsize n stacks.old × HaveLived stacks.old }
     ensures stands { (n : ℕ) (h : History) → HaveBsize n stacks.old →
         All (λ s. StandsFor s h) stacks.old →
         All (λ s. StandsFor s (accessed access ∷ h)) stacks.new }
@@ -62,9 +105,13 @@ fn serve_all(stacks: &mut [Stack], access: Access, level: usize)
     ensures levels { map told_in stacks.new ≡ map told_in stacks.old }
     ensures rules { map rules_of stacks.new ≡ map rules_of stacks.old }
 {
-    let mut least = u64::MAX;
+    let least = least_staying(stacks, access);
+    let mut behind = Behind {
+        last_set: 0,
+        places: 0,
+    };
     for stack in stacks.iter_mut() {
-        least = serve_one(stack, access, level, least);
+        behind = serve_one(stack, access, level, least, behind);
     }
 }
 
@@ -72,6 +119,7 @@ fn serve_all(stacks: &mut [Stack], access: Access, level: usize)
 pub(crate) fn serve_rows(stacks: &mut Vec<Stack>, access: Access, level: usize)
     requires levels { All (λ s. level < told_in s) stacks.old.items }
     requires within { (n : ℕ) × All (IsWithinStack n) stacks.old.items × (n < 2 ^ 46) }
+    requires lived { (n : ℕ) × HaveBsize n stacks.old.items × HaveLived stacks.old.items }
     ensures stands { (n : ℕ) (h : History) → HaveBsize n stacks.old.items →
         All (λ s. StandsFor s h) stacks.old.items →
         All (λ s. StandsFor s (accessed access ∷ h)) stacks.new.items }

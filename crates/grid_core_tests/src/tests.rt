@@ -268,6 +268,20 @@ fn a_cache_of_one_block_is_one(rt: HostRuntime) -> Result<(), Fail> {
     Ok(())
 }
 
+#[test]
+fn fewer_sets_may_have_fewer_ways(rt: HostRuntime) -> Result<(), Fail> {
+    let mut geometries = geometries_of(&rt, rt.alloc(), &[128], &[8]);
+    for narrow in geometries_of(&rt, rt.alloc(), &[4, 8, 64], &[1]).iter() {
+        geometries.push(*narrow).expect(&rt, "memory");
+    }
+    let long = Long {
+        turns: 600,
+        blocks: 64,
+    };
+    are_alike(&rt, rt.alloc(), &geometries, Repl::Lru, true, long);
+    Ok(())
+}
+
 /// The direct-mapped and the fully associative geometry of each size.
 fn extremes_of(rt: &impl Abort, alloc: Global, sizes: &[u64]) -> Vec<Geometry> {
     let mut geometries = geometries_of(rt, alloc, sizes, &[1]);

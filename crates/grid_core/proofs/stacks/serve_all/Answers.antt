@@ -1,16 +1,16 @@
 use Rattle.std.proofs.Common.{◌≡◌, ◌≢◌, ℕ, ◌+◌, ◌<◌, ◌∷◌, get_or, length, sym, ap, subst}
 use Rattle.std.proofs.Common.{◌∙◌, refl, arith, get_or-set_other}
 use Rattle.std.specs.List.{All}
+use Rattle.std.proofs.Math.Logic.{∥∥₁_map}
 use Rattle.std.proofs.Math.Seq.{map-set_same}
 use Rattle.std.proofs.lemmas.List.Elements.{AllWithin-more_set}
 use Rattle.cache_core.specs.History.{History, access as accessed}
 use Rattle.grid_core.specs.declared.stack.Stack.{Stack}
 use Rattle.grid_core.specs.Histograms.{level_at}
 use Rattle.grid_core.specs.Shapes.{HaveBsize}
-use Rattle.grid_core.specs.Standing.{StandsFor, HasMoved, StayFirstFrom, rules_of}
+use Rattle.grid_core.specs.Standing.{AreBehind, StandsFor, HasMoved, StayFirstFrom, rules_of}
 use Rattle.grid_core.specs.Standing.{IsCountedIn, IsWithinStack, told_in}
 use Rattle.grid_core.proofs.Again.{size-at}
-use Rattle.grid_core.proofs.StackRules.{few-sets}
 use Rattle.grid_core.proofs.stacks.serve_all.Goals as goal
 
 pub loop-stack-init : goal.loop-stack-init
@@ -18,22 +18,22 @@ loop-stack-init c = record {
   rules = refl;
   stands = λ n h sizes all k d low lt. absurd (omega arith);
   moved = λ n h sizes all k d low lt. absurd (omega arith);
-  stays = λ n h sizes all s same more. let few = few-sets s in absurd (omega arith);
+  behind = λ n h sizes all s same few. omega arith;
   levels = refl;
   counted = λ n sizes h same all low before k d least lt. absurd (omega arith);
   bounds = λ n all k d low lt. absurd (omega arith);
   left = λ k d low. refl;
 }
 
-pub serve_one-least-requires-clause-level : goal.serve_one-least-requires-clause-level
-serve_one-least-requires-clause-level c =
+pub serve_one-behind-requires-clause-level : goal.serve_one-behind-requires-clause-level
+serve_one-behind-requires-clause-level c =
     let i = c.loop-stack.stack-index in
     let e = c.stack-item.result in
     let same = c.loop-stack.invariant.left i e (omega arith) in
     subst (λ s. c.args.level < told_in s) (sym same) (c.requires.levels i e (omega arith))
 
-pub serve_one-least-requires-clause-within : goal.serve_one-least-requires-clause-within
-serve_one-least-requires-clause-within c =
+pub serve_one-behind-requires-clause-within : goal.serve_one-behind-requires-clause-within
+serve_one-behind-requires-clause-within c =
     let i = c.loop-stack.stack-index in
     let e = c.stack-item.result in
     let same = c.loop-stack.invariant.left i e (omega arith) in
@@ -43,15 +43,32 @@ serve_one-least-requires-clause-within c =
       c.requires.within.2,
     )
 
+pub serve_one-behind-requires-clause-behind : goal.serve_one-behind-requires-clause-behind
+serve_one-behind-requires-clause-behind c =
+    let i = c.loop-stack.stack-index in
+    let e = c.stack-item.result in
+    let first = c.args.stacks.now in
+    let same = c.loop-stack.invariant.left i e (omega arith) in
+    let n = c.requires.lived.0 in
+    let sizes = c.requires.lived.1 in
+    let size = sym (ap (λ (s : Stack). (rules_of s).bsize) same
+    ∙ size-at n first sizes i e (omega arith)) in
+    ∥∥₁_map c.requires.lived.2 (λ w. (
+      w.0,
+      subst (λ s. StandsFor s w.0) (sym same) (w.1 i e (omega arith)),
+      subst (λ m. AreBehind c.loop-stack.behind m w.0 c.args.access) size
+          (c.loop-stack.invariant.behind n w.0 sizes w.1),
+    ))
+
 pub loop-stack-preserved : goal.loop-stack-preserved
 loop-stack-preserved c =
     let i = c.loop-stack.stack-index in
     let xs = c.loop-stack.stacks in
-    let v = c.serve_one-least.new.stack in
+    let v = c.serve_one-behind.new.stack in
     let e = c.stack-item.result in
     let first = c.args.stacks.now in
     let x = c.args.access in
-    let one = c.serve_one-least.ensures in
+    let one = c.serve_one-behind.ensures in
     let inside : i < length xs = omega arith in
     let inside' : i < length first = omega arith in
     let same : get_or xs i e ≡ get_or first i e =
@@ -62,9 +79,9 @@ loop-stack-preserved c =
     let here : (h : History) → All (λ s. StandsFor s h) first → StandsFor (get_or xs i e) h =
     λ h all. subst (λ s. StandsFor s h) (sym same) (all i e inside') in
     let stay : (n : ℕ) (h : History) → HaveBsize n first → All (λ s. StandsFor s h) first
-    → StayFirstFrom (rules_of (get_or xs i e)).bsize c.loop-stack.least h x =
-    λ n h sizes all. subst (λ m. StayFirstFrom m c.loop-stack.least h x) (size n sizes)
-    (c.loop-stack.invariant.stays n h sizes all) in
+    → StayFirstFrom (rules_of (get_or xs i e)).bsize c.least_staying-least.result h x =
+    λ n h sizes all. subst (λ m. StayFirstFrom m c.least_staying-least.result h x) (size n sizes)
+    (c.least_staying-least.ensures n h sizes all) in
     record {
       rules = map-set_same rules_of xs i v e one.rules ∙ c.loop-stack.invariant.rules;
       stands = λ n h sizes all. AllWithin-more_set xs i v inside
@@ -73,8 +90,10 @@ loop-stack-preserved c =
       moved = λ n h sizes all. AllWithin-more_set xs i v inside (HasMoved h x)
           (c.loop-stack.invariant.moved n h sizes all)
           (one.moved h (here h all) (stay n h sizes all));
-      stays = λ n h sizes all. subst (λ m. StayFirstFrom m c.serve_one-least.result h x)
-          (sym (size n sizes)) (one.stays h (here h all) (stay n h sizes all));
+      behind = λ n h sizes all. subst (λ m. AreBehind c.serve_one-behind.result m h x)
+          (sym (size n sizes)) (one.behind h (here h all)
+          (subst (λ m. AreBehind c.loop-stack.behind m h x) (size n sizes)
+          (c.loop-stack.invariant.behind n h sizes all)));
       levels = map-set_same told_in xs i v e one.levels ∙ c.loop-stack.invariant.levels;
       counted = λ n sizes h same' all low before. AllWithin-more_set xs i v inside
           (IsCountedIn sizes (accessed x ∷ h))

@@ -4,7 +4,7 @@ use Rattle.cache_core.specs.History.{History, access as accessed}
 use Rattle.grid_core.specs.declared.stack.Stack.{Stack}
 use Rattle.grid_core.specs.Histograms.{level_at}
 use Rattle.grid_core.specs.Shapes.{HaveBsize}
-use Rattle.grid_core.specs.Standing.{StandsFor, HasMoved, StayFirstFrom, rules_of}
+use Rattle.grid_core.specs.Standing.{AreBehind, StandsFor, HasMoved, rules_of}
 use Rattle.grid_core.specs.Standing.{IsCountedIn, IsWithinStack, told_in}
 use Rattle.grid_core.proofs.stacks.serve_all.Given as goal
 
@@ -18,8 +18,8 @@ invariant-loop-stack l = record {
   moved : (n : ℕ) (h : History) → HaveBsize n l.initial.stacks →
       All (λ s. StandsFor s h) l.initial.stacks →
       AllWithin (HasMoved h l.access) l.stacks 0 l.stack-index;
-  stays : (n : ℕ) (h : History) → HaveBsize n l.initial.stacks →
-      All (λ s. StandsFor s h) l.initial.stacks → StayFirstFrom n l.least h l.access;
+  behind : (n : ℕ) (h : History) → HaveBsize n l.initial.stacks →
+      All (λ s. StandsFor s h) l.initial.stacks → AreBehind l.behind n h l.access;
   levels : map told_in l.stacks ≡ map told_in l.initial.stacks;
   counted : (n : ℕ) (sizes : List ℕ) (h : History) → HaveBsize n l.initial.stacks →
       All (λ s. StandsFor s h) l.initial.stacks →

@@ -1,18 +1,35 @@
-use Rattle.std.proofs.Common.{◌≡◌, ◌+◌, ◌≤◌, ap, ◌∙◌, arith}
-use Rattle.cache_core.specs.History.{Rules}
-use Rattle.grid_core.specs.Standing.{rules_of}
+use Rattle.std.proofs.Common.{◌≡◌, ◌+◌, ◌≤◌, ap, sym, subst, refl, ◌∙◌, arith}
+use Rattle.std.proofs.Math.Logic.{∥∥₁_map}
+use Rattle.cache_core.specs.History.{Rules, block_of}
+use Rattle.grid_core.specs.Standing.{IsBehind, rules_of}
+use Rattle.grid_core.specs.Ways.{stack_distance}
 use Rattle.grid_core.proofs.Counted.{bound-more}
-use Rattle.grid_core.proofs.Firsts.{stays-more}
+use Rattle.grid_core.proofs.FewerSets.{behind-fewer, behind-searched}
 use Rattle.grid_core.proofs.stacks.serve_one.Goals as goal
 
-pub returns-then-serve-clause-stays : goal.returns-then-serve-clause-stays
-returns-then-serve-clause-stays c = λ h st least s same more.
+pub serve-requires-clause-behind : goal.serve-requires-clause-behind
+serve-requires-clause-behind c =
     let old = c.args.stack.now in
-    let last : c.last_set-then-serve.result + 1 ≡ (rules_of old).sets =
-    c.last_set-then-serve.ensures ∙ ap (λ (r : Rules). r.sets) c.serve.ensures.rules in
-    let le : (rules_of old).sets ≤ (rules_of s).sets = omega arith in
-    stays-more old s h c.args.access same le (c.serve.ensures.stays c.if-serve.true h st)
+    let x = c.args.access in
+    ∥∥₁_map c.requires.behind (λ w. (
+      w.0,
+      w.1,
+      subst (λ d. IsBehind d w.0 x (rules_of old)) (sym c.places_in-from.ensures)
+          (behind-searched c.args.behind old w.0 x c.last_set-last_set.result
+          c.last_set-last_set.ensures (w.2 old refl)),
+    ))
 
 pub returns-then-least-last_set-clause-bounds : goal.returns-then-least-last_set-clause-bounds
 returns-then-least-last_set-clause-bounds c = λ n all.
     bound-more c.pass.new.self.histogram n (n + 1) (omega arith) (c.pass.ensures.bounds n all)
+
+pub returns-clause-behind : goal.returns-clause-behind
+returns-clause-behind c = λ h st before t same few.
+    let old = c.args.stack.now in
+    let x = c.args.access in
+    let r = rules_of old in
+    let last : c.last_set-last_set.result + 1 ≡ r.sets = c.last_set-last_set.ensures in
+    let at = c.position.ensures ∙ (c.serve.ensures.moved h st).found
+    ∙ ap (λ (r : Rules). stack_distance r h (block_of r x)) c.serve.ensures.rules in
+    let le : (rules_of t).sets ≤ r.sets = omega arith in
+    subst (λ d. IsBehind d h x (rules_of t)) (sym at) (behind-fewer old t h x same le)

@@ -5,8 +5,18 @@ use Rattle.cache_core.specs.History.{access as accessed}
 use Rattle.grid_core.specs.declared.stack.Stack.{Stack}
 use Rattle.grid_core.specs.Histograms.{level_at}
 use Rattle.grid_core.specs.Shapes.{HaveBsize}
-use Rattle.grid_core.specs.Standing.{HasMoved, IsCountedIn, IsWithinStack, StandsFor, rules_of}
+use Rattle.grid_core.specs.Standing.{HasMoved, HaveLived, IsCountedIn, IsWithinStack}
+use Rattle.grid_core.specs.Standing.{StandsFor, rules_of}
 use Rattle.grid_core.proofs.stacks.serve_rows.Goals as goal
+
+pub serve_all-requires-clause-lived : goal.serve_all-requires-clause-lived
+serve_all-requires-clause-lived c =
+    let n = c.requires.lived.0 in
+    let at = sym c.deref_mut.ensures.value in (
+      n,
+      subst (λ (l : List Stack). HaveBsize n l) at c.requires.lived.1,
+      subst (λ (l : List Stack). HaveLived l) at c.requires.lived.2,
+    )
 
 pub returns-clause-moved : goal.returns-clause-moved
 returns-clause-moved c = λ n h sizes all.

@@ -1,5 +1,7 @@
 use Rattle.std.proofs.Common.{◌+◌, ◌*◌, ◌/◌, ◌<◌, ◌≤◌, ◌^◌}
-use Rattle.std.proofs.Common.{sym, subst, ◌∙◌, arith}
+use Rattle.std.proofs.Common.{refl, sym, subst, arith}
+use Rattle.std.proofs.Math.Bridge.{le_prop}
+use Rattle.std.proofs.Math.Logic.{∥∥₁_elim}
 use Rattle.std.proofs.Math.Nat.{mod-lt, mul-le-mul_right, div-mul-le_self}
 use Rattle.cache_core.specs.Geometry.{bsize_of, sets_of}
 use Rattle.cache_core.specs.Row.{row}
@@ -7,7 +9,7 @@ use Rattle.cache_core.proofs.Lawful.{sane_of}
 use Rattle.grid_core.specs.declared.slots.Slot.{Slot}
 use Rattle.grid_core.specs.Slots.{holds, index_of}
 use Rattle.grid_core.specs.Standing.{rules_of, found_in}
-use Rattle.grid_core.proofs.StackStep.{back-turned, clean-turned, distance-turned, first-turned}
+use Rattle.grid_core.proofs.StackStep.{back-turned, clean-turned, distance-turned}
 use Rattle.grid_core.proofs.StackStep.{lost-fits, row-whole, rows-turned}
 use Rattle.grid_core.proofs.Bytes.{bytes-next}
 use Rattle.grid_core.proofs.Counted.{counted-next}
@@ -30,6 +32,17 @@ turn_in-turned-requires-clause-small c =
     let w = c.args.self.now.width in
     omega arith
 
+pub turn_in-turned-requires-clause-far : goal.turn_in-turned-requires-clause-far
+unfolding rules_of
+turn_in-turned-requires-clause-far c =
+    let wide = c.args.self.now.width in
+    let from = c.min-from.ensures in
+    ∥∥₁_elim c.requires.behind le_prop (λ w.
+    let at = distance-turned c.args.self.now w.0 w.1 c.args.access c.address-addr.ensures
+    c.block-block.ensures c.set_of-set.ensures c.writes-write.ensures refl in
+    let before = w.2 in
+    omega arith)
+
 pub returns-clause-stands : goal.returns-clause-stands
 unfolding rules_of
 returns-clause-stands c = λ h st. record {
@@ -50,13 +63,6 @@ returns-clause-moved c = λ h st. record {
       c.turn_in-turned.new.slots.items c.turn_in-turned.result.last
       c.turn_in-turned.ensures.slots c.turn_in-turned.ensures.last;
 }
-
-pub returns-clause-stays : goal.returns-clause-stays
-unfolding rules_of
-returns-clause-stays c = λ yes h st.
-    first-turned c.args.self.now h st c.args.access c.address-addr.ensures
-    c.block-block.ensures c.set_of-set.ensures c.writes-write.ensures
-    (sym c.turn_in-turned.ensures.stays ∙ yes)
 
 pub invariant_of-self-clause-bytes : goal.invariant_of-self-clause-bytes
 invariant_of-self-clause-bytes c =

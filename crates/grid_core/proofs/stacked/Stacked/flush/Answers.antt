@@ -1,4 +1,5 @@
-use Rattle.std.proofs.Common.{◌+◌, refl, arith}
+use Rattle.std.proofs.Common.{◌+◌, [], ◌∷◌, refl, arith}
+use Rattle.cache_core.specs.History.{flush as flushed}
 use Rattle.grid_core.specs.Shadows.{levels_in, shadow_sizes}
 use Rattle.grid_core.specs.StackedCells.{stacked_served, stacked_failed}
 use Rattle.grid_core.specs.Totals.{total}
@@ -32,6 +33,7 @@ invariant_of-self c =
       leveled = rw c.clear.ensures.levels
           (within-more (total (levels_in old.shadows)) n (n + 1) (omega arith) old.leveled);
       few = let lt = c.requires.few in omega arith;
+      lived = λ works. ∣ (flushed ∷ [], c.clear_in.ensures.stands []) ∣₁;
     }
 
 pub returns-clause-stands : goal.returns-clause-stands

@@ -1,4 +1,4 @@
-use Rattle.std.proofs.Common.{◌≡◌, ◌<◌, ◌^◌, ◌+◌, List, ℕ, length, refl, sym, ap, subst}
+use Rattle.std.proofs.Common.{◌≡◌, ◌<◌, ◌^◌, ◌+◌, List, [], ℕ, length, refl, sym, ap, subst}
 use Rattle.std.proofs.Common.{◌∙◌, arith}
 use Rattle.std.specs.List.{All}
 use Rattle.cache_core.specs.Dirty.{rising}
@@ -44,6 +44,7 @@ invariant_of-result c =
           (let ok = c.in_ok-sizes.sizes.ok in let small = c.in_ok-sizes.sizes.small in omega arith);
       leveled = subst (λ p. IsWithin p 0) (sym c.in_ok-shadows.ensures.levels) none;
       few = omega arith;
+      lived = λ works. ∣ ([], λ k d lt. (empty k d lt).stands) ∣₁;
     }
 
 pub returns-clause-stands : goal.returns-clause-stands

@@ -39,6 +39,7 @@ invariant_of-self c =
       small = old.small;
       leveled = within-more (total (levels_in old.shadows)) n (n + 1) (omega arith) old.leveled;
       few = let lt = c.requires.few in omega arith;
+      lived = old.lived;
     }
 
 pub returns-clause-stands : goal.returns-clause-stands

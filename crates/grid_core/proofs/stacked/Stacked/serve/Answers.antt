@@ -1,7 +1,8 @@
-use Rattle.std.proofs.Common.{◌≡◌, true, ◌/◌, ◌||◌, ◌==◌, ℕ, not, List}
+use Rattle.std.proofs.Common.{◌≡◌, true, ◌/◌, ◌||◌, ◌==◌, ℕ, not, List, ◌∷◌}
 use Rattle.std.proofs.Common.{length, get_or, refl, ap, subst, ◌∙◌, arith}
 use Rattle.std.proofs.lemmas.Bool.{false≢true}
-use Rattle.cache_core.specs.History.{is_write}
+use Rattle.std.proofs.Math.Logic.{∥∥₁_map}
+use Rattle.cache_core.specs.History.{is_write, access as accessed}
 use Rattle.cache_core.specs.Geometry.{bsize_of}
 use Rattle.cache_core.specs.Kinds.{shadow_of}
 use Rattle.cache_core.specs.Residents.{distinct, renewals}
@@ -37,6 +38,12 @@ serve_rows-requires-clause-within c =
     let few = old.few in
     (old.served, old.bounded, omega arith)
 
+pub serve_rows-requires-clause-lived : goal.serve_rows-requires-clause-lived
+unfolding stacked_failed
+serve_rows-requires-clause-lived c =
+    let old = c.args.self.now in
+    (bsize_of old.geometry, old.one_size, old.lived c.requires.works)
+
 pub count-requires : goal.count-requires
 count-requires c = within-most c.args.self.now c.args.self.now.alike_within.fetches
 
@@ -70,6 +77,10 @@ invariant_of-self-2 c =
       leveled = rw c.in-Ok.ensures.levels
           (IsWithin-with_one x true (total (levels_in old.shadows)) n old.leveled);
       few = let lt = c.requires.few in omega arith;
+      lived = λ works. ∥∥₁_map (old.lived c.requires.works) (λ w. (
+        accessed x ∷ w.0,
+        c.serve_rows.ensures.stands (bsize_of old.geometry) w.0 old.one_size w.1,
+      ));
     }
 
 pub returns-clause-stands : goal.returns-clause-stands
