@@ -17,6 +17,7 @@ pub mod Onces
 pub mod WriteBacks
 pub mod DirtySlots
 pub mod Numbering
+pub mod Numbers
 pub mod Geometries
 pub mod Sizes
 pub mod Served

@@ -8,6 +8,7 @@ pub mod Hits
 pub mod Histograms
 pub mod Standing
 pub mod Recent
+pub mod Numbers
 pub mod Shadows
 pub mod Shapes
 pub mod Cells

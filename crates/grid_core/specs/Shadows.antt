@@ -1,21 +1,21 @@
 -- What a contract sees of the blocks that were accessed, and of their order.
-use Rattle.std.specs.Prelude.{◌≡◌, ℕ, ◌==◌, Bool, true, nat_eq, is_some, unwrap_or, List, map}
+use Rattle.std.specs.Prelude.{◌≡◌, ℕ, ◌==◌, Bool, true, is_some, unwrap_or, List, map}
 use Rattle.std.specs.Prelude.{suc, drop}
 use Rattle.std.specs.List.{list_any}
-use Rattle.std.specs.HashMap.{get}
 use Rattle.cache_core.specs.declared.counts.PerClass.{PerClass}
 use Rattle.marked_list.specs.Marked.{order_of, marked_sizes}
 use Rattle.grid_core.specs.declared.recent.Recent.{Recent}
 use Rattle.grid_core.specs.declared.shadows.Shadows.{Shadows}
+use Rattle.grid_core.specs.Numbers.{number_at}
 use Rattle.grid_core.specs.Totals.{total}
 
 -- whether a block was accessed
 abbrev pub is_known : Shadows → ℕ → Bool
-is_known s b = is_some (get nat_eq s.numbers b)
+is_known s b = is_some (number_at s.numbers.keys b)
 
 -- the number of a block that was accessed
 abbrev pub number_in : Shadows → ℕ → ℕ
-number_in s b = unwrap_or (get nat_eq s.numbers b) 0
+number_in s b = unwrap_or (number_at s.numbers.keys b) 0
 
 -- what is known of the block that was used last
 abbrev pub recent_in : Shadows → Recent

@@ -1,21 +1,20 @@
 //! What all caches of one block size share: the blocks that were ever accessed, the shadows of all
 //! sizes, and the block that was used last.
 
-ghost use Rattle.std.specs.Prelude.{◌≡◌, ◌<◌, ◌==◌, ℕ, Some, is_some, nat_eq, unwrap_or};
-ghost use Rattle.std.specs.Prelude.{if◌then◌else◌, IfOk, OnErr, ◌+◌};
-ghost use Rattle.std.specs.HashMap.{get};
-ghost use Rattle.std.specs.Prelude.{length};
+ghost use Rattle.std.specs.Prelude.{◌≡◌, ◌==◌, ◌+◌, ℕ, Some, is_some, unwrap_or, length};
+ghost use Rattle.std.specs.Prelude.{if◌then◌else◌, IfOk, OnErr};
 ghost use Rattle.marked_list.specs.Marked.{marked_sizes};
 ghost use Rattle.grid_core.specs.AtHand.{AreRight};
+ghost use Rattle.grid_core.specs.Numbers.{number_at};
 
 use crate::at_hand::{Entry, at_hand, keep_at_hand, none_at_hand};
 use crate::misses::{count_at, sum_from, zeros};
 use crate::recent::{Recent, is_again, nothing_recent, used_now};
 use crate::stack::writes;
 use cache_core::{Access, PerClass};
+use indexmap::IndexSet;
 use marked_list::Marked;
 use std::alloc::{AllocError, Global};
-use std::collections::HashMap;
 
 /// What is known of a block before an access: whether it was ever accessed, and its level, the
 /// index of the smallest size whose shadow has it, or the number of sizes.
@@ -36,65 +35,51 @@ struct Numbered {
 /// by last use, with a mark at each size.
 #[derive(Drop)]
 pub(crate) struct Shadows {
-    numbers: HashMap<u64, usize>,
+    numbers: IndexSet<u64>,
     /// Some of these numbers, where they are found at once.
     entries: Vec<Entry>,
-    used: usize,
     order: Marked,
     /// The accesses by class, for each level that their blocks had before.
     levels: Vec<PerClass>,
     recent: Recent,
-    ghost low: { (a n : ℕ) → get nat_eq numbers a ≡ Some n → n < used },
-    ghost apart: { (a b n : ℕ) → get nat_eq numbers a ≡ Some n → get nat_eq numbers b ≡ Some n →
-        a ≡ b },
-    ghost right: { AreRight (get nat_eq numbers) entries.items },
+    ghost right: { AreRight (number_at numbers.keys) entries.items },
     ghost leveled: { length levels.items ≡ length (marked_sizes order) + 1 },
 }
 
-/// The number of a block. A block that has none gets `next`.
-fn number_block(
-    numbers: &mut HashMap<u64, usize>,
-    next: usize,
-    block: u64,
-) -> Result<Numbered, AllocError>
-    ensures known { IfOk result (λ found. found.known ≡ is_some (get nat_eq numbers.old block)) }
-    ensures number { IfOk result (λ found.
-        found.number ≡ unwrap_or (get nat_eq numbers.old block) next) }
-    ensures adds { IfOk result (λ found. (q : ℕ) → get nat_eq numbers.new q
-        ≡ (if block == q then Some found.number else get nat_eq numbers.old q)) }
-    ensures keeps { OnErr result (numbers.new.entries ≡ numbers.old.entries) }
+/// The number of a block. A block that has none gets the next one.
+fn number_block(numbers: &mut IndexSet<u64>, block: u64) -> Result<Numbered, AllocError>
+    ensures known { IfOk result (λ found.
+        found.known ≡ is_some (number_at numbers.old.keys block)) }
+    ensures number { IfOk result (λ found. found.number
+        ≡ unwrap_or (number_at numbers.old.keys block) (length numbers.old.keys)) }
+    ensures adds { IfOk result (λ found. (q : ℕ) → number_at numbers.new.keys q
+        ≡ (if block == q then Some found.number else number_at numbers.old.keys q)) }
+    ensures keeps { OnErr result (numbers.new.keys ≡ numbers.old.keys) }
 {
-    let known = numbers.get(&block).copied();
-    if let Some(number) = known {
-        return Ok(Numbered {
-            known: true,
-            number,
-        });
-    }
-    let Ok(_old) = numbers.insert(block, next) else {
+    let Ok((place, added)) = numbers.insert_full(block) else {
         return Err(AllocError);
     };
     Ok(Numbered {
-        known: false,
-        number: next,
+        known: !added,
+        number: place,
     })
 }
 
 /// The same, from the entries if the block is among them. Else it is kept there.
 fn find_number(
     entries: &mut Vec<Entry>,
-    numbers: &mut HashMap<u64, usize>,
-    next: usize,
+    numbers: &mut IndexSet<u64>,
     block: u64,
 ) -> Result<Numbered, AllocError>
-    requires right { AreRight (get nat_eq numbers.old) entries.old.items }
-    ensures known { IfOk result (λ found. found.known ≡ is_some (get nat_eq numbers.old block)) }
-    ensures number { IfOk result (λ found.
-        found.number ≡ unwrap_or (get nat_eq numbers.old block) next) }
-    ensures adds { IfOk result (λ found. (q : ℕ) → get nat_eq numbers.new q
-        ≡ (if block == q then Some found.number else get nat_eq numbers.old q)) }
-    ensures right { AreRight (get nat_eq numbers.new) entries.new.items }
-    ensures keeps { OnErr result (numbers.new.entries ≡ numbers.old.entries) }
+    requires right { AreRight (number_at numbers.old.keys) entries.old.items }
+    ensures known { IfOk result (λ found.
+        found.known ≡ is_some (number_at numbers.old.keys block)) }
+    ensures number { IfOk result (λ found. found.number
+        ≡ unwrap_or (number_at numbers.old.keys block) (length numbers.old.keys)) }
+    ensures adds { IfOk result (λ found. (q : ℕ) → number_at numbers.new.keys q
+        ≡ (if block == q then Some found.number else number_at numbers.old.keys q)) }
+    ensures right { AreRight (number_at numbers.new.keys) entries.new.items }
+    ensures keeps { OnErr result (numbers.new.keys ≡ numbers.old.keys) }
 {
     if let Some(number) = at_hand(entries, block) {
         return Ok(Numbered {
@@ -102,17 +87,9 @@ fn find_number(
             number,
         });
     }
-    let found = number_block(numbers, next, block)?;
+    let found = number_block(numbers, block)?;
     keep_at_hand(entries, block, found.number);
     Ok(found)
-}
-
-/// How many numbers are used, after a block got its number.
-fn used_with(used: usize, known: bool) -> usize
-    requires { used < usize.MAX }
-    ensures { result ≡ (if known then used else used + 1) }
-{
-    if known { used } else { used + 1 }
 }
 
 impl Shadows {
@@ -141,9 +118,8 @@ impl Shadows {
         let order = Marked::new(alloc, sizes)?;
         let levels = zeros(alloc, sizes.len() + 1)?;
         Ok(Shadows {
-            numbers: HashMap::new(alloc),
+            numbers: IndexSet::new(alloc),
             entries: none_at_hand(alloc)?,
-            used: 0,
             order,
             levels,
             recent: nothing_recent(),
@@ -170,13 +146,12 @@ impl Shadows {
         ensures keeps { OnErr result (levels_in self.new ≡ levels_in self.old) }
         ensures sizes { shadow_sizes self.new ≡ shadow_sizes self.old }
     {
-        if self.used == usize::MAX {
+        if self.numbers.len() == usize::MAX {
             return Err(AllocError);
         }
-        let Ok(found) = find_number(&mut self.entries, &mut self.numbers, self.used, block) else {
+        let Ok(found) = find_number(&mut self.entries, &mut self.numbers, block) else {
             return Err(AllocError);
         };
-        self.used = used_with(self.used, found.known);
         let Ok(level) = self.order.touch(found.number) else {
             return Err(AllocError);
         };

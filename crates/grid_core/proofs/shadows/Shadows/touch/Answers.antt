@@ -1,17 +1,28 @@
-use Rattle.std.proofs.Common.{◌≡◌, ℕ, suc, drop, Some, false, true, eqb, cond, is_some, nat_eq}
+use Rattle.std.proofs.Common.{◌≡◌, ℕ, suc, drop, Some, false, true, eqb, cond, is_some, length}
 use Rattle.std.proofs.Common.{◌||◌, unwrap_or}
 use Rattle.std.proofs.Common.{refl, ap, ◌∙◌, Bool, Option, arith}
-use Rattle.std.specs.HashMap.{get}
 use Rattle.std.proofs.lemmas.Bool.{eq-eqb}
 use Rattle.std.proofs.lemmas.Bool.Decides.{nat_tests}
 use Rattle.cache_core.proofs.Reuse.{has}
 use Rattle.marked_list.specs.Recency.{level_of, brought_front}
 use Rattle.grid_core.specs.Shadows.{is_known, number_in, shadow_sizes}
+use Rattle.grid_core.specs.Numbers.{number_at}
 use Rattle.grid_core.proofs.Numbering.{tells, level-map, front-map, known-front}
+use Rattle.grid_core.proofs.Numbers.{number-apart, number-low, number-next}
 use Rattle.marked_list.specs.Marked.{marked_sizes, order_of}
 use Rattle.grid_core.specs.Totals.{total}
 use Rattle.grid_core.proofs.Totals.{level-le, total-set, total-behind}
 use Rattle.grid_core.proofs.shadows.Shadows.touch.Goals as goal
+
+pub touch-requires : goal.touch-requires
+touch-requires c =
+    let keys = c.args.self.now.numbers.keys in
+    let is = c.in-Ok.ensures.number in
+    let le = number-next keys c.args.block in
+    let low = c.len.ensures in
+    let fits = c.len.type_inv in
+    let less = c.if-len-eq18446744073709551615.false in
+    omega arith
 
 pub count_at-requires-clause-inside : goal.count_at-requires-clause-inside
 count_at-requires-clause-inside c =
@@ -54,7 +65,8 @@ returns-clause-level c = λ ys held.
     let is = c.in-Ok.ensures.number in
     let agree : (y : ℕ) → has ys y ≡ true
     → eqb (number_in s y) n ≡ eqb y b = λ y h. ap (eqb (number_in s y)) is
-    ∙ tells (get nat_eq s.numbers) s.used s.low s.apart b y (held.known y h) in
+    ∙ tells (number_at s.numbers.keys) (length s.numbers.keys) (number-low s.numbers.keys)
+    (number-apart s.numbers.keys) b y (held.known y h) in
     c.in-Ok-touch.ensures.level
     ∙ ap (λ l. level_of (shadow_sizes s) l n) held.order
     ∙ level-map (number_in s) n b (shadow_sizes s) ys agree
@@ -67,17 +79,18 @@ returns-clause-order c = λ ys held.
     let is = c.in-Ok.ensures.number in
     let agree : (y : ℕ) → has ys y ≡ true
     → eqb (number_in s y) n ≡ eqb y b = λ y h. ap (eqb (number_in s y)) is
-    ∙ tells (get nat_eq s.numbers) s.used s.low s.apart b y (held.known y h) in
-    let next = λ (y : ℕ). unwrap_or (get nat_eq c.find_number.new.numbers y) 0 in
+    ∙ tells (number_at s.numbers.keys) (length s.numbers.keys) (number-low s.numbers.keys)
+    (number-apart s.numbers.keys) b y (held.known y h) in
+    let next = λ (y : ℕ). unwrap_or (number_at c.find_number.new.numbers.keys y) 0 in
     let here : next b ≡ n = ap (λ o. unwrap_or o 0) (c.in-Ok.ensures.adds b
-    ∙ ap (λ t. cond t (Some n) (get nat_eq s.numbers b)) (eq-eqb b b refl)) in
+    ∙ ap (λ t. cond t (Some n) (number_at s.numbers.keys b)) (eq-eqb b b refl)) in
     let others = λ (y : ℕ) (e : eqb y b ≡ false). ap (λ o. unwrap_or o 0) (c.in-Ok.ensures.adds y
-    ∙ ap (λ t. cond t (Some n) (get nat_eq s.numbers y)) (eqb-sym b y ∙ e)) in
+    ∙ ap (λ t. cond t (Some n) (number_at s.numbers.keys y)) (eqb-sym b y ∙ e)) in
     record {
       order = c.in-Ok-touch.ensures.order ∙ ap (brought_front n) held.order
           ∙ front-map (number_in s) n b next here others ys agree;
       known = λ y h. ap is_some (c.in-Ok.ensures.adds y)
-          ∙ some-or n (eqb b y) (get nat_eq s.numbers y)
+          ∙ some-or n (eqb b y) (number_at s.numbers.keys y)
           ∙ known-front (is_known s) b ys held.known y h;
     }
   where
