@@ -98,20 +98,6 @@ read-first b (s ∷ xs) e = (elim (holds b s) as (λ t. holds b s ≡ t
       | false ↦ λ h e. absurd (omega arith)
     ]) refl e
 
--- a slot after a write
-abbrev leveled : Slot → Slot
-leveled s = record s { level = 0 }
-
--- a write to the block that is first sets its level to 0
-pub write-first : (b : ℕ) (s : Slot) (xs : List Slot) → 0 ≡ index_of (holds b) (s ∷ xs)
-    → next_slots b true (s ∷ xs) ≡ leveled s ∷ xs
-write-first b s xs e = (elim (holds b s) as (λ t. holds b s ≡ t
-    → 0 ≡ cond t 0 (suc (index_of (holds b) xs))
-    → used_slot b 0 ∷ cond t xs (shifted (holds b) s xs) ≡ leveled s ∷ xs) [
-      | true ↦ λ h e. ap (λ v. v ∷ xs) (ap leveled (slot-is b s h))
-      | false ↦ λ h e. absurd (omega arith)
-    ]) refl e
-
 -- in an empty row there is nothing to change
 pub write-empty : (b : ℕ) (write : Bool) (xs : List Slot) → length xs ≤ 0
     → next_slots b write xs ≡ xs

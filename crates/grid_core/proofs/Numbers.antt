@@ -60,7 +60,7 @@ number-apart xs a b n e f =
     same-place a b xs (ltb-true (place a xs) (length xs) first.0) (first.1 ∙ sym second.1)
 
 -- a block is in the list just if it has a number
-pub number-any : (xs : List ℕ) (b : ℕ) → ltb (place b xs) (length xs) ≡ list_any (eqb b) xs
+number-any : (xs : List ℕ) (b : ℕ) → ltb (place b xs) (length xs) ≡ list_any (eqb b) xs
 number-any [] b = refl
 number-any (x ∷ xs) b = by_cases (eqb b x)
     (λ e. rw e (lt-ltb 0 (suc (length xs)) (omega arith)))

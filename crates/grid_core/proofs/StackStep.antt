@@ -2,6 +2,7 @@
 use Rattle.std.proofs.Common.{◌≡◌, ◌≢◌, ℕ, suc, ◌+◌, ◌-◌, ◌*◌, ◌/◌, ◌%◌, ◌^◌, ◌<◌, ◌≤◌, Bool}
 use Rattle.std.proofs.Common.{true, false, not, ◌||◌, ltb, eqb, List, ◌∷◌, if◌then◌else◌, refl}
 use Rattle.std.proofs.Common.{get_or, drop, length, min, sym, ap, subst, ◌∙◌, arith}
+use Rattle.std.specs.Prelude.{vec_len}
 use Rattle.std.specs.List.{find}
 use Rattle.std.specs.Option.{option_map, option_map_or}
 use Rattle.std.proofs.lemmas.Bool.{eqb-true, eqb-false, le-ltb, ltb-true, ltb-false}
@@ -154,14 +155,29 @@ behind-is ways s b write xs ys last n m size le long far now lost = (elim (ltb n
           ∙ ap (λ k. get_or old k no_slot) at
     ]) refl
 
+-- the row of a set is among the slots
+row-inside : (v : Stack) (s : ℕ) → s < sets_of v.geometry → (s + 1) * v.ways ≤ vec_len v.slots
+row-inside v s lt =
+    let up : s + 1 ≤ sets_of v.geometry = omega arith in
+    let le = mul-le-mul_right v.ways up in
+    let room = v.room in
+    omega arith
+
 -- a row of a stack is as long as it has ways
 pub row-whole : (v : Stack) (s : ℕ) → s < sets_of v.geometry
     → length (row v.ways s v.slots.items) ≡ v.ways
 row-whole v s lt =
-    let up : s + 1 ≤ sets_of v.geometry = omega arith in
-    let le = mul-le-mul_right v.ways up in
-    let room = v.room in
+    let le = row-inside v s lt in
     row-long v.ways s v.slots.items (omega (arith, v.slots.ok.0))
+
+-- the set of a block is one of the sets
+pub set-below : (v : Stack) (b : ℕ) {s : ℕ} → s ≡ b % sets_of v.geometry → s < sets_of v.geometry
+set-below v b is = rw is (mod-lt b (sane_of v.geometry).sets_pos)
+
+-- and its row is among the slots
+pub row-room : (v : Stack) (b : ℕ) {s : ℕ} → s ≡ b % sets_of v.geometry
+    → (s + 1) * v.ways ≤ vec_len v.slots
+row-room v b {s} is = row-inside v s (set-below v b is)
 
 -- the block of the slot that a row lost has a first byte
 pub lost-fits : (n p : ℕ) (row : List Slot) → 0 < length row → HaveBytes n row

@@ -1,7 +1,6 @@
 -- How the rows of slots relate to the history.
-use Rattle.std.specs.Prelude.{◌≡◌, ℕ, ◌<◌, ◌≤◌, ◌+◌, ◌-◌, ◌*◌, ◌++◌, List, map, take, replicate}
-use Rattle.std.specs.Prelude.{true, min}
-use Rattle.std.specs.Prelude.{length, []}
+use Rattle.std.specs.Prelude.{◌≡◌, ℕ, ◌<◌, ◌≤◌, ◌+◌, ◌-◌, ◌*◌, ◌/◌, ◌%◌, ◌++◌, List, map, take}
+use Rattle.std.specs.Prelude.{replicate, true, min, length, []}
 use Rattle.std.specs.Prelude.{false, Bool, Option, get_or, nat_lt, if◌then◌else◌}
 use Rattle.std.specs.List.{All}
 use Rattle.std.specs.Option.{option_map}
@@ -16,7 +15,7 @@ use Rattle.cache_core.specs.Geometry.{bsize_of, assoc_of, sets_of, blocks_of}
 use Rattle.grid_core.specs.declared.slots.Slot.{Slot}
 use Rattle.grid_core.specs.declared.stack.Stack.{Stack}
 use Rattle.grid_core.specs.declared.stacks.Behind.{Behind}
-use Rattle.grid_core.specs.Slots.{used_slot, no_slot, dirty_in_rows}
+use Rattle.grid_core.specs.Slots.{used_slot, no_slot, dirty_in_rows, stays_in}
 use Rattle.grid_core.specs.Histograms.{HasCounted, IsWithinHistogram, first_in, told_levels}
 use Rattle.grid_core.specs.Pushed.{dirty_in}
 use Rattle.grid_core.specs.Ways.{with_ways, stack_distance}
@@ -77,6 +76,12 @@ pub record HasMoved (h : History) (x : Access) (s : Stack) : Type 0 where
   pub backs : (n : ℕ) → 0 < n → n ≤ (rules_of s).assoc
       → hits (with_ways n (rules_of s)) (renewals (with_ways n (rules_of s)) h) x ≡ false
       → (outcome_of (with_ways n (rules_of s)) h x).back ≡ back_at s n
+
+-- an access leaves the row of its set as it is
+abbrev pub stays_at : Stack → Access → Bool
+stays_at s x =
+    let b = x.addr / bsize_of s.geometry in
+    stays_in b (is_write x) (row s.ways (b % sets_of s.geometry) s.slots.items)
 
 -- after the history h the block of the access x is the first of its set, and if x writes, dirty in
 -- all numbers of ways: x changes no row

@@ -44,7 +44,8 @@ pub(crate) fn used_now(recent: Recent, block: u64, write: bool) -> Recent
 /// Whether a use of a block is one more of the block that was used last, and makes it dirty
 /// nowhere.
 pub(crate) fn is_again(recent: Recent, block: u64, write: bool) -> bool
-    ensures { result ≡ true → IsAgain block write recent }
+    ensures again { result ≡ true → IsAgain block write recent }
+    ensures every { IsAgain block write recent → result ≡ true }
 {
     recent.used && recent.block == block && (!write || recent.written)
 }

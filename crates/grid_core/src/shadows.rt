@@ -175,7 +175,8 @@ impl Shadows {
     /// Whether a use of a block is one more of the block that was used last, and makes it dirty
     /// nowhere.
     pub fn is_again(&self, block: u64, write: bool) -> bool
-        ensures { result ≡ true → IsAgain block write (recent_in self.now) }
+        ensures again { result ≡ true → IsAgain block write (recent_in self.now) }
+        ensures every { IsAgain block write (recent_in self.now) → result ≡ true }
     {
         is_again(self.recent, block, write)
     }

@@ -67,8 +67,8 @@ impl Stack {
     ghost use Rattle.grid_core.specs.Standing.{StandsFor, rules_of, stack_rules};
     ghost use Rattle.grid_core.specs.Standing.{HasMoved, found_in, behind_in, back_at, Suits};
     ghost use Rattle.grid_core.specs.Standing.{IsBehind, StaysFirst, IsCountedIn};
-    ghost use Rattle.grid_core.specs.Standing.{IsWithinStack};
-    ghost use Rattle.grid_core.specs.Standing.{told_in, written_at, dirty_slots};
+    ghost use Rattle.grid_core.specs.Standing.{IsWithinStack, dirty_slots, stays_at, told_in};
+    ghost use Rattle.grid_core.specs.Standing.{written_at};
     ghost use Rattle.grid_core.specs.Histograms.{level_at, past_in};
 
     /// Empty rows, of as many sets as the geometry has, and of its number of ways. So many levels
@@ -112,7 +112,8 @@ impl Stack {
     /// Whether the block of an access is the first of its set, and dirty in all numbers of ways if
     /// this is a write: then the access changes no row.
     pub fn stays(&self, access: Access) -> bool
-        ensures { result ≡ true → (h : History) → StandsFor self.now h →
+        ensures is { result ≡ stays_at self.now access }
+        ensures first { result ≡ true → (h : History) → StandsFor self.now h →
             StaysFirst (rules_of self.now) h access }
     {
         let write = writes(access);
@@ -187,7 +188,8 @@ impl Stack {
     /// Whether a cache of this geometry and write policy, of so many ways, is among those of these
     /// rows.
     pub fn suits(&self, geometry: Geometry, ways: usize, wback: bool) -> bool
-        ensures { result ≡ true → Suits (rules_of self.now) geometry ways wback }
+        ensures suits { result ≡ true → Suits (rules_of self.now) geometry ways wback }
+        ensures every { Suits (rules_of self.now) geometry ways wback → result ≡ true }
     {
         self.geometry.bsize() == geometry.bsize()
             && self.geometry.sets() == geometry.sets()

@@ -21,5 +21,5 @@ returns-then-stays c = λ n h sizes all s same more.
     ∙ size-at n c.args.stacks.now sizes i e lt in
     let last = c.last_set.ensures in
     stays-more e s h c.args.access (same ∙ sym size) (omega arith)
-    (c.stays.ensures c.if-stays.true h
+    (c.stays.ensures.first c.if-stays.true h
     (subst (λ v. StandsFor v h) (sym at) (all i e lt)))

@@ -2,7 +2,7 @@ use Rattle.std.proofs.Common.{◌+◌, ◌*◌, ◌/◌, ◌<◌, ◌≤◌, ◌
 use Rattle.std.proofs.Common.{refl, sym, subst, arith}
 use Rattle.std.proofs.Math.Bridge.{le_prop}
 use Rattle.std.proofs.Math.Logic.{∥∥₁_elim}
-use Rattle.std.proofs.Math.Nat.{mod-lt, mul-le-mul_right, div-mul-le_self}
+use Rattle.std.proofs.Math.Nat.{div-mul-le_self}
 use Rattle.cache_core.specs.Geometry.{bsize_of, sets_of}
 use Rattle.cache_core.specs.Row.{row}
 use Rattle.cache_core.proofs.Lawful.{sane_of}
@@ -10,7 +10,7 @@ use Rattle.grid_core.specs.declared.slots.Slot.{Slot}
 use Rattle.grid_core.specs.Slots.{holds, index_of}
 use Rattle.grid_core.specs.Standing.{rules_of, found_in}
 use Rattle.grid_core.proofs.StackStep.{back-turned, clean-turned, distance-turned}
-use Rattle.grid_core.proofs.StackStep.{lost-fits, row-whole, rows-turned}
+use Rattle.grid_core.proofs.StackStep.{lost-fits, row-room, row-whole, rows-turned, set-below}
 use Rattle.grid_core.proofs.Bytes.{bytes-next}
 use Rattle.grid_core.proofs.Counted.{counted-next}
 use Rattle.grid_core.proofs.Fronts.{few-ways, index-le}
@@ -18,13 +18,7 @@ use Rattle.grid_core.proofs.stack.Stack.serve.Goals as goal
 
 pub turn_in-turned-requires-clause-room : goal.turn_in-turned-requires-clause-room
 turn_in-turned-requires-clause-room c =
-    let g = c.args.self.now.geometry in
-    let lt : c.set_of-set.result < sets_of g =
-    rw c.set_of-set.ensures (mod-lt c.block-block.result (sane_of g).sets_pos) in
-    let up : c.set_of-set.result + 1 ≤ sets_of g = omega arith in
-    let le = mul-le-mul_right c.args.self.now.ways up in
-    let room = c.args.self.now.room in
-    omega arith
+    row-room c.args.self.now c.block-block.result c.set_of-set.ensures
 
 pub turn_in-turned-requires-clause-small : goal.turn_in-turned-requires-clause-small
 turn_in-turned-requires-clause-small c =
@@ -68,8 +62,7 @@ pub invariant_of-self-clause-bytes : goal.invariant_of-self-clause-bytes
 invariant_of-self-clause-bytes c =
     let old = c.args.self.now in
     let g = old.geometry in
-    let lt : c.set_of-set.result < sets_of g =
-    rw c.set_of-set.ensures (mod-lt c.block-block.result (sane_of g).sets_pos) in
+    let lt = set-below old c.block-block.result c.set_of-set.ensures in
     let down : c.address-addr.result / bsize_of g * bsize_of g ≤ c.address-addr.result =
     div-mul-le_self c.address-addr.result (bsize_of g) in
     let high = c.address-addr.type_inv in
@@ -81,16 +74,14 @@ invariant_of-self-clause-bytes c =
 
 pub invariant_of-self-clause-inside : goal.invariant_of-self-clause-inside
 invariant_of-self-clause-inside c =
-    let g = c.args.self.now.geometry in
-    rw c.set_of-set.ensures (mod-lt c.block-block.result (sane_of g).sets_pos)
+    set-below c.args.self.now c.block-block.result c.set_of-set.ensures
 
 pub invariant_of-self-clause-fits : goal.invariant_of-self-clause-fits
 invariant_of-self-clause-fits c =
     let old = c.args.self.now in
     let g = old.geometry in
     let old-row = row old.ways c.set_of-set.result old.slots.items in
-    let lt : c.set_of-set.result < sets_of g =
-    rw c.set_of-set.ensures (mod-lt c.block-block.result (sane_of g).sets_pos) in
+    let lt = set-below old c.block-block.result c.set_of-set.ensures in
     let long = row-whole old c.set_of-set.result lt in
     let wide = old.width in
     let some = (sane_of g).assoc_pos in
@@ -103,7 +94,7 @@ note-requires-clause-place c =
     let old = c.args.self.now in
     let old-row = row old.ways c.set_of-set.result old.slots.items in
     let long = row-whole old c.set_of-set.result
-    (rw c.set_of-set.ensures (mod-lt c.block-block.result (sane_of old.geometry).sets_pos)) in
+    (set-below old c.block-block.result c.set_of-set.ensures) in
     let low = index-le (holds c.block-block.result) old-row in
     let is = c.turn_in-turned.ensures.position in
     let told = old.counted in

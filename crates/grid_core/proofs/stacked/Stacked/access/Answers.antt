@@ -10,4 +10,4 @@ repeat-requires-clause-again c =
     let p = recent_in old.shadows in
     subst (λ w. IsAgain (c.args.access.addr / bsize_of old.geometry) w p) c.writes.ensures
     (subst (λ b. IsAgain b c.writes.result p) c.block-block.ensures
-    (c.is_again.ensures c.if-is_again.true))
+    (c.is_again.ensures.again c.if-is_again.true))
