@@ -1,5 +1,5 @@
 #!/usr/bin/env bash
-# How fast traces are read. The program reader_bench calls Source::next for each record, and does
+# How fast traces are read. The program `measure read` calls Source::next for each record, and does
 # nothing else.
 #
 #   bench/reader.sh [RECORDS]        10,000,000 records, if no number is given
@@ -10,9 +10,9 @@
 set -euo pipefail
 records=${1:-10000000}
 top=$(cd "$(dirname "$0")/.." && pwd)
-program=$top/crates/reader_bench/out/reader_bench
+program=$top/crates/measure/out/measure
 . "$top/bench/build.sh"
-build reader_bench
+build measure
 
 # make FORM RECORDS: prints a trace with labels 0 to 4 and addresses of 6 to 8 digits, in a form.
 make() {
@@ -31,7 +31,7 @@ make() {
 
 # instructions TRACE: how many the processor takes for it.
 instructions() {
-    valgrind --tool=callgrind --callgrind-out-file=/dev/null "$program" < "$1" 2>&1 > /dev/null |
+    valgrind --tool=callgrind --callgrind-out-file=/dev/null "$program" read "$1" 2>&1 > /dev/null |
         awk '/Collected/ { print $4 }'
 }
 
@@ -39,7 +39,7 @@ printf '%-8s %9s %9s %9s %14s %14s\n' form megabytes next 'wc -l' 'records/s' 'n
 for form in plain prefix cr-lf spaced; do
     trace=$folder/$form
     make $form "$records" > "$trace"
-    read -r next _ < <("$top/bench/best.py" 5 "$trace" "$program")
+    read -r next _ < <("$top/bench/best.py" 5 /dev/null "$program" read "$trace")
     read -r lines _ < <("$top/bench/best.py" 5 "$trace" wc -l)
     awk -v form=$form -v bytes="$(stat -c %s "$trace")" -v next_="$next" -v lines="$lines" \
         -v records="$records" 'BEGIN {

@@ -1,4 +1,4 @@
-//! Measures what one thread does: one cache, a whole run, a grid of caches.
+//! Measures what one thread does: reading alone, one cache, a whole run, a grid of caches.
 //!
 //! Arguments: what is measured, and its own words; then what is measured next, and so on. Each file
 //! beside this one says which words it takes. A trace is named by its file.
@@ -6,6 +6,7 @@
 
 mod cache;
 mod grid;
+mod read;
 mod run;
 
 use anyhow::{Context, bail};
@@ -35,16 +36,13 @@ fn trace(rt: &HostRuntime, words: &mut Args) -> anyhow::Result<FromRead<File>> {
 
 /// Measures what the word names.
 fn measure(rt: &HostRuntime, what: &str, words: &mut Args) -> anyhow::Result<()> {
-    if what == "cache" {
-        cache::measure(rt, words, false)
-    } else if what == "cache-times" {
-        cache::measure(rt, words, true)
-    } else if what == "run" {
-        run::measure(rt, words)
-    } else if what == "grid" {
-        grid::measure(rt, words)
-    } else {
-        bail!("{what} is not measured")
+    match what {
+        "read" => read::measure(rt, words),
+        "cache" => cache::measure(rt, words, false),
+        "cache-times" => cache::measure(rt, words, true),
+        "run" => run::measure(rt, words),
+        "grid" => grid::measure(rt, words),
+        _ => bail!("{what} is not measured"),
     }
 }
 
