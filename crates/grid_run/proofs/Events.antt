@@ -1,6 +1,6 @@
 -- What one more event asks of each cache, and what the first level sends for it.
 use Rattle.std.proofs.Common.{◌≡◌, ℕ, ◌<◌, ◌≤◌, ◌*◌, ◌/◌, ◌^◌, List, [], ◌∷◌, ◌++◌, length, map}
-use Rattle.std.proofs.Common.{Option, Some, None, option_to_list, refl, sym, ap, ◌∙◌, append-nil}
+use Rattle.std.proofs.Common.{Option, Some, None, option_to_list, sym, ap, ◌∙◌, append-nil}
 use Rattle.std.proofs.Common.{arith}
 use Rattle.std.specs.List.{flat_map}
 use Rattle.cache_core.specs.History.{History, Event, Rules, access, flush}
@@ -18,35 +18,23 @@ use Rattle.stage_core.specs.declared.message.What.{What}
 use Rattle.stage_core.specs.declared.message.What.TheVariants as what
 use Rattle.stage_core.proofs.Stands.{history-more}
 use Rattle.stage_core.proofs.Few.{few-history}
-use Rattle.grid_run.specs.Sending.{after_request, event_of, sent_for}
+use Rattle.grid_run.specs.Sending.{event_of}
 use Rattle.grid_run.specs.declared.requests.Request.{Request}
 
--- the history of a side after one more event, from the request that the event makes
-after-requests : (o : Option Request) (h : History)
-    → after_request o h ≡ newest_first (map event_of (option_to_list o)) ++ h
-after-requests None h = refl
-after-requests (Some q) h = refl
-
-pub after-event : (s : Side) (es : List DinRecord) (e : DinRecord) (o : Option Request)
-    → map event_of (option_to_list o) ≡ asked s e
-    → after_request o (history s es) ≡ history s (es ++ e ∷ [])
-after-event s es e o is =
-    after-requests o (history s es)
-    ∙ ap (λ (l : List Event). newest_first l ++ history s es) is
+-- an event that makes a request to a side adds it to the side's history
+pub history-one : (s : Side) (es : List DinRecord) (e : DinRecord) (q : Request)
+    → event_of q ∷ [] ≡ asked s e → event_of q ∷ history s es ≡ history s (es ++ e ∷ [])
+history-one s es e q one =
+    ap (λ (l : List Event). newest_first l ++ history s es) one
     ∙ sym (history-more s es e)
 
-sent-requests : (r : Rules) (s : Side) (h : History) (o : Option Request)
-    → sent_for r s h o ≡ flat_map (parts_of r s h) (map event_of (option_to_list o))
-sent-requests r s h None = refl
-sent-requests r s h (Some q) = sym (append-nil (parts_of r s h (event_of q)))
-
--- what a side sends up for one more event, from the request that the event makes
-pub sent-event : (r : Rules) (s : Side) (es : List DinRecord) (e : DinRecord)
-    (o : Option Request) → map event_of (option_to_list o) ≡ asked s e
-    → sent_for r s (history s es) o ≡ sent_up (parts_of r) s es e
-sent-event r s es e o is =
-    sent-requests r s (history s es) o
-    ∙ ap (flat_map (parts_of r s (history s es))) is
+-- and the side sends up for it what it sends for the request
+pub sent-one : (s : Side) (es : List DinRecord) (e : DinRecord) (r : Rules) (q : Request)
+    → event_of q ∷ [] ≡ asked s e
+    → parts_of r s (history s es) (event_of q) ≡ sent_up (parts_of r) s es e
+sent-one s es e r q one =
+    sym (append-nil (parts_of r s (history s es) (event_of q)))
+    ∙ ap (flat_map (parts_of r s (history s es))) one
 
 -- an event may be there or not
 pub few-option : {A : Type 0} (o : Option A) → length (option_to_list o) ≤ 1

@@ -1,5 +1,6 @@
 -- Where the caches of a configuration are in a lane.
-use Rattle.std.proofs.Common.{◌≡◌, ◌<◌, List, length, get_or, map, ap, sym, subst, ◌∙◌, arith}
+use Rattle.std.proofs.Common.{◌≡◌, ◌<◌, ◌++◌, ◌∷◌, [], List, length, get_or, map, ap, sym, subst}
+use Rattle.std.proofs.Common.{◌∙◌, append_assoc, arith}
 use Rattle.std.proofs.Common.{Result, Ok, Err, OnOk}
 use Rattle.std.specs.List.{All}
 use Rattle.std.proofs.lemmas.List.{get_or-map, length-map}
@@ -7,10 +8,11 @@ use Rattle.cache_core.specs.History.{Rules}
 use Rattle.din_trace.specs.declared.record.DinRecord.{DinRecord}
 use Rattle.stage_core.specs.SecondLevel.{Hierarchy, parts_in, second_level_requests}
 use Rattle.stage_core.specs.declared.selection.Selection.{Selection}
-use Rattle.stage_core.proofs.Worked.{the_hierarchy}
+use Rattle.stage_core.specs.declared.message.Side.TheVariants as side
+use Rattle.stage_core.proofs.Worked.{second_level_requests-more, the_hierarchy}
 use Rattle.grid_core.specs.Written.{rules_at}
-use Rattle.grid_run.specs.Backs.{BackAsked, BackTask, IsPlacedIn, IsSeatIn, back_task}
-use Rattle.grid_run.specs.Backs.{hierarchy_behind}
+use Rattle.grid_run.specs.Backs.{BackTask, IsPlacedIn, IsPlacedOn, IsSeatIn, WereAsked, back_task}
+use Rattle.grid_run.specs.Backs.{followed_by, hierarchy_behind, sent_behind, sent_on_side}
 use Rattle.grid_run.specs.Fronts.{front_rules}
 use Rattle.grid_run.specs.Lanes.{HasServed, lane_task}
 use Rattle.grid_run.specs.Rows.{IsBackOf, IsPlaceIn}
@@ -36,6 +38,25 @@ pub served-by-same : (s : Selector) (l : Lane) (es : List DinRecord) → HasServ
     → HasServed (record l { selector = s }) es
 served-by-same s l es served = record { i = served.i; d = served.d; backs = served.backs }
 
+-- second levels behind caches of both sides are behind caches of each
+pub placed-on-i : {i d : Table} (ts : List BackTask) → All (IsPlacedIn i d) ts
+    → All (IsPlacedOn side.I i) ts
+placed-on-i ts all k t lt = record { seat = (all k t lt).on_i }
+
+pub placed-on-d : {i d : Table} (ts : List BackTask) → All (IsPlacedIn i d) ts
+    → All (IsPlacedOn side.D d) ts
+placed-on-d ts all k t lt = record { seat = (all k t lt).on_d }
+
+-- what both sides send for one more event comes after all before
+pub both-sides : (i d : Table) (es : List DinRecord) (e : DinRecord) (t : BackTask)
+    → followed_by (followed_by (sent_behind i d es) (sent_on_side side.I i es e))
+    (sent_on_side side.D d es e) t
+    ≡ sent_behind i d (es ++ e ∷ []) t
+both-sides i d es e t =
+    append_assoc (sent_behind i d es t) (sent_on_side side.I i es e t)
+    (sent_on_side side.D d es e t)
+    ∙ sym (second_level_requests-more (parts_in (hierarchy_behind i d t 0)) es e)
+
 -- second levels behind caches of the same rules
 pub placed-same : {i i' d d' : Table} (ts : List BackTask) → i ≡ i' → d ≡ d'
     → All (IsPlacedIn i' d') ts → All (IsPlacedIn i d) ts
@@ -44,10 +65,11 @@ placed-same {i' = i'} {d = d} ts on_i on_d all =
     (subst (λ (t : Table). All (IsPlacedIn i' t) ts) (sym on_d) all)
 
 pub served-same : {i i' d d' : Table} (es : List DinRecord) (bs : List Back) → i ≡ i'
-    → d ≡ d' → All (BackAsked i' d' es) bs → All (BackAsked i d es) bs
+    → d ≡ d' → All (WereAsked (sent_behind i' d' es)) bs
+    → All (WereAsked (sent_behind i d es)) bs
 served-same {i' = i'} {d = d} es bs on_i on_d all =
-    subst (λ (t : Table). All (BackAsked t d es) bs) (sym on_i)
-    (subst (λ (t : Table). All (BackAsked i' t es) bs) (sym on_d) all)
+    subst (λ (t : Table). All (WereAsked (sent_behind t d es)) bs) (sym on_i)
+    (subst (λ (t : Table). All (WereAsked (sent_behind i' t es)) bs) (sym on_d) all)
 
 module _ (l : Lane) (c : Hierarchy) (s : Selection) (p : Place)
     (place : IsPlaceIn (lane_task l) c s p) (b : Back)

@@ -1,21 +1,18 @@
 -- Second levels behind one cache of each side.
-use Rattle.std.specs.Prelude.{◌≡◌, ◌<◌, ℕ, List, Option, [], length, get_or, map, option_to_list}
-use Rattle.std.specs.List.{All}
-use Rattle.cache_core.specs.History.{Rules}
+use Rattle.std.specs.Prelude.{◌<◌, ◌≤◌, ◌^◌, ◌++◌, ℕ, List, [], length, get_or}
+use Rattle.cache_core.specs.History.{Event, History, Rules}
 use Rattle.din_trace.specs.declared.record.DinRecord.{DinRecord}
 use Rattle.grid_core.specs.Written.{rules_at}
-use Rattle.stage_core.specs.Events.{asked, history}
-use Rattle.stage_core.specs.SecondLevel.{Hierarchy, parts_in, second_level_requests}
+use Rattle.stage_core.specs.SecondLevel.{Hierarchy, parts_in, parts_of, second_level_requests}
+use Rattle.stage_core.specs.SecondLevel.{sent_up}
 use Rattle.stage_core.specs.declared.message.Side.{Side}
 use Rattle.stage_core.specs.declared.message.Side.TheVariants as side
-use Rattle.grid_run.specs.Fronts.{FrontStandsFor, HasSent, front_rules}
+use Rattle.stage_core.specs.declared.message.What.{What}
 use Rattle.grid_run.specs.Levels.{rules_in}
 use Rattle.grid_run.specs.Seats.{Table, rules_of_seat, rules_on}
-use Rattle.grid_run.specs.Sending.{HasSettled, SecondAsked, event_of}
+use Rattle.grid_run.specs.Sending.{HasSettled, SecondAsked}
 use Rattle.grid_run.specs.declared.back.Back.{Back}
-use Rattle.grid_run.specs.declared.front.Front.{Front}
 use Rattle.grid_run.specs.declared.plan.BackShelf.{BackShelf}
-use Rattle.grid_run.specs.declared.requests.Request.{Request}
 use Rattle.grid_run.specs.declared.seat.Seat.{Seat}
 
 -- what second levels do: behind which seats they are, and the rules of their caches
@@ -37,6 +34,15 @@ pub record IsSeatIn (t : Table) (s : Seat) : Type 0 where
   pub level : s.level < length t
   pub cell : s.cell < length (get_or t s.level [])
 
+-- the seat on a side
+abbrev pub seat_on : Side → BackTask → Seat
+seat_on side.I t = t.i
+seat_on side.D t = t.d
+
+-- the seat on a side is one of the table
+pub record IsPlacedOn (s : Side) (fronts : Table) (t : BackTask) : Type 0 where
+  pub seat : IsSeatIn fronts (seat_on s t)
+
 -- both seats are there
 pub record IsPlacedIn (i d : Table) (t : BackTask) : Type 0 where
   pub on_i : IsSeatIn i t.i
@@ -50,30 +56,38 @@ hierarchy_behind i d t cell = record {
   u = rules_at t.rules cell;
 }
 
--- the second levels were asked for what caches of these rules sent for these events
-pub record BackAsked (i d : Table) (es : List DinRecord) (b : Back) : Type 0 where
-  pub second : SecondAsked b.second
-      (second_level_requests (parts_in (hierarchy_behind i d (back_task b) 0)) es)
+-- for second levels of each task, some requests
+abbrev pub RequestsFor : Type 0
+RequestsFor = BackTask → List What
 
--- the same behind these first-level caches
-abbrev pub AskedBehind : List Front → List Front → List DinRecord → Back → Type 0
-AskedBehind i d = BackAsked (map front_rules i) (map front_rules d)
+-- none at all
+abbrev pub no_requests : RequestsFor
+no_requests t = []
+
+-- requests, and others after them
+abbrev pub followed_by : RequestsFor → RequestsFor → RequestsFor
+followed_by first then t = first t ++ then t
+
+-- what the cache of a side sends for a request to it after a history, by the rules of its caches
+abbrev pub sent_for : Side → Table → History → Event → RequestsFor
+sent_for s fronts h q t = parts_of (rules_of_seat fronts (seat_on s t)) s h q
+
+-- what it sends for the event e, which comes after the events es
+abbrev pub sent_on_side : Side → Table → List DinRecord → DinRecord → RequestsFor
+sent_on_side s fronts es e t = sent_up (parts_of (rules_of_seat fronts (seat_on s t))) s es e
+
+-- all that caches of these rules sent for these events
+abbrev pub sent_behind : Table → Table → List DinRecord → RequestsFor
+sent_behind i d es t = second_level_requests (parts_in (hierarchy_behind i d t 0)) es
+
+-- the second levels were asked for the requests of their task
+pub record WereAsked (requests : RequestsFor) (b : Back) : Type 0 where
+  pub second : SecondAsked b.second (requests (back_task b))
+
+-- a second level can serve so many
+pub record AreFew (requests : RequestsFor) : Type 0 where
+  pub few : (t : BackTask) → length (requests t) ≤ 2 ^ 44
 
 -- no request waits for the second levels
 abbrev pub NothingWaits : Back → Type 0
 NothingWaits b = HasSettled b.second
-
--- the first-level caches of a side have served what these events ask of them
-pub record FrontAt (s : Side) (es : List DinRecord) (f : Front) : Type 0 where
-  pub stands : FrontStandsFor f (history s es)
-
--- the first-level caches of a side last served what the event e asks of them, after the events es
-pub record FrontSent (s : Side) (es : List DinRecord) (e : DinRecord) (f : Front) : Type 0 where
-  pub request : Option Request
-  pub is : map event_of (option_to_list request) ≡ asked s e
-  pub sent : HasSent f (history s es) request
-
--- the first-level caches of both sides last served the event e, after the events es
-pub record HaveSent (i d : List Front) (es : List DinRecord) (e : DinRecord) : Type 0 where
-  pub on_i : All (FrontSent side.I es e) i
-  pub on_d : All (FrontSent side.D es e) d

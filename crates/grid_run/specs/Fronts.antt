@@ -1,5 +1,5 @@
 -- First-level caches of one side.
-use Rattle.std.specs.Prelude.{◌≡◌, ◌<◌, ◌⊎◌, ℕ, List, Option, None, Some, length, map}
+use Rattle.std.specs.Prelude.{◌≡◌, ◌<◌, ◌⊎◌, ℕ, List, length, map}
 use Rattle.std.specs.Global.{Vec}
 use Rattle.cache_core.specs.History.{History, Rules}
 use Rattle.grid_core.specs.Cells.{items_of}
@@ -19,26 +19,26 @@ abbrev pub front_rules : Front → List Rules
 front_rules f = rules_in f.level
 
 -- the caches have served this history
-abbrev pub FrontStandsFor : Front → History → Type 0
-FrontStandsFor f h = LevelStandsFor f.level h
+pub record FrontAt (h : History) (f : Front) : Type 0 where
+  pub stands : LevelStandsFor f.level h
 
 -- the access x sends nothing in any of the caches, after the history h
 abbrev pub HasSentNothing : Level → History → Access → Type 0
 HasSentNothing l h x = (cell : ℕ) → cell < length (rules_in l)
     → SendsNothing (outcome_of (rules_at (rules_in l) cell) h x)
 
--- what the caches served last is this request, after the history h
-abbrev pub WasLast : Level → History → Last → Option Request → Type 0
-WasLast l h w None = w ≡ last.Nothing
-WasLast l h w (Some (request.Access x)) = HasServedLast l h x
+-- what the caches served last is this request, after the history h; the lists are of the blocks
+-- that each of them wrote back at the last flush
+abbrev pub WasLast : Level → History → Last → List (Vec ℕ) → Request → Type 0
+WasLast l h w lists (request.Access x) = HasServedLast l h x
     × ((w ≡ last.Access x) ⊎ ((w ≡ last.Silence) × HasSentNothing l h x))
-WasLast l h w (Some request.Flush) = (v : Vec (Vec ℕ)) × (w ≡ last.Flush v)
-    × (map items_of v.items ≡ map (written_by h) (rules_in l))
+WasLast l h w lists request.Flush = (w ≡ last.Flush)
+    × (map items_of lists ≡ map (written_by h) (rules_in l))
 
 -- the caches sent nothing for what they served last
 abbrev pub IsSilent : Front → Type 0
-IsSilent f = (f.last ≡ last.Nothing) ⊎ (f.last ≡ last.Silence)
+IsSilent f = f.last ≡ last.Silence
 
--- the last request of the caches, after the history h
-abbrev pub HasSent : Front → History → Option Request → Type 0
-HasSent f h q = WasLast f.level h f.last q
+-- the last request of the caches was this one, after the history h
+pub record HasSent (h : History) (q : Request) (f : Front) : Type 0 where
+  pub last : WasLast f.level h f.last f.lists.items q

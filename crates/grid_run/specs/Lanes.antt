@@ -2,13 +2,13 @@
 use Rattle.std.specs.Prelude.{List, map}
 use Rattle.std.specs.List.{All}
 use Rattle.din_trace.specs.declared.record.DinRecord.{DinRecord}
-use Rattle.stage_core.specs.Events.{events}
+use Rattle.stage_core.specs.Events.{events, history}
 use Rattle.stage_core.specs.Standing.{WasOffered}
 use Rattle.stage_core.specs.declared.message.Side.TheVariants as side
 use Rattle.stage_core.specs.declared.selection.Selection.{Selection}
-use Rattle.grid_run.specs.Backs.{AskedBehind, BackTask, FrontAt, IsPlacedIn, NothingWaits}
-use Rattle.grid_run.specs.Backs.{back_task, task_of_shelf}
-use Rattle.grid_run.specs.Fronts.{front_rules}
+use Rattle.grid_run.specs.Backs.{BackTask, IsPlacedIn, NothingWaits, WereAsked, back_task}
+use Rattle.grid_run.specs.Backs.{sent_behind, task_of_shelf}
+use Rattle.grid_run.specs.Fronts.{FrontAt, front_rules}
 use Rattle.grid_run.specs.Seats.{Table, rules_on}
 use Rattle.grid_run.specs.declared.lane.Lane.{Lane}
 use Rattle.grid_run.specs.declared.plan.LanePlan.{LanePlan}
@@ -45,9 +45,11 @@ IsPlaced t = All (IsPlacedIn t.i t.d) t.backs
 -- the first-level caches of a lane have served these events, and its second levels were asked for
 -- what was sent for them
 pub record HasServed (l : Lane) (es : List DinRecord) : Type 0 where
-  pub i : All (FrontAt side.I es) l.i.items
-  pub d : All (FrontAt side.D es) l.d.items
-  pub backs : All (AskedBehind l.i.items l.d.items es) l.backs.items
+  pub i : All (FrontAt (history side.I es)) l.i.items
+  pub d : All (FrontAt (history side.D es)) l.d.items
+  pub backs :
+      All (WereAsked (sent_behind (map front_rules l.i.items) (map front_rules l.d.items) es))
+      l.backs.items
 
 -- a lane was given these records: its caches were given what it selects of them
 pub record WasGiven (l : Lane) (records : List DinRecord) : Type 0 where

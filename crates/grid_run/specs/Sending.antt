@@ -1,9 +1,7 @@
--- What a first-level cache sends for a request, and what a second level was asked for.
-use Rattle.std.specs.Prelude.{◌≡◌, ◌+◌, ◌≤◌, ◌^◌, List, [], ◌∷◌, ◌++◌, length}
-use Rattle.std.specs.Prelude.{Option, Some, None}
-use Rattle.cache_core.specs.History.{Event, History, Rules, access, flush}
-use Rattle.stage_core.specs.SecondLevel.{parts_of, second_history}
-use Rattle.stage_core.specs.declared.message.Side.{Side}
+-- Requests to a first-level cache, and what a second level was asked for.
+use Rattle.std.specs.Prelude.{◌≡◌, ◌+◌, ◌≤◌, ◌^◌, List, [], ◌++◌, length}
+use Rattle.cache_core.specs.History.{Event, access, flush}
+use Rattle.stage_core.specs.SecondLevel.{second_history}
 use Rattle.stage_core.specs.declared.message.What.{What}
 use Rattle.grid_run.specs.Levels.{LevelStandsFor}
 use Rattle.grid_run.specs.declared.level.Level.{Level}
@@ -15,16 +13,6 @@ use Rattle.grid_run.specs.declared.second.Second.{Second}
 abbrev pub event_of : Request → Event
 event_of (request.Access x) = access x
 event_of request.Flush = flush
-
--- a history after one more request, or none
-abbrev pub after_request : Option Request → History → History
-after_request None h = h
-after_request (Some q) h = event_of q ∷ h
-
--- what a first-level cache sends for a request after a history, or for none
-abbrev pub sent_for : Rules → Side → History → Option Request → List What
-sent_for r s h None = []
-sent_for r s h (Some q) = parts_of r s h (event_of q)
 
 -- the caches of a second level have served these requests of the first level
 abbrev pub SecondServed : Level → List What → Type 0

@@ -5,8 +5,7 @@ use crate::plan::BackShelf;
 use crate::seat::Seat;
 use crate::second::Second;
 use cache_core::NoMemory;
-use din_trace::MAX_LIMIT;
-use stage_core::{Side, second_level_sees_at_most_two};
+use stage_core::Side;
 use std::alloc::Global;
 
 /// Second-level caches of one block size and one policy, behind the same two first-level caches.
@@ -19,17 +18,19 @@ pub(crate) struct Back {
 
 #[tactic(auto, unfolding(crate::specs::Backs::back_task, crate::specs::Backs::task_of_shelf))]
 impl Back {
-    ghost use Rattle.std.specs.Prelude.{◌≡◌, ◌≤◌, ◌*◌, ◌++◌, ◌∷◌, [], List, IfOk, OnOk, map};
-    ghost use Rattle.std.specs.Prelude.{length};
-    ghost use Rattle.din_trace.specs.declared.record.DinRecord.{DinRecord};
-    ghost use Rattle.grid_run.specs.Backs.{AskedBehind, BackAsked, HaveSent, IsPlacedIn};
-    ghost use Rattle.grid_run.specs.Backs.{NothingWaits, back_task, task_of_shelf};
-    ghost use Rattle.grid_run.specs.Fronts.{front_rules};
-    ghost use Rattle.grid_run.specs.Seats.{Table};
+    ghost use Rattle.std.specs.Prelude.{◌≡◌, IfOk, OnOk, map};
+    ghost use Rattle.std.specs.List.{All};
+    ghost use Rattle.cache_core.specs.History.{History};
+    ghost use Rattle.grid_run.specs.Backs.{AreFew, IsPlacedOn, NothingWaits, RequestsFor};
+    ghost use Rattle.grid_run.specs.Backs.{WereAsked, back_task, followed_by, no_requests};
+    ghost use Rattle.grid_run.specs.Backs.{seat_on, sent_for, task_of_shelf};
+    ghost use Rattle.grid_run.specs.Fronts.{HasSent, front_rules};
+    ghost use Rattle.grid_run.specs.Sending.{event_of};
+    ghost use Rattle.grid_run.specs.declared.requests.Request.{Request as Asked};
 
     /// The empty caches of a shelf.
     pub fn new(alloc: Global, shelf: &BackShelf) -> Result<Back, NoMemory>
-        ensures asked { IfOk result (λ back. (i d : Table) → BackAsked i d [] back) }
+        ensures asked { IfOk result (WereAsked no_requests) }
         ensures settled { IfOk result NothingWaits }
         ensures task { IfOk result (λ back. back_task back ≡ task_of_shelf shelf.now) }
     {
@@ -40,30 +41,39 @@ impl Back {
         })
     }
 
-    /// Asks for what the two first-level caches sent for the last event.
-    pub fn ask(&mut self, i: &[Front], d: &[Front]) -> Result<(), NoMemory>
-        requires placed { IsPlacedIn (map front_rules i.now) (map front_rules d.now)
-            (back_task self.old) }
-        requires sent { (es : List DinRecord) × (e : DinRecord) × HaveSent i.now d.now es e }
-        ensures asked { OnOk result ((es : List DinRecord) (e : DinRecord) →
-            HaveSent i.now d.now es e → AskedBehind i.now d.now es self.old →
-            AskedBehind i.now d.now (es ++ e ∷ []) self.new) }
+    /// The seat of the first-level cache on a side.
+    fn seat(&self, side: Side) -> Seat
+        ensures { result ≡ seat_on side (back_task self.now) }
+    {
+        match side {
+            Side::I => self.i,
+            Side::D => self.d,
+        }
+    }
+
+    /// Asks for what the first-level cache on a side sent for the last request. `fronts` are the
+    /// caches of this side.
+    pub fn ask(&mut self, fronts: &[Front], side: Side) -> Result<(), NoMemory>
+        requires placed { IsPlacedOn side (map front_rules fronts.now) (back_task self.old) }
+        requires sent { (h : History) × (q : Asked) × All (HasSent h q) fronts.now }
+        ensures asked { OnOk result ((h : History) (q : Asked) (before : RequestsFor) →
+            All (HasSent h q) fronts.now → WereAsked before self.old →
+            WereAsked (followed_by before (sent_for side (map front_rules fronts.now) h
+            (event_of q))) self.new) }
         ensures task { back_task self.new ≡ back_task self.old }
     {
-        i[self.i.level].send(self.i.cell, Side::I, &mut self.second)?;
-        d[self.d.level].send(self.d.cell, Side::D, &mut self.second)
+        let seat = self.seat(side);
+        fronts[seat.level].send(seat.cell, side, &mut self.second)
     }
 
     /// Serves all requests that wait.
     pub fn settle(&mut self) -> Result<(), NoMemory>
-        requires room { (i d : Table) × (es : List DinRecord) × BackAsked i d es self.old
-            × (length es ≤ 2 * MAX_LIMIT) }
-        ensures asked { OnOk result ((i d : Table) (es : List DinRecord) →
-            BackAsked i d es self.old → BackAsked i d es self.new) }
+        requires room { (all : RequestsFor) × WereAsked all self.old × AreFew all }
+        ensures asked { OnOk result ((all : RequestsFor) → WereAsked all self.old →
+            WereAsked all self.new) }
         ensures settled { OnOk result (NothingWaits self.new) }
         ensures task { back_task self.new ≡ back_task self.old }
     {
-        second_level_sees_at_most_two();
         self.second.settle()
     }
 }

@@ -13,16 +13,14 @@ use stage_core::Side;
 use std::alloc::Global;
 
 /// What the caches served last.
-#[derive(Drop)]
+#[derive(Clone, Copy)]
 pub(crate) enum Last {
-    /// The event did not concern them.
-    Nothing,
-    /// An access that sent nothing in any cache.
+    /// An access that sent nothing in any cache, or nothing yet.
     Silence,
     /// Another access.
     Access(Access),
-    /// A flush, with the first bytes of the blocks that each cache wrote back.
-    Flush(Vec<Vec<u64>>),
+    /// A flush.
+    Flush,
 }
 
 /// First-level caches of one side, of one block size and one policy.
@@ -30,6 +28,8 @@ pub(crate) enum Last {
 pub(crate) struct Front {
     pub level: Level,
     last: Last,
+    /// The first bytes of the blocks that each cache wrote back at the last flush.
+    lists: Vec<Vec<u64>>,
 }
 
 /// What the caches served last, if that was an access, which may have sent nothing in any cache.
@@ -44,35 +44,37 @@ fn last_of(access: Access, sent_nothing: bool) -> Last
 }
 
 impl Front {
-    ghost use Rattle.std.specs.Prelude.{◌≡◌, ◌<◌, ◌^◌, ◌++◌, ◌∷◌, [], List, IfOk, OnOk, Option};
-    ghost use Rattle.std.specs.Prelude.{Some, true, length};
+    ghost use Rattle.std.specs.Prelude.{◌≡◌, ◌<◌, ◌^◌, ◌++◌, ◌∷◌, [], List, IfOk, OnOk};
+    ghost use Rattle.std.specs.Prelude.{true, length};
     ghost use Rattle.cache_core.specs.History.{History, access as accessed, flush as flushed};
     ghost use Rattle.grid_core.specs.Written.{rules_at};
+    ghost use Rattle.stage_core.specs.SecondLevel.{parts_of};
     ghost use Rattle.stage_core.specs.declared.message.What.{What as Sent};
     ghost use Rattle.grid_run.specs.declared.requests.Request.{Request as Asked};
     ghost use Rattle.grid_run.specs.declared.requests.Request.TheVariants as asked;
-    ghost use Rattle.grid_run.specs.Fronts.{FrontStandsFor, HasSent, IsSilent, front_rules};
-    ghost use Rattle.grid_run.specs.Sending.{SecondAsked, after_request, sent_for};
+    ghost use Rattle.grid_run.specs.Fronts.{FrontAt, HasSent, IsSilent, front_rules};
+    ghost use Rattle.grid_run.specs.Sending.{SecondAsked, event_of};
     ghost use Rattle.grid_run.specs.Seats.{rules_on};
 
     /// The empty caches of a shelf.
     pub fn new(alloc: Global, shelf: &Shelf) -> Result<Front, NoMemory>
-        ensures stands { IfOk result (λ front. FrontStandsFor front []) }
+        ensures stands { IfOk result (FrontAt []) }
         ensures rules { IfOk result (λ front. front_rules front ≡ rules_on shelf.now) }
     {
         Ok(Front {
             level: Level::new(alloc, shelf)?,
-            last: Last::Nothing,
+            last: Last::Silence,
+            lists: Vec::new(alloc),
         })
     }
 
     /// Serves an access.
     fn serve_access(&mut self, access: Access) -> Result<(), NoMemory>
-        requires room { (h : History) × FrontStandsFor self.old h × (length h < 2 ^ 44) }
-        ensures stands { OnOk result ((h : History) → FrontStandsFor self.old h →
-            FrontStandsFor self.new (accessed access ∷ h)) }
-        ensures last { OnOk result ((h : History) → FrontStandsFor self.old h →
-            HasSent self.new h (Some (asked.Access access))) }
+        requires room { (h : History) × FrontAt h self.old × (length h < 2 ^ 44) }
+        ensures stands { OnOk result ((h : History) → FrontAt h self.old →
+            FrontAt (accessed access ∷ h) self.new) }
+        ensures last { OnOk result ((h : History) → FrontAt h self.old →
+            HasSent h (asked.Access access) self.new) }
         ensures rules { front_rules self.new ≡ front_rules self.old }
     {
         self.level.access(access)?;
@@ -82,34 +84,30 @@ impl Front {
 
     /// Serves a flush.
     fn serve_flush(&mut self) -> Result<(), NoMemory>
-        requires room { (h : History) × FrontStandsFor self.old h × (length h < 2 ^ 44) }
-        ensures stands { OnOk result ((h : History) → FrontStandsFor self.old h →
-            FrontStandsFor self.new (flushed ∷ h)) }
-        ensures last { OnOk result ((h : History) → FrontStandsFor self.old h →
-            HasSent self.new h (Some asked.Flush)) }
+        requires room { (h : History) × FrontAt h self.old × (length h < 2 ^ 44) }
+        ensures stands { OnOk result ((h : History) → FrontAt h self.old →
+            FrontAt (flushed ∷ h) self.new) }
+        ensures last { OnOk result ((h : History) → FrontAt h self.old →
+            HasSent h asked.Flush self.new) }
         ensures rules { front_rules self.new ≡ front_rules self.old }
     {
-        let lists = self.level.flush()?;
-        self.last = Last::Flush(lists);
+        self.lists = self.level.flush()?;
+        self.last = Last::Flush;
         Ok(())
     }
 
-    /// Serves a request, if there is one.
-    pub fn serve(&mut self, request: Option<Request>) -> Result<(), NoMemory>
-        requires room { (h : History) × FrontStandsFor self.old h × (length h < 2 ^ 44) }
-        ensures stands { OnOk result ((h : History) → FrontStandsFor self.old h →
-            FrontStandsFor self.new (after_request request h)) }
-        ensures last { OnOk result ((h : History) → FrontStandsFor self.old h →
-            HasSent self.new h request) }
+    /// Serves a request.
+    pub fn serve(&mut self, request: Request) -> Result<(), NoMemory>
+        requires room { (h : History) × FrontAt h self.old × (length h < 2 ^ 44) }
+        ensures stands { OnOk result ((h : History) → FrontAt h self.old →
+            FrontAt (event_of request ∷ h) self.new) }
+        ensures last { OnOk result ((h : History) → FrontAt h self.old →
+            HasSent h request self.new) }
         ensures rules { front_rules self.new ≡ front_rules self.old }
     {
         match request {
-            Some(Request::Access(access)) => self.serve_access(access),
-            Some(Request::Flush) => self.serve_flush(),
-            None => {
-                self.last = Last::Nothing;
-                Ok(())
-            }
+            Request::Access(access) => self.serve_access(access),
+            Request::Flush => self.serve_flush(),
         }
     }
 
@@ -117,23 +115,20 @@ impl Front {
     pub fn is_silent(&self) -> bool
         ensures { result ≡ true → IsSilent self.now }
     {
-        match &self.last {
-            Last::Nothing | Last::Silence => true,
-            Last::Access(_) | Last::Flush(_) => false,
-        }
+        matches!(self.last, Last::Silence)
     }
 
     /// Asks for what one cache sent for the last request at the second level.
     pub fn send(&self, cell: usize, side: Side, u: &mut Second) -> Result<(), NoMemory>
         requires inside { cell < length (front_rules self.now) }
-        requires last { (h : History) × (q : Option Asked) × HasSent self.now h q }
-        ensures sends { OnOk result ((h : History) (q : Option Asked) (ws : List Sent) →
-            HasSent self.now h q → SecondAsked u.old ws → SecondAsked u.new
-            (ws ++ sent_for (rules_at (front_rules self.now) cell) side h q)) }
+        requires last { (h : History) × (q : Asked) × HasSent h q self.now }
+        ensures sends { OnOk result ((h : History) (q : Asked) (ws : List Sent) →
+            HasSent h q self.now → SecondAsked u.old ws → SecondAsked u.new
+            (ws ++ parts_of (rules_at (front_rules self.now) cell) side h (event_of q))) }
         ensures level { u.new.level ≡ u.old.level }
     {
-        match &self.last {
-            Last::Nothing | Last::Silence => Ok(()),
+        match self.last {
+            Last::Silence => Ok(()),
             Last::Access(access) => {
                 let outcome = self.level.outcome(cell);
                 let block = self.level.first_byte(access.addr);
@@ -141,7 +136,7 @@ impl Front {
                 let through = through_part(outcome.through, access.addr);
                 ask_parts(u, back_part(outcome.back), fetch, through)
             }
-            Last::Flush(lists) => ask_backs(u, &lists[cell], flush_part(side)),
+            Last::Flush => ask_backs(u, &self.lists[cell], flush_part(side)),
         }
     }
 }

@@ -1,25 +1,34 @@
 //! The caches of all rows of one selection.
 
-ghost use Rattle.std.specs.Prelude.{◌≡◌, ◌<◌, ◌≤◌, ◌+◌, ◌*◌, ◌++◌, ◌∷◌, [], List, IfOk, OnOk};
-ghost use Rattle.std.specs.Prelude.{length, option_to_list};
+ghost use Rattle.std.specs.Prelude.{◌≡◌, ◌<◌, ◌≤◌, ◌+◌, ◌*◌, ◌^◌, ◌++◌, ◌∷◌, [], List, IfOk, OnOk};
+ghost use Rattle.std.specs.Prelude.{length, map, option_to_list};
+ghost use Rattle.std.specs.List.{All};
+ghost use Rattle.cache_core.specs.History.{History};
 ghost use Rattle.din_trace.specs.declared.record.DinRecord.{DinRecord as Event};
-ghost use Rattle.stage_core.specs.Events.{IsBounded, events};
+ghost use Rattle.stage_core.specs.Events.{IsBounded, events, history};
 ghost use Rattle.stage_core.specs.SecondLevel.{Hierarchy};
 ghost use Rattle.stage_core.specs.declared.selection.Selection.{Selection as Chosen};
+ghost use Rattle.grid_run.specs.Backs.{IsPlacedOn, RequestsFor, WereAsked, back_task};
+ghost use Rattle.grid_run.specs.Backs.{followed_by, sent_for, sent_on_side};
+ghost use Rattle.grid_run.specs.Fronts.{FrontAt, front_rules};
 ghost use Rattle.grid_run.specs.Grids.{figures_of};
 ghost use Rattle.grid_run.specs.Lanes.{HasServed, HasTaken, IsPlaced, WasGiven, lane_task};
 ghost use Rattle.grid_run.specs.Lanes.{task_of_plan};
 ghost use Rattle.grid_run.specs.Rows.{IsPlaceIn};
+ghost use Rattle.grid_run.specs.Sending.{event_of};
 
 use crate::back::Back;
 use crate::backs::{ask_backs, backs_for, settle_backs};
 use crate::figures::{Figures, ShadowMisses};
 use crate::front::Front;
-use crate::fronts::{are_both_silent, fronts_for, serve_fronts};
+use crate::fronts::{are_silent, fronts_for, serve_fronts};
 use crate::plan::{LanePlan, Place};
+use crate::requests::{Request, asked_of};
 use cache_core::NoMemory;
 use din_trace::{DinRecord, Label, MAX_LIMIT};
-use stage_core::{Selector, Side, Totals, selections_make_at_most_two};
+use stage_core::{
+    Selector, Side, Totals, second_level_sees_at_most_two, selections_make_at_most_two,
+};
 use std::alloc::Global;
 
 /// The flush that a selection inserts.
@@ -35,6 +44,61 @@ pub(crate) struct Lane {
     i: Vec<Front>,
     d: Vec<Front>,
     backs: Vec<Back>,
+}
+
+/// Serves a request in all caches of a side. What these send waits for the second levels. Not
+/// inlined, so that what an event does not ask of a side costs next to nothing.
+#[inline(never)]
+fn serve_request(
+    fronts: &mut Vec<Front>,
+    backs: &mut Vec<Back>,
+    side: Side,
+    request: Request,
+) -> Result<(), NoMemory>
+    requires placed { All (IsPlacedOn side (map front_rules fronts.old.items))
+        (map back_task backs.old.items) }
+    requires room { (h : History) × All (FrontAt h) fronts.old.items × (length h < 2 ^ 44) }
+    ensures stands { OnOk result ((h : History) → All (FrontAt h) fronts.old.items →
+        All (FrontAt (event_of request ∷ h)) fronts.new.items) }
+    ensures asked { OnOk result ((h : History) (before : RequestsFor) →
+        All (FrontAt h) fronts.old.items → All (WereAsked before) backs.old.items →
+        All (WereAsked (followed_by before (sent_for side (map front_rules fronts.old.items) h
+        (event_of request)))) backs.new.items) }
+    ensures rules { map front_rules fronts.new.items ≡ map front_rules fronts.old.items }
+    ensures tasks { map back_task backs.new.items ≡ map back_task backs.old.items }
+{
+    serve_fronts(fronts, request)?;
+    if are_silent(fronts) {
+        return Ok(());
+    }
+    ask_backs(backs, fronts, side)
+}
+
+/// Serves what an event asks of a side, if it does.
+fn serve_side(
+    fronts: &mut Vec<Front>,
+    backs: &mut Vec<Back>,
+    side: Side,
+    event: DinRecord,
+) -> Result<(), NoMemory>
+    requires placed { All (IsPlacedOn side (map front_rules fronts.old.items))
+        (map back_task backs.old.items) }
+    requires room { (es : List Event) × All (FrontAt (history side es)) fronts.old.items
+        × (length es < 2 * MAX_LIMIT) }
+    ensures stands { OnOk result ((es : List Event) →
+        All (FrontAt (history side es)) fronts.old.items →
+        All (FrontAt (history side (es ++ event ∷ []))) fronts.new.items) }
+    ensures asked { OnOk result ((es : List Event) (before : RequestsFor) →
+        All (FrontAt (history side es)) fronts.old.items →
+        All (WereAsked before) backs.old.items → All (WereAsked (followed_by before
+        (sent_on_side side (map front_rules fronts.old.items) es event))) backs.new.items) }
+    ensures rules { map front_rules fronts.new.items ≡ map front_rules fronts.old.items }
+    ensures tasks { map back_task backs.new.items ≡ map back_task backs.old.items }
+{
+    match asked_of(side, event) {
+        Some(request) => serve_request(fronts, backs, side, request),
+        None => Ok(()),
+    }
 }
 
 #[tactic(auto, unfolding(crate::specs::Lanes::lane_task, crate::specs::Lanes::task_of_plan))]
@@ -64,12 +128,8 @@ impl Lane {
         ensures task { lane_task self.new ≡ lane_task self.old }
         ensures selector { self.new.selector ≡ self.old.selector }
     {
-        serve_fronts(&mut self.i, Side::I, event)?;
-        serve_fronts(&mut self.d, Side::D, event)?;
-        if are_both_silent(&self.i, &self.d) {
-            return Ok(());
-        }
-        ask_backs(&mut self.backs, &self.i, &self.d)
+        serve_side(&mut self.i, &mut self.backs, Side::I, event)?;
+        serve_side(&mut self.d, &mut self.backs, Side::D, event)
     }
 
     /// The same for an event, if there is one.
@@ -116,6 +176,7 @@ impl Lane {
             self.take(*next)?;
         }
         selections_make_at_most_two();
+        second_level_sees_at_most_two();
         settle_backs(&mut self.backs)
     }
 

@@ -1,10 +1,11 @@
-use Rattle.std.proofs.Common.{◌≢◌, ◌<◌, ◌∷◌, ◌++◌, [], length, map}
+use Rattle.std.proofs.Common.{◌≢◌, ◌<◌, length, map}
 use Rattle.std.proofs.Common.{ap, sym, subst, ◌∙◌, arith, get_or-set_other}
 use Rattle.std.proofs.Math.Seq.{map-set_same}
 use Rattle.std.proofs.lemmas.List.{get_or-map, length-map}
 use Rattle.std.proofs.lemmas.List.Elements.{AllWithin-more_set}
-use Rattle.grid_run.specs.Backs.{AskedBehind, IsPlacedIn, back_task}
+use Rattle.grid_run.specs.Backs.{IsPlacedOn, WereAsked, back_task, followed_by, sent_for}
 use Rattle.grid_run.specs.Fronts.{front_rules}
+use Rattle.grid_run.specs.Sending.{event_of}
 use Rattle.grid_run.proofs.backs.ask_each.Goals as goal
 
 pub ask-requires : goal.ask-requires
@@ -16,15 +17,14 @@ ask-requires c =
     let same = c.loop-back.invariant.left k b (omega arith) in
     let placed = c.requires.placed k (back_task b) (omega (arith, length-map first back_task)) in
     record {
-      placed = subst (IsPlacedIn (map front_rules c.args.i.now) (map front_rules c.args.d.now))
+      placed = subst (IsPlacedOn c.args.side (map front_rules c.args.fronts.now))
           (get_or-map back_task first k b (back_task b) inside ∙ ap back_task (sym same)) placed;
       sent = c.requires.sent;
     }
 
 pub loop-back-preserved : goal.loop-back-preserved
 loop-back-preserved c =
-    let is = c.args.i.now in
-    let ds = c.args.d.now in
+    let fronts = map front_rules c.args.fronts.now in
     let xs = c.loop-back.backs in
     let k = c.loop-back.back-index in
     let b = c.back-item.result in
@@ -35,11 +35,12 @@ loop-back-preserved c =
     record {
       tasks = map-set_same back_task xs k v b c.ask.ensures.task
           ∙ c.loop-back.invariant.tasks;
-      asked = λ es e both all.
-          AllWithin-more_set xs k v inside (AskedBehind is ds (es ++ e ∷ []))
-          (c.loop-back.invariant.asked es e both all)
-          (c.in_ok-ask.ensures.asked es e both
-          (subst (AskedBehind is ds es) (sym same) (all k b inside')));
+      asked = λ h q before sent all.
+          AllWithin-more_set xs k v inside
+          (WereAsked (followed_by before (sent_for c.args.side fronts h (event_of q))))
+          (c.loop-back.invariant.asked h q before sent all)
+          (c.in_ok-ask.ensures.asked h q before sent
+          (subst (WereAsked before) (sym same) (all k b inside')));
       left = λ j d lt. let ne : j ≢ k = omega arith in get_or-set_other xs k j v d ne
           ∙ c.loop-back.invariant.left j d (omega arith);
     }
@@ -51,5 +52,5 @@ returns-in_err-ask-clause-tasks c =
     ∙ c.loop-back.invariant.tasks
 
 pub returns-clause-asked : goal.returns-clause-asked
-returns-clause-asked c = λ es e both all k d lt.
-    c.loop-back.invariant.asked es e both all k d (omega arith) (omega arith)
+returns-clause-asked c = λ h q before sent all k d lt.
+    c.loop-back.invariant.asked h q before sent all k d (omega arith) (omega arith)

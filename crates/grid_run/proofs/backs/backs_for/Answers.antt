@@ -2,7 +2,7 @@ use Rattle.std.proofs.Common.{◌≡◌, ◌<◌, ◌∷◌, ◌++◌, [], List,
 use Rattle.std.specs.List.{All}
 use Rattle.std.proofs.lemmas.List.{map-append, map_more}
 use Rattle.std.proofs.lemmas.List.Elements.{All-push}
-use Rattle.grid_run.specs.Backs.{BackAsked, NothingWaits, back_task, task_of_shelf}
+use Rattle.grid_run.specs.Backs.{NothingWaits, WereAsked, back_task, no_requests, task_of_shelf}
 use Rattle.grid_run.specs.declared.back.Back.{Back}
 use Rattle.grid_run.proofs.backs.backs_for.Goals as goal
 
@@ -23,9 +23,9 @@ loop-shelf-preserved c =
           ∙ ap (λ h. map task_of_shelf (take k shelves) ++ h ∷ [])
           (c.in_ok-back.ensures.task ∙ ap task_of_shelf c.shelf-item.is)
           ∙ sym (map_more task_of_shelf shelves k e inside);
-      asked = λ i d. subst (λ (l : List Back). All (BackAsked i d []) l) (sym is)
-          (All-push (BackAsked i d []) old v (c.loop-shelf.invariant.asked i d)
-          (c.in_ok-back.ensures.asked i d));
+      asked = subst (λ (l : List Back). All (WereAsked no_requests) l) (sym is)
+          (All-push (WereAsked no_requests) old v c.loop-shelf.invariant.asked
+          c.in_ok-back.ensures.asked);
       settled = subst (λ (l : List Back). All NothingWaits l) (sym is)
           (All-push NothingWaits old v c.loop-shelf.invariant.settled
           c.in_ok-back.ensures.settled);

@@ -2,7 +2,7 @@ use Rattle.std.proofs.Common.{◌≡◌, ◌++◌, List, length, take, drop, sym
 use Rattle.std.specs.List.{All}
 use Rattle.std.proofs.lemmas.Grind.{common_steps}
 use Rattle.std.proofs.lemmas.Result.{on_ok_weaker}
-use Rattle.grid_run.specs.Backs.{BackAsked, NothingWaits}
+use Rattle.grid_run.specs.Backs.{NothingWaits, WereAsked}
 use Rattle.grid_run.specs.declared.back.Back.{Back}
 use Rattle.grid_run.proofs.backs.settle_backs.Goals as goal
 
@@ -12,10 +12,10 @@ returns-clause-asked c =
     let old = c.args.backs.now in
     let whole : take old.len (new ++ drop (length new) old.items) ≡ new =
     grind (arith, common_steps) in
-    on_ok_weaker c.settle_each.result (λ asked i d es all.
-    subst (λ (l : List Back). All (BackAsked i d es) l) (sym whole)
-    (asked i d es (subst (λ (l : List Back). All (BackAsked i d es) l)
-    (sym c.deref_mut.ensures.value) all))) c.settle_each.ensures.asked
+    on_ok_weaker c.settle_each.result (λ asked all were.
+    subst (λ (l : List Back). All (WereAsked all) l) (sym whole)
+    (asked all (subst (λ (l : List Back). All (WereAsked all) l)
+    (sym c.deref_mut.ensures.value) were))) c.settle_each.ensures.asked
 
 pub returns-clause-settled : goal.returns-clause-settled
 returns-clause-settled c =

@@ -1,7 +1,7 @@
 use Rattle.std.proofs.Common.{◌≢◌, ◌<◌, length, sym, subst, ◌∙◌, arith, get_or-set_other}
 use Rattle.std.proofs.Math.Seq.{map-set_same}
 use Rattle.std.proofs.lemmas.List.Elements.{AllWithin-more_set}
-use Rattle.grid_run.specs.Backs.{BackAsked, NothingWaits, back_task}
+use Rattle.grid_run.specs.Backs.{NothingWaits, WereAsked, back_task}
 use Rattle.grid_run.proofs.backs.settle_each.Goals as goal
 
 pub settle-requires : goal.settle-requires
@@ -12,13 +12,7 @@ settle-requires c =
     let inside : k < length c.args.backs.now = omega arith in
     let same = c.loop-back.invariant.left k b (omega arith) in
     record {
-      room = (
-        room.0,
-        room.1,
-        room.2,
-        subst (BackAsked room.0 room.1 room.2) (sym same) (room.3 k b inside),
-        room.4,
-      );
+      room = (room.0, subst (WereAsked room.0) (sym same) (room.1 k b inside), room.2);
     }
 
 pub loop-back-preserved : goal.loop-back-preserved
@@ -33,11 +27,10 @@ loop-back-preserved c =
     record {
       tasks = map-set_same back_task xs k v b c.settle.ensures.task
           ∙ c.loop-back.invariant.tasks;
-      asked = λ i d es all.
-          AllWithin-more_set xs k v inside (BackAsked i d es)
-          (c.loop-back.invariant.asked i d es all)
-          (c.in_ok-settle.ensures.asked i d es
-          (subst (BackAsked i d es) (sym same) (all k b inside')));
+      asked = λ all were.
+          AllWithin-more_set xs k v inside (WereAsked all) (c.loop-back.invariant.asked all were)
+          (c.in_ok-settle.ensures.asked all
+          (subst (WereAsked all) (sym same) (were k b inside')));
       settled = AllWithin-more_set xs k v inside NothingWaits c.loop-back.invariant.settled
           c.in_ok-settle.ensures.settled;
       left = λ j d lt. let ne : j ≢ k = omega arith in get_or-set_other xs k j v d ne
@@ -51,8 +44,8 @@ returns-in_err-settle-clause-tasks c =
     ∙ c.loop-back.invariant.tasks
 
 pub returns-clause-asked : goal.returns-clause-asked
-returns-clause-asked c = λ i d es all k x lt.
-    c.loop-back.invariant.asked i d es all k x (omega arith) (omega arith)
+returns-clause-asked c = λ all were k x lt.
+    c.loop-back.invariant.asked all were k x (omega arith) (omega arith)
 
 pub returns-clause-settled : goal.returns-clause-settled
 returns-clause-settled c = λ k x lt.

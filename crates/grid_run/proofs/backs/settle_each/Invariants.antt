@@ -1,8 +1,6 @@
-use Rattle.std.proofs.Common.{◌≡◌, ℕ, ◌≤◌, List, get_or, map}
+use Rattle.std.proofs.Common.{◌≡◌, ℕ, ◌≤◌, get_or, map}
 use Rattle.std.specs.List.{All, AllWithin}
-use Rattle.din_trace.specs.declared.record.DinRecord.{DinRecord}
-use Rattle.grid_run.specs.Backs.{BackAsked, NothingWaits, back_task}
-use Rattle.grid_run.specs.Seats.{Table}
+use Rattle.grid_run.specs.Backs.{NothingWaits, RequestsFor, WereAsked, back_task}
 use Rattle.grid_run.specs.declared.back.Back.{Back}
 use Rattle.grid_run.proofs.backs.settle_each.Given as goal
 
@@ -10,8 +8,8 @@ use Rattle.grid_run.proofs.backs.settle_each.Given as goal
 abbrev pub invariant-loop-back : goal.invariant-loop-back
 invariant-loop-back l = record {
   tasks : map back_task l.backs ≡ map back_task l.initial.backs;
-  asked : (i d : Table) (es : List DinRecord) → All (BackAsked i d es) l.initial.backs →
-      AllWithin (BackAsked i d es) l.backs 0 l.back-index;
+  asked : (all : RequestsFor) → All (WereAsked all) l.initial.backs →
+      AllWithin (WereAsked all) l.backs 0 l.back-index;
   settled : AllWithin NothingWaits l.backs 0 l.back-index;
   left : (k : ℕ) (d : Back) → l.back-index ≤ k →
       get_or l.backs k d ≡ get_or l.initial.backs k d;

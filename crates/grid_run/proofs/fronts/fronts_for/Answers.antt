@@ -2,10 +2,7 @@ use Rattle.std.proofs.Common.{◌≡◌, ◌<◌, ◌∷◌, ◌++◌, [], List,
 use Rattle.std.specs.List.{All}
 use Rattle.std.proofs.lemmas.List.{map-append, map_more}
 use Rattle.std.proofs.lemmas.List.Elements.{All-push}
-use Rattle.stage_core.specs.declared.message.Side.{Side}
-use Rattle.stage_core.specs.declared.message.Side.TheVariants as side
-use Rattle.grid_run.specs.Backs.{FrontAt}
-use Rattle.grid_run.specs.Fronts.{front_rules}
+use Rattle.grid_run.specs.Fronts.{FrontAt, front_rules}
 use Rattle.grid_run.specs.Seats.{rules_on}
 use Rattle.grid_run.specs.declared.front.Front.{Front}
 use Rattle.grid_run.proofs.fronts.fronts_for.Goals as goal
@@ -20,7 +17,6 @@ loop-shelf-preserved c =
     let v = c.in_ok-front.front in
     let is : c.push.new.self.items ≡ old ++ v ∷ [] =
     rw c.if-is_err.ensures.negation at c.push.ensures.items in
-    let one : (s : Side) → FrontAt s [] v = λ s. record { stands = c.in_ok-front.ensures.stands } in
     record {
       rules = ap (map front_rules) is
           ∙ map-append front_rules old (v ∷ [])
@@ -28,8 +24,7 @@ loop-shelf-preserved c =
           ∙ ap (λ h. map rules_on (take k shelves) ++ h ∷ [])
           (c.in_ok-front.ensures.rules ∙ ap rules_on c.shelf-item.is)
           ∙ sym (map_more rules_on shelves k e inside);
-      i = subst (λ (l : List Front). All (FrontAt side.I []) l) (sym is)
-          (All-push (FrontAt side.I []) old v c.loop-shelf.invariant.i (one side.I));
-      d = subst (λ (l : List Front). All (FrontAt side.D []) l) (sym is)
-          (All-push (FrontAt side.D []) old v c.loop-shelf.invariant.d (one side.D));
+      stands = subst (λ (l : List Front). All (FrontAt []) l) (sym is)
+          (All-push (FrontAt []) old v c.loop-shelf.invariant.stands
+          c.in_ok-front.ensures.stands);
     }

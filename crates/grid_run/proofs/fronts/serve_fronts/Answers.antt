@@ -1,8 +1,9 @@
-use Rattle.std.proofs.Common.{◌≡◌, ◌++◌, ◌∷◌, [], List, length, take, drop, sym, subst, arith}
+use Rattle.std.proofs.Common.{◌≡◌, ◌++◌, ◌∷◌, List, length, take, drop, sym, subst, arith}
 use Rattle.std.specs.List.{All}
 use Rattle.std.proofs.lemmas.Grind.{common_steps}
 use Rattle.std.proofs.lemmas.Result.{on_ok_weaker}
-use Rattle.grid_run.specs.Backs.{FrontAt, FrontSent}
+use Rattle.grid_run.specs.Fronts.{FrontAt, HasSent}
+use Rattle.grid_run.specs.Sending.{event_of}
 use Rattle.grid_run.specs.declared.front.Front.{Front}
 use Rattle.grid_run.proofs.fronts.serve_fronts.Goals as goal
 
@@ -12,9 +13,9 @@ returns-clause-stands c =
     let old = c.args.fronts.now in
     let whole : take old.len (new ++ drop (length new) old.items) ≡ new =
     grind (arith, common_steps) in
-    on_ok_weaker c.serve_each.result (λ served es all.
-    subst (λ (l : List Front). All (FrontAt c.args.side (es ++ c.args.event ∷ [])) l) (sym whole)
-    (served es (subst (λ (l : List Front). All (FrontAt c.args.side es) l)
+    on_ok_weaker c.serve_each.result (λ served h all.
+    subst (λ (l : List Front). All (FrontAt (event_of c.args.request ∷ h)) l) (sym whole)
+    (served h (subst (λ (l : List Front). All (FrontAt h) l)
     (sym c.deref_mut.ensures.value) all))) c.serve_each.ensures.stands
 
 pub returns-clause-sent : goal.returns-clause-sent
@@ -23,7 +24,7 @@ returns-clause-sent c =
     let old = c.args.fronts.now in
     let whole : take old.len (new ++ drop (length new) old.items) ≡ new =
     grind (arith, common_steps) in
-    on_ok_weaker c.serve_each.result (λ sent es all.
-    subst (λ (l : List Front). All (FrontSent c.args.side es c.args.event) l) (sym whole)
-    (sent es (subst (λ (l : List Front). All (FrontAt c.args.side es) l)
+    on_ok_weaker c.serve_each.result (λ sent h all.
+    subst (λ (l : List Front). All (HasSent h c.args.request) l) (sym whole)
+    (sent h (subst (λ (l : List Front). All (FrontAt h) l)
     (sym c.deref_mut.ensures.value) all))) c.serve_each.ensures.sent

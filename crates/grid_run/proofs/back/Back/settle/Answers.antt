@@ -1,30 +1,21 @@
-use Rattle.std.proofs.Common.{arith}
+use Rattle.std.proofs.Common.{sym, subst}
 use Rattle.std.proofs.lemmas.Result.{on_ok_weaker}
-use Rattle.stage_core.specs.SecondLevel.{parts_in, second_level_requests}
-use Rattle.stage_core.proofs.Worked.{length-second_history}
-use Rattle.grid_run.specs.Backs.{back_task, hierarchy_behind}
+use Rattle.grid_run.specs.Backs.{BackTask, back_task}
+use Rattle.grid_run.specs.Sending.{SecondAsked}
+use Rattle.grid_run.proofs.Behind.{task-kept}
 use Rattle.grid_run.proofs.back.Back.settle.Goals as goal
 
 pub settle-requires : goal.settle-requires
 settle-requires c =
     let room = c.requires.room in
-    let h = hierarchy_behind room.0 room.1 (back_task c.args.self.now) 0 in
-    let ws = second_level_requests (parts_in h) room.2 in
-    record {
-      room = (
-        ws,
-        room.3.second,
-        omega (
-          arith,
-          c.second_level_sees_at_most_two.ensures h room.2,
-          length-second_history ws,
-          room.4,
-        ),
-      );
-    }
+    let t = back_task c.args.self.now in
+    record { room = (room.0 t, room.1.second, room.2.few t) }
 
 pub returns-clause-asked : goal.returns-clause-asked
-unfolding back_task
 returns-clause-asked c =
-    on_ok_weaker c.settle.result (λ asked i d es was. record { second = asked _ was.second })
-    c.settle.ensures.asked
+    let b = c.args.self.now in
+    let u = c.settle.new.self in
+    on_ok_weaker c.settle.result (λ asked all was. record {
+      second = subst (λ (t : BackTask). SecondAsked u (all t))
+          (sym (task-kept b u c.settle.ensures.rules)) (asked (all (back_task b)) was.second);
+    }) c.settle.ensures.asked

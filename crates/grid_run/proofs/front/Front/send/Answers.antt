@@ -12,17 +12,11 @@ use Rattle.grid_run.proofs.Sent.{sent-access, sent-by-silent, sent-flush}
 use Rattle.grid_run.proofs.Levels.{list-at, list-inside}
 use Rattle.grid_run.proofs.front.Front.send.Goals as goal
 
-pub returns-in-Nothing-clause-sends : goal.returns-in-Nothing-clause-sends
-returns-in-Nothing-clause-sends c = λ h q ws sent asked.
+pub returns-in-Silence-clause-sends : goal.returns-in-Silence-clause-sends
+returns-in-Silence-clause-sends c = λ h q ws sent asked.
     subst (λ (l : List What). SecondAsked c.args.u.now l)
     (sym (ap (λ l. ws ++ l) (sent-by-silent c.args.self.now h c.args.cell c.args.side q
-    c.requires.inside c.in-Nothing.is sent) ∙ append-nil ws)) asked
-
-pub returns-in-Nothing-2-clause-sends : goal.returns-in-Nothing-2-clause-sends
-returns-in-Nothing-2-clause-sends c = λ h q ws sent asked.
-    subst (λ (l : List What). SecondAsked c.args.u.now l)
-    (sym (ap (λ l. ws ++ l) (sent-by-silent c.args.self.now h c.args.cell c.args.side q
-    c.requires.inside c.in-Nothing.is sent) ∙ append-nil ws)) asked
+    c.requires.inside c.in-Silence.is sent) ∙ append-nil ws)) asked
 
 pub returns-in-Access-clause-sends : goal.returns-in-Access-clause-sends
 returns-in-Access-clause-sends c =
@@ -30,8 +24,9 @@ returns-in-Access-clause-sends c =
     let r = rules_at (rules_in level) c.args.cell in
     let x = c.in-Access.access in
     on_ok_weaker c.ask_parts.result (λ served h q ws last st.
-    let was = subst (λ (w : Last). WasLast level h w q) c.in-Access.is last in
-    let sent = sent-access level h r c.args.side x q was in
+    let lists = c.args.self.now.lists.items in
+    let was = subst (λ (w : Last). WasLast level h w lists q) c.in-Access.is last.last in
+    let sent = sent-access level h lists r c.args.side x q was in
     let parts = access-parts r c.args.side h x c.outcome-outcome.result
     c.first_byte-block.result _ _ _ (c.outcome-outcome.ensures h x sent.1)
     (c.first_byte-block.ensures c.args.cell c.requires.inside)
@@ -45,9 +40,10 @@ index-requires c =
     let r = rules_at (rules_in level) c.args.cell in
     let h = c.requires.last.0 in
     let q = c.requires.last.1 in
-    let was = subst (λ (w : Last). WasLast level h w q) c.in-Flush.is c.requires.last.2 in
-    let sent = sent-flush level h r c.args.side c.in-Flush.lists q was in
-    let v = c.in-Flush.lists in
+    let v = c.args.self.now.lists in
+    let was = subst (λ (w : Last). WasLast level h w v.items q) c.in-Flush.is
+    c.requires.last.2.last in
+    let sent = sent-flush level h v.items r c.args.side q was in
     omega (
       arith,
       list-inside h (rules_in level) v.items sent.1 c.args.cell c.requires.inside,
@@ -58,10 +54,10 @@ pub returns-in-Flush-clause-sends : goal.returns-in-Flush-clause-sends
 returns-in-Flush-clause-sends c =
     let level = c.args.self.now.level in
     let r = rules_at (rules_in level) c.args.cell in
-    let v = c.in-Flush.lists in
+    let v = c.args.self.now.lists in
     on_ok_weaker c.ask_backs.result (λ served h q ws last st.
-    let was = subst (λ (w : Last). WasLast level h w q) c.in-Flush.is last in
-    let sent = sent-flush level h r c.args.side v q was in
+    let was = subst (λ (w : Last). WasLast level h w v.items q) c.in-Flush.is last.last in
+    let sent = sent-flush level h v.items r c.args.side q was in
     let backs = c.deref.ensures.value
     ∙ list-at h (rules_in level) v.items sent.1 c.args.cell c.index.result.now c.requires.inside
     c.index.ensures in

@@ -3,8 +3,10 @@ use Rattle.grid_core.specs.Written.{written_by}
 use Rattle.grid_run.proofs.front.Front.serve_flush.Goals as goal
 
 pub returns-clause-last : goal.returns-clause-last
-returns-clause-last c = λ h st. (
-  c.in_ok-lists.lists,
-  refl,
-  c.in_ok-lists.ensures.backs h st ∙ ap (map (written_by h)) (sym c.flush.ensures.rules),
-)
+returns-clause-last c = λ h st. record {
+  last = (
+    refl,
+    c.in_ok-self.ensures.backs h st.stands
+        ∙ ap (map (written_by h)) (sym c.flush.ensures.rules),
+  );
+}

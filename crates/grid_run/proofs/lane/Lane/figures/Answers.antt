@@ -1,4 +1,4 @@
-use Rattle.std.proofs.Common.{◌≡◌, List, ap, sym, subst, ◌∙◌, arith}
+use Rattle.std.proofs.Common.{◌≡◌, List, map, ap, sym, subst, ◌∙◌, arith}
 use Rattle.std.proofs.lemmas.List.{length-map}
 use Rattle.cache_core.specs.Counts.{counts_of}
 use Rattle.cache_core.specs.History.{Rules}
@@ -11,7 +11,8 @@ use Rattle.stage_core.specs.declared.message.What.{What}
 use Rattle.stage_core.specs.declared.message.Side.TheVariants as side
 use Rattle.stage_core.specs.declared.selection.Selection.{Selection}
 use Rattle.grid_core.specs.FullyAssociative.{shadow_misses}
-use Rattle.grid_run.specs.Backs.{AskedBehind, FrontAt, NothingWaits, back_task}
+use Rattle.grid_run.specs.Backs.{NothingWaits, WereAsked, back_task, sent_behind}
+use Rattle.grid_run.specs.Fronts.{FrontAt, front_rules}
 use Rattle.grid_run.specs.Lanes.{HasServed, lane_task}
 use Rattle.grid_run.specs.Sending.{SecondServed}
 use Rattle.grid_run.specs.declared.figures.Figures.{Figures}
@@ -69,19 +70,20 @@ returns c = λ rules chosen past place taken.
     let served = subst (HasServed l) sel taken.given.served in
     let on-i = seat-in place.i in
     let on-d = seat-in place.d in
-    let st-i = at-seat l.i.items p.i fi c.index.ensures on-i (FrontAt side.I es) served.i in
-    let st-d = at-seat l.d.items p.d fd c.index-2.ensures on-d (FrontAt side.D es) served.d in
+    let h-i = history side.I es in
+    let h-d = history side.D es in
+    let st-i = at-seat l.i.items p.i fi c.index.ensures on-i (FrontAt h-i) served.i in
+    let st-d = at-seat l.d.items p.d fd c.index-2.ensures on-d (FrontAt h-d) served.d in
     let at = c.index-3.ensures in
     let there = back-there l rules chosen p place b at in
     let inside = back-inside l rules chosen p place b at in
-    let asked = subst (AskedBehind l.i.items l.d.items es) (sym at)
+    let asked = subst
+    (WereAsked (sent_behind (map front_rules l.i.items) (map front_rules l.d.items) es)) (sym at)
     (served.backs p.u.level b inside) in
     let settled = subst NothingWaits (sym at) (taken.settled p.u.level b inside) in
     let st-u = subst (λ (ws : List What). SecondServed b.second.level ws)
     (requests-there l rules chosen p place b at es)
     (settled-served b.second _ asked.second settled) in
-    let h-i = history side.I es in
-    let h-d = history side.D es in
     let h-u = second_history (second_level_requests (parts_in rules) es) in
     let rules-i = rules-seated l.i.items p.i fi c.index.ensures on-i ∙ place.i.rules in
     let rules-d = rules-seated l.d.items p.d fd c.index-2.ensures on-d ∙ place.d.rules in

@@ -1,9 +1,10 @@
-use Rattle.std.proofs.Common.{List, map, ap, sym, subst, ◌∙◌}
+use Rattle.std.proofs.Common.{[], List, map, ap, sym, refl, subst, ◌∙◌}
 use Rattle.std.specs.List.{All}
-use Rattle.grid_run.specs.Backs.{BackTask, IsPlacedIn, task_of_shelf}
+use Rattle.grid_run.specs.Backs.{BackTask, IsPlacedIn, no_requests, sent_behind, task_of_shelf}
 use Rattle.grid_run.specs.Fronts.{front_rules}
 use Rattle.grid_run.specs.Lanes.{lane_task, task_of_plan}
 use Rattle.grid_run.specs.Seats.{rules_on}
+use Rattle.grid_run.proofs.Behind.{asked-same}
 use Rattle.grid_run.proofs.Placed.{placed-same}
 use Rattle.grid_run.proofs.lane.Lane.new.Goals as goal
 
@@ -23,9 +24,10 @@ returns-clause-taken c =
             (placed-same _ i d c.requires.placed);
         offered = c.new.ensures.none;
         served = record {
-          i = c.in_ok-fronts_for.ensures.i;
-          d = c.in_ok-fronts_for-2.ensures.d;
-          backs = c.in_ok-backs_for.ensures.asked _ _;
+          i = c.in_ok-fronts_for.ensures.stands;
+          d = c.in_ok-fronts_for-2.ensures.stands;
+          backs = asked-same no_requests (sent_behind (map front_rules is) (map front_rules ds) [])
+              c.in_ok-backs_for.field-0.items (λ k b lt. refl) c.in_ok-backs_for.ensures.asked;
         };
       };
       settled = c.in_ok-backs_for.ensures.settled;

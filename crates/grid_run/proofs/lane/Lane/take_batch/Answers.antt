@@ -4,7 +4,8 @@ use Rattle.std.specs.List.{All}
 use Rattle.std.proofs.lemmas.List.{take_all, take_more}
 use Rattle.din_trace.specs.declared.record.DinRecord.{DinRecord}
 use Rattle.stage_core.specs.Events.{events}
-use Rattle.grid_run.specs.Backs.{BackTask, IsPlacedIn}
+use Rattle.stage_core.proofs.Worked.{length-second_history}
+use Rattle.grid_run.specs.Backs.{BackTask, IsPlacedIn, hierarchy_behind, sent_behind}
 use Rattle.grid_run.specs.Fronts.{front_rules}
 use Rattle.grid_run.specs.Lanes.{WasGiven, lane_task}
 use Rattle.grid_run.proofs.Placed.{on-ok-both}
@@ -57,21 +58,26 @@ settle_backs-requires c =
     let k = c.loop-next.next-index in
     let before = take k c.args.batch.now in
     let l = c.loop-next.self in
+    let is = map front_rules l.i.items in
+    let ds = map front_rules l.d.items in
     let given = c.loop-next.invariant.given room.0 room.1.given in
+    let es = events l.selector.selection (room.0 ++ before) in
     let few = c.selections_make_at_most_two.ensures l.selector.selection (room.0 ++ before) in
     record {
       room = (
-        map front_rules l.i.items,
-        map front_rules l.d.items,
-        events l.selector.selection (room.0 ++ before),
+        sent_behind is ds es,
         given.served.backs,
-        omega (
-          arith,
-          few,
-          room.2,
-          length-append room.0 before,
-          length-take k c.args.batch.now,
-        ),
+        record {
+          few = λ t. omega (
+            arith,
+            c.second_level_sees_at_most_two.ensures (hierarchy_behind is ds t 0) es,
+            length-second_history (sent_behind is ds es t),
+            few,
+            room.2,
+            length-append room.0 before,
+            length-take k c.args.batch.now,
+          );
+        },
       );
     }
 
@@ -95,7 +101,7 @@ returns-clause-taken c =
         served = record {
           i = given.served.i;
           d = given.served.d;
-          backs = asked _ _ _ given.served.backs;
+          backs = asked _ given.served.backs;
         };
       };
       settled = settled;
