@@ -203,7 +203,7 @@ module _ (v : Stack) (h : History) (st : StandsFor v h) (x : Access) {address bl
   at = x.addr / bsize_of g
 
   below : at % sets_of g < sets_of g
-  below = mod-lt at (sane_of g).sets_pos
+  below = set-below v at refl
 
   -- what holds of this block, set and number of ways holds of those of the rules
   as-ruled : {X : Type 0} (f : ℕ → ℕ → ℕ → X)
@@ -268,7 +268,7 @@ module _ (v : Stack) (h : History) (st : StandsFor v h) (x : Access) {address bl
       let far : n ≤ p = ltb-false p n (sym (hits-now (rules_of v) (stacked v) h x xs st.rows below p
       (found-at refl) n fits) ∙ miss) in
       let wide = v.width in
-      let long = row-whole v set (rw set-is (mod-lt block (sane_of g).sets_pos)) in
+      let long = row-whole v set (set-below v block set-is) in
       back-now (rules_of v) (stacked v) h x xs st.rows below n (n - 1) (suc-pred n some) fits
       (if ltb n v.ways then get_or ys (set * v.ways + n) no_slot else last)
       (behind-is v.ways set block write xs ys last n (n - 1) (suc-pred n some) (omega arith) long

@@ -7,7 +7,8 @@ use crate::trace;
 use din_trace::{MAX_LIMIT, Source};
 use std::env::Args;
 
-pub(crate) fn measure(rt: &HostRuntime, words: &mut Args) -> anyhow::Result<()> {
+/// Reads the trace that the next word names.
+pub fn measure(rt: &HostRuntime, words: &mut Args) -> anyhow::Result<()> {
     let mut source = Source::new(trace(rt, words)?, MAX_LIMIT);
     let mut records = 0u64;
     let mut addresses = 0u64;
