@@ -1,4 +1,4 @@
--- The contracts of the calls in `Cache::access`, put together.
+-- The contracts of the calls in `Contents::serve` and `Cache::access`, put together.
 use Rattle.std.proofs.Common.{◌≡◌, ◌≢◌, ℕ, zero, suc, pred, ◌*◌, ◌%◌, ◌<◌, Bool, cond, not, ◌&&◌}
 use Rattle.std.proofs.Common.{◌||◌, nat_eq, List, ◌∷◌, map, Option, is_some, refl, ap, ◌∙◌, arith}
 use Rattle.std.proofs.Common.{true, false, sym}
@@ -6,25 +6,27 @@ use Rattle.std.specs.List.{find, list_any}
 use Rattle.std.specs.Map.{lookup}
 use Rattle.std.proofs.Math.Nat.{mod-lt}
 use Rattle.cache_core.specs.declared.access.Access.{Access}
+use Rattle.cache_core.specs.declared.access.Served.{Served}
+use Rattle.cache_core.specs.declared.kinds.Prior.{Prior}
 use Rattle.cache_core.specs.declared.policy.Policy.{Policy}
 use Rattle.cache_core.specs.declared.geometry.Geometry.{Geometry}
 use Rattle.cache_core.specs.declared.ways.Way.{Way}
 use Rattle.cache_core.specs.History.{Rules, History, access, block_of, is_write}
 use Rattle.cache_core.specs.Residents.{hits, renewals}
 use Rattle.cache_core.specs.Kinds.{referenced_blocks, shadow_of}
-use Rattle.cache_core.specs.Parts.{outcome_of}
 use Rattle.cache_core.specs.Geometry.{size_of, bsize_of, assoc_of}
 use Rattle.cache_core.specs.Order.{ways_of}
 use Rattle.cache_core.specs.Policy.{is_fifo}
-use Rattle.cache_core.specs.Row.{holds_block, next_row, pushed_out, row, outcome_made, row_of}
-use Rattle.cache_core.specs.Standing.{rules_from}
+use Rattle.cache_core.specs.Row.{holds_block, next_row, pushed_out, row, row_of}
+use Rattle.cache_core.specs.Standing.{rules_from, IsServed, IsKnown}
 use Rattle.cache_core.proofs.Lawful.{IsSane, sane_of}
 use Rattle.lru.specs.LruCache.{lru_cache, promoted, put_entries}
 use Rattle.cache_core.proofs.Shadow.{pair, in_shadow-is, after_classify, shadow-step}
 use Rattle.cache_core.proofs.Again.{referenced-stays}
 use Rattle.cache_core.proofs.Referenced.{renewals-referenced}
 use Rattle.cache_core.proofs.Victim.{resident-marked}
-use Rattle.cache_core.proofs.Steps.{outcome-is, hit-is as row-hit, rows-step}
+use Rattle.cache_core.proofs.Steps.{outcome_of-hit, outcome_of-back, rows-step}
+use Rattle.cache_core.proofs.Steps.{hit-is as row-hit, back-is as row-back}
 
 suc_pred : (n : ℕ) → 0 < n → n ≡ suc (pred n)
 suc_pred zero h = absurd (omega arith)
@@ -73,43 +75,19 @@ module _ (g : Geometry) (p : Policy) (h : History) (x : Access) where
 
   module _ (xs : List Way) (rows : (t : ℕ) → t < r.sets
       → row (assoc_of g) t xs ≡ row_of r h t) where
-    -- what the set's row, the known blocks and the shadow give is the outcome of the definitions
-    pub answers : (hit referenced in_shadow : Bool) (back : Option ℕ)
-        (entries : List (ℕ × Unit {0}))
-        → hit ≡ is_some (found xs) → back
+    -- what the row of its set answers is what the definitions say
+    pub served-is : (served : Served) → served.hit ≡ is_some (found xs) → served.back
         ≡ pushed_out p.wback p.walloc block_addr (is_write x) (row (assoc_of g) s xs) (found xs)
-        → referenced ≡ (hit || list_any (λ t. nat_eq t b) (referenced_blocks r h))
-        → in_shadow ≡ is_some (lookup (nat_eq b) entries) → entries ≡ shown h
-        → outcome_made p.wback p.walloc (is_write x) hit back referenced in_shadow
-        ≡ outcome_of r h x
-    answers hit referenced in_shadow back entries hit-is back-is referenced-is shadow-is
-        entries-is =
+        → IsServed r h x served
+    served-is served hit-is back-is =
         let here = rows s inside in
-        let e1 : hit ≡ is_some (find (holds_block block_addr) (row_of r h s)) = hit-is
-        ∙ ap (λ l. is_some (find (holds_block block_addr) l)) here in
-        let e2 : back ≡ pushed_out p.wback p.walloc block_addr (is_write x) (row_of r h s)
-        (find (holds_block block_addr) (row_of r h s)) = back-is
-        ∙ ap (λ l. pushed_out p.wback p.walloc block_addr (is_write x) l
-        (find (holds_block block_addr) l)) here in
-        let e4 : hit ≡ hits r (renewals r h) x = e1 ∙ row-hit r pos (pred (assoc_of g)) size h x in
-        let e5 : referenced ≡ list_any (λ t. nat_eq t b) (referenced_blocks r h) = referenced-is
-        ∙ or-referenced hit _ (λ q. was-referenced (sym e4 ∙ q)) in
-        let e3 : in_shadow ≡ hits (shadow_of r) (renewals (shadow_of r) h) x = shadow-is
-        ∙ ap (λ l. is_some (lookup (nat_eq b) l)) entries-is
-        ∙ in_shadow-is r h x (pred r.blocks) (suc_pred r.blocks facts.blocks_pos) in
-        ap (λ t. outcome_made p.wback p.walloc (is_write x) t back referenced in_shadow) e1
-        ∙ ap (λ t. outcome_made p.wback p.walloc (is_write x)
-        (is_some (find (holds_block block_addr) (row_of r h s))) t referenced in_shadow) e2
-        ∙ ap (λ t. outcome_made p.wback p.walloc (is_write x)
-        (is_some (find (holds_block block_addr) (row_of r h s)))
-        (pushed_out p.wback p.walloc block_addr (is_write x) (row_of r h s)
-        (find (holds_block block_addr) (row_of r h s))) t in_shadow) e5
-        ∙ ap (λ t. outcome_made p.wback p.walloc (is_write x)
-        (is_some (find (holds_block block_addr) (row_of r h s)))
-        (pushed_out p.wback p.walloc block_addr (is_write x) (row_of r h s)
-        (find (holds_block block_addr) (row_of r h s)))
-        (list_any (λ t. nat_eq t b) (referenced_blocks r h)) t) e3
-        ∙ outcome-is r pos (pred (assoc_of g)) size h x
+        record {
+          hit = hit-is ∙ ap (λ l. is_some (find (holds_block block_addr) l)) here
+              ∙ row-hit r pos (pred (assoc_of g)) size h x ∙ sym (outcome_of-hit r h x);
+          back = back-is ∙ ap (λ l. pushed_out p.wback p.walloc block_addr (is_write x) l
+              (find (holds_block block_addr) l)) here
+              ∙ row-back r pos (pred (assoc_of g)) size h x ∙ sym (outcome_of-back r h x);
+        }
 
     -- where the row of its set took the step and the others stayed, the rows are those after the
     -- access
@@ -120,6 +98,18 @@ module _ (g : Geometry) (p : Policy) (h : History) (x : Access) where
         → (t : ℕ) → t < r.sets → row (assoc_of g) t ys ≡ row_of r (access x ∷ h) t
     rows-after ys now others = rows-step r pos (pred (assoc_of g)) size h x xs ys rows now others
         inside
+
+  -- what the known blocks and the shadow answer is what the definitions say
+  pub known-is : (hit : Bool) (prior : Prior) (entries : List (ℕ × Unit {0}))
+      → hit ≡ hits r (renewals r h) x
+      → prior.referenced ≡ (hit || list_any (λ t. nat_eq t b) (referenced_blocks r h))
+      → prior.in_shadow ≡ is_some (lookup (nat_eq b) entries) → entries ≡ shown h
+      → IsKnown r h x prior
+  known-is hit prior entries hit-is referenced-is shadow-is entries-is = record {
+    referenced = referenced-is ∙ or-referenced hit _ (λ q. was-referenced (sym hit-is ∙ q));
+    in_shadow = shadow-is ∙ ap (λ l. is_some (lookup (nat_eq b) l)) entries-is
+        ∙ in_shadow-is r h x (pred r.blocks) (suc_pred r.blocks facts.blocks_pos);
+  }
 
   -- the shadow is the one after the access
   pub shadow-after : (in_shadow load : Bool) (cap : ℕ) (old new : List (ℕ × Unit {0}))

@@ -1,4 +1,4 @@
--- The contracts of the calls in `Cache::flush`, put together.
+-- The contracts of the calls in `Contents::dirty`, put together.
 use Rattle.std.proofs.Common.{◌≡◌, ℕ, ◌*◌, ◌<◌, List, length, map, filter, nat_eq, ◌∙◌, arith}
 use Rattle.std.specs.List.{dedup}
 use Rattle.std.specs.List.Sorted.{IsPermutation, IsSorted}

@@ -31,7 +31,7 @@ module _ (r : Rules) (h : History) where
 pub holds-residents : (c : Cache) (h : History) → StandsFor c h → HoldsResidents c h
 unfolding held_in rules_of
 holds-residents c h st = record {
-  in_order = λ s below. ap (λ l. map block_addr_of (filter is_valid l)) (st.rows s below)
+  in_order = λ s below. ap (λ l. map block_addr_of (filter is_valid l)) (st.holds.rows s below)
       ∙ held-row_of (rules_of c) h s;
   residents = λ b. has-ways_of (rules_of c) (renewals (rules_of c) h) b;
 }

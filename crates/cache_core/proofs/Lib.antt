@@ -24,6 +24,7 @@ pub mod Reuse
 pub mod RowStep
 pub mod RowTurns
 pub mod RowsOf
+pub mod SameRules
 pub mod Shadow
 pub mod Shift
 pub mod Steps

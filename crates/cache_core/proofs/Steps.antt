@@ -53,6 +53,18 @@ module _ (r : Rules) (h : History) (x : Access) where
   unfolding outcome_of
   outcome_of-hit = refl
 
+  -- what it writes back is the victim, if that is dirty
+  pub outcome_of-back : (outcome_of r h x).back ≡ dirty_victim r h (victim r h x)
+  unfolding outcome_of
+  outcome_of-back = refl
+
+  -- it is made of whether the access hits, what it writes back, and what was known of its block
+  pub outcome-is : outcome_made r.wback r.walloc (is_write x) (outcome_of r h x).hit
+      (outcome_of r h x).back (list_any (λ t. nat_eq t (block_of r x)) (referenced_blocks r h))
+      (hits (shadow_of r) (renewals (shadow_of r) h) x) ≡ outcome_of r h x
+  unfolding outcome_of kind_of_miss
+  outcome-is = refl
+
   -- the counts with one outcome more are those after the access
   pub counts-step : with_access x (outcome_of r h x) (counts_of r h) ≡ counts_of r (access x ∷ h)
   unfolding counts_of tally flushes_in flushed_back
@@ -140,20 +152,6 @@ module _ (r : Rules) (pos : 0 < r.bsize) (m : ℕ) (size : r.assoc ≡ suc m) (h
       ∙ sym (ap (dirty_victim r h) (victim-hit e)))
       (λ e. ap (pushed_out r.wback r.walloc block_addr w here) (seen-is
       ∙ cond-false (hits r ms x) (Some (way_at r h b)) None e) ∙ back-miss e)
-
-  -- the outcome by the definitions is the one that the code makes of its parts
-  pub outcome-is : outcome_made r.wback r.walloc w (is_some seen)
-      (pushed_out r.wback r.walloc block_addr w here seen)
-      (list_any (λ t. nat_eq t b) (referenced_blocks r h))
-      (hits (shadow_of r) (renewals (shadow_of r) h) x) ≡ outcome_of r h x
-  unfolding outcome_of kind_of_miss
-  outcome-is = ap (λ hit. outcome_made r.wback r.walloc w hit
-      (pushed_out r.wback r.walloc block_addr w here seen)
-      (list_any (λ t. nat_eq t b) (referenced_blocks r h))
-      (hits (shadow_of r) (renewals (shadow_of r) h) x)) hit-is
-      ∙ ap (λ back. outcome_made r.wback r.walloc w (hits r ms x) back
-      (list_any (λ t. nat_eq t b) (referenced_blocks r h))
-      (hits (shadow_of r) (renewals (shadow_of r) h) x)) back-is
 
   -- where the row of its set took the step and the others stayed, the rows are those after the
   -- access

@@ -52,6 +52,15 @@ pub struct Outcome {
     pub through: bool,
 }
 
+/// What the sets of a cache answer to one access.
+#[derive(Clone, Copy, Debug, PartialEq, Eq)]
+pub struct Served {
+    /// Whether the block was in its set.
+    pub hit: bool,
+    /// The address of the first byte of the dirty block that is evicted, if any.
+    pub back: Option<u64>,
+}
+
 /// Whether an access writes.
 pub(crate) fn writes(access: Access) -> bool
     ensures { result ≡ is_write access }

@@ -1,82 +1,38 @@
 //! One cache.
 
-ghost use Rattle.std.specs.Prelude.{◌≡◌, ◌≤◌, ◌+◌, true, if◌then◌else◌};
-ghost use Rattle.cache_core.specs.declared.access.MissKind.TheVariants.{Compulsory, Capacity};
-ghost use Rattle.cache_core.specs.declared.access.MissKind.TheVariants.{Conflict};
+ghost use Rattle.std.specs.Prelude.{◌≡◌, ◌≤◌, ◌+◌};
 ghost use Rattle.cache_core.specs.Counts.{AddUp};
-ghost use Rattle.cache_core.specs.Geometry.{sets_of, assoc_of, blocks_of};
+ghost use Rattle.cache_core.specs.Geometry.{blocks_of};
 ghost use Rattle.cache_core.specs.Counting.{AreWithin};
 ghost use Rattle.cache_core.specs.Parts.{one_if};
-ghost use Rattle.cache_core.specs.Row.{outcome_made, dirty_count};
-ghost use Rattle.cache_core.specs.Sets.{ways_in, has_shape};
+ghost use Rattle.cache_core.specs.Row.{dirty_count};
+ghost use Rattle.cache_core.specs.Sets.{ways_in};
 
-use crate::access::{Access, MissKind, Outcome, writes};
-use crate::counts::{Counts, count_access, count_flush};
+use crate::access::{Access, Outcome};
+use crate::contents::{Contents, NoMemory};
+use crate::counts::Counts;
 use crate::geometry::Geometry;
-use crate::kinds::{MissClassifier, Prior};
-use crate::policy::{Policy, may_load};
-use crate::sets::{Sets, clear_sets, dirty_block_addrs, empty_sets, serve_set};
-use crate::ways::Served;
+use crate::kinds::MissClassifier;
+use crate::policy::Policy;
 use std::alloc::Global;
 
 /// How many accesses and flushes one cache serves at most.
 pub const MAX_EVENTS: u64 = 1 << 44;
 
-/// An allocation failed, in this call or an earlier one.
-#[derive(Clone, Copy, Debug, PartialEq, Eq)]
-pub struct NoMemory;
-
 /// A cache that serves accesses and flushes, one by one. After a failed allocation, every later
 /// access or flush answers `NoMemory`.
 #[derive(Drop)]
 pub struct Cache {
-    alloc: Global,
-    geometry: Geometry,
-    policy: Policy,
-    sets: Sets,
+    contents: Contents,
     classifier: MissClassifier,
     counts: Counts,
     served: u64,
     failed: bool,
-    ghost room: { has_shape (sets_of geometry) (assoc_of geometry) sets ≡ true },
-    ghost shadow_room: { classifier.shadow.cap ≡ blocks_of geometry },
+    ghost shadow_room: { classifier.shadow.cap ≡ blocks_of contents.geometry },
     ghost bounded: { AreWithin counts served },
     ghost sums: { AddUp counts.misses counts.compulsory counts.capacity counts.conflict },
-    ghost charged: { counts.written_back + dirty_count (ways_in sets) ≤ served + one_if failed },
-}
-
-/// Why an access missed.
-fn miss_kind(prior: Prior) -> MissKind
-    ensures { result ≡ (if prior.referenced
-        then (if prior.in_shadow then Conflict else Capacity) else Compulsory) }
-{
-    if !prior.referenced {
-        MissKind::Compulsory
-    } else if prior.in_shadow {
-        MissKind::Conflict
-    } else {
-        MissKind::Capacity
-    }
-}
-
-/// The outcome of an access, from what its set answered and what was known of its block.
-fn outcome_from(policy: Policy, write: bool, served: Served, prior: Prior) -> Outcome
-    ensures { result ≡ outcome_made policy.wback policy.walloc write
-        served.hit served.back prior.referenced prior.in_shadow }
-{
-    let kind = if served.hit {
-        None
-    } else {
-        Some(miss_kind(prior))
-    };
-    let uses = served.hit || may_load(write, policy);
-    Outcome {
-        hit: served.hit,
-        kind,
-        back: served.back,
-        fetch: uses && !served.hit,
-        through: write && !(policy.wback && uses),
-    }
+    ghost charged: { counts.written_back + dirty_count (ways_in contents.sets)
+        ≤ served + one_if failed },
 }
 
 #[tactic(auto, unfolding(crate::specs::Standing::rules_of, crate::specs::Standing::served_of, crate::specs::Standing::counts_kept, crate::specs::Standing::has_failed))]
@@ -98,17 +54,12 @@ impl Cache {
         ensures served { IfOk result (λ cache. served_of cache ≡ 0) }
         ensures works { IfOk result (λ cache. has_failed cache ≡ false) }
     {
-        let Ok(sets) = empty_sets(alloc, geometry.sets() as usize, geometry.assoc() as usize) else {
-            return Err(NoMemory);
-        };
+        let contents = Contents::new(alloc, geometry, policy)?;
         let Ok(classifier) = MissClassifier::new(alloc, geometry.blocks()) else {
             return Err(NoMemory);
         };
         Ok(Cache {
-            alloc,
-            geometry,
-            policy,
-            sets,
+            contents,
             classifier,
             counts: Counts::default(),
             served: 0,
@@ -167,29 +118,18 @@ impl Cache {
         if self.failed {
             return Err(NoMemory);
         }
-        let write = writes(access);
-        let block = self.geometry.block(access.addr);
-        let set = self.geometry.set(block);
-        let assoc = self.geometry.assoc();
-        let block_addr = self.geometry.first_byte(block);
-        let Ok(served) = serve_set(
-            &mut self.sets,
-            set as usize,
-            assoc as usize,
-            self.policy,
-            block_addr,
-            write,
-        ) else {
+        let Ok(served) = self.contents.serve(access) else {
             self.failed = true;
             return Err(NoMemory);
         };
-        let load = may_load(write, self.policy);
+        let block = self.contents.block(access);
+        let load = self.contents.may_load(access);
         let Ok(prior) = self.classifier.classify(block, load, served.hit) else {
             self.failed = true;
             return Err(NoMemory);
         };
-        let outcome = outcome_from(self.policy, write, served, prior);
-        count_access(&mut self.counts, access, outcome);
+        let outcome = self.contents.outcome(access, served, prior);
+        self.counts.add_access(access, outcome);
         self.served += 1;
         Ok(outcome)
     }
@@ -220,7 +160,7 @@ impl Cache {
         if self.failed() {
             return Err(NoMemory);
         }
-        let Ok(block_addrs) = dirty_block_addrs(self.alloc, &self.sets) else {
+        let Ok(block_addrs) = self.contents.dirty() else {
             self.failed = true;
             return Err(NoMemory);
         };
@@ -228,8 +168,8 @@ impl Cache {
             self.failed = true;
             return Err(NoMemory);
         };
-        count_flush(&mut self.counts, block_addrs.len() as u64);
-        clear_sets(&mut self.sets);
+        self.counts.add_flush(block_addrs.len() as u64);
+        self.contents.clear();
         self.classifier.forget_shadow();
         self.served += 1;
         Ok(())

@@ -1,9 +1,8 @@
 //! The counts of one cache.
 
-ghost use Rattle.std.specs.Prelude.{◌≡◌, ◌<◌, ◌^◌, ◌+◌};
+ghost use Rattle.std.specs.Prelude.{◌≡◌, ◌<◌, ◌^◌};
 ghost use Rattle.cache_core.specs.Counts.{total_of};
-ghost use Rattle.cache_core.specs.Counting.{with_one, with_kind, with_access, with_flush};
-ghost use Rattle.cache_core.specs.Counting.{IsWithin, AreWithin};
+ghost use Rattle.cache_core.specs.Counting.{with_one, with_kind, IsWithin};
 
 use crate::access::{Access, Class, MissKind, Outcome};
 
@@ -83,25 +82,30 @@ fn count_kind(counts: &mut Counts, access: Access, kind: Option<MissKind>)
     }
 }
 
-/// Counts an access, which had this outcome.
-pub(crate) fn count_access(counts: &mut Counts, access: Access, outcome: Outcome)
-    requires { AreWithin counts.old (2 ^ 44) }
-    ensures { counts.new ≡ with_access access outcome counts.old }
-{
-    count(&mut counts.fetches, access, true);
-    count(&mut counts.misses, access, !outcome.hit);
-    count_kind(counts, access, outcome.kind);
-    counts.loaded += outcome.fetch as u64;
-    counts.written_back += outcome.back.is_some() as u64;
-    counts.sent_on += outcome.through as u64;
-}
+impl Counts {
+    ghost use Rattle.std.specs.Prelude.{◌≡◌, ◌<◌, ◌^◌, ◌+◌};
+    ghost use Rattle.cache_core.specs.Counting.{with_access, with_flush, AreWithin};
 
-/// Counts a flush, which wrote this many blocks back.
-pub(crate) fn count_flush(counts: &mut Counts, written: u64)
-    requires room { counts.old.written_back + written < 2 ^ 64 }
-    requires flushes { counts.old.flushes < 2 ^ 44 }
-    ensures { counts.new ≡ with_flush written counts.old }
-{
-    counts.written_back += written;
-    counts.flushes += 1;
+    /// Adds an access, which had this outcome.
+    pub fn add_access(&mut self, access: Access, outcome: Outcome)
+        requires { AreWithin self.old (2 ^ 44) }
+        ensures { self.new ≡ with_access access outcome self.old }
+    {
+        count(&mut self.fetches, access, true);
+        count(&mut self.misses, access, !outcome.hit);
+        count_kind(self, access, outcome.kind);
+        self.loaded += outcome.fetch as u64;
+        self.written_back += outcome.back.is_some() as u64;
+        self.sent_on += outcome.through as u64;
+    }
+
+    /// Adds a flush, which wrote so many blocks back.
+    pub fn add_flush(&mut self, written: u64)
+        requires room { self.old.written_back + written < 2 ^ 64 }
+        requires flushes { self.old.flushes < 2 ^ 44 }
+        ensures { self.new ≡ with_flush written self.old }
+    {
+        self.written_back += written;
+        self.flushes += 1;
+    }
 }

@@ -23,11 +23,12 @@ pub(crate) struct MissClassifier {
     ghost recent: { IsFirst last shadow.entries },
 }
 
-/// What is known of a block before an access: whether it was ever accessed (`known`), and whether
-/// it is in the shadow.
+/// What is known of a block before an access.
 #[derive(Clone, Copy, Debug, PartialEq, Eq)]
-pub(crate) struct Prior {
+pub struct Prior {
+    /// Whether it was ever accessed.
     pub referenced: bool,
+    /// Whether the shadow has it.
     pub in_shadow: bool,
 }
 

@@ -2,9 +2,10 @@
 //! or write through, with or without write allocation, and Hill's three kinds of miss.
 //!
 //! A [`Geometry`] is a valid shape of a cache. A [`Cache`] serves accesses and flushes one by one
-//! and counts what they did. It keeps each set as a row of ways (`ways`), or as an ordered map if
-//! the set has many ways (`maps`). To tell the kinds of miss apart it keeps a fully associative LRU
-//! shadow and all blocks that were ever accessed (`kinds`).
+//! and counts what they did. Its [`Contents`] are each set as a row of ways (`ways`), or as an
+//! ordered map if the set has many ways (`maps`). To tell the kinds of miss apart it keeps a fully
+//! associative LRU shadow and all blocks that were ever accessed (`kinds`). Contents alone are for
+//! callers who tell the kinds of miss for many caches at once.
 //!
 //! Proved for every history of a cache: each outcome, the list of each flush and all counts are
 //! those of the definitions in `specs/`, which work on the whole history by reuse distance and have
@@ -15,6 +16,7 @@
 
 mod access;
 mod cache;
+mod contents;
 mod counts;
 mod geometry;
 mod kinds;
@@ -24,10 +26,12 @@ mod policy;
 mod sets;
 mod ways;
 
-pub use access::{Access, Class, MissKind, Outcome};
-pub use cache::{Cache, MAX_EVENTS, NoMemory};
+pub use access::{Access, Class, MissKind, Outcome, Served};
+pub use cache::{Cache, MAX_EVENTS};
+pub use contents::{Contents, NoMemory};
 pub use counts::{Counts, PerClass};
 pub use geometry::{Geometry, GeometryFault};
+pub use kinds::Prior;
 pub use laws::{
     a_cache_serves_as_many_events, at_most_one_block_leaves, definitions_meet_worked_examples,
     dirty_blocks_are_the_dirty_ones, one_lru_set_has_no_conflict, ordered_ways_are_residents,

@@ -16,8 +16,8 @@ ghost use Rattle.cache_core.specs.Mapped.{dirty_keys_of, cap_of, emptied, flat};
 ghost use Rattle.cache_core.specs.Serving.{ServesRow};
 ghost use Rattle.lru.specs.LruCache.{lru_cache, put_entries, displaced};
 
+use crate::access::Served;
 use crate::policy::{Policy, Repl, may_load};
-use crate::ways::Served;
 use lru::LruCache;
 use std::alloc::{AllocError, Global};
 use std::num::NonZeroUsize;

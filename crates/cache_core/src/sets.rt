@@ -10,9 +10,10 @@ ghost use Rattle.cache_core.specs.Row.{row, dirty_count, empty_way, is_dirty_way
 ghost use Rattle.cache_core.specs.Sets.{ways_in, has_shape};
 ghost use Rattle.cache_core.specs.Serving.{ServesRow};
 
+use crate::access::Served;
 use crate::maps::Maps;
 use crate::policy::Policy;
-use crate::ways::{Served, Way, clear_ways, dirty_ways, empty_ways, serve_ways};
+use crate::ways::{Way, clear_ways, dirty_ways, empty_ways, serve_ways};
 use std::alloc::{AllocError, Global};
 
 /// The most ways of a set that is kept as a row. By measurement, up to this number the scan of a

@@ -11,22 +11,17 @@ ghost use Rattle.cache_core.specs.Row.{holds_block, shifted, leaving, changed, d
 ghost use Rattle.cache_core.specs.Row.{empty_way, is_dirty_way, block_addr_of, dirty_count};
 ghost use Rattle.cache_core.specs.Serving.{ServesRow};
 
+use crate::access::Served;
 use crate::policy::{Policy, Repl};
 use std::alloc::{AllocError, Global};
 
-/// One way of a set. If `held`, it holds the block whose first byte is `first`; else it is empty.
+/// One way of a set. If `valid`, it holds the block whose first byte is `block_addr`; else it is
+/// empty.
 #[derive(Clone, Copy, Debug, PartialEq, Eq)]
 pub(crate) struct Way {
     pub block_addr: u64,
     pub valid: bool,
     pub dirty: bool,
-}
-
-/// Whether an access hit its set, and the first byte of the dirty block that it evicted, if any.
-#[derive(Clone, Copy, Debug, PartialEq, Eq)]
-pub(crate) struct Served {
-    pub hit: bool,
-    pub back: Option<u64>,
 }
 
 /// An empty way.

@@ -8,6 +8,7 @@ use std::fmt::Debug;
 use std::process::Abort;
 
 mod against_slow;
+mod contents;
 mod flushes;
 mod geometries;
 mod many_ways;
