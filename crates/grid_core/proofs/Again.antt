@@ -3,7 +3,7 @@ use Rattle.std.proofs.Common.{◌≡◌, ℕ, ◌%◌, ◌/◌, ◌<◌, Bool, t
 use Rattle.std.proofs.Common.{List, [], ◌∷◌, length, get_or, map, refl, sym, ap, subst, ◌∙◌, arith}
 use Rattle.std.specs.List.{All, list_any}
 use Rattle.std.proofs.Math.Nat.{mod-lt}
-use Rattle.std.proofs.lemmas.Bool.{eqb-true, lt-ltb, false≢true}
+use Rattle.std.proofs.lemmas.Bool.{eqb-true, lt-ltb, le-ltb, false≢true}
 use Rattle.std.proofs.lemmas.List.{length-map, get_or-map}
 use Rattle.cache_core.specs.declared.geometry.Geometry.{Geometry}
 use Rattle.cache_core.specs.declared.access.Access.{Access}
@@ -22,7 +22,7 @@ use Rattle.grid_core.specs.declared.cells.Shape.{Shape}
 use Rattle.grid_core.specs.declared.shadows.Shadows.{Shadows}
 use Rattle.grid_core.specs.declared.stack.Stack.{Stack}
 use Rattle.grid_core.specs.FullyAssociative.{shadow_misses}
-use Rattle.grid_core.specs.Cells.{HitsIn, IsPlacedAmong, IsPlacedOn, shape_rules}
+use Rattle.grid_core.specs.Cells.{HitsIn, IsPlacedAmong, IsPlacedOn, KnowsPrior, shape_rules}
 use Rattle.grid_core.specs.Recent.{IsAgain, used_last, written_last}
 use Rattle.grid_core.specs.Shadows.{HoldsOrder, recent_in, shadow_sizes}
 use Rattle.grid_core.specs.Shapes.{HaveBsize}
@@ -31,7 +31,7 @@ use Rattle.grid_core.specs.Standing.{StandsFor, StaysFirst, rules_of}
 use Rattle.grid_core.specs.State.{IsAfter, IsRanked, base_rules}
 use Rattle.grid_core.specs.Ways.{IsStacked}
 use Rattle.grid_core.specs.Written.{no_rules}
-use Rattle.grid_core.proofs.After.{referenced-next}
+use Rattle.grid_core.proofs.After.{referenced-next, referenced-size}
 use Rattle.grid_core.proofs.Counted.{counted-first}
 use Rattle.grid_core.proofs.Hitting.{with-none}
 use Rattle.grid_core.proofs.Repeats.{distance-last, front-again, level-last, recent-again}
@@ -161,6 +161,22 @@ known-last g [] b e = absurd (false≢true e)
 known-last g (flush ∷ h) b e = absurd (false≢true e)
 known-last g (access y ∷ h) b e =
     ap (λ t. t || list_any (λ t. t == b) (referenced_blocks (base_rules g) h)) e
+
+-- it is known in the words of each cache, and each shadow has it
+pub prior-again : (g : Geometry) (h : History) (x : Access) (sizes : List ℕ) (shapes : List Shape)
+    → used_last (bsize_of g) (x.addr / bsize_of g) h ≡ true → All (IsRanked sizes g) shapes
+    → All (λ s. KnowsPrior s h x (record { known = true; level = 0 })) shapes
+prior-again g h x sizes shapes last ranked k d lt =
+    let s = get_or shapes k d in
+    let q = shape_rules s in
+    let n = bsize_of g in
+    let same = (ranked k d lt).same in
+    record {
+      known = sym (ap (λ m. list_any (λ t. t == x.addr / m) (referenced_blocks q h)) same
+          ∙ ap (list_any (λ t. t == x.addr / n)) (referenced-size q (base_rules g) same h)
+          ∙ known-last g h (x.addr / n) last);
+      far = ap not (le-ltb s.rank 0 (omega arith)) ∙ sym (shadow-again n h x last s same);
+    }
 
 -- nothing changes
 pub after-again : (g : Geometry) (h : History) (x : Access) (sizes : List ℕ) (stacks : List Stack)

@@ -5,13 +5,13 @@ use Rattle.cache_core.specs.declared.policy.Policy.{Policy}
 use Rattle.cache_core.specs.declared.counts.Counts.{Counts}
 use Rattle.cache_core.specs.declared.counts.PerClass.{PerClass}
 use Rattle.cache_core.specs.History.{Rules}
-use Rattle.cache_core.specs.Counts.{no_counts}
+use Rattle.cache_core.specs.Counts.{no_counts, none_by_class}
 use Rattle.grid_core.specs.declared.caches.Caches.{Caches}
 use Rattle.grid_core.specs.declared.places.Place.{Place}
 use Rattle.grid_core.specs.declared.places.Place.TheVariants.{Together, Apart}
 use Rattle.grid_core.specs.declared.places.Seat.{Seat}
 use Rattle.grid_core.specs.Caches.{counts_in, misses_in, HaveSameCounts, HaveSameRules}
-use Rattle.grid_core.specs.Caches.{together_rules, apart_rules}
+use Rattle.grid_core.specs.Caches.{together_rules, apart_rules, shades_rules}
 use Rattle.grid_core.specs.Places.{IsSeated}
 use Rattle.grid_core.specs.Written.{none_kept}
 
@@ -25,7 +25,7 @@ module _ (c d : Caches) (same : HaveSameCounts c d) where
 
   misses-same : (p : Place) → misses_in c p ≡ misses_in d p
   misses-same (Together i) = ap (λ l. (get_or l i none_kept).1) same.together
-  misses-same (Apart i) = ap (λ l. (get_or l i no_counts).misses) same.apart
+  misses-same (Apart i) = ap (λ l. get_or l i none_by_class) same.shades
 
   -- what is kept for all seats
   pub kept-same : (seats : List Seat)
@@ -41,8 +41,12 @@ module _ (c d : Caches) (same : HaveSameCounts c d) where
 
 -- seats stay where the rules do
 pub seated-same : (p : Policy) (c d : Caches) → HaveSameRules c d → (seats : List Seat)
-    → All (IsSeated p (together_rules d) (apart_rules d)) seats
-    → All (IsSeated p (together_rules c) (apart_rules c)) seats
+    → All (IsSeated p (together_rules d) (apart_rules d) (shades_rules d)) seats
+    → All (IsSeated p (together_rules c) (apart_rules c) (shades_rules c)) seats
 seated-same p c d same seats all =
-    subst (λ (l : List Rules). All (IsSeated p (together_rules c) l) seats) (sym same.apart)
-    (subst (λ (l : List Rules). All (IsSeated p l (apart_rules d)) seats) (sym same.together) all)
+    subst (λ (l : List Rules). All (IsSeated p (together_rules c) (apart_rules c) l) seats)
+    (sym same.shades)
+    (subst (λ (l : List Rules). All (IsSeated p (together_rules c) l (shades_rules d)) seats)
+    (sym same.apart)
+    (subst (λ (l : List Rules). All (IsSeated p l (apart_rules d) (shades_rules d)) seats)
+    (sym same.together) all))

@@ -39,3 +39,4 @@ pub mod Tables
 pub mod WrittenBack
 pub mod CountsOf
 pub mod StackBounds
+pub mod Shadings

@@ -22,6 +22,7 @@ use Rattle.grid_core.specs.Plans.{IsAsLarge}
 use Rattle.grid_core.specs.Standing.{stack_rules}
 use Rattle.grid_core.specs.Wholes.{IsWholeOf, IsLruOf}
 use Rattle.grid_core.proofs.Geometries.{sets-blocks}
+use Rattle.grid_core.specs.Shading.{IsShaded}
 use Rattle.grid_core.specs.Written.{rules_at, no_rules, written_by}
 
 -- lists that grow
@@ -63,14 +64,24 @@ module _ (rs rs' ss ss' : List Rules) (a : Extends rs rs') (b : Extends ss ss') 
   shadow-longer (Together i) lt = ap shadow_of (rules-longer rs rs' a i lt)
   shadow-longer (Apart i) lt = rules-longer ss ss' b i lt
 
-  -- a seat stays one
-  pub seated-longer : (p : Policy) (s : Seat) → IsSeated p rs ss s → IsSeated p rs' ss' s
-  seated-longer p s own = record {
-    cell_there = place-longer s.cell own.cell_there;
-    cell = placed-longer s.cell own.cell_there ∙ own.cell;
-    shade_there = place-longer s.shade own.shade_there;
-    shade = shadow-longer s.shade own.shade_there ∙ own.shade;
+  -- a shadow stays where it is
+  pub shaded-longer : (s : Place × Rules) → IsShaded rs ss s → IsShaded rs' ss' s
+  shaded-longer s own = record {
+    there = place-longer s.0 own.there;
+    shadow = shadow-longer s.0 own.there ∙ own.shadow;
+    some = (let le = longer rs rs' a in let some = own.some in omega arith);
+    same_bsize = ap (λ (r : Rules). r.bsize) (rules-longer rs rs' a 0 own.some) ∙ own.same_bsize;
   }
+
+-- a seat stays one
+pub seated-longer : (rs rs' ss ss' ts ts' : List Rules) → Extends rs rs' → Extends ss ss'
+    → Extends ts ts' → (p : Policy) (s : Seat) → IsSeated p rs ss ts s → IsSeated p rs' ss' ts' s
+seated-longer rs rs' ss ss' ts ts' a b t p s own = record {
+  cell_there = place-longer rs rs' ss ss' a b s.cell own.cell_there;
+  cell = placed-longer rs rs' ss ss' a b s.cell own.cell_there ∙ own.cell;
+  shade_there = place-longer rs rs' ts ts' a t s.shade own.shade_there;
+  shade = shadow-longer rs rs' ts ts' a t s.shade own.shade_there ∙ own.shade;
+}
 
 -- the rules of caches
 
@@ -147,16 +158,16 @@ written-all h rs ss (s ∷ seats) all =
     (written-all h rs ss seats (λ k d lt. all (suc k) d (omega arith)))
 
 -- in the words of the rules of an engine
-pub written-seated : (h : History) (p : Policy) (rs ss : List Rules) (seats : List Seat)
-    → All (IsSeated p rs ss) seats
+pub written-seated : (h : History) (p : Policy) (rs ss ts : List Rules) (seats : List Seat)
+    → All (IsSeated p rs ss ts) seats
     → map (λ s. written_by h (rules_placed rs ss s.cell)) seats
     ≡ map (written_by h) (map (λ s. rules_from s.geometry p) seats)
-written-seated h p rs ss [] all = refl
-written-seated h p rs ss (s ∷ seats) all =
+written-seated h p rs ss ts [] all = refl
+written-seated h p rs ss ts (s ∷ seats) all =
     ap (λ r. written_by h r ∷ map (λ z. written_by h (rules_placed rs ss z.cell)) seats)
     (all 0 s (omega arith)).cell
     ∙ ap (λ l. written_by h (rules_from s.geometry p) ∷ l)
-    (written-seated h p rs ss seats (λ k d lt. all (suc k) d (omega arith)))
+    (written-seated h p rs ss ts seats (λ k d lt. all (suc k) d (omega arith)))
 
 -- what joins a list last
 
@@ -178,11 +189,11 @@ shadow-as-large gs g p i large walloc =
     ∙ stack-shadow (get_or gs i g) g p (large.same_bsize g) (large.same_blocks g) walloc
 
 -- a seat of a cache that joins those that are served together
-pub seated-together : (g : Geometry) (p : Policy) (gs gs' : List Geometry) (ss : List Rules)
+pub seated-together : (g : Geometry) (p : Policy) (gs gs' : List Geometry) (ss ts : List Rules)
     (s : Seat) → is_fifo p ≡ false → p.walloc ≡ true → gs' ≡ gs ++ g ∷ [] → s.geometry ≡ g
     → s.cell ≡ Together (length gs) → s.shade ≡ Together (length gs)
-    → IsSeated p (planned_rules p.wback gs') ss s
-seated-together g p gs gs' ss s lru walloc is geometry cell shade =
+    → IsSeated p (planned_rules p.wback gs') ss ts s
+seated-together g p gs gs' ss ts s lru walloc is geometry cell shade =
     let f = λ (d : Geometry). stack_rules d p.wback in
     let rs = map f gs in
     let rs' = map f gs' in
@@ -194,26 +205,42 @@ seated-together g p gs gs' ss s lru walloc is geometry cell shade =
     record {
       cell_there = subst (λ q. IsPlace (length rs') (length ss) q) (sym cell) inside;
       cell = ap (rules_placed rs' ss) cell ∙ at ∙ ap (λ d. rules_from d p) (sym geometry);
-      shade_there = subst (λ q. IsPlace (length rs') (length ss) q) (sym shade) inside;
-      shade = ap (shadow_placed rs' ss) shade ∙ ap shadow_of at
+      shade_there = subst (λ q. IsPlace (length rs') (length ts) q) (sym shade) inside;
+      shade = ap (shadow_placed rs' ts) shade ∙ ap shadow_of at
           ∙ ap (λ d. shadow_of (rules_from d p)) (sym geometry);
     }
 
 -- a seat of a cache of its own
-pub seated-apart : (g : Geometry) (p : Policy) (rs ss ss' ss'' : List Rules) (cell : ℕ)
-    (shade : Place) → ss' ≡ ss ++ rules_from g p ∷ [] → cell ≡ length ss → Extends ss' ss''
-    → IsPlace (length rs) (length ss'') shade
-    → shadow_placed rs ss'' shade ≡ shadow_of (rules_from g p)
-    → IsSeated p rs ss'' (record { geometry = g; cell = Apart cell; shade = shade })
-seated-apart g p rs ss ss' ss'' cell shade is at more there is-shadow =
-    let inside = last-inside ss ss' (rules_from g p) cell is at in
-    record {
-      cell_there = (let le = longer ss' ss'' more in omega arith);
-      cell = rules-longer ss' ss'' more cell inside
-          ∙ last-is ss ss' (rules_from g p) cell is at;
-      shade_there = there;
-      shade = is-shadow;
-    }
+pub seated-apart : (g : Geometry) (p : Policy) (rs ss ss' ts : List Rules) (cell : ℕ)
+    (shade : Place) → ss' ≡ ss ++ rules_from g p ∷ [] → cell ≡ length ss
+    → IsPlace (length rs) (length ts) shade
+    → shadow_placed rs ts shade ≡ shadow_of (rules_from g p)
+    → IsSeated p rs ss' ts (record { geometry = g; cell = Apart cell; shade = shade })
+seated-apart g p rs ss ss' ts cell shade is at there is-shadow = record {
+  cell_there = last-inside ss ss' (rules_from g p) cell is at;
+  cell = last-is ss ss' (rules_from g p) cell is at;
+  shade_there = there;
+  shade = is-shadow;
+}
+
+-- its shadow joins the others
+pub shaded-apart : (b : ℕ) (g : Geometry) (p : Policy) (gs : List Geometry) (ts : List Rules)
+    (ps ps' : List (Place × Rules)) (shade : Place) → ps' ≡ ps ++ (shade, rules_from g p) ∷ []
+    → bsize_of g ≡ b → All (λ d. bsize_of d ≡ b) gs → 0 < length gs
+    → IsPlace (length (planned_rules p.wback gs)) (length ts) shade
+    → shadow_placed (planned_rules p.wback gs) ts shade ≡ shadow_of (rules_from g p)
+    → All (IsShaded (planned_rules p.wback gs) ts) ps
+    → All (IsShaded (planned_rules p.wback gs) ts) ps'
+shaded-apart b g p gs ts ps ps' shade is one all some there is-shadow old =
+    let f = λ (d : Geometry). stack_rules d p.wback in
+    let P = IsShaded (map f gs) ts in
+    subst (All P) (sym is) (All-push P ps (shade, rules_from g p) old (record {
+      there = there;
+      shadow = is-shadow;
+      some = subst (λ n. 0 < n) (sym (length-map gs f)) some;
+      same_bsize = ap (λ (r : Rules). r.bsize) (get_or-map f gs 0 g no_rules some)
+          ∙ all 0 g some ∙ sym one;
+    }))
 
 -- a geometry of the block size joins others of the block size
 pub joins-all : (b : ℕ) (gs gs' : List Geometry) (g : Geometry) → gs' ≡ gs ++ g ∷ []

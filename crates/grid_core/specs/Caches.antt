@@ -1,20 +1,20 @@
 -- The caches of an engine, and what each counts.
-use Rattle.std.specs.Prelude.{◌≡◌, ℕ, ◌≤◌, ◌<◌, false, List, length, map, get_or}
+use Rattle.std.specs.Prelude.{◌≡◌, ℕ, ◌≤◌, false, List, length, map, get_or}
 use Rattle.std.specs.List.{All}
 use Rattle.cache_core.specs.declared.access.Access.{Access}
 use Rattle.cache_core.specs.declared.counts.Counts.{Counts}
 use Rattle.cache_core.specs.declared.counts.PerClass.{PerClass}
 use Rattle.cache_core.specs.History.{History, Rules}
-use Rattle.cache_core.specs.Counts.{no_counts}
-use Rattle.cache_core.specs.Standing.{served_of}
+use Rattle.cache_core.specs.Counts.{no_counts, none_by_class}
 use Rattle.grid_core.specs.declared.caches.Caches.{Caches}
 use Rattle.grid_core.specs.declared.places.Place.{Place}
 use Rattle.grid_core.specs.declared.places.Place.TheVariants.{Together, Apart}
-use Rattle.grid_core.specs.declared.stacked.Stacked.{Stacked}
-use Rattle.grid_core.specs.StackedCells.{StackedStandsFor, StackedHasAnswered, stacked_rules}
-use Rattle.grid_core.specs.StackedCells.{stacked_served, stacked_kept, stacked_failed}
+use Rattle.grid_core.specs.StackedCells.{stacked_rules, stacked_served, stacked_kept}
+use Rattle.grid_core.specs.StackedCells.{stacked_failed}
 use Rattle.grid_core.specs.Singles.{single_rules, single_counts, SingleStandsFor}
 use Rattle.grid_core.specs.Singles.{SingleHasAnswered}
+use Rattle.grid_core.specs.Shades.{ShadeStandsFor, shade_rules, shade_misses}
+use Rattle.grid_core.specs.Shading.{FollowsStacked, StackedFollowed}
 use Rattle.grid_core.specs.Places.{IsPlace}
 use Rattle.grid_core.specs.Written.{none_kept}
 
@@ -26,9 +26,17 @@ together_rules c = stacked_rules c.stacked
 abbrev pub apart_rules : Caches → List Rules
 apart_rules c = map single_rules c.singles.items
 
+-- the rules of the shadows of caches of their own, where writes do not allocate
+abbrev pub shades_rules : Caches → List Rules
+shades_rules c = map shade_rules c.shades.items
+
 -- the caches have this place
 abbrev pub HasPlace : Caches → Place → Type 0
 HasPlace c p = IsPlace (length (together_rules c)) (length (apart_rules c)) p
+
+-- they have this place of a shadow
+abbrev pub HasShade : Caches → Place → Type 0
+HasShade c p = IsPlace (length (together_rules c)) (length (shades_rules c)) p
 
 -- the counts at a place
 abbrev pub counts_in : Caches → Place → Counts
@@ -38,19 +46,12 @@ counts_in c (Apart i) = get_or (map single_counts c.singles.items) i no_counts
 -- the misses of the shadow at a place
 abbrev pub misses_in : Caches → Place → PerClass
 misses_in c (Together i) = (get_or (stacked_kept c.stacked) i none_kept).1
-misses_in c (Apart i) = (get_or (map single_counts c.singles.items) i no_counts).misses
-
--- caches that are served together stand for the history, if there are any; else none is served
-abbrev pub FollowsStacked : History → Stacked → Type 0
-FollowsStacked h s = 0 < length (stacked_rules s) → StackedStandsFor s h
-
--- their last access was x, after the history h
-abbrev pub StackedFollowed : History → Access → Stacked → Type 0
-StackedFollowed h x s = 0 < length (stacked_rules s) → StackedHasAnswered s h x
+misses_in c (Apart i) = get_or (map shade_misses c.shades.items) i none_by_class
 
 -- each cache stands for the history
 pub record CachesStandFor (h : History) (c : Caches) : Type 0 where
   pub stacked : FollowsStacked h c.stacked
+  pub shades : All (ShadeStandsFor h) c.shades.items
   pub singles : All (SingleStandsFor h) c.singles.items
 
 -- the last access of each cache was x, after the history h
@@ -62,14 +63,17 @@ pub record HaveAnswered (h : History) (x : Access) (c : Caches) : Type 0 where
 pub record AreInStep (n : ℕ) (c : Caches) : Type 0 where
   pub works : stacked_failed c.stacked ≡ false
   pub stacked : stacked_served c.stacked ≤ n
-  pub singles : All (λ s. served_of s.cache ≡ n) c.singles.items
+  pub shades : All (λ s. s.counted ≡ n) c.shades.items
+  pub singles : All (λ s. (s.settled ≡ n) × (s.pending ≡ false)) c.singles.items
 
 -- the caches have the same rules
 pub record HaveSameRules (c d : Caches) : Type 0 where
   pub together : together_rules c ≡ together_rules d
   pub apart : apart_rules c ≡ apart_rules d
+  pub shades : shades_rules c ≡ shades_rules d
 
 -- the caches have the same counts
 pub record HaveSameCounts (c d : Caches) : Type 0 where
   pub together : stacked_kept c.stacked ≡ stacked_kept d.stacked
   pub apart : map single_counts c.singles.items ≡ map single_counts d.singles.items
+  pub shades : map shade_misses c.shades.items ≡ map shade_misses d.shades.items

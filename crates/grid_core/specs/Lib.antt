@@ -17,7 +17,9 @@ pub mod State
 pub mod StackedCells
 pub mod Wholes
 pub mod Singles
+pub mod Shades
 pub mod Places
+pub mod Shading
 pub mod Plans
 pub mod Caches
 pub mod Engines

@@ -30,11 +30,11 @@ abbrev pub rules_placed : List Rules → List Rules → Place → Rules
 rules_placed together apart (Together i) = rules_at together i
 rules_placed together apart (Apart i) = rules_at apart i
 
--- the rules of the shadow whose misses are counted at a place: that of the cache there if it is
--- served together with others, else that cache itself
+-- the rules of the shadow at a place: that of a cache that is served together with others, or one
+-- of those that are kept for caches of their own
 abbrev pub shadow_placed : List Rules → List Rules → Place → Rules
-shadow_placed together apart (Together i) = shadow_of (rules_at together i)
-shadow_placed together apart (Apart i) = rules_at apart i
+shadow_placed together shades (Together i) = shadow_of (rules_at together i)
+shadow_placed together shades (Apart i) = rules_at shades i
 
 -- the list at a place
 abbrev pub list_placed : List (List ℕ) → List (List ℕ) → Place → List ℕ
@@ -42,11 +42,11 @@ list_placed together apart (Together i) = get_or together i []
 list_placed together apart (Apart i) = get_or apart i []
 
 -- the places of a seat are those of its cache and of its shadow
-pub record IsSeated (p : Policy) (together apart : List Rules) (s : Seat) : Type 0 where
+pub record IsSeated (p : Policy) (together apart shades : List Rules) (s : Seat) : Type 0 where
   pub cell_there : IsPlace (length together) (length apart) s.cell
   pub cell : rules_placed together apart s.cell ≡ rules_from s.geometry p
-  pub shade_there : IsPlace (length together) (length apart) s.shade
-  pub shade : shadow_placed together apart s.shade ≡ shadow_of (rules_from s.geometry p)
+  pub shade_there : IsPlace (length together) (length shades) s.shade
+  pub shade : shadow_placed together shades s.shade ≡ shadow_of (rules_from s.geometry p)
 
 -- the second list is the first with more behind it
 abbrev pub Extends : {X : Type 0} → List X → List X → Type 0

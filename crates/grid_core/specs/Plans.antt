@@ -6,8 +6,10 @@ use Rattle.cache_core.specs.Geometry.{bsize_of, blocks_of}
 use Rattle.cache_core.specs.History.{Rules}
 use Rattle.cache_core.specs.Kinds.{shadow_of}
 use Rattle.cache_core.specs.Standing.{rules_from}
+use Rattle.grid_core.specs.declared.shade.Shade.{Shade}
 use Rattle.grid_core.specs.declared.single.Single.{Single}
-use Rattle.grid_core.specs.Singles.{SingleStandsFor, HasServed}
+use Rattle.grid_core.specs.Shades.{ShadeStandsFor, HasCounted}
+use Rattle.grid_core.specs.Singles.{SingleStandsFor, HasSettled}
 use Rattle.grid_core.specs.Written.{rules_at}
 
 -- the geometry at the index has as many blocks, and they are as large
@@ -24,4 +26,9 @@ pub record IsShadowAt (rs : List Rules) (g : Geometry) (p : Policy) (index : ℕ
 -- the cache was given nothing
 pub record IsNew (s : Single) : Type 0 where
   pub stands : SingleStandsFor [] s
-  pub served : HasServed 0 s
+  pub settled : HasSettled 0 s
+
+-- the shadow was given nothing
+pub record IsNewShade (s : Shade) : Type 0 where
+  pub stands : ShadeStandsFor [] s
+  pub counted : HasCounted 0 s

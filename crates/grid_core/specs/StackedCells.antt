@@ -34,12 +34,12 @@ pub record StackedStandsFor (e : Stacked) (h : History) : Type 0 where
   pub state : IsAfter e.geometry e.stacks.items e.shadows e.shapes.items h
 
 -- the last access was x, after the history h: it used the block that was used last and so hit in
--- each cache, or it is known where it stood in the rows and what was known of its block
+-- each cache, or it is known where it stood in the rows; what was known of its block is kept
 pub record StackedHasAnswered (e : Stacked) (h : History) (x : Access) : Type 0 where
   pub write : e.write ≡ is_write x
   pub again : e.again ≡ true → All (HitsIn h x) e.shapes.items
   pub moved : e.again ≡ false → All (HasMoved h x) e.stacks.items
-  pub prior : e.again ≡ false → All (λ s. KnowsPrior s h x e.prior) e.shapes.items
+  pub prior : All (λ s. KnowsPrior s h x e.prior) e.shapes.items
 
 -- whether the last access sent nothing to the next level, by what is kept of it: it is no write
 -- that is sent on, and it used the block that was used last or hit in each cache

@@ -46,6 +46,10 @@ pub record IsAlike (g : Geometry) (h : History) (a : Alike) : Type 0 where
       (referenced_blocks (base_rules g) e))) h
   pub flushes : a.flushes ≡ flushes_in h
 
+-- nothing counted
+abbrev pub nothing_alike : Alike
+nothing_alike = record { fetches = none_by_class; firsts = none_by_class; flushes = 0 }
+
 -- no count that all caches have alike is above n
 pub record IsWithinAlike (n : ℕ) (a : Alike) : Type 0 where
   pub fetches : IsWithin a.fetches n

@@ -4,24 +4,33 @@ ghost use Rattle.std.specs.Prelude.{◌≡◌, ◌<◌, ◌≤◌, ◌+◌, ◌^
 ghost use Rattle.std.specs.Prelude.{IfOk, OnOk, OnErr};
 ghost use Rattle.cache_core.specs.History.{History, access as accessed, flush as flushed};
 ghost use Rattle.grid_core.specs.Cells.{items_of};
-ghost use Rattle.grid_core.specs.Caches.{FollowsStacked, StackedFollowed};
+ghost use Rattle.std.specs.List.{All};
+ghost use Rattle.grid_core.specs.Shades.{shade_rules};
+ghost use Rattle.grid_core.specs.Shading.{FollowsStacked, StackedFollowed, IsShaded};
+ghost use Rattle.grid_core.specs.Singles.{single_shading};
 ghost use Rattle.grid_core.specs.StackedCells.{stacked_rules, stacked_served, stacked_kept};
 ghost use Rattle.grid_core.specs.StackedCells.{stacked_failed};
 ghost use Rattle.grid_core.specs.Written.{written_by};
 
 use crate::places::{Place, Seat, lists_of};
+use crate::shade::Shade;
+use crate::shades::{clear_shades_in, serve_shades_in, settle_shades_in};
 use crate::single::Single;
-use crate::singles::{flush_in, none_sent, serve_in, settle_in};
+use crate::singles::{clear_in, lists_in, none_sent, serve_in, settle_in};
 use crate::stacked::Stacked;
 use cache_core::{Access, Counts, Outcome, PerClass};
 use std::alloc::{AllocError, Global};
 
-/// Caches of one policy: those that have a stack order, and those of their own. The shadows of
-/// caches of their own are among them too.
+/// Caches of one policy: those that have a stack order, and those of their own. Where there are
+/// any of the latter, one of the former tells them which blocks were accessed before. Their shadows
+/// are those of the former too, or where writes do not allocate, caches for that alone.
 #[derive(Drop)]
 pub(crate) struct Caches {
     pub stacked: Stacked,
+    pub shades: Vec<Shade>,
     pub singles: Vec<Single>,
+    ghost shaded: { All (IsShaded (stacked_rules stacked) (map shade_rules shades.items))
+        (map single_shading singles.items) },
 }
 
 /// Serves an access in the caches that are served together, if there are any.
@@ -82,12 +91,15 @@ impl Caches {
     ghost use Rattle.grid_core.specs.Cells.{items_of};
     ghost use Rattle.grid_core.specs.Caches.{CachesStandFor, HaveAnswered, AreInStep, HasPlace};
     ghost use Rattle.grid_core.specs.Caches.{HaveSameRules, HaveSameCounts, counts_in, misses_in};
-    ghost use Rattle.grid_core.specs.Caches.{together_rules, apart_rules};
+    ghost use Rattle.grid_core.specs.Caches.{HasShade, together_rules, apart_rules, shades_rules};
     ghost use Rattle.grid_core.specs.Places.{rules_placed, shadow_placed};
     ghost use Rattle.grid_core.specs.Written.{written_by, SendsNothing};
 
-    /// Serves an access in all caches. What can fail comes first, and only then is it counted.
-    pub fn access(&mut self, access: Access) -> Result<(), AllocError>
+    /// Serves an access where some caches are of their own. What can fail comes first, and only
+    /// then is it counted. Not inlined, so that caches that all have a stack order are served by
+    /// less code.
+    #[inline(never)]
+    fn access_each(&mut self, access: Access) -> Result<(), AllocError>
         requires { (n : ℕ) × AreInStep n self.old × (n < 2 ^ 44) }
         ensures stands { OnOk result ((h : History) → CachesStandFor h self.old →
             CachesStandFor (accessed access ∷ h) self.new) }
@@ -99,9 +111,29 @@ impl Caches {
         ensures rules { HaveSameRules self.new self.old }
     {
         serve_in(&mut self.singles, access)?;
+        serve_shades_in(&mut self.shades, access)?;
         serve_stacked(&mut self.stacked, access)?;
-        settle_in(&mut self.singles);
+        settle_shades_in(&mut self.shades, access);
+        settle_in(&mut self.singles, &self.stacked, &self.shades, access);
         Ok(())
+    }
+
+    /// Serves an access in all caches.
+    pub fn access(&mut self, access: Access) -> Result<(), AllocError>
+        requires { (n : ℕ) × AreInStep n self.old × (n < 2 ^ 44) }
+        ensures stands { OnOk result ((h : History) → CachesStandFor h self.old →
+            CachesStandFor (accessed access ∷ h) self.new) }
+        ensures answers { OnOk result ((h : History) → CachesStandFor h self.old →
+            HaveAnswered h access self.new) }
+        ensures step { OnOk result ((n : ℕ) → AreInStep n self.old →
+            AreInStep (n + 1) self.new) }
+        ensures keeps { OnErr result (HaveSameCounts self.new self.old) }
+        ensures rules { HaveSameRules self.new self.old }
+    {
+        if self.shades.is_empty() && self.singles.is_empty() {
+            return serve_stacked(&mut self.stacked, access);
+        }
+        self.access_each(access)
     }
 
     /// Empties all caches, and answers for each seat what its cache writes back. What can fail
@@ -119,11 +151,12 @@ impl Caches {
         ensures keeps { OnErr result (HaveSameCounts self.new self.old) }
         ensures rules { HaveSameRules self.new self.old }
     {
-        let apart = flush_in(alloc, &mut self.singles)?;
+        let apart = lists_in(alloc, &self.singles)?;
         let together = written_stacked(&self.stacked)?;
         let lists = lists_of(alloc, seats, &together, &apart)?;
         flush_stacked(&mut self.stacked);
-        settle_in(&mut self.singles);
+        clear_shades_in(&mut self.shades);
+        clear_in(&mut self.singles, &apart);
         Ok(lists)
     }
 
@@ -143,15 +176,15 @@ impl Caches {
 
     /// The misses of the shadow at a place.
     pub fn shadow_misses(&self, place: Place) -> PerClass
-        requires { HasPlace self.now place }
+        requires { HasShade self.now place }
         ensures kept { result ≡ misses_in self.now place }
         ensures counted { (h : History) → CachesStandFor h self.now →
-            result ≡ (counts_of (shadow_placed (together_rules self.now) (apart_rules self.now)
+            result ≡ (counts_of (shadow_placed (together_rules self.now) (shades_rules self.now)
             place) h).misses }
     {
         match place {
             Place::Together(index) => self.stacked.shadow_misses(index),
-            Place::Apart(index) => self.singles[index].counts().misses,
+            Place::Apart(index) => self.shades[index].misses(),
         }
     }
 

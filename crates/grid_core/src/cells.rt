@@ -11,8 +11,9 @@ ghost use Rattle.grid_core.specs.Cells.{sent_on_of};
 ghost use Rattle.grid_core.specs.Histograms.{past_in};
 ghost use Rattle.grid_core.specs.Standing.{StandsFor, HasMoved, found_in, rules_of, written_at};
 ghost use Rattle.grid_core.specs.Standing.{IsWithinStack, told_in};
-ghost use Rattle.grid_core.specs.State.{whole_counts};
+ghost use Rattle.grid_core.specs.State.{nothing_alike, whole_counts};
 
+use crate::counting::zero_per_class;
 use crate::misses::less;
 use crate::outcome::outcome_in;
 use crate::shadows::Prior;
@@ -38,6 +39,17 @@ pub(crate) struct Alike {
     pub fetches: PerClass,
     pub firsts: PerClass,
     pub flushes: u64,
+}
+
+/// Nothing counted.
+pub(crate) fn none_alike() -> Alike
+    ensures { result ≡ nothing_alike }
+{
+    Alike {
+        fetches: zero_per_class(),
+        firsts: zero_per_class(),
+        flushes: 0,
+    }
 }
 
 /// Whether the last access hit in the cache of a shape.

@@ -2,7 +2,7 @@
 
 ghost use Rattle.std.specs.Prelude.{◌≡◌, false};
 ghost use Rattle.std.specs.List.{All};
-ghost use Rattle.grid_core.specs.Caches.{AreInStep, together_rules, apart_rules};
+ghost use Rattle.grid_core.specs.Caches.{AreInStep, together_rules, apart_rules, shades_rules};
 ghost use Rattle.grid_core.specs.Places.{IsSeated};
 
 use crate::caches::Caches;
@@ -23,8 +23,8 @@ pub struct Engine {
     caches: Caches,
     served: u64,
     failed: bool,
-    ghost seated: { All (IsSeated policy (together_rules caches) (apart_rules caches))
-        seats.items },
+    ghost seated: { All (IsSeated policy (together_rules caches) (apart_rules caches)
+        (shades_rules caches)) seats.items },
     ghost step: { failed ≡ false → AreInStep served caches },
 }
 
@@ -66,6 +66,7 @@ impl Engine {
             seats: plan.seats,
             caches: Caches {
                 stacked,
+                shades: plan.shades,
                 singles: plan.singles,
             },
             served: 0,

@@ -9,7 +9,9 @@
 //! every number of ways whether it hits, and its dirty level whether it is written back. One list
 //! with a mark for each size is the shadow of all caches (`shadows`). Where blocks stood is counted
 //! once for each number of sets (`histogram`), and the counts of each cache follow from that
-//! (`cells`). The others, and those of more than 64 ways, are each a cache of its own (`single`).
+//! (`cells`). The others, and those of more than 64 ways, keep their own blocks and counts
+//! (`single`). They are told which blocks were accessed, and what their shadows hold (`singles`,
+//! `shading`).
 //! `plan` decides which cache goes where, and nobody above sees it. `laws` has what the definitions
 //! say of caches of different sizes.
 //!
@@ -31,6 +33,9 @@ mod parts;
 mod places;
 mod plan;
 mod recent;
+mod shade;
+mod shades;
+mod shading;
 mod shadows;
 mod shapes;
 mod single;

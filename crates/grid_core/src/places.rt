@@ -9,7 +9,8 @@ use cache_core::Geometry;
 use std::alloc::{AllocError, Global};
 
 /// A cache of an engine: the one of this index among those that are served together, or among those
-/// of their own.
+/// of their own. Or the shadow of a cache: that of one that is served together with others, or one
+/// of those that are kept for caches of their own.
 #[derive(Clone, Copy, Debug)]
 pub(crate) enum Place {
     Together(usize),

@@ -1,7 +1,7 @@
 //! What all caches of one block size share: the blocks that were ever accessed, the shadows of all
 //! sizes, and the block that was used last.
 
-ghost use Rattle.std.specs.Prelude.{◌≡◌, ◌==◌, ◌+◌, ℕ, Some, is_some, unwrap_or, length};
+ghost use Rattle.std.specs.Prelude.{◌≡◌, ◌==◌, ◌+◌, ℕ, Some, is_some, unwrap_or, length, true};
 ghost use Rattle.std.specs.Prelude.{if◌then◌else◌, IfOk, OnErr};
 ghost use Rattle.marked_list.specs.Marked.{marked_sizes};
 ghost use Rattle.grid_core.specs.AtHand.{AreRight};
@@ -18,10 +18,20 @@ use std::alloc::{AllocError, Global};
 
 /// What is known of a block before an access: whether it was ever accessed, and its level, the
 /// index of the smallest size whose shadow has it, or the number of sizes.
-#[derive(Clone, Copy, Debug, PartialEq, Eq)]
+#[derive(Clone, Copy, Debug, Default, PartialEq, Eq)]
 pub(crate) struct Prior {
     pub known: bool,
     pub level: usize,
+}
+
+/// What is known of the block that was used last: all shadows have it.
+pub(crate) fn prior_of_last() -> Prior
+    ensures { result ≡ record { known = true; level = 0 } }
+{
+    Prior {
+        known: true,
+        level: 0,
+    }
 }
 
 /// A block's number, and whether it had one before.

@@ -1,39 +1,32 @@
 //! A cache of its own: one that has no stack order.
 
-ghost use Rattle.std.specs.Prelude.{◌≡◌, true};
-ghost use Rattle.cache_core.specs.Standing.{rules_of, rules_from};
-ghost use Rattle.grid_core.specs.Wholes.{IsWholeOf, IsLruOf};
+ghost use Rattle.std.specs.Prelude.{◌≡◌, ◌≤◌, ◌+◌, true, if◌then◌else◌, is_some};
+ghost use Rattle.cache_core.specs.Counting.{AreWithin};
+ghost use Rattle.cache_core.specs.Parts.{one_if};
+ghost use Rattle.cache_core.specs.Standing.{dirty_held};
 ghost use Rattle.grid_core.specs.Written.{SendsNothing};
 
 use crate::outcome::no_outcome;
-use crate::shapes::is_lru;
-use cache_core::{Access, Cache, Counts, Geometry, Outcome, Policy};
+use crate::places::Place;
+use cache_core::{Access, Contents, Counts, Geometry, Outcome, Policy, Prior, Served};
 use std::alloc::{AllocError, Global};
 
-/// A cache, and what it counted up to the last event that all caches of its engine served. So the
-/// counts stay as they were if another cache is refused memory at the same event.
+/// The blocks of a cache, and what it counted up to the last event that all caches of its engine
+/// served. So the counts stay as they were if another cache is refused memory at the same event.
 #[derive(Drop)]
 pub(crate) struct Single {
-    geometry: Geometry,
-    policy: Policy,
-    cache: Cache,
+    contents: Contents,
+    /// The place of its shadow.
+    shade: Place,
     counts: Counts,
+    /// What its sets answered to the last access, which may be `pending`: not counted yet.
+    served: Served,
+    pending: bool,
     answer: Outcome,
-    ghost made: { rules_of cache ≡ rules_from geometry policy },
-}
-
-/// Whether a geometry is the fully associative one of the same block size and number of blocks.
-fn is_whole_of(geometry: Geometry, other: Geometry) -> bool
-    ensures { result ≡ true → IsWholeOf geometry other }
-{
-    geometry.sets() == 1 && geometry.bsize() == other.bsize() && geometry.blocks() == other.blocks()
-}
-
-/// Whether a policy is LRU, and writes as another does.
-fn is_lru_of(policy: Policy, other: Policy) -> bool
-    ensures { result ≡ true → IsLruOf policy other }
-{
-    is_lru(policy) && policy.wback == other.wback && policy.walloc == other.walloc
+    settled: u64,
+    ghost bounded: { AreWithin counts settled },
+    ghost charged: { counts.written_back + (if pending then one_if (is_some served.back) else 0)
+        + dirty_held contents ≤ settled + one_if pending },
 }
 
 /// Whether an access of this outcome sends nothing to the next level.
@@ -43,93 +36,118 @@ fn sends_nothing(outcome: Outcome) -> bool
     outcome.back.is_none() && !outcome.fetch && !outcome.through
 }
 
-#[tactic(auto, unfolding(crate::specs::Singles::HasReached, crate::specs::Singles::HasServed))]
+#[tactic(auto, unfolding(crate::specs::Singles::HasSettled, crate::specs::Singles::IsPending))]
 impl Single {
-    ghost use Rattle.std.specs.Prelude.{◌≡◌, ◌<◌, ◌+◌, ◌^◌, ◌∷◌, ℕ, true, [], IfOk, OnOk};
+    ghost use Rattle.std.specs.Prelude.{◌≡◌, ◌<◌, ◌≤◌, ◌+◌, ◌^◌, ◌∷◌, ℕ, true, [], IfOk, OnOk};
+    ghost use Rattle.std.specs.Prelude.{length};
     ghost use Rattle.cache_core.specs.History.{History, access as accessed, flush as flushed};
-    ghost use Rattle.cache_core.specs.Kinds.{shadow_of};
-    ghost use Rattle.cache_core.specs.Standing.{rules_from};
+    ghost use Rattle.cache_core.specs.Standing.{IsKnown, rules_from};
     ghost use Rattle.cache_core.specs.Counts.{counts_of};
     ghost use Rattle.cache_core.specs.Parts.{outcome_of};
-    ghost use Rattle.grid_core.specs.Singles.{SingleStandsFor, SingleHasAnswered, HasServed};
-    ghost use Rattle.grid_core.specs.Singles.{HasReached, single_rules, single_counts};
+    ghost use Rattle.grid_core.specs.Singles.{SingleStandsFor, SingleReached, SingleHasAnswered};
+    ghost use Rattle.grid_core.specs.Singles.{HasSettled, IsPending, single_rules, single_counts};
+    ghost use Rattle.grid_core.specs.Singles.{single_dirty};
     ghost use Rattle.grid_core.specs.Written.{written_by, SendsNothing};
 
-    /// An empty cache.
-    pub fn new(alloc: Global, geometry: Geometry, policy: Policy) -> Result<Single, AllocError>
+    /// An empty cache, whose shadow is at this place.
+    pub fn new(
+        alloc: Global,
+        geometry: Geometry,
+        policy: Policy,
+        shade: Place,
+    ) -> Result<Single, AllocError>
         ensures stands { IfOk result (λ single. SingleStandsFor [] single) }
         ensures rules { IfOk result (λ single. single_rules single ≡ rules_from geometry policy) }
-        ensures served { IfOk result (λ single. HasServed 0 single) }
+        ensures shade { IfOk result (λ single. single.shade ≡ shade) }
+        ensures settled { IfOk result (λ single. HasSettled 0 single) }
     {
-        let Ok(cache) = Cache::new(alloc, geometry, policy) else {
+        let Ok(contents) = Contents::new(alloc, geometry, policy) else {
             return Err(AllocError);
         };
-        let counts = cache.counts();
         Ok(Single {
-            geometry,
-            policy,
-            cache,
-            counts,
+            contents,
+            shade,
+            counts: Counts::default(),
+            served: Served {
+                hit: false,
+                back: None,
+            },
+            pending: false,
             answer: no_outcome(),
+            settled: 0,
         })
-    }
-
-    /// Whether this is the shadow of a cache of this geometry and policy.
-    pub fn is_shadow_of(&self, geometry: Geometry, policy: Policy) -> bool
-        ensures { result ≡ true →
-            single_rules self.now ≡ shadow_of (rules_from geometry policy) }
-    {
-        is_whole_of(self.geometry, geometry) && is_lru_of(self.policy, policy)
     }
 
     /// Serves one access. It is not counted before `settle`.
     pub fn serve(&mut self, access: Access) -> Result<(), AllocError>
-        requires { (n : ℕ) × HasServed n self.old × (n < 2 ^ 44) }
-        ensures reached { OnOk result ((h : History) → HasReached h self.old →
-            HasReached (accessed access ∷ h) self.new) }
-        ensures answer { OnOk result ((h : History) → HasReached h self.old →
-            SingleHasAnswered h access self.new) }
-        ensures served { OnOk result ((n : ℕ) → HasServed n self.old →
-            HasServed (n + 1) self.new) }
+        requires { (n : ℕ) × HasSettled n self.old }
+        ensures reached { OnOk result ((h : History) → SingleStandsFor h self.old →
+            SingleReached h access self.new) }
+        ensures pending { OnOk result ((n : ℕ) → HasSettled n self.old → IsPending n self.new) }
         ensures counts { single_counts self.new ≡ single_counts self.old }
         ensures rules { single_rules self.new ≡ single_rules self.old }
+        ensures shade { self.new.shade ≡ self.old.shade }
     {
-        let Ok(outcome) = self.cache.access(access) else {
+        let Ok(served) = self.contents.serve(access) else {
             return Err(AllocError);
         };
-        self.answer = outcome;
+        self.served = served;
+        self.pending = true;
         Ok(())
     }
 
-    /// Empties the cache, and answers the first bytes of its dirty blocks, in rising order. The
-    /// flush is not counted before `settle`.
-    pub fn flush(&mut self, alloc: Global) -> Result<Vec<u64>, AllocError>
-        requires { (n : ℕ) × HasServed n self.old × (n < 2 ^ 44) }
-        ensures list { IfOk result (λ list. (h : History) → HasReached h self.old →
-            list.items ≡ written_by h (single_rules self.old)) }
-        ensures reached { OnOk result ((h : History) → HasReached h self.old →
-            HasReached (flushed ∷ h) self.new) }
-        ensures served { OnOk result ((n : ℕ) → HasServed n self.old →
-            HasServed (n + 1) self.new) }
-        ensures counts { single_counts self.new ≡ single_counts self.old }
+    /// Counts the access that was served last, by what was known of its block before.
+    pub fn settle(&mut self, access: Access, prior: Prior)
+        requires { (n : ℕ) × IsPending n self.old × (n < 2 ^ 44) }
+        ensures stands { (h : History) → SingleReached h access self.old →
+            IsKnown (single_rules self.old) h access prior →
+            SingleStandsFor (accessed access ∷ h) self.new }
+        ensures answer { (h : History) → SingleReached h access self.old →
+            IsKnown (single_rules self.old) h access prior → SingleHasAnswered h access self.new }
+        ensures settled { (n : ℕ) → IsPending n self.old → HasSettled (n + 1) self.new }
         ensures rules { single_rules self.new ≡ single_rules self.old }
+        ensures shade { self.new.shade ≡ self.old.shade }
     {
-        let mut list = Vec::new(alloc);
-        let Ok(()) = self.cache.flush(&mut list) else {
+        let outcome = self.contents.outcome(access, self.served, prior);
+        self.counts.add_access(access, outcome);
+        self.answer = outcome;
+        self.pending = false;
+        self.settled += 1;
+    }
+
+    /// The first bytes of its dirty blocks, in rising order: what a flush writes back.
+    pub fn dirty(&self) -> Result<Vec<u64>, AllocError>
+        ensures list { IfOk result (λ list. (h : History) → SingleStandsFor h self.now →
+            list.items ≡ written_by h (single_rules self.now)) }
+        ensures few { IfOk result (λ list. length list.items ≤ single_dirty self.now) }
+    {
+        let Ok(list) = self.contents.dirty() else {
             return Err(AllocError);
         };
         Ok(list)
     }
 
-    /// Counts what was served.
-    pub fn settle(&mut self)
-        ensures stands { (h : History) → HasReached h self.old → SingleStandsFor h self.new }
-        ensures served { (n : ℕ) → HasServed n self.old → HasServed n self.new }
-        ensures answers { (h : History) (x : Access) → SingleHasAnswered h x self.old →
-            SingleHasAnswered h x self.new }
+    /// Lets all blocks go, and counts a flush that wrote so many back.
+    pub fn clear(&mut self, written: u64)
+        requires step { (n : ℕ) × HasSettled n self.old × (n < 2 ^ 44) }
+        requires few { written ≤ single_dirty self.old }
+        ensures stands { (h : History) → SingleStandsFor h self.old →
+            written ≡ length (written_by h (single_rules self.old)) →
+            SingleStandsFor (flushed ∷ h) self.new }
+        ensures settled { (n : ℕ) → HasSettled n self.old → HasSettled (n + 1) self.new }
         ensures rules { single_rules self.new ≡ single_rules self.old }
+        ensures shade { self.new.shade ≡ self.old.shade }
     {
-        self.counts = self.cache.counts();
+        self.counts.add_flush(written);
+        self.contents.clear();
+        self.settled += 1;
+    }
+
+    /// The place of its shadow.
+    pub fn shade(&self) -> Place
+        ensures { result ≡ self.now.shade }
+    {
+        self.shade
     }
 
     /// The counts.

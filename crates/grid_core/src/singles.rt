@@ -1,29 +1,38 @@
-//! All caches of their own.
+//! Caches of their own, one after another.
 
 ghost use Rattle.std.specs.Prelude.{◌≡◌, ◌<◌, ◌+◌, ◌^◌, ◌∷◌, ℕ, true, map, length, IfOk, OnOk};
 ghost use Rattle.std.specs.List.{All};
-ghost use Rattle.cache_core.specs.History.{History, access as accessed, flush as flushed};
+ghost use Rattle.cache_core.specs.declared.access.Access.{Access as Accessed};
+ghost use Rattle.cache_core.specs.History.{History, Rules, access as accessed, flush as flushed};
 ghost use Rattle.cache_core.specs.Parts.{outcome_of};
+ghost use Rattle.cache_core.specs.Standing.{IsKnown};
 ghost use Rattle.grid_core.specs.Cells.{items_of};
-ghost use Rattle.grid_core.specs.Singles.{SingleStandsFor, SingleHasAnswered, HasServed};
-ghost use Rattle.grid_core.specs.Singles.{HasReached, single_rules, single_counts};
+ghost use Rattle.grid_core.specs.Places.{IsPlace, shadow_placed};
+ghost use Rattle.grid_core.specs.Shades.{ShadeHasHit, shade_rules};
+ghost use Rattle.grid_core.specs.Shading.{IsShaded, StackedFollowed, hits_in};
+ghost use Rattle.grid_core.specs.Singles.{SingleStandsFor, SingleReached, SingleHasAnswered};
+ghost use Rattle.grid_core.specs.Singles.{HasSettled, IsPending, single_rules, single_counts};
+ghost use Rattle.grid_core.specs.Singles.{single_shading, AreFew};
+ghost use Rattle.grid_core.specs.StackedCells.{StackedHasAnswered, stacked_rules};
 ghost use Rattle.grid_core.specs.Written.{written_by, SendsNothing};
 
+use crate::places::Place;
+use crate::shade::Shade;
 use crate::single::Single;
-use cache_core::Access;
+use crate::stacked::Stacked;
+use cache_core::{Access, Prior};
 use std::alloc::{AllocError, Global};
 
 /// Serves an access in all caches. It is not counted yet.
 fn serve_all(singles: &mut [Single], access: Access) -> Result<(), AllocError>
-    requires { (n : ℕ) × All (HasServed n) singles.old × (n < 2 ^ 44) }
-    ensures reached { OnOk result ((h : History) → All (HasReached h) singles.old →
-        All (HasReached (accessed access ∷ h)) singles.new) }
-    ensures answers { OnOk result ((h : History) → All (HasReached h) singles.old →
-        All (SingleHasAnswered h access) singles.new) }
-    ensures served { OnOk result ((n : ℕ) → All (HasServed n) singles.old →
-        All (HasServed (n + 1)) singles.new) }
+    requires { (n : ℕ) × All (HasSettled n) singles.old }
+    ensures reached { OnOk result ((h : History) → All (SingleStandsFor h) singles.old →
+        All (SingleReached h access) singles.new) }
+    ensures pending { OnOk result ((n : ℕ) → All (HasSettled n) singles.old →
+        All (IsPending n) singles.new) }
     ensures counts { map single_counts singles.new ≡ map single_counts singles.old }
     ensures rules { map single_rules singles.new ≡ map single_rules singles.old }
+    ensures shading { map single_shading singles.new ≡ map single_shading singles.old }
 {
     for single in singles.iter_mut() {
         single.serve(access)?;
@@ -33,84 +42,155 @@ fn serve_all(singles: &mut [Single], access: Access) -> Result<(), AllocError>
 
 /// The same for a vector.
 pub(crate) fn serve_in(singles: &mut Vec<Single>, access: Access) -> Result<(), AllocError>
-    requires { (n : ℕ) × All (HasServed n) singles.old.items × (n < 2 ^ 44) }
-    ensures reached { OnOk result ((h : History) → All (HasReached h) singles.old.items →
-        All (HasReached (accessed access ∷ h)) singles.new.items) }
-    ensures answers { OnOk result ((h : History) → All (HasReached h) singles.old.items →
-        All (SingleHasAnswered h access) singles.new.items) }
-    ensures served { OnOk result ((n : ℕ) → All (HasServed n) singles.old.items →
-        All (HasServed (n + 1)) singles.new.items) }
+    requires { (n : ℕ) × All (HasSettled n) singles.old.items }
+    ensures reached { OnOk result ((h : History) → All (SingleStandsFor h) singles.old.items →
+        All (SingleReached h access) singles.new.items) }
+    ensures pending { OnOk result ((n : ℕ) → All (HasSettled n) singles.old.items →
+        All (IsPending n) singles.new.items) }
     ensures counts { map single_counts singles.new.items ≡ map single_counts singles.old.items }
     ensures rules { map single_rules singles.new.items ≡ map single_rules singles.old.items }
+    ensures shading { map single_shading singles.new.items
+        ≡ map single_shading singles.old.items }
 {
     serve_all(singles, access)
 }
 
-/// Empties all caches, and answers the list of each. The flush is not counted yet.
-fn flush_all(alloc: Global, singles: &mut [Single]) -> Result<Vec<Vec<u64>>, AllocError>
-    requires { (n : ℕ) × All (HasServed n) singles.old × (n < 2 ^ 44) }
-    ensures lists { IfOk result (λ lists. (h : History) → All (HasReached h) singles.old →
-        map items_of lists.items ≡ map (written_by h) (map single_rules singles.old)) }
-    ensures len { IfOk result (λ lists. length lists.items ≡ length singles.old) }
-    ensures reached { OnOk result ((h : History) → All (HasReached h) singles.old →
-        All (HasReached (flushed ∷ h)) singles.new) }
-    ensures served { OnOk result ((n : ℕ) → All (HasServed n) singles.old →
-        All (HasServed (n + 1)) singles.new) }
-    ensures counts { map single_counts singles.new ≡ map single_counts singles.old }
+/// Whether the shadow at a place had the block of the last access.
+fn shadow_had(stacked: &Stacked, shades: &Vec<Shade>, place: Place) -> bool
+    requires { IsPlace (length (stacked_rules stacked.now))
+        (length (map shade_rules shades.now.items)) place }
+    ensures { (h : History) (x : Accessed) → StackedHasAnswered stacked.now h x →
+        All (ShadeHasHit h x) shades.now.items → result ≡ hits_in h x
+        (shadow_placed (stacked_rules stacked.now) (map shade_rules shades.now.items) place) }
+{
+    match place {
+        Place::Together(index) => stacked.shadow_had(index),
+        Place::Apart(index) => shades[index].hit(),
+    }
+}
+
+/// What was known of the block of the last access, for a cache whose shadow is at this place.
+fn prior_at(stacked: &Stacked, shades: &Vec<Shade>, place: Place) -> Prior
+    requires some { 0 < length (stacked_rules stacked.now) }
+    requires there { IsPlace (length (stacked_rules stacked.now))
+        (length (map shade_rules shades.now.items)) place }
+    ensures { (h : History) (x : Accessed) → StackedHasAnswered stacked.now h x →
+        All (ShadeHasHit h x) shades.now.items → (r : Rules) → IsShaded
+        (stacked_rules stacked.now) (map shade_rules shades.now.items) (place, r) →
+        IsKnown r h x result }
+{
+    Prior {
+        referenced: stacked.knew(),
+        in_shadow: shadow_had(stacked, shades, place),
+    }
+}
+
+/// Counts the access that all caches served last.
+fn settle_all(singles: &mut [Single], stacked: &Stacked, shades: &Vec<Shade>, access: Access)
+    requires pending { (n : ℕ) × All (IsPending n) singles.old × (n < 2 ^ 44) }
+    requires shaded { All (IsShaded (stacked_rules stacked.now) (map shade_rules shades.now.items))
+        (map single_shading singles.old) }
+    ensures stands { (h : History) → All (SingleReached h access) singles.old →
+        StackedFollowed h access stacked.now → All (ShadeHasHit h access) shades.now.items →
+        All (SingleStandsFor (accessed access ∷ h)) singles.new }
+    ensures answers { (h : History) → All (SingleReached h access) singles.old →
+        StackedFollowed h access stacked.now → All (ShadeHasHit h access) shades.now.items →
+        All (SingleHasAnswered h access) singles.new }
+    ensures settled { (n : ℕ) → All (IsPending n) singles.old →
+        All (HasSettled (n + 1)) singles.new }
     ensures rules { map single_rules singles.new ≡ map single_rules singles.old }
+    ensures shading { map single_shading singles.new ≡ map single_shading singles.old }
+{
+    for single in singles.iter_mut() {
+        let prior = prior_at(stacked, shades, single.shade());
+        single.settle(access, prior);
+    }
+}
+
+/// The same for a vector.
+pub(crate) fn settle_in(
+    singles: &mut Vec<Single>,
+    stacked: &Stacked,
+    shades: &Vec<Shade>,
+    access: Access,
+)
+    requires pending { (n : ℕ) × All (IsPending n) singles.old.items × (n < 2 ^ 44) }
+    requires shaded { All (IsShaded (stacked_rules stacked.now) (map shade_rules shades.now.items))
+        (map single_shading singles.old.items) }
+    ensures stands { (h : History) → All (SingleReached h access) singles.old.items →
+        StackedFollowed h access stacked.now → All (ShadeHasHit h access) shades.now.items →
+        All (SingleStandsFor (accessed access ∷ h)) singles.new.items }
+    ensures answers { (h : History) → All (SingleReached h access) singles.old.items →
+        StackedFollowed h access stacked.now → All (ShadeHasHit h access) shades.now.items →
+        All (SingleHasAnswered h access) singles.new.items }
+    ensures settled { (n : ℕ) → All (IsPending n) singles.old.items →
+        All (HasSettled (n + 1)) singles.new.items }
+    ensures rules { map single_rules singles.new.items ≡ map single_rules singles.old.items }
+    ensures shading { map single_shading singles.new.items
+        ≡ map single_shading singles.old.items }
+{
+    settle_all(singles, stacked, shades, access);
+}
+
+/// What a flush writes back in each cache.
+fn lists_all(alloc: Global, singles: &[Single]) -> Result<Vec<Vec<u64>>, AllocError>
+    ensures lists { IfOk result (λ lists. (h : History) → All (SingleStandsFor h) singles.now →
+        map items_of lists.items ≡ map (written_by h) (map single_rules singles.now)) }
+    ensures few { IfOk result (λ lists. AreFew lists.items singles.now) }
+    ensures len { IfOk result (λ lists. length lists.items ≡ length singles.now) }
 {
     let mut lists = Vec::new(alloc);
-    for single in singles.iter_mut() {
-        let list = single.flush(alloc)?;
+    for single in singles {
+        let list = single.dirty()?;
         lists.push(list)?;
     }
     Ok(lists)
 }
 
 /// The same for a vector.
-pub(crate) fn flush_in(
-    alloc: Global,
-    singles: &mut Vec<Single>,
-) -> Result<Vec<Vec<u64>>, AllocError>
-    requires { (n : ℕ) × All (HasServed n) singles.old.items × (n < 2 ^ 44) }
-    ensures lists { IfOk result (λ lists. (h : History) → All (HasReached h) singles.old.items →
-        map items_of lists.items ≡ map (written_by h) (map single_rules singles.old.items)) }
-    ensures len { IfOk result (λ lists. length lists.items ≡ length singles.old.items) }
-    ensures reached { OnOk result ((h : History) → All (HasReached h) singles.old.items →
-        All (HasReached (flushed ∷ h)) singles.new.items) }
-    ensures served { OnOk result ((n : ℕ) → All (HasServed n) singles.old.items →
-        All (HasServed (n + 1)) singles.new.items) }
-    ensures counts { map single_counts singles.new.items ≡ map single_counts singles.old.items }
-    ensures rules { map single_rules singles.new.items ≡ map single_rules singles.old.items }
+pub(crate) fn lists_in(alloc: Global, singles: &Vec<Single>) -> Result<Vec<Vec<u64>>, AllocError>
+    ensures lists { IfOk result (λ lists. (h : History) →
+        All (SingleStandsFor h) singles.now.items →
+        map items_of lists.items ≡ map (written_by h) (map single_rules singles.now.items)) }
+    ensures few { IfOk result (λ lists. AreFew lists.items singles.now.items) }
+    ensures len { IfOk result (λ lists. length lists.items ≡ length singles.now.items) }
 {
-    flush_all(alloc, singles)
+    lists_all(alloc, singles)
 }
 
-/// Counts what all caches served.
-fn settle_all(singles: &mut [Single])
-    ensures stands { (h : History) → All (HasReached h) singles.old →
-        All (SingleStandsFor h) singles.new }
-    ensures served { (n : ℕ) → All (HasServed n) singles.old → All (HasServed n) singles.new }
-    ensures answers { (h : History) (x : Access) → All (SingleHasAnswered h x) singles.old →
-        All (SingleHasAnswered h x) singles.new }
+/// Lets all blocks go, and counts a flush that wrote these lists back.
+fn clear_all(singles: &mut [Single], lists: &Vec<Vec<u64>>)
+    requires step { (n : ℕ) × All (HasSettled n) singles.old × (n < 2 ^ 44) }
+    requires few { AreFew lists.now.items singles.old }
+    requires len { length lists.now.items ≡ length singles.old }
+    ensures stands { (h : History) → All (SingleStandsFor h) singles.old →
+        map items_of lists.now.items ≡ map (written_by h) (map single_rules singles.old) →
+        All (SingleStandsFor (flushed ∷ h)) singles.new }
+    ensures settled { (n : ℕ) → All (HasSettled n) singles.old →
+        All (HasSettled (n + 1)) singles.new }
     ensures rules { map single_rules singles.new ≡ map single_rules singles.old }
+    ensures shading { map single_shading singles.new ≡ map single_shading singles.old }
 {
-    for single in singles.iter_mut() {
-        single.settle();
+    for (index, single) in singles.iter_mut().enumerate() {
+        single.clear(lists[index].len() as u64);
     }
 }
 
 /// The same for a vector.
-pub(crate) fn settle_in(singles: &mut Vec<Single>)
-    ensures stands { (h : History) → All (HasReached h) singles.old.items →
-        All (SingleStandsFor h) singles.new.items }
-    ensures served { (n : ℕ) → All (HasServed n) singles.old.items →
-        All (HasServed n) singles.new.items }
-    ensures answers { (h : History) (x : Access) → All (SingleHasAnswered h x) singles.old.items →
-        All (SingleHasAnswered h x) singles.new.items }
+pub(crate) fn clear_in(singles: &mut Vec<Single>, lists: &Vec<Vec<u64>>)
+    requires step { (n : ℕ) × All (HasSettled n) singles.old.items × (n < 2 ^ 44) }
+    requires few { AreFew lists.now.items singles.old.items }
+    requires len { length lists.now.items ≡ length singles.old.items }
+    ensures stands { (h : History) → All (SingleStandsFor h) singles.old.items →
+        map items_of lists.now.items ≡ map (written_by h) (map single_rules singles.old.items) →
+        All (SingleStandsFor (flushed ∷ h)) singles.new.items }
+    ensures settled { (n : ℕ) → All (HasSettled n) singles.old.items →
+        All (HasSettled (n + 1)) singles.new.items }
     ensures rules { map single_rules singles.new.items ≡ map single_rules singles.old.items }
+    ensures shading { map single_shading singles.new.items
+        ≡ map single_shading singles.old.items }
 {
-    settle_all(singles);
+    clear_all(singles, lists);
 }
 
 /// Whether the last access sent nothing to the next level in any of these caches.

@@ -3,20 +3,20 @@
 ghost use Rattle.std.specs.Prelude.{◌≡◌, ◌<◌, ◌≤◌, ◌+◌, ◌^◌, false, length, map};
 ghost use Rattle.std.specs.List.{All};
 ghost use Rattle.cache_core.specs.Dirty.{rising};
+ghost use Rattle.cache_core.specs.Geometry.{bsize_of};
 ghost use Rattle.grid_core.specs.Shadows.{shadow_sizes, levels_in};
 ghost use Rattle.grid_core.specs.Totals.{total};
-ghost use Rattle.cache_core.specs.Geometry.{bsize_of};
 ghost use Rattle.cache_core.specs.Counting.{IsWithin};
 ghost use Rattle.grid_core.specs.Shapes.{HaveBsize};
 ghost use Rattle.grid_core.specs.Standing.{HaveLived, IsWithinStack, rules_of, told_in};
 ghost use Rattle.grid_core.specs.Cells.{IsPlacedAmong};
 ghost use Rattle.grid_core.specs.State.{IsRanked, IsWithinAlike};
 
-use crate::cells::{Alike, Shape, all_have_hit, answer_in, counts_in, dirty_lists};
-use crate::counting::{count, zero_per_class};
+use crate::cells::{Alike, Shape, all_have_hit, answer_in, counts_in, dirty_lists, none_alike};
+use crate::counting::count;
 use crate::outcome::{hit_outcome, sends_on};
 use crate::parts::parts_for;
-use crate::shadows::{Prior, Shadows};
+use crate::shadows::{Prior, Shadows, prior_of_last};
 use crate::shapes::rising_sizes;
 use crate::stack::{Stack, writes};
 use crate::stacks::{clear_in, serve_rows};
@@ -42,7 +42,7 @@ pub(crate) struct Stacked {
     write: bool,
     /// Whether it used the block that was used last, and changed nothing but the fetches.
     again: bool,
-    /// If not, what was known of its block before.
+    /// What was known of its block before.
     prior: Prior,
     ghost rises: { rising (shadow_sizes shadows) ≡ shadow_sizes shadows },
     ghost placed: { All (λ s. IsPlacedAmong (map rules_of stacks.items) s) shapes.items },
@@ -60,16 +60,18 @@ pub(crate) struct Stacked {
 
 #[tactic(auto, unfolding(crate::specs::StackedCells::stacked_rules, crate::specs::StackedCells::stacked_served, crate::specs::StackedCells::stacked_kept, crate::specs::StackedCells::stacked_failed))]
 impl Stacked {
-    ghost use Rattle.std.specs.Prelude.{◌≡◌, ◌<◌, ◌≤◌, ◌+◌, ◌/◌, ◌^◌, ◌∷◌, [], map, true, false};
-    ghost use Rattle.std.specs.Prelude.{OnOk, OnErr, IfOk, IsErr, get_or, length, ℕ};
-    ghost use Rattle.std.specs.List.{All};
+    ghost use Rattle.std.specs.Prelude.{◌≡◌, ◌==◌, ◌<◌, ◌≤◌, ◌+◌, ◌/◌, ◌^◌, ◌∷◌, [], map, true};
+    ghost use Rattle.std.specs.Prelude.{false, OnOk, OnErr, IfOk, IsErr, get_or, length, ℕ};
+    ghost use Rattle.std.specs.List.{All, list_any};
     ghost use Rattle.cache_core.specs.Geometry.{bsize_of};
     ghost use Rattle.cache_core.specs.History.{History, access as accessed, flush as flushed};
-    ghost use Rattle.cache_core.specs.History.{is_write};
-    ghost use Rattle.grid_core.specs.Recent.{IsAgain};
-    ghost use Rattle.grid_core.specs.Shadows.{recent_in};
+    ghost use Rattle.cache_core.specs.History.{block_of, is_write};
+    ghost use Rattle.cache_core.specs.Kinds.{referenced_blocks, shadow_of};
+    ghost use Rattle.cache_core.specs.Residents.{hits, renewals};
     ghost use Rattle.cache_core.specs.Parts.{outcome_of};
     ghost use Rattle.cache_core.specs.Counts.{counts_of};
+    ghost use Rattle.grid_core.specs.Recent.{IsAgain};
+    ghost use Rattle.grid_core.specs.Shadows.{recent_in};
     ghost use Rattle.grid_core.specs.FullyAssociative.{shadow_misses};
     ghost use Rattle.grid_core.specs.Cells.{items_of};
     ghost use Rattle.grid_core.specs.Standing.{stack_rules};
@@ -102,19 +104,12 @@ impl Stacked {
             stacks: parts.stacks,
             shadows,
             shapes: parts.shapes,
-            alike: Alike {
-                fetches: zero_per_class(),
-                firsts: zero_per_class(),
-                flushes: 0,
-            },
+            alike: none_alike(),
             served: 0,
             failed: false,
             write: false,
             again: false,
-            prior: Prior {
-                known: false,
-                level: 0,
-            },
+            prior: Prior::default(),
         })
     }
 
@@ -136,6 +131,7 @@ impl Stacked {
         count(&mut self.alike.fetches, access, true);
         self.write = writes(access);
         self.again = true;
+        self.prior = prior_of_last();
         self.served += 1;
     }
 
@@ -250,6 +246,26 @@ impl Stacked {
             result ≡ shadow_misses (rules_at (stacked_rules self.now) index) h }
     {
         self.shadows.misses(self.shapes[index].rank)
+    }
+
+    /// Whether the block of the last access was accessed before.
+    pub fn knew(&self) -> bool
+        requires { 0 < length (stacked_rules self.now) }
+        ensures { (h : History) (x : Access) → StackedHasAnswered self.now h x →
+            result ≡ list_any (λ b. b == block_of (rules_at (stacked_rules self.now) 0) x)
+            (referenced_blocks (rules_at (stacked_rules self.now) 0) h) }
+    {
+        self.prior.known
+    }
+
+    /// Whether the shadow of one cache had it.
+    pub fn shadow_had(&self, index: usize) -> bool
+        requires { index < length (stacked_rules self.now) }
+        ensures { (h : History) (x : Access) → StackedHasAnswered self.now h x →
+            result ≡ hits (shadow_of (rules_at (stacked_rules self.now) index))
+            (renewals (shadow_of (rules_at (stacked_rules self.now) index)) h) x }
+    {
+        !(self.shapes[index].rank < self.prior.level)
     }
 
     /// Whether the last access sent nothing to the next level in any cache.

@@ -6,6 +6,7 @@ use Rattle.std.proofs.lemmas.List.Elements.{All-push, All-weaker}
 use Rattle.cache_core.specs.Geometry.{bsize_of}
 use Rattle.cache_core.specs.Standing.{rules_from}
 use Rattle.grid_core.specs.Places.{IsSeated, planned_rules}
+use Rattle.grid_core.specs.Shades.{shade_rules}
 use Rattle.grid_core.specs.Singles.{single_rules}
 use Rattle.grid_core.specs.Standing.{stack_rules}
 use Rattle.grid_core.proofs.Seats.{extends-map, seated-longer}
@@ -26,6 +27,8 @@ loop-geometry-preserved c =
     let rs' = planned_rules p.wback c.seat_for.new.together.items in
     let ss = map single_rules c.loop-geometry.singles.items in
     let ss' = map single_rules c.seat_for.new.singles.items in
+    let ts = map shade_rules c.loop-geometry.shades.items in
+    let ts' = map shade_rules c.seat_for.new.shades.items in
     let grows = extends-map (λ g. stack_rules g p.wback) c.loop-geometry.together.items
     c.seat_for.new.together.items c.in_ok-seat.ensures.together in
     record {
@@ -35,13 +38,18 @@ loop-geometry-preserved c =
           ∙ ap (λ g. map (λ g. rules_from g p) (take i gs) ++ rules_from g p ∷ [])
           (c.in_ok-seat.ensures.geometry ∙ c.geometry-item.is)
           ∙ sym (map_more (λ g. rules_from g p) gs i e inside);
-      seated = subst (All (IsSeated p rs' ss')) (sym is)
-          (All-push (IsSeated p rs' ss') old v
-          (All-weaker (IsSeated p rs ss) (IsSeated p rs' ss')
-          (seated-longer rs rs' ss ss' grows c.in_ok-seat.ensures.apart p) old
+      seated = subst (All (IsSeated p rs' ss' ts')) (sym is)
+          (All-push (IsSeated p rs' ss' ts') old v
+          (All-weaker (IsSeated p rs ss ts) (IsSeated p rs' ss' ts')
+          (seated-longer rs rs' ss ss' ts ts' grows c.in_ok-seat.ensures.apart
+          c.in_ok-seat.ensures.shades p) old
           c.loop-geometry.invariant.seated) c.in_ok-seat.ensures.seated);
+      shaded = c.in_ok-seat.ensures.shaded (bsize_of c.args.first)
+          (ap bsize_of c.geometry-item.is ∙ c.requires i e inside)
+          c.loop-geometry.invariant.same c.loop-geometry.invariant.shaded;
       same = c.in_ok-seat.ensures.same (bsize_of c.args.first)
           (ap bsize_of c.geometry-item.is ∙ c.requires i e inside)
           c.loop-geometry.invariant.same;
       fresh = c.in_ok-seat.ensures.fresh c.loop-geometry.invariant.fresh;
+      fresh_shades = c.in_ok-seat.ensures.fresh_shades c.loop-geometry.invariant.fresh_shades;
     }

@@ -8,5 +8,5 @@ pub returns-clause-fresh : goal.returns-clause-fresh
 returns-clause-fresh c = λ all. subst (All IsNew) (sym c.in_ok-push.ensures.items)
     (All-push IsNew c.args.singles.now.items c.in_ok-single.single all (record {
       stands = c.in_ok-single.ensures.stands;
-      served = c.in_ok-single.ensures.served;
+      settled = c.in_ok-single.ensures.settled;
     }))

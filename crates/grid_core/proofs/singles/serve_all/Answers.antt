@@ -1,10 +1,10 @@
-use Rattle.std.proofs.Common.{◌≢◌, ◌<◌, ◌+◌, ◌∷◌, length, sym, subst, ◌∙◌, arith}
+use Rattle.std.proofs.Common.{◌≢◌, ◌<◌, length, get_or, sym, subst, ◌∙◌, arith}
 use Rattle.std.proofs.Common.{get_or-set_other}
 use Rattle.std.proofs.Math.Seq.{map-set_same}
 use Rattle.std.proofs.lemmas.List.Elements.{AllWithin-more_set}
-use Rattle.cache_core.specs.History.{access as accessed}
-use Rattle.grid_core.specs.Singles.{HasReached, HasServed, SingleHasAnswered, single_rules}
-use Rattle.grid_core.specs.Singles.{single_counts}
+use Rattle.grid_core.specs.Singles.{SingleStandsFor, SingleReached, HasSettled, IsPending}
+use Rattle.grid_core.specs.Singles.{single_counts, single_rules, single_shading}
+use Rattle.grid_core.proofs.Shadings.{shading-same}
 use Rattle.grid_core.proofs.singles.serve_all.Goals as goal
 
 pub serve-requires : goal.serve-requires
@@ -13,9 +13,8 @@ serve-requires c =
     let e = c.single-item.result in
     let n = c.requires.0 in (
       n,
-      subst (HasServed n) (sym (c.loop-single.invariant.left i e (omega arith)))
+      subst (HasSettled n) (sym (c.loop-single.invariant.left i e (omega arith)))
           (c.requires.1 i e (omega arith)),
-      c.requires.2,
     )
 
 pub loop-single-preserved : goal.loop-single-preserved
@@ -32,19 +31,18 @@ loop-single-preserved c =
     record {
       rules = map-set_same single_rules xs i v e c.serve.ensures.rules
           ∙ c.loop-single.invariant.rules;
+      shading = map-set_same single_shading xs i v e
+          (shading-same v (get_or xs i e) c.serve.ensures.shade c.serve.ensures.rules)
+          ∙ c.loop-single.invariant.shading;
       counts = map-set_same single_counts xs i v e c.serve.ensures.counts
           ∙ c.loop-single.invariant.counts;
-      reached = λ h all. AllWithin-more_set xs i v inside (HasReached (accessed x ∷ h))
+      reached = λ h all. AllWithin-more_set xs i v inside (SingleReached h x)
           (c.loop-single.invariant.reached h all)
-          (c.in_ok-serve.ensures.reached h (subst (HasReached h) (sym (left i e (omega arith)))
-          (all i e inside')));
-      answers = λ h all. AllWithin-more_set xs i v inside (SingleHasAnswered h x)
-          (c.loop-single.invariant.answers h all)
-          (c.in_ok-serve.ensures.answer h (subst (HasReached h) (sym (left i e (omega arith)))
-          (all i e inside')));
-      served = λ n all. AllWithin-more_set xs i v inside (HasServed (n + 1))
-          (c.loop-single.invariant.served n all)
-          (c.in_ok-serve.ensures.served n (subst (HasServed n) (sym (left i e (omega arith)))
+          (c.in_ok-serve.ensures.reached h (subst (SingleStandsFor h)
+          (sym (left i e (omega arith))) (all i e inside')));
+      pending = λ n all. AllWithin-more_set xs i v inside (IsPending n)
+          (c.loop-single.invariant.pending n all)
+          (c.in_ok-serve.ensures.pending n (subst (HasSettled n) (sym (left i e (omega arith)))
           (all i e inside')));
       left = λ k d lt. let ne : k ≢ i = omega arith in get_or-set_other xs i k v d ne
           ∙ left k d (omega arith);
@@ -59,3 +57,11 @@ pub returns-in_err-serve-clause-rules : goal.returns-in_err-serve-clause-rules
 returns-in_err-serve-clause-rules c =
     map-set_same single_rules c.loop-single.singles c.loop-single.single-index c.serve.new.self
     c.single-item.result c.serve.ensures.rules ∙ c.loop-single.invariant.rules
+
+pub returns-in_err-serve-clause-shading : goal.returns-in_err-serve-clause-shading
+returns-in_err-serve-clause-shading c =
+    map-set_same single_shading c.loop-single.singles c.loop-single.single-index c.serve.new.self
+    c.single-item.result (shading-same c.serve.new.self
+    (get_or c.loop-single.singles c.loop-single.single-index c.single-item.result)
+    c.serve.ensures.shade c.serve.ensures.rules)
+    ∙ c.loop-single.invariant.shading

@@ -1,22 +1,22 @@
-use Rattle.std.proofs.Common.{◌+◌, ◌∷◌, ℕ, List, map, length, get_or, sym, ap}
+use Rattle.std.proofs.Common.{ℕ, List, map, length, get_or, sym, ap}
 use Rattle.std.proofs.Common.{subst, ◌∙◌, arith}
 use Rattle.std.proofs.lemmas.List.{length-map}
-use Rattle.std.proofs.lemmas.List.Elements.{All-weaker}
-use Rattle.cache_core.specs.History.{flush as flushed}
 use Rattle.grid_core.specs.declared.places.Seat.{Seat}
 use Rattle.grid_core.specs.Cells.{items_of}
 use Rattle.grid_core.specs.Places.{IsPlace, list_placed}
 use Rattle.grid_core.specs.Caches.{together_rules, apart_rules}
-use Rattle.grid_core.specs.Singles.{SingleStandsFor, HasReached, HasServed, single_rules}
+use Rattle.grid_core.specs.Shades.{HasCounted}
+use Rattle.grid_core.specs.Singles.{single_rules, HasSettled}
 use Rattle.grid_core.specs.Written.{written_by}
 use Rattle.grid_core.proofs.Seats.{written-all}
+use Rattle.grid_core.proofs.Shadings.{shaded-still}
 use Rattle.grid_core.proofs.caches.Caches.flush.Goals as goal
 
-pub flush_in-requires : goal.flush_in-requires
-unfolding HasServed
-flush_in-requires c =
-    let step = c.requires.step in
-    (step.0, step.1.singles, step.2)
+pub invariant_of-self : goal.invariant_of-self
+invariant_of-self c = record {
+  shaded = shaded-still c.args.self.now.shaded c.flush_stacked.ensures.rules
+      c.clear_shades_in.ensures.rules c.clear_in.ensures.shading;
+}
 
 pub lists_of-requires : goal.lists_of-requires
 lists_of-requires c = λ k d lt.
@@ -43,38 +43,48 @@ returns-clause-lists c = λ h e.
     let seats = c.args.seats.now.items in
     let rs = together_rules old in
     let ss = apart_rules old in
-    let reached = All-weaker (SingleStandsFor h) (HasReached h) (λ s l. l.reached)
-    old.singles.items e.singles in
     c.in_ok-lists.ensures
     ∙ ap (λ (l : List (List ℕ)). map (λ (s : Seat).
     list_placed l (map items_of c.in_ok-apart.apart.items) s.cell) seats)
     (c.in_ok-together.ensures.lists h e.stacked)
     ∙ ap (λ (l : List (List ℕ)). map (λ (s : Seat).
-    list_placed (map (written_by h) rs) l s.cell) seats) (c.in_ok-apart.ensures.lists h reached)
+    list_placed (map (written_by h) rs) l s.cell) seats) (c.in_ok-apart.ensures.lists h e.singles)
     ∙ written-all h rs ss seats c.requires.seats
 
+pub clear_shades_in-requires : goal.clear_shades_in-requires
+unfolding HasSettled HasCounted
+clear_shades_in-requires c =
+    let step = c.requires.step in
+    (step.0, step.1.shades, step.2)
+
+pub clear_in-requires-clause-step : goal.clear_in-requires-clause-step
+unfolding HasSettled HasCounted
+clear_in-requires-clause-step c =
+    let step = c.requires.step in
+    (step.0, step.1.singles, step.2)
+
 pub returns-clause-stands : goal.returns-clause-stands
-returns-clause-stands c = λ h e.
-    let old = c.args.self.now.singles.items in
-    record {
-      stacked = c.flush_stacked.ensures.stands h e.stacked;
-      singles = c.settle_in.ensures.stands (flushed ∷ h) (c.in_ok-apart.ensures.reached h
-          (All-weaker (SingleStandsFor h) (HasReached h) (λ s l. l.reached) old e.singles));
-    }
+returns-clause-stands c = λ h e. record {
+  stacked = c.flush_stacked.ensures.stands h e.stacked;
+  shades = c.clear_shades_in.ensures.stands h e.shades;
+  singles = c.clear_in.ensures.stands h e.singles (c.in_ok-apart.ensures.lists h e.singles);
+}
 
 pub returns-clause-step : goal.returns-clause-step
-unfolding HasServed
+unfolding HasSettled HasCounted
 returns-clause-step c = λ n s. record {
   works = c.flush_stacked.ensures.works;
   stacked =
       let more = c.flush_stacked.ensures.served in
       let low = s.stacked in
       omega arith;
-  singles = c.settle_in.ensures.served (n + 1) (c.in_ok-apart.ensures.served n s.singles);
+  shades = c.clear_shades_in.ensures.counted n s.shades;
+  singles = c.clear_in.ensures.settled n s.singles;
 }
 
 pub returns-clause-rules : goal.returns-clause-rules
 returns-clause-rules c = record {
   together = c.flush_stacked.ensures.rules;
-  apart = c.settle_in.ensures.rules ∙ c.flush_in.ensures.rules;
+  apart = c.clear_in.ensures.rules;
+  shades = c.clear_shades_in.ensures.rules;
 }

@@ -1,7 +1,7 @@
 use Rattle.std.proofs.Common.{◌<◌, length, sym, ap, subst, ◌∙◌, arith}
 use Rattle.cache_core.specs.Counts.{counts_of}
 use Rattle.grid_core.specs.FullyAssociative.{shadow_misses}
-use Rattle.grid_core.specs.Caches.{together_rules, apart_rules}
+use Rattle.grid_core.specs.Caches.{together_rules, shades_rules}
 use Rattle.grid_core.specs.Places.{IsPlace, shadow_placed}
 use Rattle.grid_core.proofs.caches.Caches.shadow_misses.Goals as goal
 
@@ -10,7 +10,7 @@ unfolding shadow_misses
 returns-in-Together-clause-counted c = λ h e.
     let old = c.args.self.now in
     let rs = together_rules old in
-    let ss = apart_rules old in
+    let ss = shades_rules old in
     let inside : c.in-Together.index < length rs =
     subst (λ p. IsPlace (length rs) (length ss) p) c.in-Together.is c.requires in
     c.shadow_misses.ensures.counted h (e.stacked (omega arith))

@@ -1,5 +1,5 @@
 use Rattle.std.proofs.Common.{◌∙◌}
-use Rattle.grid_core.specs.Caches.{together_rules, apart_rules}
+use Rattle.grid_core.specs.Caches.{together_rules, apart_rules, shades_rules}
 use Rattle.grid_core.specs.Engines.{rules_in}
 use Rattle.grid_core.proofs.Kept.{seated-same}
 use Rattle.grid_core.proofs.Seats.{written-seated}
@@ -19,4 +19,4 @@ unfolding rules_in
 returns-clause-lists c = λ h e.
     let old = c.args.self.now in
     c.in-Ok.ensures.lists h e.caches ∙ written-seated h old.policy (together_rules old.caches)
-    (apart_rules old.caches) old.seats.items old.seated
+    (apart_rules old.caches) (shades_rules old.caches) old.seats.items old.seated

@@ -4,7 +4,7 @@ use Rattle.cache_core.specs.Counts.{counts_of}
 use Rattle.cache_core.specs.Kinds.{shadow_of}
 use Rattle.cache_core.specs.Standing.{rules_from}
 use Rattle.grid_core.specs.declared.places.Seat.{Seat}
-use Rattle.grid_core.specs.Caches.{together_rules, apart_rules}
+use Rattle.grid_core.specs.Caches.{together_rules, shades_rules}
 use Rattle.grid_core.specs.Engines.{rules_in}
 use Rattle.grid_core.specs.FullyAssociative.{shadow_misses}
 use Rattle.grid_core.specs.Places.{shadow_placed}
@@ -20,7 +20,7 @@ returns-clause-counted c = λ h e.
     let xs = old.seats.items in
     let f = λ (s : Seat). rules_from s.geometry old.policy in
     let rs = together_rules old.caches in
-    let ss = apart_rules old.caches in
+    let ss = shades_rules old.caches in
     let lt : i < length xs = let all = c.requires in omega (arith, length-map xs f) in
     c.shadow_misses.ensures.counted h e.caches
     ∙ ap (λ (s : Seat). (counts_of (shadow_placed rs ss s.shade) h).misses) c.index.ensures

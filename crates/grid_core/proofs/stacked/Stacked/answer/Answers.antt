@@ -24,7 +24,7 @@ returns c = λ h x answered.
     let lt = shape-there old c.requires in
     c.answer_in.ensures h x (answered.moved c.if-self.false)
     (subst (λ s. KnowsPrior s h x old.prior) (sym c.index-shape.ensures)
-    (answered.prior c.if-self.false i v lt))
+    (answered.prior i v lt))
     answered.write
     ∙ ap (λ s. outcome_of (shape_rules s) h x) c.index-shape.ensures
     ∙ ap (λ r. outcome_of r h x) (sym (get_or-map shape_rules xs i v no_rules lt))

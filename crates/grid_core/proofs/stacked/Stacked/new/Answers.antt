@@ -6,7 +6,7 @@ use Rattle.cache_core.specs.Counting.{IsWithin}
 use Rattle.cache_core.proofs.CacheFacts.{AreWithin-none}
 use Rattle.grid_core.specs.Shadows.{shadow_sizes}
 use Rattle.grid_core.specs.Standing.{IsEmptyStack}
-use Rattle.grid_core.specs.State.{IsRanked}
+use Rattle.grid_core.specs.State.{IsRanked, IsWithinAlike}
 use Rattle.grid_core.specs.StackedCells.{stacked_rules, stacked_served, stacked_failed}
 use Rattle.grid_core.proofs.After.{after-start}
 use Rattle.grid_core.proofs.Sharing.{alike-start}
@@ -35,11 +35,8 @@ invariant_of-result c =
       told = told-all (length (shadow_sizes shadows) + 1) stacks (subst (λ (l : List ℕ).
           All (IsEmptyStack (length l + 1)) stacks) (sym same) empty);
       bounded = λ k d lt. (empty k d lt).within;
-      alike_within = record {
-        fetches = subst (λ p. IsWithin p 0) (sym c.zero_per_class.ensures) none;
-        firsts = subst (λ p. IsWithin p 0) (sym c.zero_per_class-2.ensures) none;
-        flushes = omega arith;
-      };
+      alike_within = subst (IsWithinAlike 0) (sym c.none_alike.ensures)
+          (record { fetches = none; firsts = none; flushes = omega arith });
       small = subst (λ (l : List ℕ). length l < 2 ^ 60) (sym sizes)
           (let ok = c.in_ok-sizes.sizes.ok in let small = c.in_ok-sizes.sizes.small in omega arith);
       leveled = subst (λ p. IsWithin p 0) (sym c.in_ok-shadows.ensures.levels) none;
@@ -55,7 +52,8 @@ returns-clause-stands c =
     record {
       working = refl;
       served = refl;
-      alike = alike-start c.args.first _ c.zero_per_class.ensures c.zero_per_class-2.ensures refl;
+      alike = alike-start c.args.first _ (ap (λ a. a.fetches) c.none_alike.ensures)
+          (ap (λ a. a.firsts) c.none_alike.ensures) (ap (λ a. a.flushes) c.none_alike.ensures);
       state = after-start c.args.first c.in_ok-parts.parts.stacks.items shadows
           c.in_ok-parts.parts.shapes.items (length sizes + 1) c.in_ok-parts.ensures.empty
           c.in_ok-shadows.ensures.order c.in_ok-shadows.ensures.known

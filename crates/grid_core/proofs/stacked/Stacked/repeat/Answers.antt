@@ -1,12 +1,14 @@
-use Rattle.std.proofs.Common.{◌/◌, ◌+◌, true, sym, refl, arith}
+use Rattle.std.proofs.Common.{◌/◌, ◌+◌, true, sym, subst, refl, arith}
+use Rattle.std.specs.List.{All}
 use Rattle.std.proofs.lemmas.Bool.{false≢true}
 use Rattle.cache_core.specs.Geometry.{bsize_of}
 use Rattle.cache_core.specs.History.{is_write}
 use Rattle.cache_core.proofs.CacheFacts.{IsWithin-with_one}
+use Rattle.grid_core.specs.Cells.{KnowsPrior}
 use Rattle.grid_core.specs.Shadows.{levels_in, shadow_sizes}
 use Rattle.grid_core.specs.StackedCells.{stacked_failed, stacked_served}
 use Rattle.grid_core.specs.Totals.{total}
-use Rattle.grid_core.proofs.Again.{after-again, all-again, known-last, last-of}
+use Rattle.grid_core.proofs.Again.{after-again, all-again, known-last, last-of, prior-again}
 use Rattle.grid_core.proofs.Sharing.{alike-again}
 use Rattle.grid_core.proofs.StackBounds.{within-most, within-stacks}
 use Rattle.grid_core.proofs.Totals.{within-more}
@@ -72,5 +74,7 @@ returns-clause-answers c = λ h e.
       again = λ _. all-again g h x (shadow_sizes old.shadows) old.stacks.items shapes last
           old.placed old.ranked;
       moved = λ e. absurd (false≢true (sym e));
-      prior = λ e. absurd (false≢true (sym e));
+      prior = subst (λ p. All (λ s. KnowsPrior s h x p) shapes)
+          (sym c.prior_of_last-self.ensures)
+          (prior-again g h x (shadow_sizes old.shadows) shapes last old.ranked);
     }

@@ -132,7 +132,7 @@ returns-clause-answers c = λ h e.
       write = c.writes-self.ensures;
       again = λ e. absurd (false≢true e);
       moved = λ _. c.serve_rows.ensures.moved (bsize_of g) h old.one_size e.state.rows;
-      prior = λ _. shapes-prior g h x sizes (rising-is sizes old.rises) old.stacks.items
+      prior = shapes-prior g h x sizes (rising-is sizes old.rises) old.stacks.items
           old.shadows old.shapes.items c.in-Ok.prior e.state
           (c.in-Ok.ensures.known ∙ ap (is_known old.shadows) block)
           (λ zs held. c.in-Ok.ensures.level zs held ∙ ap (level_of sizes zs) block)

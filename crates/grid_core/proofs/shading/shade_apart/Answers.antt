@@ -4,10 +4,10 @@ use Rattle.std.proofs.lemmas.List.{length-map}
 use Rattle.cache_core.specs.declared.policy.Policy.{Policy}
 use Rattle.cache_core.specs.declared.policy.Repl.TheVariants.{Lru}
 use Rattle.cache_core.specs.Standing.{rules_from}
-use Rattle.grid_core.specs.Singles.{single_rules}
+use Rattle.grid_core.specs.Shades.{shade_rules}
 use Rattle.grid_core.proofs.OtherWays.{blocks-power, made-whole}
 use Rattle.grid_core.proofs.Seats.{whole-shadow, last-inside, last-is}
-use Rattle.grid_core.proofs.plan.shadow_apart.Goals as goal
+use Rattle.grid_core.proofs.shading.shade_apart.Goals as goal
 
 pub with_assoc-whole-requires-clause-power : goal.with_assoc-whole-requires-clause-power
 with_assoc-whole-requires-clause-power c = subst (λ n. is_power_of_two n ≡ true)
@@ -20,10 +20,10 @@ returns-clause-found c =
     let q : Policy = record { repl = Lru; wback = p.wback; walloc = p.walloc } in
     let w = c.with_assoc-whole.result in
     let made = c.with_assoc-whole.ensures in
-    let xs = c.args.singles.now.items in
-    let rs = map single_rules xs in
-    let rs' = map single_rules c.push_single.new.singles.items in
-    let at = c.in_ok-index.ensures.last ∙ sym (length-map xs single_rules) in
+    let xs = c.args.shades.now.items in
+    let rs = map shade_rules xs in
+    let rs' = map shade_rules c.push_shade.new.shades.items in
+    let at = c.in_ok-index.ensures.last ∙ sym (length-map xs shade_rules) in
     record {
       inside = last-inside rs rs' (rules_from w q) c.in_ok-index.index
           c.in_ok-index.ensures.rules at;

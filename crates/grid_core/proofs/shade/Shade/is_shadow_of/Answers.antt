@@ -1,6 +1,6 @@
 use Rattle.grid_core.proofs.Seats.{whole-shadow}
 use Rattle.std.proofs.Common.{◌∙◌}
-use Rattle.grid_core.proofs.single.Single.is_shadow_of.Goals as goal
+use Rattle.grid_core.proofs.shade.Shade.is_shadow_of.Goals as goal
 
 pub returns-then-is_whole_of : goal.returns-then-is_whole_of
 returns-then-is_whole_of c = λ same.

@@ -1,5 +1,5 @@
 use Rattle.grid_core.proofs.OtherWays.{one-is-power, one-fits}
-use Rattle.grid_core.proofs.plan.as_large.Goals as goal
+use Rattle.grid_core.proofs.shading.know_blocks.Goals as goal
 
 pub with_assoc-requires-clause-power : goal.with_assoc-requires-clause-power
 with_assoc-requires-clause-power c = one-is-power

@@ -4,7 +4,7 @@ use Rattle.cache_core.specs.declared.geometry.Geometry.{Geometry}
 use Rattle.cache_core.specs.Geometry.{IsMadeOf, size_of, blocks_of}
 use Rattle.cache_core.specs.Lawful.{refusal_of}
 use Rattle.grid_core.proofs.OtherWays.{bytes-are, ways-lawful, size-high, not-refused}
-use Rattle.grid_core.proofs.plan.with_assoc.Goals as goal
+use Rattle.grid_core.proofs.shading.with_assoc.Goals as goal
 
 pub overflow_mul-size : goal.overflow_mul-size
 overflow_mul-size c =
