@@ -54,14 +54,24 @@ fn contents_answer_hits_and_dirty_victims(rt: HostRuntime) {
     let mut contents = contents_of(&rt, rt.alloc(), LRU);
     expect(&rt, &mut contents, Class::Write, &[(1, MISSED), (3, FOUND)]);
     expect_dirty(&rt, &contents, &[0]);
-    expect(&rt, &mut contents, Class::Read, &[(16, VICTIM), (0, MISSED)]);
+    expect(
+        &rt,
+        &mut contents,
+        Class::Read,
+        &[(16, VICTIM), (0, MISSED)],
+    );
     expect_dirty(&rt, &contents, &[]);
 }
 
 #[test]
 fn cleared_contents_hold_nothing(rt: HostRuntime) {
     let mut contents = contents_of(&rt, rt.alloc(), LRU);
-    expect(&rt, &mut contents, Class::Write, &[(9, MISSED), (4, MISSED)]);
+    expect(
+        &rt,
+        &mut contents,
+        Class::Write,
+        &[(9, MISSED), (4, MISSED)],
+    );
     expect_dirty(&rt, &contents, &[4, 8]);
     contents.clear();
     expect_dirty(&rt, &contents, &[]);
