@@ -1,3 +1,4 @@
+pub mod Passing
 pub mod Distances
 pub mod Levels
 pub mod Positions

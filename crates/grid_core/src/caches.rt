@@ -14,9 +14,9 @@ ghost use Rattle.grid_core.specs.Written.{written_by};
 
 use crate::places::{Place, Seat, lists_of};
 use crate::shade::Shade;
-use crate::shades::{clear_shades_in, serve_shades_in, settle_shades_in};
+use crate::shades::{clear_shades, serve_shades, settle_shades};
 use crate::single::Single;
-use crate::singles::{clear_in, lists_in, none_sent, serve_in, settle_in};
+use crate::singles::{clear_all, lists_all, none_sent, serve_all, settle_all};
 use crate::stacked::Stacked;
 use cache_core::{Access, Counts, Outcome, PerClass};
 use std::alloc::{AllocError, Global};
@@ -110,11 +110,11 @@ impl Caches {
         ensures keeps { OnErr result (HaveSameCounts self.new self.old) }
         ensures rules { HaveSameRules self.new self.old }
     {
-        serve_in(&mut self.singles, access)?;
-        serve_shades_in(&mut self.shades, access)?;
+        serve_all(&mut self.singles, access)?;
+        serve_shades(&mut self.shades, access)?;
         serve_stacked(&mut self.stacked, access)?;
-        settle_shades_in(&mut self.shades, access);
-        settle_in(&mut self.singles, &self.stacked, &self.shades, access);
+        settle_shades(&mut self.shades, access);
+        settle_all(&mut self.singles, &self.stacked, &self.shades, access);
         Ok(())
     }
 
@@ -151,12 +151,12 @@ impl Caches {
         ensures keeps { OnErr result (HaveSameCounts self.new self.old) }
         ensures rules { HaveSameRules self.new self.old }
     {
-        let apart = lists_in(alloc, &self.singles)?;
+        let apart = lists_all(alloc, &self.singles)?;
         let together = written_stacked(&self.stacked)?;
         let lists = lists_of(alloc, seats, &together, &apart)?;
         flush_stacked(&mut self.stacked);
-        clear_shades_in(&mut self.shades);
-        clear_in(&mut self.singles, &apart);
+        clear_shades(&mut self.shades);
+        clear_all(&mut self.singles, &apart);
         Ok(lists)
     }
 

@@ -11,22 +11,7 @@ use cache_core::Access;
 use std::alloc::AllocError;
 
 /// Serves an access in all of them. It is not counted yet.
-fn serve_shades(shades: &mut [Shade], access: Access) -> Result<(), AllocError>
-    ensures reached { OnOk result ((h : History) → All (ShadeStandsFor h) shades.old →
-        All (ShadeReached h access) shades.new) }
-    ensures counted { OnOk result ((n : ℕ) → All (HasCounted n) shades.old →
-        All (HasCounted n) shades.new) }
-    ensures misses { map shade_misses shades.new ≡ map shade_misses shades.old }
-    ensures rules { map shade_rules shades.new ≡ map shade_rules shades.old }
-{
-    for shade in shades.iter_mut() {
-        shade.serve(access)?;
-    }
-    Ok(())
-}
-
-/// The same for a vector.
-pub(crate) fn serve_shades_in(shades: &mut Vec<Shade>, access: Access) -> Result<(), AllocError>
+pub(crate) fn serve_shades(shades: &mut Vec<Shade>, access: Access) -> Result<(), AllocError>
     ensures reached { OnOk result ((h : History) → All (ShadeStandsFor h) shades.old.items →
         All (ShadeReached h access) shades.new.items) }
     ensures counted { OnOk result ((n : ℕ) → All (HasCounted n) shades.old.items →
@@ -34,27 +19,14 @@ pub(crate) fn serve_shades_in(shades: &mut Vec<Shade>, access: Access) -> Result
     ensures misses { map shade_misses shades.new.items ≡ map shade_misses shades.old.items }
     ensures rules { map shade_rules shades.new.items ≡ map shade_rules shades.old.items }
 {
-    serve_shades(shades, access)
+    for shade in shades.iter_mut() {
+        shade.serve(access)?;
+    }
+    Ok(())
 }
 
 /// Counts the access that all of them served last.
-fn settle_shades(shades: &mut [Shade], access: Access)
-    requires { (n : ℕ) × All (HasCounted n) shades.old × (n < 2 ^ 44) }
-    ensures stands { (h : History) → All (ShadeReached h access) shades.old →
-        All (ShadeStandsFor (accessed access ∷ h)) shades.new }
-    ensures hit { (h : History) → All (ShadeReached h access) shades.old →
-        All (ShadeHasHit h access) shades.new }
-    ensures counted { (n : ℕ) → All (HasCounted n) shades.old →
-        All (HasCounted (n + 1)) shades.new }
-    ensures rules { map shade_rules shades.new ≡ map shade_rules shades.old }
-{
-    for shade in shades.iter_mut() {
-        shade.settle(access);
-    }
-}
-
-/// The same for a vector.
-pub(crate) fn settle_shades_in(shades: &mut Vec<Shade>, access: Access)
+pub(crate) fn settle_shades(shades: &mut Vec<Shade>, access: Access)
     requires { (n : ℕ) × All (HasCounted n) shades.old.items × (n < 2 ^ 44) }
     ensures stands { (h : History) → All (ShadeReached h access) shades.old.items →
         All (ShadeStandsFor (accessed access ∷ h)) shades.new.items }
@@ -64,25 +36,13 @@ pub(crate) fn settle_shades_in(shades: &mut Vec<Shade>, access: Access)
         All (HasCounted (n + 1)) shades.new.items }
     ensures rules { map shade_rules shades.new.items ≡ map shade_rules shades.old.items }
 {
-    settle_shades(shades, access);
-}
-
-/// Lets all blocks of all of them go.
-fn clear_shades(shades: &mut [Shade])
-    requires { (n : ℕ) × All (HasCounted n) shades.old × (n < 2 ^ 44) }
-    ensures stands { (h : History) → All (ShadeStandsFor h) shades.old →
-        All (ShadeStandsFor (flushed ∷ h)) shades.new }
-    ensures counted { (n : ℕ) → All (HasCounted n) shades.old →
-        All (HasCounted (n + 1)) shades.new }
-    ensures rules { map shade_rules shades.new ≡ map shade_rules shades.old }
-{
     for shade in shades.iter_mut() {
-        shade.clear();
+        shade.settle(access);
     }
 }
 
-/// The same for a vector.
-pub(crate) fn clear_shades_in(shades: &mut Vec<Shade>)
+/// Lets all blocks of all of them go.
+pub(crate) fn clear_shades(shades: &mut Vec<Shade>)
     requires { (n : ℕ) × All (HasCounted n) shades.old.items × (n < 2 ^ 44) }
     ensures stands { (h : History) → All (ShadeStandsFor h) shades.old.items →
         All (ShadeStandsFor (flushed ∷ h)) shades.new.items }
@@ -90,5 +50,7 @@ pub(crate) fn clear_shades_in(shades: &mut Vec<Shade>)
         All (HasCounted (n + 1)) shades.new.items }
     ensures rules { map shade_rules shades.new.items ≡ map shade_rules shades.old.items }
 {
-    clear_shades(shades);
+    for shade in shades.iter_mut() {
+        shade.clear();
+    }
 }

@@ -24,24 +24,7 @@ use cache_core::{Access, Prior};
 use std::alloc::{AllocError, Global};
 
 /// Serves an access in all caches. It is not counted yet.
-fn serve_all(singles: &mut [Single], access: Access) -> Result<(), AllocError>
-    requires { (n : ℕ) × All (HasSettled n) singles.old }
-    ensures reached { OnOk result ((h : History) → All (SingleStandsFor h) singles.old →
-        All (SingleReached h access) singles.new) }
-    ensures pending { OnOk result ((n : ℕ) → All (HasSettled n) singles.old →
-        All (IsPending n) singles.new) }
-    ensures counts { map single_counts singles.new ≡ map single_counts singles.old }
-    ensures rules { map single_rules singles.new ≡ map single_rules singles.old }
-    ensures shading { map single_shading singles.new ≡ map single_shading singles.old }
-{
-    for single in singles.iter_mut() {
-        single.serve(access)?;
-    }
-    Ok(())
-}
-
-/// The same for a vector.
-pub(crate) fn serve_in(singles: &mut Vec<Single>, access: Access) -> Result<(), AllocError>
+pub(crate) fn serve_all(singles: &mut Vec<Single>, access: Access) -> Result<(), AllocError>
     requires { (n : ℕ) × All (HasSettled n) singles.old.items }
     ensures reached { OnOk result ((h : History) → All (SingleStandsFor h) singles.old.items →
         All (SingleReached h access) singles.new.items) }
@@ -52,7 +35,10 @@ pub(crate) fn serve_in(singles: &mut Vec<Single>, access: Access) -> Result<(), 
     ensures shading { map single_shading singles.new.items
         ≡ map single_shading singles.old.items }
 {
-    serve_all(singles, access)
+    for single in singles.iter_mut() {
+        single.serve(access)?;
+    }
+    Ok(())
 }
 
 /// Whether the shadow at a place had the block of the last access.
@@ -86,29 +72,7 @@ fn prior_at(stacked: &Stacked, shades: &Vec<Shade>, place: Place) -> Prior
 }
 
 /// Counts the access that all caches served last.
-fn settle_all(singles: &mut [Single], stacked: &Stacked, shades: &Vec<Shade>, access: Access)
-    requires pending { (n : ℕ) × All (IsPending n) singles.old × (n < 2 ^ 44) }
-    requires shaded { All (IsShaded (stacked_rules stacked.now) (map shade_rules shades.now.items))
-        (map single_shading singles.old) }
-    ensures stands { (h : History) → All (SingleReached h access) singles.old →
-        StackedFollowed h access stacked.now → All (ShadeHasHit h access) shades.now.items →
-        All (SingleStandsFor (accessed access ∷ h)) singles.new }
-    ensures answers { (h : History) → All (SingleReached h access) singles.old →
-        StackedFollowed h access stacked.now → All (ShadeHasHit h access) shades.now.items →
-        All (SingleHasAnswered h access) singles.new }
-    ensures settled { (n : ℕ) → All (IsPending n) singles.old →
-        All (HasSettled (n + 1)) singles.new }
-    ensures rules { map single_rules singles.new ≡ map single_rules singles.old }
-    ensures shading { map single_shading singles.new ≡ map single_shading singles.old }
-{
-    for single in singles.iter_mut() {
-        let prior = prior_at(stacked, shades, single.shade());
-        single.settle(access, prior);
-    }
-}
-
-/// The same for a vector.
-pub(crate) fn settle_in(
+pub(crate) fn settle_all(
     singles: &mut Vec<Single>,
     stacked: &Stacked,
     shades: &Vec<Shade>,
@@ -129,55 +93,30 @@ pub(crate) fn settle_in(
     ensures shading { map single_shading singles.new.items
         ≡ map single_shading singles.old.items }
 {
-    settle_all(singles, stacked, shades, access);
+    for single in singles.iter_mut() {
+        let prior = prior_at(stacked, shades, single.shade());
+        single.settle(access, prior);
+    }
 }
 
 /// What a flush writes back in each cache.
-fn lists_all(alloc: Global, singles: &[Single]) -> Result<Vec<Vec<u64>>, AllocError>
-    ensures lists { IfOk result (λ lists. (h : History) → All (SingleStandsFor h) singles.now →
-        map items_of lists.items ≡ map (written_by h) (map single_rules singles.now)) }
-    ensures few { IfOk result (λ lists. AreFew lists.items singles.now) }
-    ensures len { IfOk result (λ lists. length lists.items ≡ length singles.now) }
-{
-    let mut lists = Vec::new(alloc);
-    for single in singles {
-        let list = single.dirty()?;
-        lists.push(list)?;
-    }
-    Ok(lists)
-}
-
-/// The same for a vector.
-pub(crate) fn lists_in(alloc: Global, singles: &Vec<Single>) -> Result<Vec<Vec<u64>>, AllocError>
+pub(crate) fn lists_all(alloc: Global, singles: &Vec<Single>) -> Result<Vec<Vec<u64>>, AllocError>
     ensures lists { IfOk result (λ lists. (h : History) →
         All (SingleStandsFor h) singles.now.items →
         map items_of lists.items ≡ map (written_by h) (map single_rules singles.now.items)) }
     ensures few { IfOk result (λ lists. AreFew lists.items singles.now.items) }
     ensures len { IfOk result (λ lists. length lists.items ≡ length singles.now.items) }
 {
-    lists_all(alloc, singles)
+    let mut lists = Vec::new(alloc);
+    for single in singles.iter() {
+        let list = single.dirty()?;
+        lists.push(list)?;
+    }
+    Ok(lists)
 }
 
 /// Lets all blocks go, and counts a flush that wrote these lists back.
-fn clear_all(singles: &mut [Single], lists: &Vec<Vec<u64>>)
-    requires step { (n : ℕ) × All (HasSettled n) singles.old × (n < 2 ^ 44) }
-    requires few { AreFew lists.now.items singles.old }
-    requires len { length lists.now.items ≡ length singles.old }
-    ensures stands { (h : History) → All (SingleStandsFor h) singles.old →
-        map items_of lists.now.items ≡ map (written_by h) (map single_rules singles.old) →
-        All (SingleStandsFor (flushed ∷ h)) singles.new }
-    ensures settled { (n : ℕ) → All (HasSettled n) singles.old →
-        All (HasSettled (n + 1)) singles.new }
-    ensures rules { map single_rules singles.new ≡ map single_rules singles.old }
-    ensures shading { map single_shading singles.new ≡ map single_shading singles.old }
-{
-    for (index, single) in singles.iter_mut().enumerate() {
-        single.clear(lists[index].len() as u64);
-    }
-}
-
-/// The same for a vector.
-pub(crate) fn clear_in(singles: &mut Vec<Single>, lists: &Vec<Vec<u64>>)
+pub(crate) fn clear_all(singles: &mut Vec<Single>, lists: &Vec<Vec<u64>>)
     requires step { (n : ℕ) × All (HasSettled n) singles.old.items × (n < 2 ^ 44) }
     requires few { AreFew lists.now.items singles.old.items }
     requires len { length lists.now.items ≡ length singles.old.items }
@@ -190,7 +129,9 @@ pub(crate) fn clear_in(singles: &mut Vec<Single>, lists: &Vec<Vec<u64>>)
     ensures shading { map single_shading singles.new.items
         ≡ map single_shading singles.old.items }
 {
-    clear_all(singles, lists);
+    for (index, single) in singles.iter_mut().enumerate() {
+        single.clear(lists[index].len() as u64);
+    }
 }
 
 /// Whether the last access sent nothing to the next level in any of these caches.

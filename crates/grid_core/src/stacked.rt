@@ -19,7 +19,7 @@ use crate::parts::parts_for;
 use crate::shadows::{Prior, Shadows, prior_of_last};
 use crate::shapes::rising_sizes;
 use crate::stack::{Stack, writes};
-use crate::stacks::{clear_in, serve_rows};
+use crate::stacks::{clear_rows, serve_rows};
 use cache_core::{Access, Counts, Geometry, NoMemory, Outcome, PerClass};
 use std::alloc::{AllocError, Global};
 
@@ -214,7 +214,7 @@ impl Stacked {
         ensures works { stacked_failed self.new ≡ false }
         ensures rules { stacked_rules self.new ≡ stacked_rules self.old }
     {
-        clear_in(&mut self.stacks);
+        clear_rows(&mut self.stacks);
         self.shadows.clear();
         self.alike.flushes += 1;
         self.served += 1;

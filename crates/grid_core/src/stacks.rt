@@ -86,36 +86,6 @@ fn serve_one(stack: &mut Stack, access: Access, level: usize, least: u64, behind
 }
 
 /// Serves an access, whose block has this level in the shadows, in all rows.
-fn serve_all(stacks: &mut [Stack], access: Access, level: usize)
-    requires levels { All (λ s. level < told_in s) stacks.old }
-    requires within { (n : ℕ) × All (IsWithinStack n) stacks.old × (n < 2 ^ 46) }
-    requires lived { (n : ℕ) × HaveBsize n stacks.old × HaveLived stacks.old }
-    ensures stands { (n : ℕ) (h : History) → HaveBsize n stacks.old →
-        All (λ s. StandsFor s h) stacks.old →
-        All (λ s. StandsFor s (accessed access ∷ h)) stacks.new }
-    ensures moved { (n : ℕ) (h : History) → HaveBsize n stacks.old →
-        All (λ s. StandsFor s h) stacks.old → All (HasMoved h access) stacks.new }
-    ensures counted { (n : ℕ) (sizes : List ℕ) (h : History) → HaveBsize n stacks.old →
-        All (λ s. StandsFor s h) stacks.old →
-        All (λ s. level ≡ level_at (rules_of s) sizes h access) stacks.old →
-        All (IsCountedIn sizes h) stacks.old →
-        All (IsCountedIn sizes (accessed access ∷ h)) stacks.new }
-    ensures bounds { (n : ℕ) → All (IsWithinStack n) stacks.old →
-        All (IsWithinStack (n + 1)) stacks.new }
-    ensures levels { map told_in stacks.new ≡ map told_in stacks.old }
-    ensures rules { map rules_of stacks.new ≡ map rules_of stacks.old }
-{
-    let least = least_staying(stacks, access);
-    let mut behind = Behind {
-        last_set: 0,
-        places: 0,
-    };
-    for stack in stacks.iter_mut() {
-        behind = serve_one(stack, access, level, least, behind);
-    }
-}
-
-/// The same for a vector.
 pub(crate) fn serve_rows(stacks: &mut Vec<Stack>, access: Access, level: usize)
     requires levels { All (λ s. level < told_in s) stacks.old.items }
     requires within { (n : ℕ) × All (IsWithinStack n) stacks.old.items × (n < 2 ^ 46) }
@@ -135,25 +105,18 @@ pub(crate) fn serve_rows(stacks: &mut Vec<Stack>, access: Access, level: usize)
     ensures levels { map told_in stacks.new.items ≡ map told_in stacks.old.items }
     ensures rules { map rules_of stacks.new.items ≡ map rules_of stacks.old.items }
 {
-    serve_all(stacks, access, level);
-}
-
-/// Empties all rows.
-fn clear_all(stacks: &mut [Stack])
-    ensures stands { (h : History) → All (λ s. StandsFor s (flushed ∷ h)) stacks.new }
-    ensures counted { (sizes : List ℕ) (h : History) → All (IsCountedIn sizes h) stacks.old →
-        All (IsCountedIn sizes (flushed ∷ h)) stacks.new }
-    ensures bounds { (n : ℕ) → All (IsWithinStack n) stacks.old → All (IsWithinStack n) stacks.new }
-    ensures levels { map told_in stacks.new ≡ map told_in stacks.old }
-    ensures rules { map rules_of stacks.new ≡ map rules_of stacks.old }
-{
+    let least = least_staying(stacks, access);
+    let mut behind = Behind {
+        last_set: 0,
+        places: 0,
+    };
     for stack in stacks.iter_mut() {
-        stack.clear();
+        behind = serve_one(stack, access, level, least, behind);
     }
 }
 
-/// The same for a vector.
-pub(crate) fn clear_in(stacks: &mut Vec<Stack>)
+/// Empties all rows.
+pub(crate) fn clear_rows(stacks: &mut Vec<Stack>)
     ensures stands { (h : History) → All (λ s. StandsFor s (flushed ∷ h)) stacks.new.items }
     ensures counted { (sizes : List ℕ) (h : History) → All (IsCountedIn sizes h) stacks.old.items →
         All (IsCountedIn sizes (flushed ∷ h)) stacks.new.items }
@@ -162,5 +125,7 @@ pub(crate) fn clear_in(stacks: &mut Vec<Stack>)
     ensures levels { map told_in stacks.new.items ≡ map told_in stacks.old.items }
     ensures rules { map rules_of stacks.new.items ≡ map rules_of stacks.old.items }
 {
-    clear_all(stacks);
+    for stack in stacks.iter_mut() {
+        stack.clear();
+    }
 }

@@ -1,18 +1,17 @@
-use Rattle.std.proofs.Common.{◌≡◌, ℕ, ◌+◌, ◌≤◌, ◌∷◌, get_or, map}
+use Rattle.std.proofs.Common.{◌≡◌, ℕ, ◌+◌, ◌∷◌, map}
 use Rattle.std.specs.List.{All, AllWithin}
 use Rattle.cache_core.specs.History.{History, flush as flushed}
-use Rattle.grid_core.specs.declared.shade.Shade.{Shade}
 use Rattle.grid_core.specs.Shades.{ShadeStandsFor, HasCounted, shade_rules}
+use Rattle.grid_core.proofs.Passing.{AreLeft}
 use Rattle.grid_core.proofs.shades.clear_shades.Given as goal
 
 -- the shadows that were passed are empty, and the others are as they were
 abbrev pub invariant-loop-shade : goal.invariant-loop-shade
 invariant-loop-shade l = record {
-  rules : map shade_rules l.shades ≡ map shade_rules l.initial.shades;
-  stands : (h : History) → All (ShadeStandsFor h) l.initial.shades →
-      AllWithin (ShadeStandsFor (flushed ∷ h)) l.shades 0 l.shade-index;
-  counted : (n : ℕ) → All (HasCounted n) l.initial.shades →
-      AllWithin (HasCounted (n + 1)) l.shades 0 l.shade-index;
-  left : (k : ℕ) (d : Shade) → l.shade-index ≤ k →
-      get_or l.shades k d ≡ get_or l.initial.shades k d;
+  rules : map shade_rules l.shade-items ≡ map shade_rules l.initial.shade-items;
+  stands : (h : History) → All (ShadeStandsFor h) l.initial.shade-items →
+      AllWithin (ShadeStandsFor (flushed ∷ h)) l.shade-items 0 l.shade-index;
+  counted : (n : ℕ) → All (HasCounted n) l.initial.shade-items →
+      AllWithin (HasCounted (n + 1)) l.shade-items 0 l.shade-index;
+  left : AreLeft l.shade-index l.initial.shade-items l.shade-items;
 }

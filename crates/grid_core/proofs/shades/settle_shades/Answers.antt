@@ -1,49 +1,38 @@
-use Rattle.std.proofs.Common.{◌≢◌, ◌<◌, ◌+◌, ◌∷◌, length, sym, subst, ◌∙◌, arith}
-use Rattle.std.proofs.Common.{get_or-set_other}
+use Rattle.std.proofs.Common.{◌+◌, ◌∷◌, ◌∙◌, arith}
 use Rattle.std.proofs.Math.Seq.{map-set_same}
-use Rattle.std.proofs.lemmas.List.Elements.{AllWithin-more_set}
 use Rattle.cache_core.specs.History.{access as accessed}
 use Rattle.grid_core.specs.Shades.{ShadeStandsFor, ShadeReached, ShadeHasHit, HasCounted}
 use Rattle.grid_core.specs.Shades.{shade_rules}
+use Rattle.grid_core.proofs.Passing.{left-still, one-passed, left-behind}
 use Rattle.grid_core.proofs.shades.settle_shades.Goals as goal
 
 pub settle-requires : goal.settle-requires
-settle-requires c =
-    let i = c.loop-shade.shade-index in
-    let e = c.shade-item.result in
-    let n = c.requires.0 in (
-      n,
-      subst (HasCounted n) (sym (c.loop-shade.invariant.left i e (omega arith)))
-          (c.requires.1 i e (omega arith)),
-      c.requires.2,
-    )
+settle-requires c = (
+  c.requires.0,
+  left-still (HasCounted c.requires.0) c.deref_mut-shade-items.result.now
+      c.loop-shade.shade-items c.loop-shade.shade-index c.shade-item.result
+      c.loop-shade.invariant.left (omega arith)
+      (rw c.deref_mut-shade-items.ensures.value c.requires.1),
+  c.requires.2,
+)
 
 pub loop-shade-preserved : goal.loop-shade-preserved
 loop-shade-preserved c =
+    let xs = c.loop-shade.shade-items in
     let i = c.loop-shade.shade-index in
-    let xs = c.loop-shade.shades in
     let v = c.settle.new.self in
     let e = c.shade-item.result in
     let x = c.args.access in
-    let first = c.args.shades.now in
-    let inside : i < length xs = omega arith in
-    let inside' : i < length first = omega arith in
-    let left = c.loop-shade.invariant.left in
+    let was = c.loop-shade.invariant in
+    let first = c.deref_mut-shade-items.result.now in
+    let passed = one-passed first xs i e v was.left (omega arith) (omega arith) in
     record {
-      rules = map-set_same shade_rules xs i v e c.settle.ensures.rules
-          ∙ c.loop-shade.invariant.rules;
-      stands = λ h all. AllWithin-more_set xs i v inside (ShadeStandsFor (accessed x ∷ h))
-          (c.loop-shade.invariant.stands h all)
-          (c.settle.ensures.stands h (subst (ShadeReached h x)
-          (sym (left i e (omega arith))) (all i e inside')));
-      hit = λ h all. AllWithin-more_set xs i v inside (ShadeHasHit h x)
-          (c.loop-shade.invariant.hit h all)
-          (c.settle.ensures.hit h (subst (ShadeReached h x)
-          (sym (left i e (omega arith))) (all i e inside')));
-      counted = λ n all. AllWithin-more_set xs i v inside (HasCounted (n + 1))
-          (c.loop-shade.invariant.counted n all)
-          (c.settle.ensures.counted n (subst (HasCounted n)
-          (sym (left i e (omega arith))) (all i e inside')));
-      left = λ k d lt. let ne : k ≢ i = omega arith in get_or-set_other xs i k v d ne
-          ∙ left k d (omega arith);
+      rules = map-set_same shade_rules xs i v e c.settle.ensures.rules ∙ was.rules;
+      stands = λ h all. passed (ShadeReached h x) (ShadeStandsFor (accessed x ∷ h))
+          (was.stands h all) all (c.settle.ensures.stands h);
+      hit = λ h all. passed (ShadeReached h x) (ShadeHasHit h x) (was.hit h all) all
+          (c.settle.ensures.hit h);
+      counted = λ n all. passed (HasCounted n) (HasCounted (n + 1)) (was.counted n all) all
+          (c.settle.ensures.counted n);
+      left = left-behind first xs i v was.left;
     }

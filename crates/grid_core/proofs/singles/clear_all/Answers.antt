@@ -1,16 +1,15 @@
-use Rattle.std.proofs.Common.{◌≡◌, ◌≢◌, ℕ, ◌<◌, ◌≤◌, ◌+◌, ◌∷◌, [], List, length, get_or, map, sym}
+use Rattle.std.proofs.Common.{◌≡◌, ℕ, ◌<◌, ◌≤◌, ◌+◌, ◌∷◌, [], List, length, get_or, map, sym}
 use Rattle.std.proofs.Common.{ap, subst, ◌∙◌, arith}
-use Rattle.std.proofs.Common.{get_or-set_other}
 use Rattle.std.specs.Global.{Vec}
 use Rattle.std.proofs.Math.Seq.{map-set_same}
 use Rattle.std.proofs.lemmas.List.{get_or-map, length-map}
-use Rattle.std.proofs.lemmas.List.Elements.{AllWithin-more_set}
 use Rattle.cache_core.specs.History.{History, flush as flushed}
 use Rattle.grid_core.specs.declared.single.Single.{Single}
 use Rattle.grid_core.specs.Cells.{items_of}
 use Rattle.grid_core.specs.Singles.{SingleStandsFor, HasSettled, single_rules, single_dirty}
 use Rattle.grid_core.specs.Singles.{single_shading}
 use Rattle.grid_core.specs.Written.{no_rules, written_by}
+use Rattle.grid_core.proofs.Passing.{one-passed, left-behind}
 use Rattle.grid_core.proofs.Shadings.{shading-same}
 use Rattle.grid_core.proofs.singles.clear_all.Goals as goal
 
@@ -36,49 +35,44 @@ written-at h lists first i v e lt lt' is same =
 pub clear-requires-clause-few : goal.clear-requires-clause-few
 clear-requires-clause-few c =
     let i = c.loop-index.index in
-    let e = c.index-singles-index.result in
+    let e = c.single-item.result in
     let v = c.index.result.now in
-    let first = c.args.singles.now in
+    let first = c.args.singles.now.items in
     let lists = c.args.lists.now.items in
     let inside : i < length first = omega arith in
     let inside' : i < length lists = (let len = c.requires.len in omega arith) in
     let few = c.requires.few i inside in
-    subst (λ n. n ≤ single_dirty (get_or c.loop-index.singles i e))
+    let same = sym (ap (λ (l : List Single). get_or l i e) c.deref_mut-single-items.ensures.value)
+    ∙ sym (c.loop-index.invariant.left i e (omega arith)) in
+    subst (λ n. n ≤ single_dirty (get_or c.loop-index.single-items i e))
     (sym (c.len.ensures ∙ v.ok.0 ∙ long-at lists i v inside' c.index.ensures))
     (subst (λ n. get_or (map (λ w. length w.items) lists) i 0 ≤ n)
-    (get_or-map single_dirty first i e 0 inside
-    ∙ ap single_dirty (sym (c.loop-index.invariant.left i e (omega arith)))) few)
+    (get_or-map single_dirty first i e 0 inside ∙ ap single_dirty same) few)
 
 pub loop-index-preserved : goal.loop-index-preserved
 loop-index-preserved c =
+    let xs = c.loop-index.single-items in
     let i = c.loop-index.index in
-    let xs = c.loop-index.singles in
     let w = c.clear.new.self in
-    let e = c.index-singles-index.result in
+    let e = c.single-item.result in
     let v = c.index.result.now in
-    let first = c.args.singles.now in
+    let was = c.loop-index.invariant in
+    let first = c.deref_mut-single-items.result.now in
     let lists = c.args.lists.now.items in
-    let inside : i < length xs = omega arith in
-    let inside' : i < length first = omega arith in
+    let inside : i < length first = omega arith in
     let listed : i < length lists = (let len = c.requires.len in omega arith) in
-    let left = c.loop-index.invariant.left in
+    let passed = one-passed first xs i e w was.left inside (omega arith) in
     record {
-      rules = map-set_same single_rules xs i w e c.clear.ensures.rules
-          ∙ c.loop-index.invariant.rules;
+      rules = map-set_same single_rules xs i w e c.clear.ensures.rules ∙ was.rules;
       shading = map-set_same single_shading xs i w e
           (shading-same w (get_or xs i e) c.clear.ensures.shade c.clear.ensures.rules)
-          ∙ c.loop-index.invariant.shading;
-      stands = λ h all same. AllWithin-more_set xs i w inside (SingleStandsFor (flushed ∷ h))
-          (c.loop-index.invariant.stands h all same)
-          (c.clear.ensures.stands h (subst (SingleStandsFor h) (sym (left i e (omega arith)))
-          (all i e inside'))
-          (c.len.ensures ∙ v.ok.0 ∙ written-at h lists first i v e listed inside' c.index.ensures
+          ∙ was.shading;
+      stands = λ h all same. passed (SingleStandsFor h) (SingleStandsFor (flushed ∷ h))
+          (was.stands h all same) all (λ here. c.clear.ensures.stands h here
+          (c.len.ensures ∙ v.ok.0 ∙ written-at h lists first i v e listed inside c.index.ensures
           same ∙ ap (λ s. length (written_by h (single_rules s)))
-          (sym (left i e (omega arith)))));
-      settled = λ n all. AllWithin-more_set xs i w inside (HasSettled (n + 1))
-          (c.loop-index.invariant.settled n all)
-          (c.clear.ensures.settled n (subst (HasSettled n) (sym (left i e (omega arith)))
-          (all i e inside')));
-      left = λ k d lt. let ne : k ≢ i = omega arith in get_or-set_other xs i k w d ne
-          ∙ left k d (omega arith);
+          (sym (was.left i e (omega arith)))));
+      settled = λ n all. passed (HasSettled n) (HasSettled (n + 1)) (was.settled n all) all
+          (c.clear.ensures.settled n);
+      left = left-behind first xs i w was.left;
     }

@@ -38,7 +38,7 @@ few-more old new v xs i k is len lt before last =
 pub loop-single-preserved : goal.loop-single-preserved
 loop-single-preserved c =
     let i = c.loop-single.single-index in
-    let xs = c.args.singles.now in
+    let xs = c.args.singles.now.items in
     let e = c.single-item.result in
     let inside : i < length xs = omega arith in
     let old = c.loop-single.lists.items in
@@ -46,18 +46,20 @@ loop-single-preserved c =
     let new = c.push.new.self.items in
     let is : new ≡ old ++ v ∷ [] = c.in_ok-push.ensures.items in
     let len = c.loop-single.invariant.len in
+    let here : e ≡ get_or xs i e = c.single-item.is
+    ∙ ap (λ (l : List Single). get_or l i e) c.deref-single-items.ensures.value in
     record {
       lists = λ h all. ap (map items_of) is
           ∙ map-append items_of old (v ∷ [])
           ∙ ap (λ l. l ++ v.items ∷ []) (c.loop-single.invariant.lists h all)
           ∙ ap (λ l. map (written_by h) (map single_rules (take i xs)) ++ l ∷ [])
-          (c.in_ok-list.ensures.list h (subst (SingleStandsFor h) (sym c.single-item.is)
-          (all i e inside)) ∙ ap (λ s. written_by h (single_rules s)) c.single-item.is)
+          (c.in_ok-list.ensures.list h (subst (SingleStandsFor h) (sym here)
+          (all i e inside)) ∙ ap (λ s. written_by h (single_rules s)) here)
           ∙ sym (map-append (written_by h) (map single_rules (take i xs))
           (single_rules (get_or xs i e) ∷ []))
           ∙ ap (map (written_by h)) (sym (map_more single_rules xs i e inside));
       few = λ k lt. few-more old new v xs i k is len lt (c.loop-single.invariant.few k)
-          (subst (λ n. length v.items ≤ n) (ap single_dirty c.single-item.is
+          (subst (λ n. length v.items ≤ n) (ap single_dirty here
           ∙ sym (get_or-map single_dirty xs i e 0 inside)) c.in_ok-list.ensures.few);
       len = ap length is ∙ length-append old (v ∷ []) ∙ ap (λ n. n + 1) len;
     }

@@ -1,67 +1,68 @@
-use Rattle.std.proofs.Common.{◌≢◌, ◌<◌, length, get_or, sym, subst, ◌∙◌, arith}
-use Rattle.std.proofs.Common.{get_or-set_other}
+use Rattle.std.proofs.Common.{get_or, map, ap, ◌∙◌, arith}
 use Rattle.std.proofs.Math.Seq.{map-set_same}
-use Rattle.std.proofs.lemmas.List.Elements.{AllWithin-more_set}
 use Rattle.grid_core.specs.Singles.{SingleStandsFor, SingleReached, HasSettled, IsPending}
 use Rattle.grid_core.specs.Singles.{single_counts, single_rules, single_shading}
+use Rattle.grid_core.proofs.Passing.{left-still, one-passed, left-behind, mapped-back, all-passed}
 use Rattle.grid_core.proofs.Shadings.{shading-same}
 use Rattle.grid_core.proofs.singles.serve_all.Goals as goal
 
 pub serve-requires : goal.serve-requires
-serve-requires c =
-    let i = c.loop-single.single-index in
-    let e = c.single-item.result in
-    let n = c.requires.0 in (
-      n,
-      subst (HasSettled n) (sym (c.loop-single.invariant.left i e (omega arith)))
-          (c.requires.1 i e (omega arith)),
-    )
+serve-requires c = (
+  c.requires.0,
+  left-still (HasSettled c.requires.0) c.deref_mut-single-items.result.now
+      c.loop-single.single-items c.loop-single.single-index c.single-item.result
+      c.loop-single.invariant.left (omega arith)
+      (rw c.deref_mut-single-items.ensures.value c.requires.1),
+)
 
 pub loop-single-preserved : goal.loop-single-preserved
 loop-single-preserved c =
+    let xs = c.loop-single.single-items in
     let i = c.loop-single.single-index in
-    let xs = c.loop-single.singles in
     let v = c.serve.new.self in
     let e = c.single-item.result in
-    let x = c.args.access in
-    let first = c.args.singles.now in
-    let inside : i < length xs = omega arith in
-    let inside' : i < length first = omega arith in
-    let left = c.loop-single.invariant.left in
+    let was = c.loop-single.invariant in
+    let first = c.deref_mut-single-items.result.now in
+    let passed = one-passed first xs i e v was.left (omega arith) (omega arith) in
     record {
-      rules = map-set_same single_rules xs i v e c.serve.ensures.rules
-          ∙ c.loop-single.invariant.rules;
+      rules = map-set_same single_rules xs i v e c.serve.ensures.rules ∙ was.rules;
       shading = map-set_same single_shading xs i v e
           (shading-same v (get_or xs i e) c.serve.ensures.shade c.serve.ensures.rules)
-          ∙ c.loop-single.invariant.shading;
-      counts = map-set_same single_counts xs i v e c.serve.ensures.counts
-          ∙ c.loop-single.invariant.counts;
-      reached = λ h all. AllWithin-more_set xs i v inside (SingleReached h x)
-          (c.loop-single.invariant.reached h all)
-          (c.in_ok-serve.ensures.reached h (subst (SingleStandsFor h)
-          (sym (left i e (omega arith))) (all i e inside')));
-      pending = λ n all. AllWithin-more_set xs i v inside (IsPending n)
-          (c.loop-single.invariant.pending n all)
-          (c.in_ok-serve.ensures.pending n (subst (HasSettled n) (sym (left i e (omega arith)))
-          (all i e inside')));
-      left = λ k d lt. let ne : k ≢ i = omega arith in get_or-set_other xs i k v d ne
-          ∙ left k d (omega arith);
+          ∙ was.shading;
+      counts = map-set_same single_counts xs i v e c.serve.ensures.counts ∙ was.counts;
+      reached = λ h all. passed (SingleStandsFor h) (SingleReached h c.args.access)
+          (was.reached h all) all (c.in_ok-serve.ensures.reached h);
+      pending = λ n all. passed (HasSettled n) (IsPending n) (was.pending n all) all
+          (c.in_ok-serve.ensures.pending n);
+      left = left-behind first xs i v was.left;
     }
 
 pub returns-in_err-serve-clause-counts : goal.returns-in_err-serve-clause-counts
 returns-in_err-serve-clause-counts c =
-    map-set_same single_counts c.loop-single.singles c.loop-single.single-index c.serve.new.self
-    c.single-item.result c.serve.ensures.counts ∙ c.loop-single.invariant.counts
+    mapped-back single_counts c.args.singles.now.len c.loop-single.single-items
+    c.args.singles.now.items c.loop-single.single-index c.serve.new.self c.single-item.result
+    (omega arith) c.serve.ensures.counts
+    (c.loop-single.invariant.counts ∙ ap (map single_counts) c.deref_mut-single-items.ensures.value)
 
 pub returns-in_err-serve-clause-rules : goal.returns-in_err-serve-clause-rules
 returns-in_err-serve-clause-rules c =
-    map-set_same single_rules c.loop-single.singles c.loop-single.single-index c.serve.new.self
-    c.single-item.result c.serve.ensures.rules ∙ c.loop-single.invariant.rules
+    mapped-back single_rules c.args.singles.now.len c.loop-single.single-items
+    c.args.singles.now.items c.loop-single.single-index c.serve.new.self c.single-item.result
+    (omega arith) c.serve.ensures.rules
+    (c.loop-single.invariant.rules ∙ ap (map single_rules) c.deref_mut-single-items.ensures.value)
 
 pub returns-in_err-serve-clause-shading : goal.returns-in_err-serve-clause-shading
 returns-in_err-serve-clause-shading c =
-    map-set_same single_shading c.loop-single.singles c.loop-single.single-index c.serve.new.self
-    c.single-item.result (shading-same c.serve.new.self
-    (get_or c.loop-single.singles c.loop-single.single-index c.single-item.result)
-    c.serve.ensures.shade c.serve.ensures.rules)
-    ∙ c.loop-single.invariant.shading
+    let xs = c.loop-single.single-items in
+    let i = c.loop-single.single-index in
+    let e = c.single-item.result in
+    mapped-back single_shading c.args.singles.now.len xs c.args.singles.now.items i
+    c.serve.new.self e (omega arith) (shading-same c.serve.new.self (get_or xs i e)
+    c.serve.ensures.shade c.serve.ensures.rules) (c.loop-single.invariant.shading
+    ∙ ap (map single_shading) c.deref_mut-single-items.ensures.value)
+
+pub returns-clause-reached : goal.returns-clause-reached
+returns-clause-reached c = λ h all. all-passed (SingleReached h c.args.access) c.args.singles.now.len
+    c.loop-single.single-items c.args.singles.now.items c.loop-single.single-index (omega arith)
+    (omega arith) (c.loop-single.invariant.reached h
+    (rw c.deref_mut-single-items.ensures.value all))

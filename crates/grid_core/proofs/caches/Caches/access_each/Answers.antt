@@ -6,31 +6,31 @@ use Rattle.grid_core.proofs.caches.Caches.access_each.Goals as goal
 
 pub invariant_of-self : goal.invariant_of-self
 invariant_of-self c = record {
-  shaded = shaded-still c.args.self.now.shaded refl refl c.serve_in.ensures.shading;
+  shaded = shaded-still c.args.self.now.shaded refl refl c.serve_all.ensures.shading;
 }
 
 pub invariant_of-self-in-Break-branch-2 : goal.invariant_of-self-in-Break-branch-2
 invariant_of-self-in-Break-branch-2 c = record {
-  shaded = shaded-still c.args.self.now.shaded refl c.serve_shades_in.ensures.rules
-      c.serve_in.ensures.shading;
+  shaded = shaded-still c.args.self.now.shaded refl c.serve_shades.ensures.rules
+      c.serve_all.ensures.shading;
 }
 
 pub invariant_of-self-in-Break-branch-3 : goal.invariant_of-self-in-Break-branch-3
 invariant_of-self-in-Break-branch-3 c = record {
   shaded = shaded-still c.args.self.now.shaded c.serve_stacked.ensures.rules
-      c.serve_shades_in.ensures.rules c.serve_in.ensures.shading;
+      c.serve_shades.ensures.rules c.serve_all.ensures.shading;
 }
 
 pub invariant_of-self-2 : goal.invariant_of-self-2
 invariant_of-self-2 c = record {
   shaded = shaded-still c.args.self.now.shaded c.serve_stacked.ensures.rules
-      (c.settle_shades_in.ensures.rules ∙ c.serve_shades_in.ensures.rules)
-      (c.settle_in.ensures.shading ∙ c.serve_in.ensures.shading);
+      (c.settle_shades.ensures.rules ∙ c.serve_shades.ensures.rules)
+      (c.settle_all.ensures.shading ∙ c.serve_all.ensures.shading);
 }
 
-pub serve_in-requires : goal.serve_in-requires
+pub serve_all-requires : goal.serve_all-requires
 unfolding HasSettled HasCounted
-serve_in-requires c = (c.requires.0, c.requires.1.singles)
+serve_all-requires c = (c.requires.0, c.requires.1.singles)
 
 pub serve_stacked-requires : goal.serve_stacked-requires
 serve_stacked-requires c =
@@ -38,38 +38,38 @@ serve_stacked-requires c =
     let lt = c.requires.2 in
     omega arith
 
-pub settle_shades_in-requires : goal.settle_shades_in-requires
+pub settle_shades-requires : goal.settle_shades-requires
 unfolding HasSettled HasCounted
-settle_shades_in-requires c = (
+settle_shades-requires c = (
   c.requires.0,
-  c.in_ok-serve_shades_in.ensures.counted c.requires.0 c.requires.1.shades,
+  c.in_ok-serve_shades.ensures.counted c.requires.0 c.requires.1.shades,
   c.requires.2,
 )
 
-pub settle_in-requires-clause-pending : goal.settle_in-requires-clause-pending
+pub settle_all-requires-clause-pending : goal.settle_all-requires-clause-pending
 unfolding HasSettled HasCounted
-settle_in-requires-clause-pending c = (
+settle_all-requires-clause-pending c = (
   c.requires.0,
-  c.in_ok-serve_in.ensures.pending c.requires.0 c.requires.1.singles,
+  c.in_ok-serve_all.ensures.pending c.requires.0 c.requires.1.singles,
   c.requires.2,
 )
 
-pub settle_in-requires-clause-shaded : goal.settle_in-requires-clause-shaded
-settle_in-requires-clause-shaded c =
+pub settle_all-requires-clause-shaded : goal.settle_all-requires-clause-shaded
+settle_all-requires-clause-shaded c =
     shaded-still c.args.self.now.shaded c.serve_stacked.ensures.rules
-    (c.settle_shades_in.ensures.rules ∙ c.serve_shades_in.ensures.rules)
-    c.serve_in.ensures.shading
+    (c.settle_shades.ensures.rules ∙ c.serve_shades.ensures.rules)
+    c.serve_all.ensures.shading
 
 pub returns-clause-stands : goal.returns-clause-stands
 returns-clause-stands c = λ h e.
     let x = c.args.access in
     let stacked = c.in_ok-serve_stacked.ensures.answers h e.stacked in
-    let shades = c.in_ok-serve_shades_in.ensures.reached h e.shades in
+    let shades = c.in_ok-serve_shades.ensures.reached h e.shades in
     record {
       stacked = c.in_ok-serve_stacked.ensures.stands h e.stacked;
-      shades = c.settle_shades_in.ensures.stands h shades;
-      singles = c.settle_in.ensures.stands h (c.in_ok-serve_in.ensures.reached h e.singles)
-          stacked (c.settle_shades_in.ensures.hit h shades);
+      shades = c.settle_shades.ensures.stands h shades;
+      singles = c.settle_all.ensures.stands h (c.in_ok-serve_all.ensures.reached h e.singles)
+          stacked (c.settle_shades.ensures.hit h shades);
     }
 
 pub returns-clause-answers : goal.returns-clause-answers
@@ -77,9 +77,9 @@ returns-clause-answers c = λ h e.
     let stacked = c.in_ok-serve_stacked.ensures.answers h e.stacked in
     record {
       stacked = stacked;
-      singles = c.settle_in.ensures.answers h (c.in_ok-serve_in.ensures.reached h e.singles)
-          stacked (c.settle_shades_in.ensures.hit h
-          (c.in_ok-serve_shades_in.ensures.reached h e.shades));
+      singles = c.settle_all.ensures.answers h (c.in_ok-serve_all.ensures.reached h e.singles)
+          stacked (c.settle_shades.ensures.hit h
+          (c.in_ok-serve_shades.ensures.reached h e.shades));
     }
 
 pub returns-clause-step : goal.returns-clause-step
@@ -90,14 +90,14 @@ returns-clause-step c = λ n s. record {
       let more = c.in_ok-serve_stacked.ensures.served in
       let low = s.stacked in
       omega arith;
-  shades = c.settle_shades_in.ensures.counted n
-      (c.in_ok-serve_shades_in.ensures.counted n s.shades);
-  singles = c.settle_in.ensures.settled n (c.in_ok-serve_in.ensures.pending n s.singles);
+  shades = c.settle_shades.ensures.counted n
+      (c.in_ok-serve_shades.ensures.counted n s.shades);
+  singles = c.settle_all.ensures.settled n (c.in_ok-serve_all.ensures.pending n s.singles);
 }
 
 pub returns-clause-rules : goal.returns-clause-rules
 returns-clause-rules c = record {
   together = c.serve_stacked.ensures.rules;
-  apart = c.settle_in.ensures.rules ∙ c.serve_in.ensures.rules;
-  shades = c.settle_shades_in.ensures.rules ∙ c.serve_shades_in.ensures.rules;
+  apart = c.settle_all.ensures.rules ∙ c.serve_all.ensures.rules;
+  shades = c.settle_shades.ensures.rules ∙ c.serve_shades.ensures.rules;
 }

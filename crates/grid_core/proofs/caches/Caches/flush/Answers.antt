@@ -15,7 +15,7 @@ use Rattle.grid_core.proofs.caches.Caches.flush.Goals as goal
 pub invariant_of-self : goal.invariant_of-self
 invariant_of-self c = record {
   shaded = shaded-still c.args.self.now.shaded c.flush_stacked.ensures.rules
-      c.clear_shades_in.ensures.rules c.clear_in.ensures.shading;
+      c.clear_shades.ensures.rules c.clear_all.ensures.shading;
 }
 
 pub lists_of-requires : goal.lists_of-requires
@@ -51,23 +51,23 @@ returns-clause-lists c = λ h e.
     list_placed (map (written_by h) rs) l s.cell) seats) (c.in_ok-apart.ensures.lists h e.singles)
     ∙ written-all h rs ss seats c.requires.seats
 
-pub clear_shades_in-requires : goal.clear_shades_in-requires
+pub clear_shades-requires : goal.clear_shades-requires
 unfolding HasSettled HasCounted
-clear_shades_in-requires c =
+clear_shades-requires c =
     let step = c.requires.step in
     (step.0, step.1.shades, step.2)
 
-pub clear_in-requires-clause-step : goal.clear_in-requires-clause-step
+pub clear_all-requires-clause-step : goal.clear_all-requires-clause-step
 unfolding HasSettled HasCounted
-clear_in-requires-clause-step c =
+clear_all-requires-clause-step c =
     let step = c.requires.step in
     (step.0, step.1.singles, step.2)
 
 pub returns-clause-stands : goal.returns-clause-stands
 returns-clause-stands c = λ h e. record {
   stacked = c.flush_stacked.ensures.stands h e.stacked;
-  shades = c.clear_shades_in.ensures.stands h e.shades;
-  singles = c.clear_in.ensures.stands h e.singles (c.in_ok-apart.ensures.lists h e.singles);
+  shades = c.clear_shades.ensures.stands h e.shades;
+  singles = c.clear_all.ensures.stands h e.singles (c.in_ok-apart.ensures.lists h e.singles);
 }
 
 pub returns-clause-step : goal.returns-clause-step
@@ -78,13 +78,13 @@ returns-clause-step c = λ n s. record {
       let more = c.flush_stacked.ensures.served in
       let low = s.stacked in
       omega arith;
-  shades = c.clear_shades_in.ensures.counted n s.shades;
-  singles = c.clear_in.ensures.settled n s.singles;
+  shades = c.clear_shades.ensures.counted n s.shades;
+  singles = c.clear_all.ensures.settled n s.singles;
 }
 
 pub returns-clause-rules : goal.returns-clause-rules
 returns-clause-rules c = record {
   together = c.flush_stacked.ensures.rules;
-  apart = c.clear_in.ensures.rules;
-  shades = c.clear_shades_in.ensures.rules;
+  apart = c.clear_all.ensures.rules;
+  shades = c.clear_shades.ensures.rules;
 }

@@ -17,13 +17,13 @@ invariant_of-self c =
     let flushes = old.alike_within.flushes in
     record {
       rises = rw c.clear.ensures.sizes old.rises;
-      placed = rw c.clear_in.ensures.rules old.placed;
+      placed = rw c.clear_rows.ensures.rules old.placed;
       ranked = rw c.clear.ensures.sizes old.ranked;
-      one_size = rw c.clear_in.ensures.rules old.one_size;
+      one_size = rw c.clear_rows.ensures.rules old.one_size;
       one_policy = old.one_policy;
-      told = rw (c.clear_in.ensures.levels, c.clear.ensures.sizes) old.told;
-      bounded = within-stacks n (n + 1) (omega arith) c.clear_in.new.stacks.items
-          (c.clear_in.ensures.bounds n old.bounded);
+      told = rw (c.clear_rows.ensures.levels, c.clear.ensures.sizes) old.told;
+      bounded = within-stacks n (n + 1) (omega arith) c.clear_rows.new.stacks.items
+          (c.clear_rows.ensures.bounds n old.bounded);
       alike_within = record {
         fetches = within-more old.alike.fetches n (n + 1) (omega arith) old.alike_within.fetches;
         firsts = within-more old.alike.firsts n (n + 1) (omega arith) old.alike_within.firsts;
@@ -33,7 +33,7 @@ invariant_of-self c =
       leveled = rw c.clear.ensures.levels
           (within-more (total (levels_in old.shadows)) n (n + 1) (omega arith) old.leveled);
       few = let lt = c.requires.few in omega arith;
-      lived = λ works. ∣ (flushed ∷ [], c.clear_in.ensures.stands []) ∣₁;
+      lived = λ works. ∣ (flushed ∷ [], c.clear_rows.ensures.stands []) ∣₁;
     }
 
 pub returns-clause-stands : goal.returns-clause-stands
@@ -44,9 +44,9 @@ returns-clause-stands c = λ h e.
       working = e.working;
       served = (let n = e.served in omega arith);
       alike = alike-flush old.geometry h old.alike _ e.alike refl refl refl;
-      state = after-flush old.geometry h old.stacks.items c.clear_in.new.stacks.items old.shadows
-          c.clear.new.self old.shapes.items e.state (c.clear_in.ensures.stands h)
-          (c.clear_in.ensures.counted (shadow_sizes old.shadows) h e.state.counted)
+      state = after-flush old.geometry h old.stacks.items c.clear_rows.new.stacks.items old.shadows
+          c.clear.new.self old.shapes.items e.state (c.clear_rows.ensures.stands h)
+          (c.clear_rows.ensures.counted (shadow_sizes old.shadows) h e.state.counted)
           c.clear.ensures.order c.clear.ensures.known c.clear.ensures.recent
           c.clear.ensures.levels c.clear.ensures.sizes;
     }
