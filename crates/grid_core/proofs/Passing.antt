@@ -14,19 +14,27 @@ pub left-still : {X : Type 0} (P : X → Type 0) (first now : List X) (i : ℕ) 
     → AreLeft i first now → i < length first → All P first → P (get_or now i e)
 left-still P first now i e left lt all = subst P (sym (left i e (omega arith))) (all i e lt)
 
--- with the item at the index, which becomes v, all that were passed are changed
-pub one-passed : {X : Type 0} (first now : List X) (i : ℕ) (e v : X) → AreLeft i first now
-    → i < length first → i < length now → (P Q : X → Type 0) → AllWithin Q now 0 i → All P first
-    → (P (get_or now i e) → Q v) → AllWithin Q (set now i v) 0 (i + 1)
-one-passed first now i e v left lt lt' P Q before all step =
-    AllWithin-more_set now i v lt' Q before (step (left-still P first now i e left lt all))
+-- the item at the index, which was e if there was one, has become v
+pub record HasPassed {X : Type 0} (first now : List X) (i : ℕ) (e v : X) : Type 1 where
+  -- what f says of v as of the item before, it says of all as it did
+  pub told : {Y : Type 0} (f : X → Y) → f v ≡ f (get_or now i e) → map f now ≡ map f first
+      → map f (set now i v) ≡ map f first
+  -- all that were passed are changed, if v is
+  pub each : (P Q : X → Type 0) → AllWithin Q now 0 i → All P first
+      → (P (get_or now i e) → Q v) → AllWithin Q (set now i v) 0 (i + 1)
+  -- those behind it are left
+  pub left : AreLeft (i + 1) first (set now i v)
 
--- and those behind it are left
-pub left-behind : {X : Type 0} (first now : List X) (i : ℕ) (v : X) → AreLeft i first now
-    → AreLeft (i + 1) first (set now i v)
-left-behind first now i v left k d lt =
-    let ne : k ≢ i = omega arith in
-    get_or-set_other now i k v d ne ∙ left k d (omega arith)
+-- so it is after a step of the loop
+pub one-passed : {X : Type 0} (first now : List X) (i : ℕ) (e v : X) → AreLeft i first now
+    → i < length first → i < length now → HasPassed first now i e v
+one-passed first now i e v left lt lt' = record {
+  told = λ f same before. map-set_same f now i v e same ∙ before;
+  each = λ P Q before all step. AllWithin-more_set now i v lt' Q before
+      (step (left-still P first now i e left lt all));
+  left = λ k d far. let ne : k ≢ i = omega arith in
+      get_or-set_other now i k v d ne ∙ left k d (omega arith);
+}
 
 -- a vector whose items were lent as a list, and given back as another one of their length, has these
 pub given-back : {X : Type 0} (n : ℕ) (xs ys : List X) → length xs ≡ n

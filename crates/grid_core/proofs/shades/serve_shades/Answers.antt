@@ -1,27 +1,22 @@
 use Rattle.std.proofs.Common.{ap, map, ◌∙◌, arith}
-use Rattle.std.proofs.Math.Seq.{map-set_same}
 use Rattle.grid_core.specs.Shades.{ShadeStandsFor, ShadeReached, HasCounted, shade_rules}
 use Rattle.grid_core.specs.Shades.{shade_misses}
-use Rattle.grid_core.proofs.Passing.{one-passed, left-behind, mapped-back, all-passed}
+use Rattle.grid_core.proofs.Passing.{one-passed, mapped-back, all-passed}
 use Rattle.grid_core.proofs.shades.serve_shades.Goals as goal
 
 pub loop-shade-preserved : goal.loop-shade-preserved
 loop-shade-preserved c =
-    let xs = c.loop-shade.shade-items in
-    let i = c.loop-shade.shade-index in
-    let v = c.serve.new.self in
-    let e = c.shade-item.result in
     let was = c.loop-shade.invariant in
-    let first = c.deref_mut-shade-items.result.now in
-    let passed = one-passed first xs i e v was.left (omega arith) (omega arith) in
+    let step = one-passed c.deref_mut-shade-items.result.now c.loop-shade.shade-items
+    c.loop-shade.shade-index c.shade-item.result c.serve.new.self was.left (omega arith) (omega arith) in
     record {
-      rules = map-set_same shade_rules xs i v e c.serve.ensures.rules ∙ was.rules;
-      misses = map-set_same shade_misses xs i v e c.serve.ensures.misses ∙ was.misses;
-      reached = λ h all. passed (ShadeStandsFor h) (ShadeReached h c.args.access)
+      rules = step.told shade_rules c.serve.ensures.rules was.rules;
+      misses = step.told shade_misses c.serve.ensures.misses was.misses;
+      reached = λ h all. step.each (ShadeStandsFor h) (ShadeReached h c.args.access)
           (was.reached h all) all (c.in_ok-serve.ensures.reached h);
-      counted = λ n all. passed (HasCounted n) (HasCounted n) (was.counted n all) all
+      counted = λ n all. step.each (HasCounted n) (HasCounted n) (was.counted n all) all
           (c.serve.ensures.counted n);
-      left = left-behind first xs i v was.left;
+      left = step.left;
     }
 
 pub returns-in_err-serve-clause-misses : goal.returns-in_err-serve-clause-misses

@@ -1,9 +1,8 @@
-use Rattle.std.proofs.Common.{◌+◌, ◌∷◌, ◌∙◌, arith}
-use Rattle.std.proofs.Math.Seq.{map-set_same}
+use Rattle.std.proofs.Common.{◌+◌, ◌∷◌, arith}
 use Rattle.cache_core.specs.History.{access as accessed}
 use Rattle.grid_core.specs.Shades.{ShadeStandsFor, ShadeReached, ShadeHasHit, HasCounted}
 use Rattle.grid_core.specs.Shades.{shade_rules}
-use Rattle.grid_core.proofs.Passing.{left-still, one-passed, left-behind}
+use Rattle.grid_core.proofs.Passing.{left-still, one-passed}
 use Rattle.grid_core.proofs.shades.settle_shades.Goals as goal
 
 pub settle-requires : goal.settle-requires
@@ -18,21 +17,17 @@ settle-requires c = (
 
 pub loop-shade-preserved : goal.loop-shade-preserved
 loop-shade-preserved c =
-    let xs = c.loop-shade.shade-items in
-    let i = c.loop-shade.shade-index in
-    let v = c.settle.new.self in
-    let e = c.shade-item.result in
     let x = c.args.access in
     let was = c.loop-shade.invariant in
-    let first = c.deref_mut-shade-items.result.now in
-    let passed = one-passed first xs i e v was.left (omega arith) (omega arith) in
+    let step = one-passed c.deref_mut-shade-items.result.now c.loop-shade.shade-items
+    c.loop-shade.shade-index c.shade-item.result c.settle.new.self was.left (omega arith) (omega arith) in
     record {
-      rules = map-set_same shade_rules xs i v e c.settle.ensures.rules ∙ was.rules;
-      stands = λ h all. passed (ShadeReached h x) (ShadeStandsFor (accessed x ∷ h))
+      rules = step.told shade_rules c.settle.ensures.rules was.rules;
+      stands = λ h all. step.each (ShadeReached h x) (ShadeStandsFor (accessed x ∷ h))
           (was.stands h all) all (c.settle.ensures.stands h);
-      hit = λ h all. passed (ShadeReached h x) (ShadeHasHit h x) (was.hit h all) all
+      hit = λ h all. step.each (ShadeReached h x) (ShadeHasHit h x) (was.hit h all) all
           (c.settle.ensures.hit h);
-      counted = λ n all. passed (HasCounted n) (HasCounted (n + 1)) (was.counted n all) all
+      counted = λ n all. step.each (HasCounted n) (HasCounted (n + 1)) (was.counted n all) all
           (c.settle.ensures.counted n);
-      left = left-behind first xs i v was.left;
+      left = step.left;
     }

@@ -9,7 +9,7 @@ use Rattle.grid_core.specs.Cells.{items_of}
 use Rattle.grid_core.specs.Singles.{SingleStandsFor, HasSettled, single_rules, single_dirty}
 use Rattle.grid_core.specs.Singles.{single_shading}
 use Rattle.grid_core.specs.Written.{no_rules, written_by}
-use Rattle.grid_core.proofs.Passing.{one-passed, left-behind}
+use Rattle.grid_core.proofs.Passing.{one-passed}
 use Rattle.grid_core.proofs.Shadings.{shading-same}
 use Rattle.grid_core.proofs.singles.clear_all.Goals as goal
 
@@ -61,18 +61,18 @@ loop-index-preserved c =
     let lists = c.args.lists.now.items in
     let inside : i < length first = omega arith in
     let listed : i < length lists = (let len = c.requires.len in omega arith) in
-    let passed = one-passed first xs i e w was.left inside (omega arith) in
+    let step = one-passed first xs i e w was.left inside (omega arith) in
     record {
-      rules = map-set_same single_rules xs i w e c.clear.ensures.rules ∙ was.rules;
+      rules = step.told single_rules c.clear.ensures.rules was.rules;
       shading = map-set_same single_shading xs i w e
           (shading-same w (get_or xs i e) c.clear.ensures.shade c.clear.ensures.rules)
           ∙ was.shading;
-      stands = λ h all same. passed (SingleStandsFor h) (SingleStandsFor (flushed ∷ h))
+      stands = λ h all same. step.each (SingleStandsFor h) (SingleStandsFor (flushed ∷ h))
           (was.stands h all same) all (λ here. c.clear.ensures.stands h here
           (c.len.ensures ∙ v.ok.0 ∙ written-at h lists first i v e listed inside c.index.ensures
           same ∙ ap (λ s. length (written_by h (single_rules s)))
           (sym (was.left i e (omega arith)))));
-      settled = λ n all. passed (HasSettled n) (HasSettled (n + 1)) (was.settled n all) all
+      settled = λ n all. step.each (HasSettled n) (HasSettled (n + 1)) (was.settled n all) all
           (c.clear.ensures.settled n);
-      left = left-behind first xs i w was.left;
+      left = step.left;
     }

@@ -2,7 +2,7 @@ use Rattle.std.proofs.Common.{get_or, map, ap, ◌∙◌, arith}
 use Rattle.std.proofs.Math.Seq.{map-set_same}
 use Rattle.grid_core.specs.Singles.{SingleStandsFor, SingleReached, HasSettled, IsPending}
 use Rattle.grid_core.specs.Singles.{single_counts, single_rules, single_shading}
-use Rattle.grid_core.proofs.Passing.{left-still, one-passed, left-behind, mapped-back, all-passed}
+use Rattle.grid_core.proofs.Passing.{left-still, one-passed, mapped-back, all-passed}
 use Rattle.grid_core.proofs.Shadings.{shading-same}
 use Rattle.grid_core.proofs.singles.serve_all.Goals as goal
 
@@ -23,18 +23,18 @@ loop-single-preserved c =
     let e = c.single-item.result in
     let was = c.loop-single.invariant in
     let first = c.deref_mut-single-items.result.now in
-    let passed = one-passed first xs i e v was.left (omega arith) (omega arith) in
+    let step = one-passed first xs i e v was.left (omega arith) (omega arith) in
     record {
-      rules = map-set_same single_rules xs i v e c.serve.ensures.rules ∙ was.rules;
+      rules = step.told single_rules c.serve.ensures.rules was.rules;
       shading = map-set_same single_shading xs i v e
           (shading-same v (get_or xs i e) c.serve.ensures.shade c.serve.ensures.rules)
           ∙ was.shading;
-      counts = map-set_same single_counts xs i v e c.serve.ensures.counts ∙ was.counts;
-      reached = λ h all. passed (SingleStandsFor h) (SingleReached h c.args.access)
+      counts = step.told single_counts c.serve.ensures.counts was.counts;
+      reached = λ h all. step.each (SingleStandsFor h) (SingleReached h c.args.access)
           (was.reached h all) all (c.in_ok-serve.ensures.reached h);
-      pending = λ n all. passed (HasSettled n) (IsPending n) (was.pending n all) all
+      pending = λ n all. step.each (HasSettled n) (IsPending n) (was.pending n all) all
           (c.in_ok-serve.ensures.pending n);
-      left = left-behind first xs i v was.left;
+      left = step.left;
     }
 
 pub returns-in_err-serve-clause-counts : goal.returns-in_err-serve-clause-counts

@@ -10,7 +10,7 @@ use Rattle.grid_core.specs.Shading.{IsShaded, StackedFollowed}
 use Rattle.grid_core.specs.StackedCells.{stacked_rules}
 use Rattle.grid_core.specs.Singles.{SingleStandsFor, SingleReached, SingleHasAnswered}
 use Rattle.grid_core.specs.Singles.{HasSettled, IsPending, single_rules, single_shading}
-use Rattle.grid_core.proofs.Passing.{left-still, one-passed, left-behind, all-passed}
+use Rattle.grid_core.proofs.Passing.{left-still, one-passed, all-passed}
 use Rattle.grid_core.proofs.Shadings.{shaded-at, shading-same}
 use Rattle.grid_core.proofs.singles.settle_all.Goals as goal
 
@@ -63,21 +63,21 @@ loop-single-preserved c =
     c.prior_at-prior.ensures h x (followed shaded.some) hit (single_rules (get_or xs i e))
     (subst (λ p. IsShaded rs ss (p, single_rules (get_or xs i e))) (sym c.shade.ensures)
     shaded) in
-    let passed = one-passed first xs i e v was.left (omega arith) (omega arith) in
+    let step = one-passed first xs i e v was.left (omega arith) (omega arith) in
     record {
-      rules = map-set_same single_rules xs i v e c.settle.ensures.rules ∙ was.rules;
+      rules = step.told single_rules c.settle.ensures.rules was.rules;
       shading = map-set_same single_shading xs i v e
           (shading-same v (get_or xs i e) c.settle.ensures.shade c.settle.ensures.rules)
           ∙ was.shading;
-      stands = λ h all followed hit. passed (SingleReached h x) (SingleStandsFor (accessed x ∷ h))
+      stands = λ h all followed hit. step.each (SingleReached h x) (SingleStandsFor (accessed x ∷ h))
           (was.stands h all followed hit) all
           (λ here. c.settle.ensures.stands h here (known-here h followed hit));
-      answers = λ h all followed hit. passed (SingleReached h x) (SingleHasAnswered h x)
+      answers = λ h all followed hit. step.each (SingleReached h x) (SingleHasAnswered h x)
           (was.answers h all followed hit) all
           (λ here. c.settle.ensures.answer h here (known-here h followed hit));
-      settled = λ n all. passed (IsPending n) (HasSettled (n + 1)) (was.settled n all) all
+      settled = λ n all. step.each (IsPending n) (HasSettled (n + 1)) (was.settled n all) all
           (c.settle.ensures.settled n);
-      left = left-behind first xs i v was.left;
+      left = step.left;
     }
 
 pub returns-clause-stands : goal.returns-clause-stands

@@ -2,7 +2,6 @@ use Rattle.std.proofs.Common.{◌≡◌, ℕ, ◌+◌, ◌<◌, ◌∷◌, List,
 use Rattle.std.proofs.Common.{◌∙◌, refl, arith}
 use Rattle.std.specs.List.{All}
 use Rattle.std.proofs.Math.Logic.{∥∥₁_map}
-use Rattle.std.proofs.Math.Seq.{map-set_same}
 use Rattle.cache_core.specs.History.{History, access as accessed}
 use Rattle.grid_core.specs.declared.stack.Stack.{Stack}
 use Rattle.grid_core.specs.Histograms.{level_at}
@@ -10,7 +9,7 @@ use Rattle.grid_core.specs.Shapes.{HaveBsize}
 use Rattle.grid_core.specs.Standing.{AreBehind, StandsFor, HasMoved, StayFirstFrom, rules_of}
 use Rattle.grid_core.specs.Standing.{IsCountedIn, IsWithinStack, told_in}
 use Rattle.grid_core.proofs.Again.{size-at}
-use Rattle.grid_core.proofs.Passing.{left-still, one-passed, left-behind, all-passed}
+use Rattle.grid_core.proofs.Passing.{left-still, one-passed, all-passed}
 use Rattle.grid_core.proofs.stacks.serve_rows.Goals as goal
 
 pub loop-stack-init : goal.loop-stack-init
@@ -77,7 +76,7 @@ loop-stack-preserved c =
     let least = c.least_staying-least.result in
     let lent = c.deref_mut-stack-items.ensures.value ∙ sym c.deref.ensures.value in
     let inside : i < length first = omega arith in
-    let passed = one-passed first xs i e v was.left inside (omega arith) in
+    let step = one-passed first xs i e v was.left inside (omega arith) in
     let size : (n : ℕ) → HaveBsize n first → n ≡ (rules_of (get_or xs i e)).bsize =
     λ n sizes. sym (ap (λ (s : Stack). (rules_of s).bsize) (was.left i e (omega arith))
     ∙ size-at n first sizes i e inside) in
@@ -87,26 +86,26 @@ loop-stack-preserved c =
     (c.least_staying-least.ensures n h (subst (λ (l : List Stack). HaveBsize n l) lent sizes)
     (subst (λ (l : List Stack). All (λ s. StandsFor s h) l) lent all)) in
     record {
-      rules = map-set_same rules_of xs i v e one.rules ∙ was.rules;
-      stands = λ n h sizes all. passed (λ s. StandsFor s h) (λ s. StandsFor s (accessed x ∷ h))
+      rules = step.told rules_of one.rules was.rules;
+      stands = λ n h sizes all. step.each (λ s. StandsFor s h) (λ s. StandsFor s (accessed x ∷ h))
           (was.stands n h sizes all) all (λ here. one.stands h here (stay n h sizes all));
-      moved = λ n h sizes all. passed (λ s. StandsFor s h) (HasMoved h x)
+      moved = λ n h sizes all. step.each (λ s. StandsFor s h) (HasMoved h x)
           (was.moved n h sizes all) all (λ here. one.moved h here (stay n h sizes all));
       behind = λ n h sizes all. subst (λ m. AreBehind c.serve_one-behind.result m h x)
           (sym (size n sizes)) (one.behind h
           (left-still (λ s. StandsFor s h) first xs i e was.left inside all)
           (subst (λ m. AreBehind c.loop-stack.behind m h x) (size n sizes)
           (was.behind n h sizes all)));
-      levels = map-set_same told_in xs i v e one.levels ∙ was.levels;
-      counted = λ n sizes h same all low before. passed (λ s. StandsFor s h)
+      levels = step.told told_in one.levels was.levels;
+      counted = λ n sizes h same all low before. step.each (λ s. StandsFor s h)
           (IsCountedIn sizes (accessed x ∷ h)) (was.counted n sizes h same all low before) all
           (λ here. one.counted sizes h here (stay n h same all)
           (left-still (λ s. c.args.level ≡ level_at (rules_of s) sizes h x) first xs i e was.left
           inside low)
           (left-still (IsCountedIn sizes h) first xs i e was.left inside before));
-      bounds = λ n all. passed (IsWithinStack n) (IsWithinStack (n + 1)) (was.bounds n all) all
+      bounds = λ n all. step.each (IsWithinStack n) (IsWithinStack (n + 1)) (was.bounds n all) all
           (one.bounds n);
-      left = left-behind first xs i v was.left;
+      left = step.left;
     }
 
 pub returns-clause-stands : goal.returns-clause-stands
