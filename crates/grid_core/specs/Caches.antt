@@ -10,7 +10,6 @@ use Rattle.grid_core.specs.declared.caches.Caches.{Caches}
 use Rattle.grid_core.specs.declared.places.Place.{Place}
 use Rattle.grid_core.specs.declared.places.Place.TheVariants.{Together, Apart}
 use Rattle.grid_core.specs.StackedCells.{stacked_rules, stacked_served, stacked_kept}
-use Rattle.grid_core.specs.StackedCells.{stacked_failed}
 use Rattle.grid_core.specs.Singles.{single_rules, single_counts, SingleStandsFor}
 use Rattle.grid_core.specs.Singles.{SingleHasAnswered}
 use Rattle.grid_core.specs.Shades.{ShadeStandsFor, shade_rules, shade_misses}
@@ -59,9 +58,8 @@ pub record HaveAnswered (h : History) (x : Access) (c : Caches) : Type 0 where
   pub stacked : StackedFollowed h x c.stacked
   pub singles : All (SingleHasAnswered h x) c.singles.items
 
--- no cache has failed, and none has served more than n events
+-- no cache has served more than n events
 pub record AreInStep (n : ℕ) (c : Caches) : Type 0 where
-  pub works : stacked_failed c.stacked ≡ false
   pub stacked : stacked_served c.stacked ≤ n
   pub shades : All (λ s. s.counted ≡ n) c.shades.items
   pub singles : All (λ s. (s.settled ≡ n) × (s.pending ≡ false)) c.singles.items

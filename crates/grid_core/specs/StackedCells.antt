@@ -22,13 +22,8 @@ stacked_served e = e.served
 unfoldable pub stacked_kept : Stacked → List (Counts × PerClass)
 stacked_kept e = map (kept_by e.alike e.stacks.items e.shadows) e.shapes.items
 
--- whether an allocation failed
-unfoldable pub stacked_failed : Stacked → Bool
-stacked_failed e = e.failed
-
--- the caches stand for the history: none has failed, and their state is what the history gives
+-- the caches stand for the history: their state is what the history gives
 pub record StackedStandsFor (e : Stacked) (h : History) : Type 0 where
-  pub working : stacked_failed e ≡ false
   pub served : stacked_served e ≡ length h
   pub alike : IsAlike e.geometry h e.alike
   pub state : IsAfter e.geometry e.stacks.items e.shadows e.shapes.items h

@@ -9,7 +9,6 @@ ghost use Rattle.grid_core.specs.Shades.{shade_rules};
 ghost use Rattle.grid_core.specs.Shading.{FollowsStacked, StackedFollowed, IsShaded};
 ghost use Rattle.grid_core.specs.Singles.{single_shading};
 ghost use Rattle.grid_core.specs.StackedCells.{stacked_rules, stacked_served, stacked_kept};
-ghost use Rattle.grid_core.specs.StackedCells.{stacked_failed};
 ghost use Rattle.grid_core.specs.Written.{written_by};
 
 use crate::places::{Place, Seat, lists_of};
@@ -41,18 +40,13 @@ fn serve_stacked(stacked: &mut Stacked, access: Access) -> Result<(), AllocError
     ensures answers { OnOk result ((h : History) → FollowsStacked h stacked.old →
         StackedFollowed h access stacked.new) }
     ensures served { OnOk result (stacked_served stacked.new ≤ stacked_served stacked.old + 1) }
-    ensures works { OnOk result (stacked_failed stacked.old ≡ false →
-        stacked_failed stacked.new ≡ false) }
     ensures keeps { OnErr result (stacked_kept stacked.new ≡ stacked_kept stacked.old) }
     ensures rules { stacked_rules stacked.new ≡ stacked_rules stacked.old }
 {
     if stacked.cells() == 0 {
         return Ok(());
     }
-    let Ok(()) = stacked.access(access) else {
-        return Err(AllocError);
-    };
-    Ok(())
+    stacked.access(access)
 }
 
 /// What a flush writes back in each of the caches that are served together.
@@ -68,11 +62,9 @@ fn written_stacked(stacked: &Stacked) -> Result<Vec<Vec<u64>>, AllocError>
 /// Flushes the caches that are served together, if there are any.
 fn flush_stacked(stacked: &mut Stacked)
     requires few { stacked_served stacked.old < 2 ^ 44 }
-    requires works { stacked_failed stacked.old ≡ false }
     ensures stands { (h : History) → FollowsStacked h stacked.old →
         FollowsStacked (flushed ∷ h) stacked.new }
     ensures served { stacked_served stacked.new ≤ stacked_served stacked.old + 1 }
-    ensures works { stacked_failed stacked.new ≡ false }
     ensures rules { stacked_rules stacked.new ≡ stacked_rules stacked.old }
 {
     if stacked.cells() == 0 {

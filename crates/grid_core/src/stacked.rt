@@ -20,12 +20,12 @@ use crate::shadows::{Prior, Shadows, prior_of_last};
 use crate::shapes::rising_sizes;
 use crate::stack::{Stack, writes};
 use crate::stacks::{clear_rows, serve_rows};
-use cache_core::{Access, Counts, Geometry, NoMemory, Outcome, PerClass};
+use cache_core::{Access, Counts, Geometry, Outcome, PerClass};
 use std::alloc::{AllocError, Global};
 
 /// LRU caches of one block size that allocate at writes: rows for each number of sets, which count
 /// where the blocks of all accesses stood, the shadows of all sizes, and a shape for each cache.
-/// After a failed allocation, every later access or flush answers `NoMemory`.
+/// After a failed allocation the counts are as before, but the caches stand for no history.
 #[derive(Drop)]
 pub(crate) struct Stacked {
     alloc: Global,
@@ -37,7 +37,6 @@ pub(crate) struct Stacked {
     shapes: Vec<Shape>,
     alike: Alike,
     served: u64,
-    failed: bool,
     /// Whether the last access was a write.
     write: bool,
     /// Whether it used the block that was used last, and changed nothing but the fetches.
@@ -55,10 +54,10 @@ pub(crate) struct Stacked {
     ghost small: { length (shadow_sizes shadows) < 2 ^ 60 },
     ghost leveled: { IsWithin (total (levels_in shadows)) served },
     ghost few: { served ≤ 2 ^ 44 },
-    ghost lived: { failed ≡ false → HaveLived stacks.items },
+    ghost lived: { HaveLived stacks.items },
 }
 
-#[tactic(auto, unfolding(crate::specs::StackedCells::stacked_rules, crate::specs::StackedCells::stacked_served, crate::specs::StackedCells::stacked_kept, crate::specs::StackedCells::stacked_failed))]
+#[tactic(auto, unfolding(crate::specs::StackedCells::stacked_rules, crate::specs::StackedCells::stacked_served, crate::specs::StackedCells::stacked_kept))]
 impl Stacked {
     ghost use Rattle.std.specs.Prelude.{◌≡◌, ◌==◌, ◌<◌, ◌≤◌, ◌+◌, ◌/◌, ◌^◌, ◌∷◌, [], map, true};
     ghost use Rattle.std.specs.Prelude.{false, OnOk, OnErr, IfOk, IsErr, get_or, length, ℕ};
@@ -77,7 +76,7 @@ impl Stacked {
     ghost use Rattle.grid_core.specs.Standing.{stack_rules};
     ghost use Rattle.grid_core.specs.StackedCells.{StackedStandsFor, StackedHasAnswered};
     ghost use Rattle.grid_core.specs.StackedCells.{stacked_rules, stacked_served};
-    ghost use Rattle.grid_core.specs.StackedCells.{stacked_kept, stacked_failed, is_silent};
+    ghost use Rattle.grid_core.specs.StackedCells.{stacked_kept, is_silent};
     ghost use Rattle.grid_core.specs.Written.{rules_at, written_by, none_kept, SendsNothing};
 
     /// Empty caches of these geometries, which have the block size of `first`.
@@ -92,7 +91,6 @@ impl Stacked {
         ensures rules { IfOk result (λ stacked.
             stacked_rules stacked ≡ map (λ g. stack_rules g wback) geometries.now) }
         ensures served { IfOk result (λ stacked. stacked_served stacked ≡ 0) }
-        ensures works { IfOk result (λ stacked. stacked_failed stacked ≡ false) }
     {
         let sizes = rising_sizes(alloc, geometries)?;
         let shadows = Shadows::new(alloc, &sizes)?;
@@ -106,7 +104,6 @@ impl Stacked {
             shapes: parts.shapes,
             alike: none_alike(),
             served: 0,
-            failed: false,
             write: false,
             again: false,
             prior: Prior::default(),
@@ -117,7 +114,6 @@ impl Stacked {
     /// in all caches and shadows, and changes none.
     fn repeat(&mut self, access: Access)
         requires few { stacked_served self.old < 2 ^ 44 }
-        requires works { stacked_failed self.old ≡ false }
         requires again { IsAgain (access.addr / bsize_of self.old.geometry) (is_write access)
             (recent_in self.old.shadows) }
         ensures stands { (h : History) → StackedStandsFor self.old h →
@@ -125,7 +121,6 @@ impl Stacked {
         ensures answers { (h : History) → StackedStandsFor self.old h →
             StackedHasAnswered self.new h access }
         ensures served { stacked_served self.new ≡ stacked_served self.old + 1 }
-        ensures works { stacked_failed self.new ≡ false }
         ensures rules { stacked_rules self.new ≡ stacked_rules self.old }
     {
         count(&mut self.alike.fetches, access, true);
@@ -136,25 +131,20 @@ impl Stacked {
     }
 
     /// Serves one access to this block in all caches.
-    fn serve(&mut self, access: Access, block: u64) -> Result<(), NoMemory>
+    fn serve(&mut self, access: Access, block: u64) -> Result<(), AllocError>
         requires few { stacked_served self.old < 2 ^ 44 }
-        requires works { stacked_failed self.old ≡ false }
         requires block { block ≡ access.addr / bsize_of self.old.geometry }
         ensures stands { OnOk result ((h : History) → StackedStandsFor self.old h →
             StackedStandsFor self.new (accessed access ∷ h)) }
         ensures answers { OnOk result ((h : History) → StackedStandsFor self.old h →
             StackedHasAnswered self.new h access) }
         ensures served { OnOk result (stacked_served self.new ≡ stacked_served self.old + 1) }
-        ensures works { OnOk result (stacked_failed self.new ≡ false) }
-
-        ensures fails { OnErr result (stacked_failed self.new ≡ true) }
         ensures keeps { OnErr result ((stacked_kept self.new ≡ stacked_kept self.old)
             × (stacked_served self.new ≡ stacked_served self.old)) }
         ensures rules { stacked_rules self.new ≡ stacked_rules self.old }
     {
         let Ok(prior) = self.shadows.touch(block, access) else {
-            self.failed = true;
-            return Err(NoMemory);
+            return Err(AllocError);
         };
         serve_rows(&mut self.stacks, access, prior.level);
         count(&mut self.alike.fetches, access, true);
@@ -167,24 +157,17 @@ impl Stacked {
     }
 
     /// Serves one access in all caches.
-    pub fn access(&mut self, access: Access) -> Result<(), NoMemory>
+    pub fn access(&mut self, access: Access) -> Result<(), AllocError>
         requires { stacked_served self.old < 2 ^ 44 }
         ensures stands { OnOk result ((h : History) → StackedStandsFor self.old h →
             StackedStandsFor self.new (accessed access ∷ h)) }
         ensures answers { OnOk result ((h : History) → StackedStandsFor self.old h →
             StackedHasAnswered self.new h access) }
         ensures served { OnOk result (stacked_served self.new ≡ stacked_served self.old + 1) }
-        ensures works { OnOk result (stacked_failed self.new ≡ false) }
-
-        ensures fails { OnErr result (stacked_failed self.new ≡ true) }
         ensures keeps { OnErr result ((stacked_kept self.new ≡ stacked_kept self.old)
             × (stacked_served self.new ≡ stacked_served self.old)) }
-        ensures failed { stacked_failed self.old ≡ true → IsErr result }
         ensures rules { stacked_rules self.new ≡ stacked_rules self.old }
     {
-        if self.failed {
-            return Err(NoMemory);
-        }
         let block = self.geometry.block(access.addr);
         if self.shadows.is_again(block, writes(access)) {
             self.repeat(access);
@@ -207,11 +190,9 @@ impl Stacked {
     /// Empties all caches and the shadows. Known blocks stay known.
     pub fn flush(&mut self)
         requires few { stacked_served self.old < 2 ^ 44 }
-        requires works { stacked_failed self.old ≡ false }
         ensures stands { (h : History) → StackedStandsFor self.old h →
             StackedStandsFor self.new (flushed ∷ h) }
         ensures served { stacked_served self.new ≡ stacked_served self.old + 1 }
-        ensures works { stacked_failed self.new ≡ false }
         ensures rules { stacked_rules self.new ≡ stacked_rules self.old }
     {
         clear_rows(&mut self.stacks);

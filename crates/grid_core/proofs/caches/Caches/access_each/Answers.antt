@@ -85,7 +85,6 @@ returns-clause-answers c = λ h e.
 pub returns-clause-step : goal.returns-clause-step
 unfolding HasSettled HasCounted
 returns-clause-step c = λ n s. record {
-  works = c.in_ok-serve_stacked.ensures.works s.works;
   stacked =
       let more = c.in_ok-serve_stacked.ensures.served in
       let low = s.stacked in

@@ -28,14 +28,11 @@ lists_of-requires c = λ k d lt.
     (length-map old.singles.items single_rules ∙ sym c.in_ok-apart.ensures.len)
     (c.requires.seats k d lt))
 
-pub flush_stacked-requires-clause-few : goal.flush_stacked-requires-clause-few
-flush_stacked-requires-clause-few c =
+pub flush_stacked-requires : goal.flush_stacked-requires
+flush_stacked-requires c =
     let low = c.requires.step.1.stacked in
     let lt = c.requires.step.2 in
     omega arith
-
-pub flush_stacked-requires-clause-works : goal.flush_stacked-requires-clause-works
-flush_stacked-requires-clause-works c = c.requires.step.1.works
 
 pub returns-clause-lists : goal.returns-clause-lists
 returns-clause-lists c = λ h e.
@@ -73,7 +70,6 @@ returns-clause-stands c = λ h e. record {
 pub returns-clause-step : goal.returns-clause-step
 unfolding HasSettled HasCounted
 returns-clause-step c = λ n s. record {
-  works = c.flush_stacked.ensures.works;
   stacked =
       let more = c.flush_stacked.ensures.served in
       let low = s.stacked in

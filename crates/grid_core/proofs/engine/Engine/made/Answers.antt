@@ -30,7 +30,6 @@ invariant_of-result-2 c =
           (map shade_rules plan.shades.items)) plan.seats.items) (sym rules)
           c.in_ok-plan.ensures.seated;
       step = λ works. record {
-        works = c.in_ok-stacked.ensures.works;
         stacked = (let none = c.in_ok-stacked.ensures.served in omega arith);
         shades = λ k d lt. (c.in_ok-plan.ensures.fresh_shades k d lt).counted;
         singles = λ k d lt. (c.in_ok-plan.ensures.fresh k d lt).settled;

@@ -1,7 +1,7 @@
 use Rattle.std.proofs.Common.{◌+◌, [], ◌∷◌, refl, arith}
 use Rattle.cache_core.specs.History.{flush as flushed}
 use Rattle.grid_core.specs.Shadows.{levels_in, shadow_sizes}
-use Rattle.grid_core.specs.StackedCells.{stacked_served, stacked_failed}
+use Rattle.grid_core.specs.StackedCells.{stacked_served}
 use Rattle.grid_core.specs.Totals.{total}
 use Rattle.grid_core.proofs.After.{after-flush}
 use Rattle.grid_core.proofs.Sharing.{alike-flush}
@@ -10,7 +10,7 @@ use Rattle.grid_core.proofs.Totals.{within-more}
 use Rattle.grid_core.proofs.stacked.Stacked.flush.Goals as goal
 
 pub invariant_of-self : goal.invariant_of-self
-unfolding stacked_served stacked_failed
+unfolding stacked_served
 invariant_of-self c =
     let old = c.args.self.now in
     let n = old.served in
@@ -33,15 +33,14 @@ invariant_of-self c =
       leveled = rw c.clear.ensures.levels
           (within-more (total (levels_in old.shadows)) n (n + 1) (omega arith) old.leveled);
       few = let lt = c.requires.few in omega arith;
-      lived = λ works. ∣ (flushed ∷ [], c.clear_rows.ensures.stands []) ∣₁;
+      lived = ∣ (flushed ∷ [], c.clear_rows.ensures.stands []) ∣₁;
     }
 
 pub returns-clause-stands : goal.returns-clause-stands
-unfolding stacked_served stacked_failed
+unfolding stacked_served
 returns-clause-stands c = λ h e.
     let old = c.args.self.now in
     record {
-      working = e.working;
       served = (let n = e.served in omega arith);
       alike = alike-flush old.geometry h old.alike _ e.alike refl refl refl;
       state = after-flush old.geometry h old.stacks.items c.clear_rows.new.stacks.items old.shadows

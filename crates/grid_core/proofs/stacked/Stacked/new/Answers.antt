@@ -7,7 +7,7 @@ use Rattle.cache_core.proofs.CacheFacts.{AreWithin-none}
 use Rattle.grid_core.specs.Shadows.{shadow_sizes}
 use Rattle.grid_core.specs.Standing.{IsEmptyStack}
 use Rattle.grid_core.specs.State.{IsRanked, IsWithinAlike}
-use Rattle.grid_core.specs.StackedCells.{stacked_rules, stacked_served, stacked_failed}
+use Rattle.grid_core.specs.StackedCells.{stacked_rules, stacked_served}
 use Rattle.grid_core.proofs.After.{after-start}
 use Rattle.grid_core.proofs.Sharing.{alike-start}
 use Rattle.grid_core.proofs.StackBounds.{told-all}
@@ -41,16 +41,15 @@ invariant_of-result c =
           (let ok = c.in_ok-sizes.sizes.ok in let small = c.in_ok-sizes.sizes.small in omega arith);
       leveled = subst (λ p. IsWithin p 0) (sym c.in_ok-shadows.ensures.levels) none;
       few = omega arith;
-      lived = λ works. ∣ ([], λ k d lt. (empty k d lt).stands) ∣₁;
+      lived = ∣ ([], λ k d lt. (empty k d lt).stands) ∣₁;
     }
 
 pub returns-clause-stands : goal.returns-clause-stands
-unfolding stacked_served stacked_failed
+unfolding stacked_served
 returns-clause-stands c =
     let shadows = c.in_ok-shadows.shadows in
     let sizes = c.deref-2.result.now in
     record {
-      working = refl;
       served = refl;
       alike = alike-start c.args.first _ (ap (λ a. a.fetches) c.none_alike.ensures)
           (ap (λ a. a.firsts) c.none_alike.ensures) (ap (λ a. a.flushes) c.none_alike.ensures);

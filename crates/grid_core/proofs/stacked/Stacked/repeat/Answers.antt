@@ -6,7 +6,7 @@ use Rattle.cache_core.specs.History.{is_write}
 use Rattle.cache_core.proofs.CacheFacts.{IsWithin-with_one}
 use Rattle.grid_core.specs.Cells.{KnowsPrior}
 use Rattle.grid_core.specs.Shadows.{levels_in, shadow_sizes}
-use Rattle.grid_core.specs.StackedCells.{stacked_failed, stacked_served}
+use Rattle.grid_core.specs.StackedCells.{stacked_served}
 use Rattle.grid_core.specs.Totals.{total}
 use Rattle.grid_core.proofs.Again.{after-again, all-again, known-last, last-of, prior-again}
 use Rattle.grid_core.proofs.Sharing.{alike-again}
@@ -18,7 +18,7 @@ pub count-requires : goal.count-requires
 count-requires c = within-most c.args.self.now c.args.self.now.alike_within.fetches
 
 pub invariant_of-self : goal.invariant_of-self
-unfolding stacked_served stacked_failed
+unfolding stacked_served
 invariant_of-self c =
     let old = c.args.self.now in
     let n = old.served in
@@ -45,14 +45,13 @@ invariant_of-self c =
     }
 
 pub returns-clause-stands : goal.returns-clause-stands
-unfolding stacked_served stacked_failed
+unfolding stacked_served
 returns-clause-stands c = λ h e.
     let old = c.args.self.now in
     let block = c.args.access.addr / bsize_of old.geometry in
     let last = last-of old.geometry h old.stacks.items old.shadows old.shapes.items block
     (is_write c.args.access) e.state c.requires.again in
     record {
-      working = e.working;
       served = (let n = e.served in omega arith);
       alike = alike-again old.geometry h c.args.access old.alike _ e.alike
           (known-last old.geometry h block last) c.count.ensures refl refl;

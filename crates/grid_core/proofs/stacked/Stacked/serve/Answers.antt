@@ -12,7 +12,7 @@ use Rattle.grid_core.specs.Recent.{after_use}
 use Rattle.grid_core.specs.Shadows.{HoldsOrder, is_known, levels_in, recent_in}
 use Rattle.grid_core.specs.Shadows.{shadow_sizes}
 use Rattle.grid_core.specs.State.{base_rules}
-use Rattle.grid_core.specs.StackedCells.{stacked_served, stacked_failed}
+use Rattle.grid_core.specs.StackedCells.{stacked_served}
 use Rattle.grid_core.specs.Standing.{rules_of}
 use Rattle.grid_core.specs.Totals.{total}
 use Rattle.grid_core.proofs.After.{after-access, level-is, shapes-prior}
@@ -39,10 +39,9 @@ serve_rows-requires-clause-within c =
     (old.served, old.bounded, omega arith)
 
 pub serve_rows-requires-clause-lived : goal.serve_rows-requires-clause-lived
-unfolding stacked_failed
 serve_rows-requires-clause-lived c =
     let old = c.args.self.now in
-    (bsize_of old.geometry, old.one_size, old.lived c.requires.works)
+    (bsize_of old.geometry, old.one_size, old.lived)
 
 pub count-requires : goal.count-requires
 count-requires c = within-most c.args.self.now c.args.self.now.alike_within.fetches
@@ -51,7 +50,7 @@ pub count-requires-2 : goal.count-requires-2
 count-requires-2 c = within-most c.args.self.now c.args.self.now.alike_within.firsts
 
 pub invariant_of-self-2 : goal.invariant_of-self-2
-unfolding stacked_served stacked_failed
+unfolding stacked_served
 invariant_of-self-2 c =
     let old = c.args.self.now in
     let x = c.args.access in
@@ -77,14 +76,14 @@ invariant_of-self-2 c =
       leveled = rw c.in-Ok.ensures.levels
           (IsWithin-with_one x true (total (levels_in old.shadows)) n old.leveled);
       few = let lt = c.requires.few in omega arith;
-      lived = λ works. ∥∥₁_map (old.lived c.requires.works) (λ w. (
+      lived = ∥∥₁_map old.lived (λ w. (
         accessed x ∷ w.0,
         c.serve_rows.ensures.stands (bsize_of old.geometry) w.0 old.one_size w.1,
       ));
     }
 
 pub returns-clause-stands : goal.returns-clause-stands
-unfolding stacked_served stacked_failed
+unfolding stacked_served
 returns-clause-stands c = λ h e.
     let old = c.args.self.now in
     let x = c.args.access in
@@ -99,7 +98,6 @@ returns-clause-stands c = λ h e.
     λ zs held. c.in-Ok.ensures.level zs held ∙ ap (level_of sizes zs) block in
     let ys = distinct (renewals (shadow_of (base_rules g)) h) in
     record {
-      working = e.working;
       served = (let n = e.served in omega arith);
       alike = alike-access g h x old.alike _ c.in-Ok.prior.known e.alike
           (known ∙ st.known (x.addr / bsize_of g)) c.count.ensures c.count-2.ensures refl;
