@@ -10,7 +10,7 @@ use crate::places::Seat;
 use crate::plan::plan_for;
 use crate::stacked::Stacked;
 use cache_core::{Access, Counts, Geometry, NoMemory, Outcome, PerClass, Policy};
-use std::alloc::{AllocError, Global};
+use std::alloc::Global;
 
 /// Caches of one block size and one policy. After a failed allocation, every later access or flush
 /// answers `NoMemory`.
@@ -44,36 +44,6 @@ impl Engine {
     ghost use Rattle.grid_core.specs.Engines.{served_in, kept_in, has_failed};
     ghost use Rattle.grid_core.specs.Written.{rules_at, written_by, none_kept, SendsNothing};
 
-    /// Empty caches of these geometries.
-    fn made(
-        alloc: Global,
-        geometries: &[Geometry],
-        first: Geometry,
-        policy: Policy,
-    ) -> Result<Engine, AllocError>
-        requires { All (λ g. bsize_of g ≡ bsize_of first) geometries.now }
-        ensures stands { IfOk result (λ engine. EngineStandsFor engine []) }
-        ensures rules { IfOk result (λ engine.
-            rules_in engine ≡ map (λ g. rules_from g policy) geometries.now) }
-        ensures served { IfOk result (λ engine. served_in engine ≡ 0) }
-        ensures works { IfOk result (λ engine. has_failed engine ≡ false) }
-    {
-        let plan = plan_for(alloc, geometries, first, policy)?;
-        let stacked = Stacked::new(alloc, &plan.together, first, policy.wback)?;
-        Ok(Engine {
-            alloc,
-            policy,
-            seats: plan.seats,
-            caches: Caches {
-                stacked,
-                shades: plan.shades,
-                singles: plan.singles,
-            },
-            served: 0,
-            failed: false,
-        })
-    }
-
     /// Empty caches of these geometries, which have the block size of `first`, and of this policy.
     pub fn new(
         alloc: Global,
@@ -88,10 +58,24 @@ impl Engine {
         ensures served { IfOk result (λ engine. served_in engine ≡ 0) }
         ensures works { IfOk result (λ engine. has_failed engine ≡ false) }
     {
-        match Engine::made(alloc, geometries, first, policy) {
-            Ok(engine) => Ok(engine),
-            Err(_) => Err(NoMemory),
-        }
+        let Ok(plan) = plan_for(alloc, geometries, first, policy) else {
+            return Err(NoMemory);
+        };
+        let Ok(stacked) = Stacked::new(alloc, &plan.together, first, policy.wback) else {
+            return Err(NoMemory);
+        };
+        Ok(Engine {
+            alloc,
+            policy,
+            seats: plan.seats,
+            caches: Caches {
+                stacked,
+                shades: plan.shades,
+                singles: plan.singles,
+            },
+            served: 0,
+            failed: false,
+        })
     }
 
     /// Serves one access in all caches.
