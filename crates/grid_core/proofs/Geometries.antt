@@ -1,13 +1,26 @@
 -- The numbers of a geometry fit together.
 use Rattle.std.proofs.Common.{◌≡◌, ◌+◌, ◌-◌, ◌*◌, ◌/◌, ◌^◌, ◌<◌, ◌≤◌, sym, ap, ◌∙◌, inl, inr}
-use Rattle.std.proofs.Common.{arith}
+use Rattle.std.proofs.Common.{ℕ, Bool, arith}
 use Rattle.std.proofs.Math.Nat.{mul_comm, mul_assoc, mul-div_cancel}
 use Rattle.std.proofs.Math.Pow.{pow-add, pow-lt}
 use Rattle.std.proofs.lemmas.Bool.{cases_lt}
 use Rattle.cache_core.specs.declared.geometry.Geometry.{Geometry}
+use Rattle.cache_core.specs.History.{Rules}
 use Rattle.cache_core.specs.Geometry.{size_of, bsize_of, assoc_of, sets_of, blocks_of}
 use Rattle.cache_core.proofs.Lawful.{lawful_is, power_of_zeros, set_fits, sane_of}
 use Rattle.cache_core.proofs.Masks.{zeros, set_is, sets_is}
+
+-- the rules of these parts
+unfoldable pub make : ℕ → ℕ → ℕ → ℕ → Bool → Bool → Bool → Rules
+make b s a n f w l = record {
+  bsize = b;
+  sets = s;
+  assoc = a;
+  blocks = n;
+  fifo = f;
+  wback = w;
+  walloc = l;
+}
 
 module _ (g : Geometry) where
   -- all sets together are the whole cache

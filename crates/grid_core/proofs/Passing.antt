@@ -14,6 +14,13 @@ pub left-still : {X : Type 0} (P : X → Type 0) (first now : List X) (i : ℕ) 
     → AreLeft i first now → i < length first → All P first → P (get_or now i e)
 left-still P first now i e left lt all = subst P (sym (left i e (omega arith))) (all i e lt)
 
+-- and so what was so of all for some number below m
+pub left-within : {X : Type 0} (P : ℕ → X → Type 0) (m : ℕ) (first now : List X) (i : ℕ) (e : X)
+    → AreLeft i first now → i < length first → (n : ℕ) × All (P n) first × (n < m)
+    → (n : ℕ) × P n (get_or now i e) × (n < m)
+left-within P m first now i e left lt w =
+    (w.0, left-still (P w.0) first now i e left lt w.1, w.2)
+
 -- the item at the index, which was e if there was one, has become v
 pub record HasPassed {X : Type 0} (first now : List X) (i : ℕ) (e v : X) : Type 1 where
   -- what f says of v as of the item before, it says of all as it did

@@ -15,7 +15,7 @@ use Rattle.grid_core.specs.Standing.{Suits, found_in, rules_of, stack_rules}
 use Rattle.grid_core.specs.Cells.{IsPlacedOn, IsPlacedAmong, hit_at, shape_rules}
 use Rattle.grid_core.specs.Shapes.{IsSuitedShape}
 use Rattle.grid_core.specs.StackedCells.{stacked_rules}
-use Rattle.grid_core.proofs.Geometries.{sets-blocks}
+use Rattle.grid_core.proofs.Geometries.{make, sets-blocks}
 use Rattle.grid_core.proofs.StackRules.{stacked}
 
 -- the rules of the rows at an index
@@ -36,17 +36,6 @@ at-map : (P : Rules → Type 0) (xs : List Stack) (i : ℕ) → i < length xs
 at-map P [] i lt h e = absurd (omega arith)
 at-map P (x ∷ xs) zero lt h e = h x
 at-map P (x ∷ xs) (suc i) lt h e = at-map P xs i (omega arith) h e
-
-make : ℕ → ℕ → ℕ → ℕ → Bool → Bool → Bool → Rules
-make b s a n f w l = record {
-  bsize = b;
-  sets = s;
-  assoc = a;
-  blocks = n;
-  fifo = f;
-  wback = w;
-  walloc = l;
-}
 
 suits-same : (r : Rules) → IsStacked r → (g : Geometry) (ways : ℕ) (wback : Bool)
     → Suits r g ways wback → ways ≡ assoc_of g → with_ways ways r ≡ stack_rules g wback

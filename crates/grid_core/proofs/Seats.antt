@@ -1,5 +1,5 @@
 -- Seats, while more caches join those that were planned.
-use Rattle.std.proofs.Common.{◌≡◌, ℕ, suc, ◌*◌, ◌<◌, ◌≤◌, ◌++◌, ◌∷◌, [], Bool, true, false, List}
+use Rattle.std.proofs.Common.{◌≡◌, ℕ, suc, ◌*◌, ◌<◌, ◌≤◌, ◌++◌, ◌∷◌, [], true, false, List}
 use Rattle.std.proofs.Common.{length, get_or, map, refl, sym, ap, subst, ◌∙◌, arith}
 use Rattle.std.specs.List.{All}
 use Rattle.std.proofs.lemmas.List.{append-nil, append_assoc, length-append, get_or_append_left}
@@ -21,7 +21,7 @@ use Rattle.grid_core.specs.Places.{Extends, planned_rules}
 use Rattle.grid_core.specs.Plans.{IsAsLarge}
 use Rattle.grid_core.specs.Standing.{stack_rules}
 use Rattle.grid_core.specs.Wholes.{IsWholeOf, IsLruOf}
-use Rattle.grid_core.proofs.Geometries.{sets-blocks}
+use Rattle.grid_core.proofs.Geometries.{make, sets-blocks}
 use Rattle.grid_core.specs.Shading.{IsShaded}
 use Rattle.grid_core.specs.Written.{rules_at, no_rules, written_by}
 
@@ -81,19 +81,6 @@ seated-longer rs rs' ss ss' ts ts' a b t p s own = record {
   cell = placed-longer rs rs' ss ss' a b s.cell own.cell_there ∙ own.cell;
   shade_there = place-longer rs rs' ts ts' a t s.shade own.shade_there;
   shade = shadow-longer rs rs' ts ts' a t s.shade own.shade_there ∙ own.shade;
-}
-
--- the rules of caches
-
-make : ℕ → ℕ → ℕ → ℕ → Bool → Bool → Bool → Rules
-make b s a n f w l = record {
-  bsize = b;
-  sets = s;
-  assoc = a;
-  blocks = n;
-  fifo = f;
-  wback = w;
-  walloc = l;
 }
 
 -- an LRU cache that allocates at writes is one with a stack order

@@ -152,32 +152,8 @@ fn gather(
     Ok(())
 }
 
-/// The first bytes of the blocks that are dirty in a cache of `ways` ways, set by set.
-fn dirty_in_sets(
-    alloc: Global,
-    slots: &Vec<Slot>,
-    sets: usize,
-    most: usize,
-    bsize: u64,
-    wback: bool,
-    ways: usize,
-) -> Result<Vec<u64>, AllocError>
-    requires room { vec_len slots.now ≡ sets * most }
-    requires fits { ways ≤ most }
-    requires bytes { (t : ℕ) → t < sets → HaveBytes bsize (row most t slots.now.items) }
-    ensures { IfOk result (λ v. v.items
-        ≡ dirty_in_rows bsize wback ways most slots.now.items sets) }
-{
-    let mut bytes = Vec::new(alloc);
-    for set in 0..sets {
-        let start = set * most;
-        let end = start + ways;
-        gather(&slots[start..end], bsize, wback, ways, &mut bytes)?;
-    }
-    Ok(bytes)
-}
-
-/// The same in rising order, each once.
+/// The first bytes of the blocks that are dirty in a cache of `ways` ways, in rising order, each
+/// once.
 pub(crate) fn dirty_rising(
     alloc: Global,
     slots: &Vec<Slot>,
@@ -195,7 +171,12 @@ pub(crate) fn dirty_rising(
         × IsSorted nat_cmp ys
         × (v.items ≡ dedup nat_eq ys)) }
 {
-    let mut bytes = dirty_in_sets(alloc, slots, sets, most, bsize, wback, ways)?;
+    let mut bytes = Vec::new(alloc);
+    for set in 0..sets {
+        let start = set * most;
+        let end = start + ways;
+        gather(&slots[start..end], bsize, wback, ways, &mut bytes)?;
+    }
     bytes.sort_unstable();
     bytes.dedup();
     Ok(bytes)

@@ -1,18 +1,14 @@
-use Rattle.std.proofs.Common.{◌+◌, ◌∷◌, arith}
+use Rattle.std.proofs.Common.{◌^◌, ◌+◌, ◌∷◌, arith}
 use Rattle.cache_core.specs.History.{flush as flushed}
 use Rattle.grid_core.specs.Shades.{ShadeStandsFor, HasCounted, shade_rules}
-use Rattle.grid_core.proofs.Passing.{left-still, one-passed}
+use Rattle.grid_core.proofs.Passing.{left-within, one-passed}
 use Rattle.grid_core.proofs.shades.clear_shades.Goals as goal
 
 pub clear-requires : goal.clear-requires
-clear-requires c = (
-  c.requires.0,
-  left-still (HasCounted c.requires.0) c.deref_mut-shade-items.result.now
-      c.loop-shade.shade-items c.loop-shade.shade-index c.shade-item.result
-      c.loop-shade.invariant.left (omega arith)
-      (rw c.deref_mut-shade-items.ensures.value c.requires.1),
-  c.requires.2,
-)
+clear-requires c = left-within HasCounted (2 ^ 44)
+    c.deref_mut-shade-items.result.now c.loop-shade.shade-items c.loop-shade.shade-index
+    c.shade-item.result c.loop-shade.invariant.left (omega arith)
+    (rw c.deref_mut-shade-items.ensures.value c.requires)
 
 pub loop-shade-preserved : goal.loop-shade-preserved
 loop-shade-preserved c =

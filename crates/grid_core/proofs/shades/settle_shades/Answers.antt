@@ -1,19 +1,15 @@
-use Rattle.std.proofs.Common.{◌+◌, ◌∷◌, arith}
+use Rattle.std.proofs.Common.{◌^◌, ◌+◌, ◌∷◌, arith}
 use Rattle.cache_core.specs.History.{access as accessed}
 use Rattle.grid_core.specs.Shades.{ShadeStandsFor, ShadeReached, ShadeHasHit, HasCounted}
 use Rattle.grid_core.specs.Shades.{shade_rules}
-use Rattle.grid_core.proofs.Passing.{left-still, one-passed}
+use Rattle.grid_core.proofs.Passing.{left-within, one-passed}
 use Rattle.grid_core.proofs.shades.settle_shades.Goals as goal
 
 pub settle-requires : goal.settle-requires
-settle-requires c = (
-  c.requires.0,
-  left-still (HasCounted c.requires.0) c.deref_mut-shade-items.result.now
-      c.loop-shade.shade-items c.loop-shade.shade-index c.shade-item.result
-      c.loop-shade.invariant.left (omega arith)
-      (rw c.deref_mut-shade-items.ensures.value c.requires.1),
-  c.requires.2,
-)
+settle-requires c = left-within HasCounted (2 ^ 44)
+    c.deref_mut-shade-items.result.now c.loop-shade.shade-items c.loop-shade.shade-index
+    c.shade-item.result c.loop-shade.invariant.left (omega arith)
+    (rw c.deref_mut-shade-items.ensures.value c.requires)
 
 pub loop-shade-preserved : goal.loop-shade-preserved
 loop-shade-preserved c =

@@ -1,4 +1,4 @@
-use Rattle.std.proofs.Common.{◌<◌, ◌+◌, ◌∷◌, List, length, get_or, map, ap, sym}
+use Rattle.std.proofs.Common.{◌^◌, ◌<◌, ◌+◌, ◌∷◌, List, length, get_or, map, ap, sym}
 use Rattle.std.proofs.Common.{subst, ◌∙◌, arith}
 use Rattle.std.proofs.Math.Seq.{map-set_same}
 use Rattle.std.specs.List.{All}
@@ -10,7 +10,7 @@ use Rattle.grid_core.specs.Shading.{IsShaded, StackedFollowed}
 use Rattle.grid_core.specs.StackedCells.{stacked_rules}
 use Rattle.grid_core.specs.Singles.{SingleStandsFor, SingleReached, SingleHasAnswered}
 use Rattle.grid_core.specs.Singles.{HasSettled, IsPending, single_rules, single_shading}
-use Rattle.grid_core.proofs.Passing.{left-still, one-passed, all-passed}
+use Rattle.grid_core.proofs.Passing.{left-within, one-passed, all-passed}
 use Rattle.grid_core.proofs.Shadings.{shaded-at, shading-same}
 use Rattle.grid_core.proofs.singles.settle_all.Goals as goal
 
@@ -33,14 +33,10 @@ prior_at-prior-requires-clause-there c =
     subst (λ p. IsPlace (length rs) (length ss) p) (sym c.shade.ensures) shaded.there
 
 pub settle-requires : goal.settle-requires
-settle-requires c = (
-  c.requires.pending.0,
-  left-still (IsPending c.requires.pending.0) c.deref_mut-single-items.result.now
-      c.loop-single.single-items c.loop-single.single-index c.single-item.result
-      c.loop-single.invariant.left (omega arith)
-      (rw c.deref_mut-single-items.ensures.value c.requires.pending.1),
-  c.requires.pending.2,
-)
+settle-requires c = left-within IsPending (2 ^ 44)
+    c.deref_mut-single-items.result.now c.loop-single.single-items c.loop-single.single-index
+    c.single-item.result c.loop-single.invariant.left (omega arith)
+    (rw c.deref_mut-single-items.ensures.value c.requires.pending)
 
 pub loop-single-preserved : goal.loop-single-preserved
 loop-single-preserved c =

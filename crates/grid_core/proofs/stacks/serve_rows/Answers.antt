@@ -1,4 +1,4 @@
-use Rattle.std.proofs.Common.{◌≡◌, ℕ, ◌+◌, ◌<◌, ◌∷◌, List, get_or, length, sym, ap, subst}
+use Rattle.std.proofs.Common.{◌^◌, ◌≡◌, ℕ, ◌+◌, ◌<◌, ◌∷◌, List, get_or, length, sym, ap, subst}
 use Rattle.std.proofs.Common.{◌∙◌, refl, arith}
 use Rattle.std.specs.List.{All}
 use Rattle.std.proofs.Math.Logic.{∥∥₁_map}
@@ -9,7 +9,7 @@ use Rattle.grid_core.specs.Shapes.{HaveBsize}
 use Rattle.grid_core.specs.Standing.{AreBehind, StandsFor, HasMoved, StayFirstFrom, rules_of}
 use Rattle.grid_core.specs.Standing.{IsCountedIn, IsWithinStack, told_in}
 use Rattle.grid_core.proofs.Again.{size-at}
-use Rattle.grid_core.proofs.Passing.{left-still, one-passed, all-passed}
+use Rattle.grid_core.proofs.Passing.{left-still, left-within, one-passed, all-passed}
 use Rattle.grid_core.proofs.stacks.serve_rows.Goals as goal
 
 pub loop-stack-init : goal.loop-stack-init
@@ -32,14 +32,10 @@ serve_one-behind-requires-clause-level c =
     (rw c.deref_mut-stack-items.ensures.value c.requires.levels)
 
 pub serve_one-behind-requires-clause-within : goal.serve_one-behind-requires-clause-within
-serve_one-behind-requires-clause-within c = (
-  c.requires.within.0,
-  left-still (IsWithinStack c.requires.within.0) c.deref_mut-stack-items.result.now
-      c.loop-stack.stack-items c.loop-stack.stack-index c.stack-item.result
-      c.loop-stack.invariant.left (omega arith)
-      (rw c.deref_mut-stack-items.ensures.value c.requires.within.1),
-  c.requires.within.2,
-)
+serve_one-behind-requires-clause-within c = left-within IsWithinStack (2 ^ 46)
+    c.deref_mut-stack-items.result.now c.loop-stack.stack-items c.loop-stack.stack-index
+    c.stack-item.result c.loop-stack.invariant.left (omega arith)
+    (rw c.deref_mut-stack-items.ensures.value c.requires.within)
 
 pub serve_one-behind-requires-clause-behind : goal.serve_one-behind-requires-clause-behind
 serve_one-behind-requires-clause-behind c =

@@ -1,11 +1,12 @@
 use Rattle.std.proofs.Common.{◌≡◌, ℕ, suc, drop, Some, false, true, eqb, cond, is_some, length}
-use Rattle.std.proofs.Common.{◌||◌, unwrap_or}
+use Rattle.std.proofs.Common.{◌||◌, unwrap_or, List}
 use Rattle.std.proofs.Common.{refl, ap, ◌∙◌, Bool, Option, arith}
 use Rattle.std.proofs.lemmas.Bool.{eq-eqb}
 use Rattle.std.proofs.lemmas.Bool.Decides.{nat_tests}
 use Rattle.cache_core.proofs.Reuse.{has}
 use Rattle.marked_list.specs.Recency.{level_of, brought_front}
-use Rattle.grid_core.specs.Shadows.{is_known, number_in, shadow_sizes}
+use Rattle.grid_core.specs.declared.shadows.Shadows.{Shadows}
+use Rattle.grid_core.specs.Shadows.{HoldsOrder, is_known, number_in, shadow_sizes}
 use Rattle.grid_core.specs.Numbers.{number_at}
 use Rattle.grid_core.proofs.Numbering.{tells, level-map, front-map, known-front}
 use Rattle.grid_core.proofs.Numbers.{number-apart, number-low, number-next}
@@ -13,6 +14,14 @@ use Rattle.marked_list.specs.Marked.{marked_sizes, order_of}
 use Rattle.grid_core.specs.Totals.{total}
 use Rattle.grid_core.proofs.Totals.{level-le, total-set, total-behind}
 use Rattle.grid_core.proofs.shadows.Shadows.touch.Goals as goal
+
+-- among the blocks of the list, a block has the number of b just if it is b
+number-tells : (s : Shadows) (b n : ℕ) (ys : List ℕ)
+    → n ≡ unwrap_or (number_at s.numbers.keys b) (length s.numbers.keys) → HoldsOrder s ys
+    → (y : ℕ) → has ys y ≡ true → eqb (number_in s y) n ≡ eqb y b
+number-tells s b n ys is held y h = ap (eqb (number_in s y)) is
+    ∙ tells (number_at s.numbers.keys) (length s.numbers.keys) (number-low s.numbers.keys)
+    (number-apart s.numbers.keys) b y (held.known y h)
 
 pub touch-requires : goal.touch-requires
 touch-requires c =
@@ -62,11 +71,7 @@ returns-clause-level c = λ ys held.
     let s = c.args.self.now in
     let b = c.args.block in
     let n = c.in-Ok.found.number in
-    let is = c.in-Ok.ensures.number in
-    let agree : (y : ℕ) → has ys y ≡ true
-    → eqb (number_in s y) n ≡ eqb y b = λ y h. ap (eqb (number_in s y)) is
-    ∙ tells (number_at s.numbers.keys) (length s.numbers.keys) (number-low s.numbers.keys)
-    (number-apart s.numbers.keys) b y (held.known y h) in
+    let agree = number-tells s b n ys c.in-Ok.ensures.number held in
     c.in-Ok-touch.ensures.level
     ∙ ap (λ l. level_of (shadow_sizes s) l n) held.order
     ∙ level-map (number_in s) n b (shadow_sizes s) ys agree
@@ -76,11 +81,7 @@ returns-clause-order c = λ ys held.
     let s = c.args.self.now in
     let b = c.args.block in
     let n = c.in-Ok.found.number in
-    let is = c.in-Ok.ensures.number in
-    let agree : (y : ℕ) → has ys y ≡ true
-    → eqb (number_in s y) n ≡ eqb y b = λ y h. ap (eqb (number_in s y)) is
-    ∙ tells (number_at s.numbers.keys) (length s.numbers.keys) (number-low s.numbers.keys)
-    (number-apart s.numbers.keys) b y (held.known y h) in
+    let agree = number-tells s b n ys c.in-Ok.ensures.number held in
     let next = λ (y : ℕ). unwrap_or (number_at c.find_number.new.numbers.keys y) 0 in
     let here : next b ≡ n = ap (λ o. unwrap_or o 0) (c.in-Ok.ensures.adds b
     ∙ ap (λ t. cond t (Some n) (number_at s.numbers.keys b)) (eq-eqb b b refl)) in
