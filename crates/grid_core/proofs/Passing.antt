@@ -43,7 +43,7 @@ one-passed first now i e v left lt lt' = record {
       get_or-set_other now i k v d ne ∙ left k d (omega arith);
 }
 
--- a vector whose items were lent as a list, and given back as another one of their length, has these
+-- a vector whose items were lent as a list, and given back as another of their length, has these
 pub given-back : {X : Type 0} (n : ℕ) (xs ys : List X) → length xs ≡ n
     → take n (xs ++ drop (length xs) ys) ≡ xs
 given-back n xs ys len = subst (λ m. take m (xs ++ drop (length xs) ys) ≡ xs) len

@@ -60,7 +60,7 @@ pub(crate) struct Stacked {
 #[tactic(auto, unfolding(crate::specs::StackedCells::stacked_rules, crate::specs::StackedCells::stacked_served, crate::specs::StackedCells::stacked_kept))]
 impl Stacked {
     ghost use Rattle.std.specs.Prelude.{◌≡◌, ◌==◌, ◌<◌, ◌≤◌, ◌+◌, ◌/◌, ◌^◌, ◌∷◌, [], map, true};
-    ghost use Rattle.std.specs.Prelude.{false, OnOk, OnErr, IfOk, IsErr, get_or, length, ℕ};
+    ghost use Rattle.std.specs.Prelude.{false, OnOk, OnErr, IfOk, get_or, length, ℕ};
     ghost use Rattle.std.specs.List.{All, list_any};
     ghost use Rattle.cache_core.specs.Geometry.{bsize_of};
     ghost use Rattle.cache_core.specs.History.{History, access as accessed, flush as flushed};

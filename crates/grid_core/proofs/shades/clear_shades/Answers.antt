@@ -14,7 +14,8 @@ pub loop-shade-preserved : goal.loop-shade-preserved
 loop-shade-preserved c =
     let was = c.loop-shade.invariant in
     let step = one-passed c.deref_mut-shade-items.result.now c.loop-shade.shade-items
-    c.loop-shade.shade-index c.shade-item.result c.clear.new.self was.left (omega arith) (omega arith) in
+    c.loop-shade.shade-index c.shade-item.result c.clear.new.self was.left (omega arith)
+    (omega arith) in
     record {
       rules = step.told shade_rules c.clear.ensures.rules was.rules;
       stands = λ h all. step.each (ShadeStandsFor h) (ShadeStandsFor (flushed ∷ h))

@@ -8,7 +8,8 @@ pub loop-shade-preserved : goal.loop-shade-preserved
 loop-shade-preserved c =
     let was = c.loop-shade.invariant in
     let step = one-passed c.deref_mut-shade-items.result.now c.loop-shade.shade-items
-    c.loop-shade.shade-index c.shade-item.result c.serve.new.self was.left (omega arith) (omega arith) in
+    c.loop-shade.shade-index c.shade-item.result c.serve.new.self was.left (omega arith)
+    (omega arith) in
     record {
       rules = step.told shade_rules c.serve.ensures.rules was.rules;
       misses = step.told shade_misses c.serve.ensures.misses was.misses;
@@ -34,7 +35,8 @@ returns-in_err-serve-clause-rules c =
     (c.loop-shade.invariant.rules ∙ ap (map shade_rules) c.deref_mut-shade-items.ensures.value)
 
 pub returns-clause-reached : goal.returns-clause-reached
-returns-clause-reached c = λ h all. all-passed (ShadeReached h c.args.access) c.args.shades.now.len
+returns-clause-reached c = λ h all.
+    all-passed (ShadeReached h c.args.access) c.args.shades.now.len
     c.loop-shade.shade-items c.args.shades.now.items c.loop-shade.shade-index (omega arith)
     (omega arith) (c.loop-shade.invariant.reached h
     (rw c.deref_mut-shade-items.ensures.value all))

@@ -16,7 +16,8 @@ loop-shade-preserved c =
     let x = c.args.access in
     let was = c.loop-shade.invariant in
     let step = one-passed c.deref_mut-shade-items.result.now c.loop-shade.shade-items
-    c.loop-shade.shade-index c.shade-item.result c.settle.new.self was.left (omega arith) (omega arith) in
+    c.loop-shade.shade-index c.shade-item.result c.settle.new.self was.left (omega arith)
+    (omega arith) in
     record {
       rules = step.told shade_rules c.settle.ensures.rules was.rules;
       stands = λ h all. step.each (ShadeReached h x) (ShadeStandsFor (accessed x ∷ h))

@@ -62,7 +62,8 @@ returns-in_err-serve-clause-shading c =
     ∙ ap (map single_shading) c.deref_mut-single-items.ensures.value)
 
 pub returns-clause-reached : goal.returns-clause-reached
-returns-clause-reached c = λ h all. all-passed (SingleReached h c.args.access) c.args.singles.now.len
+returns-clause-reached c = λ h all.
+    all-passed (SingleReached h c.args.access) c.args.singles.now.len
     c.loop-single.single-items c.args.singles.now.items c.loop-single.single-index (omega arith)
     (omega arith) (c.loop-single.invariant.reached h
     (rw c.deref_mut-single-items.ensures.value all))

@@ -65,8 +65,8 @@ loop-single-preserved c =
       shading = map-set_same single_shading xs i v e
           (shading-same v (get_or xs i e) c.settle.ensures.shade c.settle.ensures.rules)
           ∙ was.shading;
-      stands = λ h all followed hit. step.each (SingleReached h x) (SingleStandsFor (accessed x ∷ h))
-          (was.stands h all followed hit) all
+      stands = λ h all followed hit. step.each (SingleReached h x)
+          (SingleStandsFor (accessed x ∷ h)) (was.stands h all followed hit) all
           (λ here. c.settle.ensures.stands h here (known-here h followed hit));
       answers = λ h all followed hit. step.each (SingleReached h x) (SingleHasAnswered h x)
           (was.answers h all followed hit) all
@@ -77,13 +77,15 @@ loop-single-preserved c =
     }
 
 pub returns-clause-stands : goal.returns-clause-stands
-returns-clause-stands c = λ h all followed hit. all-passed (SingleStandsFor (accessed c.args.access ∷ h)) c.args.singles.now.len
+returns-clause-stands c = λ h all followed hit.
+    all-passed (SingleStandsFor (accessed c.args.access ∷ h)) c.args.singles.now.len
     c.loop-single.single-items c.args.singles.now.items c.loop-single.single-index (omega arith)
     (omega arith) (c.loop-single.invariant.stands h
     (rw c.deref_mut-single-items.ensures.value all) followed hit)
 
 pub returns-clause-answers : goal.returns-clause-answers
-returns-clause-answers c = λ h all followed hit. all-passed (SingleHasAnswered h c.args.access) c.args.singles.now.len
+returns-clause-answers c = λ h all followed hit.
+    all-passed (SingleHasAnswered h c.args.access) c.args.singles.now.len
     c.loop-single.single-items c.args.singles.now.items c.loop-single.single-index (omega arith)
     (omega arith) (c.loop-single.invariant.answers h
     (rw c.deref_mut-single-items.ensures.value all) followed hit)

@@ -19,7 +19,8 @@ pub loop-stack-preserved : goal.loop-stack-preserved
 loop-stack-preserved c =
     let was = c.loop-stack.invariant in
     let step = one-passed c.deref_mut-stack-items.result.now c.loop-stack.stack-items
-    c.loop-stack.stack-index c.stack-item.result c.clear.new.self was.left (omega arith) (omega arith) in
+    c.loop-stack.stack-index c.stack-item.result c.clear.new.self was.left (omega arith)
+    (omega arith) in
     record {
       rules = step.told rules_of c.clear.ensures.rules was.rules;
       levels = step.told told_in c.clear.ensures.levels was.levels;
@@ -34,7 +35,8 @@ loop-stack-preserved c =
     }
 
 pub returns-clause-bounds : goal.returns-clause-bounds
-returns-clause-bounds c = λ n all. all-passed (IsWithinStack n) c.args.stacks.now.len
+returns-clause-bounds c = λ n all.
+    all-passed (IsWithinStack n) c.args.stacks.now.len
     c.loop-stack.stack-items c.args.stacks.now.items c.loop-stack.stack-index (omega arith)
     (omega arith) (c.loop-stack.invariant.bounds n
     (rw c.deref_mut-stack-items.ensures.value all))

@@ -105,26 +105,31 @@ loop-stack-preserved c =
     }
 
 pub returns-clause-stands : goal.returns-clause-stands
-returns-clause-stands c = λ n h sizes all. all-passed (λ s. StandsFor s (accessed c.args.access ∷ h)) c.args.stacks.now.len
+returns-clause-stands c = λ n h sizes all.
+    all-passed (λ s. StandsFor s (accessed c.args.access ∷ h)) c.args.stacks.now.len
     c.loop-stack.stack-items c.args.stacks.now.items c.loop-stack.stack-index (omega arith)
     (omega arith) (c.loop-stack.invariant.stands n h
     (rw c.deref_mut-stack-items.ensures.value sizes) (rw c.deref_mut-stack-items.ensures.value all))
 
 pub returns-clause-moved : goal.returns-clause-moved
-returns-clause-moved c = λ n h sizes all. all-passed (HasMoved h c.args.access) c.args.stacks.now.len
+returns-clause-moved c = λ n h sizes all.
+    all-passed (HasMoved h c.args.access) c.args.stacks.now.len
     c.loop-stack.stack-items c.args.stacks.now.items c.loop-stack.stack-index (omega arith)
     (omega arith) (c.loop-stack.invariant.moved n h
     (rw c.deref_mut-stack-items.ensures.value sizes) (rw c.deref_mut-stack-items.ensures.value all))
 
 pub returns-clause-counted : goal.returns-clause-counted
-returns-clause-counted c = λ n sizes h same all low before. all-passed (IsCountedIn sizes (accessed c.args.access ∷ h)) c.args.stacks.now.len
+returns-clause-counted c = λ n sizes h same all low before.
+    all-passed (IsCountedIn sizes (accessed c.args.access ∷ h)) c.args.stacks.now.len
     c.loop-stack.stack-items c.args.stacks.now.items c.loop-stack.stack-index (omega arith)
     (omega arith) (c.loop-stack.invariant.counted n sizes h
     (rw c.deref_mut-stack-items.ensures.value same) (rw c.deref_mut-stack-items.ensures.value all)
-    (rw c.deref_mut-stack-items.ensures.value low) (rw c.deref_mut-stack-items.ensures.value before))
+    (rw c.deref_mut-stack-items.ensures.value low)
+    (rw c.deref_mut-stack-items.ensures.value before))
 
 pub returns-clause-bounds : goal.returns-clause-bounds
-returns-clause-bounds c = λ n all. all-passed (IsWithinStack (n + 1)) c.args.stacks.now.len
+returns-clause-bounds c = λ n all.
+    all-passed (IsWithinStack (n + 1)) c.args.stacks.now.len
     c.loop-stack.stack-items c.args.stacks.now.items c.loop-stack.stack-index (omega arith)
     (omega arith) (c.loop-stack.invariant.bounds n
     (rw c.deref_mut-stack-items.ensures.value all))
