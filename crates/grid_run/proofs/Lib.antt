@@ -1,4 +1,5 @@
 pub mod TableLemmas
+pub mod WrittenWords
 pub mod Levels
 pub mod Rooms
 pub mod Events
