@@ -12,3 +12,6 @@ pub mod Growing
 pub mod Shelves
 pub mod BackShelves
 pub mod RowPlaces
+pub mod Each
+pub mod Slices
+pub mod Turns
