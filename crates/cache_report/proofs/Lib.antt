@@ -1,1 +1,2 @@
 pub mod RateLemmas
+pub mod Rows

@@ -1,3 +1,4 @@
 pub mod AnswerLemmas
 pub mod CountLemmas
 pub mod FirstLemmas
+pub mod LineLemmas

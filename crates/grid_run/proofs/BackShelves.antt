@@ -3,24 +3,20 @@ use Rattle.std.proofs.Common.{◌≡◌, ℕ, ◌<◌, [], ◌∷◌, ◌++◌, 
 use Rattle.std.proofs.Common.{ap, sym, subst, ◌∙◌}
 use Rattle.std.specs.List.{All}
 use Rattle.std.proofs.lemmas.List.{get_or-map, length-map, map_push, map-set}
-use Rattle.std.proofs.lemmas.List.Elements.{All-push, All-set, All-weaker}
+use Rattle.std.proofs.lemmas.List.Elements.{All-set, All-weaker}
 use Rattle.cache_core.specs.History.{Rules}
+use Rattle.cache_core.specs.Standing.{rules_from}
 use Rattle.cache_core.specs.declared.geometry.Geometry.{Geometry}
 use Rattle.cache_core.specs.declared.policy.Policy.{Policy}
-use Rattle.grid_run.specs.Backs.{BackTask, IsPlacedIn, IsSeatIn, task_of_shelf}
-use Rattle.grid_run.specs.Plans.{AreBacksFor, IsCellBehind, IsSeatBehind, KeepsBehind}
-use Rattle.grid_run.specs.Plans.{SuitsBehind}
+use Rattle.grid_run.specs.Backs.{BackTask, IsPlacedIn, task_of_shelf}
+use Rattle.grid_run.specs.Plans.{IsCellBehind, IsSeatBehind, KeepsBehind, KeepsPlaced, SuitsBehind}
 use Rattle.grid_run.specs.Seats.{IsCellOf, Keeps, KeepsCells, Table, rules_on}
 use Rattle.grid_run.specs.declared.plan.BackShelf.{BackShelf}
 use Rattle.grid_run.specs.declared.seat.Seat.{Seat}
 use Rattle.grid_run.specs.declared.shelf.Shelf.{Shelf}
-use Rattle.grid_run.proofs.Growing.{at-changed, at-push, at-set, inside-push, inside-set}
+use Rattle.grid_run.proofs.Growing.{all-push, at-changed, at-push, at-set, inside-push}
+use Rattle.grid_run.proofs.Growing.{inside-set}
 use Rattle.grid_run.proofs.Shelves.{seat-stays}
-
--- the second levels that were found
-pub backs-at : (i d : Seat) (g : Geometry) (p : Policy) (xs : List BackShelf) (k : ℕ)
-    (x : BackShelf) → AreBacksFor i d g p xs k → x ≡ get_or xs k x → SuitsBehind i d g p x
-backs-at i d g p xs k x own at = subst (SuitsBehind i d g p) (sym at) (own.suits x)
 
 module _ (xs ys : List BackShelf) (x : BackShelf) (is : ys ≡ xs ++ x ∷ []) where
   joined : map task_of_shelf ys ≡ map task_of_shelf xs ++ task_of_shelf x ∷ []
@@ -38,14 +34,11 @@ module _ (xs ys : List BackShelf) (x : BackShelf) (is : ys ≡ xs ++ x ∷ []) w
       }
 
   -- all are behind seats that are there
-  pub placed-joined : (on_i on_d : Table) → IsSeatIn on_i x.i → IsSeatIn on_d x.d
-      → All (IsPlacedIn on_i on_d) (map task_of_shelf xs)
-      → All (IsPlacedIn on_i on_d) (map task_of_shelf ys)
+  pub placed-joined : KeepsPlaced x.i x.d (map task_of_shelf xs) (map task_of_shelf ys)
   unfolding task_of_shelf
-  placed-joined on_i on_d at_i at_d all =
-      subst (All (IsPlacedIn on_i on_d)) (sym joined)
-      (All-push (IsPlacedIn on_i on_d) (map task_of_shelf xs) (task_of_shelf x) all
-      (record { on_i = at_i; on_d = at_d }))
+  placed-joined = λ on_i on_d at_i at_d all.
+      all-push (IsPlacedIn on_i on_d) (map task_of_shelf xs) (map task_of_shelf ys)
+      (task_of_shelf x) joined all (record { on_i = at_i; on_d = at_d })
 
 -- second levels with another shelf
 abbrev pub with_shelf : BackShelf → Shelf → BackShelf
@@ -84,14 +77,17 @@ module _ (xs : List BackShelf) (k : ℕ) (x : BackShelf) (s : Shelf) (lt : k < l
       })
 
   -- the seat of a cell of the shelf
-  pub seat-among : (i d : Seat) (g : Geometry) (p : Policy) (r : Rules) (cell : ℕ)
-      → SuitsBehind i d g p x → IsCellOf (rules_on s) r cell
-      → IsSeatBehind i d r (map task_of_shelf (set xs k (with_shelf x s)))
+  pub seat-among : (i d : Seat) (g : Geometry) (p : Policy) (cell : ℕ)
+      → SuitsBehind i d g p x → IsCellOf (rules_on s) (rules_from g x.shelf.policy) cell
+      → IsSeatBehind i d (rules_from g p) (map task_of_shelf (set xs k (with_shelf x s)))
       (record { level = k; cell = cell })
   unfolding task_of_shelf
-  seat-among i d g p r cell suits own =
+  seat-among i d g p cell suits found =
       let old = map task_of_shelf xs in
       let y = task_of_shelf (with_shelf x s) in
+      let r = rules_from g p in
+      let own = subst (λ (q : Policy). IsCellOf (rules_on s) (rules_from g q) cell)
+      suits.shelf.policy found in
       subst (λ (l : List BackTask). IsSeatBehind i d r l (record { level = k; cell = cell }))
       (sym changed) (record {
         level = inside-set old k k y level-inside;

@@ -1,9 +1,12 @@
 -- What holds of the element at an index, while a list grows or another element changes.
 use Rattle.std.proofs.Common.{◌≡◌, ℕ, ◌<◌, [], ◌∷◌, ◌++◌, List, length, get_or, set}
-use Rattle.std.proofs.Common.{ap, sym, subst, ◌∙◌, inl, inr, arith}
+use Rattle.std.proofs.Common.{Result, Ok, Err, IfOk, OnOk, ap, sym, subst, ◌∙◌, inl, inr, arith}
+use Rattle.std.specs.List.{All}
 use Rattle.std.proofs.lemmas.Bool.{cases_eq}
 use Rattle.std.proofs.lemmas.List.{get_or-set_other, get_or-set_same, get_or_append_left}
 use Rattle.std.proofs.lemmas.List.{get_or_push, length_push, length-set}
+use Rattle.std.proofs.lemmas.List.Elements.{All-push, All-same}
+use Rattle.grid_run.specs.Plans.{IsAt}
 
 module _ {X : Type 0} (P : X → Type 0) where
   -- once another joins the list
@@ -17,6 +20,10 @@ module _ {X : Type 0} (P : X → Type 0) where
       → P x → P (get_or ys k d)
   at-last xs ys k x d is last own =
       subst P (sym (ap (λ l. get_or l k d) is ∙ get_or_push xs x d k (sym last))) own
+
+  -- of each, if it holds of the one that joined
+  pub all-push : (xs ys : List X) (x : X) → ys ≡ xs ++ x ∷ [] → All P xs → P x → All P ys
+  all-push xs ys x is all own = All-same P ys (xs ++ x ∷ []) is (All-push P xs x all own)
 
   -- once the element at i has changed, if it keeps what holds
   pub at-set : (xs : List X) (i k : ℕ) (x d : X) → i < length xs → (P (get_or xs i d) → P x)
@@ -32,6 +39,10 @@ module _ {X : Type 0} (P : X → Type 0) where
       → P (get_or (set xs i x) i d)
   at-changed xs i x d lt own = subst P (sym (get_or-set_same xs i x d lt)) own
 
+  -- of an element that was found
+  pub at-found : (xs : List X) (k : ℕ) (x : X) → IsAt P xs k → x ≡ get_or xs k x → P x
+  at-found xs k x found is = subst P (sym is) (found.has x)
+
 module _ {X : Type 0} where
   -- the indices stay
   pub inside-push : (xs ys : List X) (k : ℕ) (x : X) → ys ≡ xs ++ x ∷ [] → k < length xs
@@ -45,3 +56,12 @@ module _ {X : Type 0} where
   pub inside-last : (xs ys : List X) (k : ℕ) (x : X) → ys ≡ xs ++ x ∷ [] → k ≡ length xs
       → k < length ys
   inside-last xs ys k x is last = let len = ap length is ∙ length_push xs x in omega arith
+
+-- an element that has joined is at the index that was answered
+pub joined-at : {X E : Type 0} (P : X → Type 0) (xs ys : List X) (x : X) (r : Result ℕ E)
+    → IfOk r (λ k. k ≡ length xs) → OnOk r (ys ≡ xs ++ x ∷ []) → P x → IfOk r (IsAt P ys)
+joined-at P xs ys x (Ok k) last is own = record {
+  inside = inside-last xs ys k x is last;
+  has = λ d. at-last P xs ys k x d is last own;
+}
+joined-at P xs ys x (Err why) last is own = tt

@@ -1,4 +1,5 @@
 pub mod TableLemmas
+pub mod WrittenWords
 pub mod Levels
 pub mod Rooms
 pub mod Events
@@ -11,3 +12,6 @@ pub mod Growing
 pub mod Shelves
 pub mod BackShelves
 pub mod RowPlaces
+pub mod Each
+pub mod Slices
+pub mod Turns

@@ -11,16 +11,15 @@ use Rattle.stage_core.specs.declared.selection.Selection.{Selection}
 use Rattle.stage_core.specs.declared.message.Side.TheVariants as side
 use Rattle.stage_core.proofs.Worked.{second_level_requests-more, the_hierarchy}
 use Rattle.grid_core.specs.Written.{rules_at}
-use Rattle.grid_run.specs.Backs.{BackTask, IsPlacedIn, IsPlacedOn, IsSeatIn, WereAsked, back_task}
+use Rattle.grid_run.specs.Backs.{BackTask, IsPlacedIn, IsPlacedOn, WereAsked, back_task}
 use Rattle.grid_run.specs.Backs.{followed_by, hierarchy_behind, sent_behind, sent_on_side}
 use Rattle.grid_run.specs.Fronts.{front_rules}
 use Rattle.grid_run.specs.Lanes.{HasServed, lane_task}
 use Rattle.grid_run.specs.Rows.{IsBackOf, IsPlaceIn}
-use Rattle.grid_run.specs.Seats.{IsSeatOf, Table, rules_of_seat}
+use Rattle.grid_run.specs.Seats.{Table, rules_of_seat}
 use Rattle.grid_run.specs.declared.back.Back.{Back}
 use Rattle.grid_run.specs.declared.lane.Lane.{Lane}
 use Rattle.grid_run.specs.declared.plan.Place.{Place}
-use Rattle.grid_run.specs.declared.seat.Seat.{Seat}
 use Rattle.stage_core.specs.declared.selection.Selector.{Selector}
 
 -- what follows from two facts of the answer Ok
@@ -28,10 +27,6 @@ pub on-ok-both : {T E A B C : Type 0} (r : Result T E) → (A → B → C) → O
     → OnOk r C
 on-ok-both (Ok t) f a b = f a b
 on-ok-both (Err e) f a b = tt
-
--- a seat of a cache is a seat
-pub seat-in : {t : Table} {r : Rules} {s : Seat} → IsSeatOf t r s → IsSeatIn t s
-seat-in seat = record { level = seat.level; cell = seat.cell }
 
 -- a lane with another selector has served the same
 pub served-by-same : (s : Selector) (l : Lane) (es : List DinRecord) → HasServed l es
@@ -87,6 +82,10 @@ module _ (l : Lane) (c : Hierarchy) (s : Selection) (p : Place)
       (get_or-map back_task l.backs.items p.u.level b (back_task b) back-inside
       ∙ ap back_task (sym at))
       (place.back (back_task b))
+
+  -- its cell is one of theirs
+  pub cell-there : p.u.cell < length (back_task b).rules
+  cell-there = back-there.cell.inside
 
   -- and they get what the first level of the configuration sends
   pub requests-there : (es : List DinRecord) →

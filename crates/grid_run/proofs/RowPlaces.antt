@@ -8,8 +8,7 @@ use Rattle.stage_core.specs.Config.{hierarchy_of}
 use Rattle.stage_core.specs.SecondLevel.{Hierarchy}
 use Rattle.stage_core.specs.declared.selection.Selection.{Selection}
 use Rattle.grid_run.specs.Lanes.{LaneTask, task_of_plan}
-use Rattle.grid_run.specs.Plans.{IsLaneFor, KeepsBehind, KeepsPlaces}
-use Rattle.grid_run.specs.Plans.{KeepsPlacesIn}
+use Rattle.grid_run.specs.Plans.{KeepsBehind, KeepsPlaces, KeepsPlacesIn}
 use Rattle.grid_run.specs.Rows.{HasPlace, IsPlaceIn, IsPlaceOf}
 use Rattle.grid_run.specs.Seats.{Keeps}
 use Rattle.grid_run.specs.declared.grid.Row.{Row}
@@ -36,11 +35,6 @@ places-grow t u same on_i on_d behind = λ c s p own.
       back = λ other. let b = moved.back other in
           record { on_i = b.on_i; on_d = b.on_d; cell = b.cell };
     }
-
--- the lane that was found
-pub lane-at : (s : Selection) (xs : List LanePlan) (k : ℕ) (x : LanePlan) → IsLaneFor s xs k
-    → x ≡ get_or xs k x → x.selection ≡ s
-lane-at s xs k x own at = ap (λ l. l.selection) at ∙ own.selection x
 
 -- places stay where a lane joins the others
 pub lanes-joined : (xs ys : List LanePlan) (x : LanePlan) → ys ≡ xs ++ x ∷ []

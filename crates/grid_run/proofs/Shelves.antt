@@ -2,7 +2,6 @@
 use Rattle.std.proofs.Common.{◌≡◌, ℕ, ◌/◌, ◌<◌, [], ◌∷◌, ◌++◌, List, length, get_or, map, set}
 use Rattle.std.proofs.Common.{Bool, true, false, if◌then◌else◌, refl, ap, sym, subst, ◌∙◌}
 use Rattle.std.specs.List.{All}
-use Rattle.std.proofs.lemmas.List.Elements.{All-push}
 use Rattle.std.proofs.lemmas.List.{get_or-map, length-map, map_push, map-set}
 use Rattle.cache_core.specs.Geometry.{assoc_of, blocks_of, bsize_of, sets_of}
 use Rattle.cache_core.specs.History.{Rules}
@@ -13,12 +12,12 @@ use Rattle.cache_core.specs.declared.policy.Policy.{Policy}
 use Rattle.grid_core.specs.Written.{no_rules}
 use Rattle.grid_core.proofs.Geometries.{ways-are}
 use Rattle.grid_run.specs.Backs.{IsSeatIn}
-use Rattle.grid_run.specs.Plans.{IsAsLarge, IsShelfFor, Suits}
+use Rattle.grid_run.specs.Plans.{IsAsLarge, Suits}
 use Rattle.grid_run.specs.Seats.{IsCellOf, IsSeatOf, Keeps, KeepsCells, Table, rules_of_seat}
 use Rattle.grid_run.specs.Seats.{rules_on}
 use Rattle.grid_run.specs.declared.seat.Seat.{Seat}
 use Rattle.grid_run.specs.declared.shelf.Shelf.{Shelf}
-use Rattle.grid_run.proofs.Growing.{at-changed, at-last, at-push, at-set, inside-last}
+use Rattle.grid_run.proofs.Growing.{all-push, at-changed, at-last, at-push, at-set, inside-last}
 use Rattle.grid_run.proofs.Growing.{inside-push, inside-set}
 
 -- geometries of one block size that have as many blocks, in as many sets, give the same rules
@@ -84,8 +83,7 @@ cells-joined gs gs' g p is = λ r cell own.
 pub alike-pushed : (b : ℕ) (ok : Bool) (gs gs' : List Geometry) (g : Geometry)
     → gs' ≡ (if ok then gs ++ g ∷ [] else gs) → All (λ d. bsize_of d ≡ b) gs
     → bsize_of g ≡ b → All (λ d. bsize_of d ≡ b) gs'
-alike-pushed b true gs gs' g is all one = subst (All (λ d. bsize_of d ≡ b)) (sym is)
-    (All-push (λ d. bsize_of d ≡ b) gs g all one)
+alike-pushed b true gs gs' g is all one = all-push (λ d. bsize_of d ≡ b) gs gs' g is all one
 alike-pushed b false gs gs' g is all one = subst (All (λ d. bsize_of d ≡ b)) (sym is) all
 
 -- a seat by the cell of its level
@@ -126,25 +124,24 @@ module _ (xs : List Shelf) (i : ℕ) (x y : Shelf) (lt : i < length xs) where
       (cell-of t r s own)))
 
   -- the seat of a cell of the shelf
-  pub seat-on : (r : Rules) (cell : ℕ) → IsCellOf (rules_on y) r cell
-      → IsSeatOf (map rules_on (set xs i y)) r (record { level = i; cell = cell })
-  seat-on r cell own =
+  pub seat-on : (g : Geometry) (p : Policy) (cell : ℕ) → Suits g p x
+      → IsCellOf (rules_on y) (rules_from g x.policy) cell
+      → IsSeatOf (map rules_on (set xs i y)) (rules_from g p) (record { level = i; cell = cell })
+  seat-on g p cell suits found =
       let t = map rules_on xs in
+      let r = rules_from g p in
+      let own = subst (λ (q : Policy). IsCellOf (rules_on y) (rules_from g q) cell) suits.policy
+      found in
       subst (λ (l : Table). IsSeatOf l r (record { level = i; cell = cell }))
       (sym (map-set rules_on xs i y))
       (seat-of (set t i (rules_on y)) r (record { level = i; cell = cell })
       (inside-set t i i (rules_on y) level-inside)
       (at-changed (λ l. IsCellOf l r cell) t i (rules_on y) [] level-inside own))
 
--- the shelf that was found
-pub suits-at : (g : Geometry) (p : Policy) (xs : List Shelf) (i : ℕ) (x : Shelf)
-    → IsShelfFor g p xs i → x ≡ get_or xs i x → Suits g p x
-suits-at g p xs i x own at = subst (Suits g p) (sym at) (own.suits x)
-
 -- a seat of a cache is one of the table, and stays one
-pub seat-there : (t : Table) (r : Rules) (s : Seat) → IsSeatOf t r s → IsSeatIn t s
-seat-there t r s own = record { level = own.level; cell = own.cell }
+pub seat-there : {t : Table} {r : Rules} {s : Seat} → IsSeatOf t r s → IsSeatIn t s
+seat-there own = record { level = own.level; cell = own.cell }
 
 pub seat-stays : (t u : Table) → Keeps t u → (s : Seat) → IsSeatIn t s → IsSeatIn u s
-seat-stays t u keeps s own = seat-there u (rules_of_seat t s) s
+seat-stays t u keeps s own = seat-there
     (keeps (rules_of_seat t s) s (record { level = own.level; cell = own.cell; rules = refl }))

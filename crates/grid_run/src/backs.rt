@@ -12,6 +12,7 @@ ghost use Rattle.grid_run.specs.declared.requests.Request.{Request as Asked};
 
 use crate::back::Back;
 use crate::front::Front;
+use crate::lists::made_for_each;
 use crate::plan::BackShelf;
 use cache_core::NoMemory;
 use stage_core::Side;
@@ -24,14 +25,7 @@ pub(crate) fn backs_for(alloc: Global, shelves: &[BackShelf]) -> Result<Vec<Back
     ensures asked { IfOk result (λ backs. All (WereAsked no_requests) backs.items) }
     ensures settled { IfOk result (λ backs. All NothingWaits backs.items) }
 {
-    let mut backs = Vec::new(alloc);
-    for shelf in shelves {
-        let back = Back::new(alloc, shelf)?;
-        if backs.push(back).is_err() {
-            return Err(NoMemory);
-        }
-    }
-    Ok(backs)
+    made_for_each!(alloc, shelves, Back::new)
 }
 
 /// Asks all second levels for what the first-level caches of a side sent for the last request.

@@ -8,6 +8,7 @@ ghost use Rattle.grid_run.specs.Lanes.{task_of_plan};
 ghost use Rattle.grid_run.specs.Rows.{IsSound};
 ghost use Rattle.grid_run.specs.Workers.{MayHaveTaken, Took, WereGiven, worker_task};
 
+use crate::lists::made_for_each;
 use crate::plan::LanePlan;
 use crate::worker::Worker;
 use cache_core::NoMemory;
@@ -37,14 +38,7 @@ fn workers_for(alloc: Global, plans: &[LanePlan]) -> Result<Vec<Worker>, NoMemor
         map worker_task workers.items ≡ map task_of_plan plans.now) }
     ensures taken { IfOk result (λ workers. All (MayHaveTaken []) workers.items) }
 {
-    let mut workers = Vec::new(alloc);
-    for plan in plans {
-        let worker = Worker::new(alloc, plan)?;
-        if workers.push(worker).is_err() {
-            return Err(NoMemory);
-        }
-    }
-    Ok(workers)
+    made_for_each!(alloc, plans, Worker::new)
 }
 
 /// Each worker takes the batch, on at most so many threads.

@@ -8,6 +8,7 @@ ghost use Rattle.grid_run.specs.Seats.{rules_on};
 ghost use Rattle.grid_run.specs.Sending.{event_of};
 
 use crate::front::Front;
+use crate::lists::made_for_each;
 use crate::requests::Request;
 use crate::shelf::Shelf;
 use cache_core::NoMemory;
@@ -19,14 +20,7 @@ pub(crate) fn fronts_for(alloc: Global, shelves: &[Shelf]) -> Result<Vec<Front>,
         map front_rules fronts.items ≡ map rules_on shelves.now) }
     ensures stands { IfOk result (λ fronts. All (FrontAt []) fronts.items) }
 {
-    let mut fronts = Vec::new(alloc);
-    for shelf in shelves {
-        let front = Front::new(alloc, shelf)?;
-        if fronts.push(front).is_err() {
-            return Err(NoMemory);
-        }
-    }
-    Ok(fronts)
+    made_for_each!(alloc, shelves, Front::new)
 }
 
 /// Serves a request in all caches.

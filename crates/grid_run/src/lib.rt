@@ -13,7 +13,7 @@
 //! `plan` finds the place of each row: its lane, and a `seat` among the caches of each kind, which
 //! a `shelf` lists. A lane is the work of one thread (`worker`); `crew` gives records to all
 //! workers in batches, on as many threads as are asked for. `run` reads the trace, and `simulation`
-//! is the whole run. `numbers` and `table` write.
+//! is the whole run. `numbers` and `table` write, and `lists` adds to a list.
 //!
 //! Proved for every reader whose bytes are known: if a run succeeds, the text has no fault, and the
 //! bytes written are exactly the table whose every line is what the definitions give for its
@@ -34,6 +34,7 @@ mod fronts;
 mod grid;
 mod lane;
 mod level;
+mod lists;
 mod numbers;
 mod parts;
 mod plan;

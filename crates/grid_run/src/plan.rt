@@ -5,15 +5,15 @@ ghost use Rattle.std.specs.List.{All};
 ghost use Rattle.cache_core.specs.Standing.{rules_from};
 ghost use Rattle.stage_core.specs.Config.{hierarchy_of};
 ghost use Rattle.stage_core.specs.Events.{IsBounded};
-ghost use Rattle.grid_run.specs.Backs.{IsPlacedIn, IsSeatIn, task_of_shelf};
+ghost use Rattle.grid_run.specs.Backs.{task_of_shelf};
 ghost use Rattle.grid_run.specs.Grids.{IsBoundedRow, IsBoundedSetup};
 ghost use Rattle.grid_run.specs.Lanes.{task_of_plan};
 ghost use Rattle.grid_run.specs.Plans.{AreBacksFor, IsLaneFor, IsSeatBehind, KeepsBehind};
-ghost use Rattle.grid_run.specs.Plans.{KeepsPlaces, KeepsPlacesIn};
+ghost use Rattle.grid_run.specs.Plans.{KeepsPlaced, KeepsPlaces, KeepsPlacesIn};
 ghost use Rattle.grid_run.specs.Rows.{HasPlace, HavePlaces, IsPlaceIn, IsSound};
-ghost use Rattle.grid_run.specs.Seats.{Table};
 
 use crate::grid::{Row, Setup};
+use crate::lists::add_to;
 use crate::seat::{Seat, seat_for};
 use crate::sharing::{count_groups, group_after, worker_of};
 use crate::shelf::Shelf;
@@ -86,19 +86,14 @@ fn back_for(
     ensures back { IfOk result (AreBacksFor i d geometry policy backs.new.items) }
     ensures keeps { OnOk result (KeepsBehind (map task_of_shelf backs.old.items)
         (map task_of_shelf backs.new.items)) }
-    ensures placed { (on_i on_d : Table) → OnOk result (IsSeatIn on_i i → IsSeatIn on_d d →
-        All (IsPlacedIn on_i on_d) (map task_of_shelf backs.old.items) →
-        All (IsPlacedIn on_i on_d) (map task_of_shelf backs.new.items)) }
+    ensures placed { OnOk result (KeepsPlaced i d (map task_of_shelf backs.old.items)
+        (map task_of_shelf backs.new.items)) }
 {
     if let Some(index) = find_back(backs, i, d, geometry, policy) {
         return Ok(index);
     }
-    let index = backs.len();
     let shelf = Shelf::new(alloc, geometry, policy);
-    if backs.push(BackShelf { i, d, shelf }).is_err() {
-        return Err(NoMemory);
-    }
-    Ok(index)
+    add_to(backs, BackShelf { i, d, shelf })
 }
 
 /// The seat of a second-level cache behind these seats. Where there is none yet, it joins the
@@ -115,9 +110,8 @@ fn seat_behind(
         (map task_of_shelf backs.new.items)) }
     ensures keeps { OnOk result (KeepsBehind (map task_of_shelf backs.old.items)
         (map task_of_shelf backs.new.items)) }
-    ensures placed { (on_i on_d : Table) → OnOk result (IsSeatIn on_i i → IsSeatIn on_d d →
-        All (IsPlacedIn on_i on_d) (map task_of_shelf backs.old.items) →
-        All (IsPlacedIn on_i on_d) (map task_of_shelf backs.new.items)) }
+    ensures placed { OnOk result (KeepsPlaced i d (map task_of_shelf backs.old.items)
+        (map task_of_shelf backs.new.items)) }
 {
     let level = back_for(alloc, backs, i, d, geometry, policy)?;
     let cell = backs[level].shelf.cell_for(geometry)?;
@@ -167,11 +161,7 @@ fn lane_for(
     if let Some(index) = find_lane(lanes, selection, worker) {
         return Ok(index);
     }
-    let index = lanes.len();
-    if lanes.push(empty_lane(alloc, selection, worker)).is_err() {
-        return Err(NoMemory);
-    }
-    Ok(index)
+    add_to(lanes, empty_lane(alloc, selection, worker))
 }
 
 #[tactic(auto, unfolding(crate::specs::Lanes::task_of_plan))]

@@ -5,6 +5,7 @@ ghost use Rattle.cache_core.specs.Standing.{rules_from};
 ghost use Rattle.grid_run.specs.Plans.{IsShelfFor};
 ghost use Rattle.grid_run.specs.Seats.{IsSeatOf, Keeps, rules_on};
 
+use crate::lists::add_to;
 use crate::shelf::Shelf;
 use cache_core::{Geometry, NoMemory, Policy};
 use std::alloc::Global;
@@ -43,11 +44,7 @@ fn shelf_for(
     if let Some(index) = find_shelf(shelves, geometry, policy) {
         return Ok(index);
     }
-    let index = shelves.len();
-    if shelves.push(Shelf::new(alloc, geometry, policy)).is_err() {
-        return Err(NoMemory);
-    }
-    Ok(index)
+    add_to(shelves, Shelf::new(alloc, geometry, policy))
 }
 
 /// The seat of a cache. Where there is none yet, it joins the others of its block size and policy.

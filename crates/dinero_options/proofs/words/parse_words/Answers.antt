@@ -1,22 +1,15 @@
-use Rattle.std.proofs.Common.{◌≡◌, ◌∙◌, ap, refl, subst, map, string_bytes, true}
+use Rattle.std.proofs.Common.{◌∙◌, ap, subst, map, string_bytes}
 use Rattle.clap.specs.Words.{found_of, is_simple, is_simple_and_free, rows_of}
 use Rattle.dinero_options.specs.Answer.{AcceptsWords, RefusesWords}
-use Rattle.dinero_options.specs.Options.{command_app}
 use Rattle.dinero_options.proofs.AnswerLemmas.{answers_refusal, answers_texts}
 use Rattle.dinero_options.proofs.words.parse_words.Goals as goal
 
 -- the command is simple, so the contracts of clap say what its matches and faults are
-plain : is_simple command_app ≡ true
-plain = refl
-
-free : is_simple_and_free command_app ≡ true
-free = refl
-
 pub take_words-requires-clause-simple : goal.take_words-requires-clause-simple
-take_words-requires-clause-simple c = ap is_simple c.in-Ok.ensures ∙ plain
+take_words-requires-clause-simple c = ap is_simple c.in-Ok.ensures
 
 pub take_words-requires-clause-free : goal.take_words-requires-clause-free
-take_words-requires-clause-free c = ap is_simple_and_free c.in-Ok.ensures ∙ free
+take_words-requires-clause-free c = ap is_simple_and_free c.in-Ok.ensures
 
 pub returns-in-Err-clause-answer : goal.returns-in-Err-clause-answer
 returns-in-Err-clause-answer c =

@@ -1,12 +1,8 @@
-use Rattle.std.proofs.Common.{◌≡◌, ◌∙◌, false, refl, sym}
-use Rattle.dinero_pipe.specs.FaultText.{asks_for_help}
-use Rattle.din_trace.proofs.WritesLemmas.{writes_then, writes_as}
+use Rattle.std.proofs.Common.{◌∙◌, sym}
+use Rattle.dinero_options.proofs.LineLemmas.{line-written}
 use Rattle.dinero_pipe.proofs.fault.fault_text.Goals as goal
 
 pub returns : goal.returns
 returns g c =
-    let other : asks_for_help c.args.fault.now
-    ≡ false = sym c.is_help.ensures ∙ c.if-is_help.false in
-    writes_as _ _ _ (rw other refl)
-    (writes_then _ _ _ c.in_ok-put.ensures
-    (writes_then _ _ _ c.in_ok-put_fault.ensures c.put-2.ensures))
+    line-written _ _ _ _ (sym c.is_help.ensures ∙ c.if-is_help.false) c.in_ok-put.ensures
+    c.in_ok-put_fault.ensures c.put-2.ensures

@@ -1,12 +1,10 @@
-use Rattle.std.proofs.Common.{◌≡◌, [], map, take}
-use Rattle.std.specs.List.{All}
+use Rattle.std.proofs.Common.{[]}
 use Rattle.grid_run.specs.Fronts.{FrontAt, front_rules}
 use Rattle.grid_run.specs.Seats.{rules_on}
+use Rattle.grid_run.proofs.Each.{AreMade}
 use Rattle.grid_run.proofs.fronts.fronts_for.Given as goal
 
 -- there are the caches of each shelf that was passed
-abbrev pub invariant-loop-shelf : goal.invariant-loop-shelf
-invariant-loop-shelf l = record {
-  rules : map front_rules l.fronts.items ≡ map rules_on (take l.shelf-index l.shelves);
-  stands : All (FrontAt []) l.fronts.items;
-}
+abbrev pub invariant-loop-plan : goal.invariant-loop-plan
+invariant-loop-plan l =
+    AreMade front_rules rules_on (FrontAt []) l.shelves l.plan-index l.made.items

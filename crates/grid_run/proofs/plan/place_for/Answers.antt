@@ -1,4 +1,4 @@
-use Rattle.std.proofs.Common.{Some, map, set, sym, subst}
+use Rattle.std.proofs.Common.{◌≡◌, Some, map, set, sym, subst}
 use Rattle.std.proofs.lemmas.List.Elements.{All-set}
 use Rattle.stage_core.specs.Config.{hierarchy_of}
 use Rattle.stage_core.specs.declared.selection.Selection.{Selection}
@@ -6,7 +6,9 @@ use Rattle.grid_run.specs.Grids.{IsBoundedSetup}
 use Rattle.grid_run.specs.Lanes.{task_of_plan}
 use Rattle.grid_run.specs.Rows.{HasPlace, IsPlaceIn, IsSound}
 use Rattle.grid_run.specs.declared.grid.Setup.{Setup}
-use Rattle.grid_run.proofs.RowPlaces.{lane-at, lanes-kept, place-of}
+use Rattle.grid_run.specs.declared.plan.LanePlan.{LanePlan}
+use Rattle.grid_run.proofs.Growing.{at-found}
+use Rattle.grid_run.proofs.RowPlaces.{lanes-kept, place-of}
 use Rattle.grid_run.proofs.plan.place_for.Goals as goal
 
 pub lane_for-requires : goal.lane_for-requires
@@ -26,7 +28,8 @@ returns-clause-place c =
     (sym c.in-Simulated.is)
     (place-of xs k x y own.inside h s p c.in_ok-place.ensures.lane
     (subst (λ (z : Selection). IsPlaceIn (task_of_plan y) h z p)
-    (lane-at s xs k x own c.index_mut.ensures.value) c.in_ok-place.ensures.place))
+    (at-found (λ (lane : LanePlan). lane.selection ≡ s) xs k x own c.index_mut.ensures.value)
+    c.in_ok-place.ensures.place))
 
 pub returns-clause-keeps : goal.returns-clause-keeps
 returns-clause-keeps c = λ h s p has.

@@ -17,7 +17,8 @@ use Rattle.grid_run.specs.Lanes.{HasServed, lane_task}
 use Rattle.grid_run.specs.Sending.{SecondServed}
 use Rattle.grid_run.specs.declared.figures.Figures.{Figures}
 use Rattle.grid_run.proofs.Behind.{at-seat, rules-seated}
-use Rattle.grid_run.proofs.Placed.{back-inside, back-there, requests-there, seat-in}
+use Rattle.grid_run.proofs.Placed.{back-inside, back-there, cell-there, requests-there}
+use Rattle.grid_run.proofs.Shelves.{seat-there}
 use Rattle.grid_run.proofs.Rooms.{settled-served}
 use Rattle.grid_run.proofs.lane.Lane.figures.Goals as goal
 
@@ -45,16 +46,14 @@ index-requires-3 c =
 pub counts-requires-3 : goal.counts-requires-3
 unfolding back_task
 counts-requires-3 c =
-    let place = c.requires.2 in
-    (back-there c.args.self.now c.requires.0 c.requires.1 c.args.place.now place
-    c.index-3.result.now c.index-3.ensures).cell.inside
+    cell-there c.args.self.now c.requires.0 c.requires.1 c.args.place.now c.requires.2
+    c.index-3.result.now c.index-3.ensures
 
 pub shadow_misses-requires-3 : goal.shadow_misses-requires-3
 unfolding back_task
 shadow_misses-requires-3 c =
-    let place = c.requires.2 in
-    (back-there c.args.self.now c.requires.0 c.requires.1 c.args.place.now place
-    c.index-3.result.now c.index-3.ensures).cell.inside
+    cell-there c.args.self.now c.requires.0 c.requires.1 c.args.place.now c.requires.2
+    c.index-3.result.now c.index-3.ensures
 
 pub returns : goal.returns
 unfolding lane_task back_task
@@ -68,8 +67,8 @@ returns c = λ rules chosen past place taken.
     ap (λ (s : Selection). events s past) place.selection in
     let es : List DinRecord = events chosen past in
     let served = subst (HasServed l) sel taken.given.served in
-    let on-i = seat-in place.i in
-    let on-d = seat-in place.d in
+    let on-i = seat-there place.i in
+    let on-d = seat-there place.d in
     let h-i = history side.I es in
     let h-d = history side.D es in
     let st-i = at-seat l.i.items p.i fi c.index.ensures on-i (FrontAt h-i) served.i in

@@ -51,8 +51,8 @@ returns-clause-sound c = λ own.
     record {
       bounded = own.bounded;
       placed = c.in_ok-u.ensures.placed j e
-          (seat-there j _ c.in_ok-i.i c.in_ok-i.ensures.seat)
-          (seat-there e _ c.in_ok-d.d c.in_ok-d.ensures.seat)
+          (seat-there c.in_ok-i.ensures.seat)
+          (seat-there c.in_ok-d.ensures.seat)
           (placed-grows i j d e c.in_ok-i.ensures.keeps c.in_ok-d.ensures.keeps
           (map task_of_shelf old.backs.items) own.placed);
     }
