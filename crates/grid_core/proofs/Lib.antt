@@ -1,4 +1,4 @@
-pub mod Passing
+pub mod ListLoops
 pub mod Distances
 pub mod Levels
 pub mod Positions

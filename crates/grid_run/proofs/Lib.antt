@@ -14,4 +14,4 @@ pub mod BackShelves
 pub mod RowPlaces
 pub mod Each
 pub mod Slices
-pub mod Turns
+pub mod LoopTurns

@@ -1,7 +1,7 @@
 use Rattle.std.proofs.Common.{◌^◌, ◌+◌, ◌∷◌, arith}
 use Rattle.cache_core.specs.History.{flush as flushed}
 use Rattle.grid_core.specs.Shades.{ShadeStandsFor, HasCounted, shade_rules}
-use Rattle.grid_core.proofs.Passing.{left-within, one-passed}
+use Rattle.grid_core.proofs.ListLoops.{left-within, one-passed}
 use Rattle.grid_core.proofs.shades.clear_shades.Goals as goal
 
 pub clear-requires : goal.clear-requires

@@ -2,7 +2,7 @@ use Rattle.std.proofs.Common.{◌≡◌, ℕ, ◌+◌, ◌∷◌, map}
 use Rattle.std.specs.List.{All, AllWithin}
 use Rattle.cache_core.specs.History.{History, flush as flushed}
 use Rattle.grid_core.specs.Shades.{ShadeStandsFor, HasCounted, shade_rules}
-use Rattle.grid_core.proofs.Passing.{AreLeft}
+use Rattle.grid_core.proofs.ListLoops.{AreLeft}
 use Rattle.grid_core.proofs.shades.clear_shades.Given as goal
 
 -- the shadows that were passed are empty, and the others are as they were

@@ -1,7 +1,7 @@
 use Rattle.std.proofs.Common.{ap, map, ◌∙◌, arith}
 use Rattle.grid_core.specs.Shades.{ShadeStandsFor, ShadeReached, HasCounted, shade_rules}
 use Rattle.grid_core.specs.Shades.{shade_misses}
-use Rattle.grid_core.proofs.Passing.{one-passed, mapped-back, all-passed}
+use Rattle.grid_core.proofs.ListLoops.{one-passed, mapped-back, all-passed}
 use Rattle.grid_core.proofs.shades.serve_shades.Goals as goal
 
 pub loop-shade-preserved : goal.loop-shade-preserved

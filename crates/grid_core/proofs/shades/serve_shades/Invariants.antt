@@ -3,7 +3,7 @@ use Rattle.std.specs.List.{All, AllWithin}
 use Rattle.cache_core.specs.History.{History}
 use Rattle.grid_core.specs.Shades.{ShadeStandsFor, ShadeReached}
 use Rattle.grid_core.specs.Shades.{HasCounted, shade_rules, shade_misses}
-use Rattle.grid_core.proofs.Passing.{AreLeft}
+use Rattle.grid_core.proofs.ListLoops.{AreLeft}
 use Rattle.grid_core.proofs.shades.serve_shades.Given as goal
 
 -- the shadows that were passed have served the access, and the others are as they were

@@ -2,7 +2,7 @@ use Rattle.std.proofs.Common.{◌^◌, ◌+◌, ◌∷◌, arith}
 use Rattle.cache_core.specs.History.{access as accessed}
 use Rattle.grid_core.specs.Shades.{ShadeStandsFor, ShadeReached, ShadeHasHit, HasCounted}
 use Rattle.grid_core.specs.Shades.{shade_rules}
-use Rattle.grid_core.proofs.Passing.{left-within, one-passed}
+use Rattle.grid_core.proofs.ListLoops.{left-within, one-passed}
 use Rattle.grid_core.proofs.shades.settle_shades.Goals as goal
 
 pub settle-requires : goal.settle-requires

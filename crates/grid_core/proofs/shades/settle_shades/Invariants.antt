@@ -3,7 +3,7 @@ use Rattle.std.specs.List.{All, AllWithin}
 use Rattle.cache_core.specs.History.{History, access as accessed}
 use Rattle.grid_core.specs.Shades.{ShadeStandsFor, ShadeReached}
 use Rattle.grid_core.specs.Shades.{ShadeHasHit, HasCounted, shade_rules}
-use Rattle.grid_core.proofs.Passing.{AreLeft}
+use Rattle.grid_core.proofs.ListLoops.{AreLeft}
 use Rattle.grid_core.proofs.shades.settle_shades.Given as goal
 
 -- the shadows that were passed have counted, and the others are as they were

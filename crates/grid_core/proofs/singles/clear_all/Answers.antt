@@ -9,7 +9,7 @@ use Rattle.grid_core.specs.Cells.{items_of}
 use Rattle.grid_core.specs.Singles.{SingleStandsFor, HasSettled, single_rules, single_dirty}
 use Rattle.grid_core.specs.Singles.{single_shading}
 use Rattle.grid_core.specs.Written.{no_rules, written_by}
-use Rattle.grid_core.proofs.Passing.{one-passed}
+use Rattle.grid_core.proofs.ListLoops.{one-passed}
 use Rattle.grid_core.proofs.Shadings.{shading-same}
 use Rattle.grid_core.proofs.singles.clear_all.Goals as goal
 

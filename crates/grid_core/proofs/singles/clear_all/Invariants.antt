@@ -4,7 +4,7 @@ use Rattle.cache_core.specs.History.{History, flush as flushed}
 use Rattle.grid_core.specs.Cells.{items_of}
 use Rattle.grid_core.specs.Singles.{SingleStandsFor, HasSettled, single_rules, single_shading}
 use Rattle.grid_core.specs.Written.{written_by}
-use Rattle.grid_core.proofs.Passing.{AreLeft}
+use Rattle.grid_core.proofs.ListLoops.{AreLeft}
 use Rattle.grid_core.proofs.singles.clear_all.Given as goal
 
 -- the caches that were passed are empty and have counted, and the others are as they were

@@ -2,7 +2,7 @@ use Rattle.std.proofs.Common.{get_or, map, ap, ◌∙◌, arith}
 use Rattle.std.proofs.Math.Seq.{map-set_same}
 use Rattle.grid_core.specs.Singles.{SingleStandsFor, SingleReached, HasSettled, IsPending}
 use Rattle.grid_core.specs.Singles.{single_counts, single_rules, single_shading}
-use Rattle.grid_core.proofs.Passing.{left-still, one-passed, mapped-back, all-passed}
+use Rattle.grid_core.proofs.ListLoops.{left-still, one-passed, mapped-back, all-passed}
 use Rattle.grid_core.proofs.Shadings.{shading-same}
 use Rattle.grid_core.proofs.singles.serve_all.Goals as goal
 

@@ -3,7 +3,7 @@ use Rattle.std.specs.List.{All, AllWithin}
 use Rattle.cache_core.specs.History.{History}
 use Rattle.grid_core.specs.Singles.{SingleStandsFor, SingleReached, HasSettled, IsPending}
 use Rattle.grid_core.specs.Singles.{single_counts, single_rules, single_shading}
-use Rattle.grid_core.proofs.Passing.{AreLeft}
+use Rattle.grid_core.proofs.ListLoops.{AreLeft}
 use Rattle.grid_core.proofs.singles.serve_all.Given as goal
 
 -- the caches that were passed have served the access, and the others are as they were

@@ -10,7 +10,7 @@ use Rattle.grid_core.specs.Shading.{IsShaded, StackedFollowed}
 use Rattle.grid_core.specs.StackedCells.{stacked_rules}
 use Rattle.grid_core.specs.Singles.{SingleStandsFor, SingleReached, SingleHasAnswered}
 use Rattle.grid_core.specs.Singles.{HasSettled, IsPending, single_rules, single_shading}
-use Rattle.grid_core.proofs.Passing.{left-within, one-passed, all-passed}
+use Rattle.grid_core.proofs.ListLoops.{left-within, one-passed, all-passed}
 use Rattle.grid_core.proofs.Shadings.{shaded-at, shading-same}
 use Rattle.grid_core.proofs.singles.settle_all.Goals as goal
 

@@ -5,7 +5,7 @@ use Rattle.grid_core.specs.Shades.{ShadeHasHit}
 use Rattle.grid_core.specs.Shading.{StackedFollowed}
 use Rattle.grid_core.specs.Singles.{SingleStandsFor, SingleReached, SingleHasAnswered}
 use Rattle.grid_core.specs.Singles.{HasSettled, IsPending, single_rules, single_shading}
-use Rattle.grid_core.proofs.Passing.{AreLeft}
+use Rattle.grid_core.proofs.ListLoops.{AreLeft}
 use Rattle.grid_core.proofs.singles.settle_all.Given as goal
 
 -- the caches that were passed have counted, and the others are as they were

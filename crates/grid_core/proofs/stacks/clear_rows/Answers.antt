@@ -2,7 +2,7 @@ use Rattle.std.proofs.Common.{◌∷◌, refl, arith}
 use Rattle.std.proofs.lemmas.List.Elements.{AllWithin-more_set}
 use Rattle.cache_core.specs.History.{flush as flushed}
 use Rattle.grid_core.specs.Standing.{IsCountedIn, IsWithinStack, StandsFor, rules_of, told_in}
-use Rattle.grid_core.proofs.Passing.{one-passed, all-passed}
+use Rattle.grid_core.proofs.ListLoops.{one-passed, all-passed}
 use Rattle.grid_core.proofs.stacks.clear_rows.Goals as goal
 
 pub loop-stack-init : goal.loop-stack-init

@@ -2,7 +2,7 @@ use Rattle.std.proofs.Common.{◌≡◌, ℕ, ◌∷◌, List, map}
 use Rattle.std.specs.List.{All, AllWithin}
 use Rattle.cache_core.specs.History.{History, flush as flushed}
 use Rattle.grid_core.specs.Standing.{IsCountedIn, IsWithinStack, StandsFor, rules_of, told_in}
-use Rattle.grid_core.proofs.Passing.{AreLeft}
+use Rattle.grid_core.proofs.ListLoops.{AreLeft}
 use Rattle.grid_core.proofs.stacks.clear_rows.Given as goal
 
 -- the rows that were passed are empty, and the others are as they were

@@ -9,7 +9,7 @@ use Rattle.grid_core.specs.Shapes.{HaveBsize}
 use Rattle.grid_core.specs.Standing.{AreBehind, StandsFor, HasMoved, StayFirstFrom, rules_of}
 use Rattle.grid_core.specs.Standing.{IsCountedIn, IsWithinStack, told_in}
 use Rattle.grid_core.proofs.Again.{size-at}
-use Rattle.grid_core.proofs.Passing.{left-still, left-within, one-passed, all-passed}
+use Rattle.grid_core.proofs.ListLoops.{left-still, left-within, one-passed, all-passed}
 use Rattle.grid_core.proofs.stacks.serve_rows.Goals as goal
 
 pub loop-stack-init : goal.loop-stack-init

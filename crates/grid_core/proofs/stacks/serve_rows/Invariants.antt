@@ -5,7 +5,7 @@ use Rattle.grid_core.specs.Histograms.{level_at}
 use Rattle.grid_core.specs.Shapes.{HaveBsize}
 use Rattle.grid_core.specs.Standing.{AreBehind, StandsFor, HasMoved, rules_of}
 use Rattle.grid_core.specs.Standing.{IsCountedIn, IsWithinStack, told_in}
-use Rattle.grid_core.proofs.Passing.{AreLeft}
+use Rattle.grid_core.proofs.ListLoops.{AreLeft}
 use Rattle.grid_core.proofs.stacks.serve_rows.Given as goal
 
 -- the rows that were passed have served the access, and the others are as they were

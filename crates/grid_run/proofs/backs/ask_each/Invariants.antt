@@ -1,6 +1,6 @@
 use Rattle.grid_run.specs.Backs.{back_task}
 use Rattle.grid_run.proofs.Each.{HasChanged}
-use Rattle.grid_run.proofs.Turns.{Asks}
+use Rattle.grid_run.proofs.LoopTurns.{Asks}
 use Rattle.grid_run.proofs.backs.ask_each.Given as goal
 
 -- the second levels that were passed were asked for what was sent, and the others are as they were

@@ -1,6 +1,6 @@
 use Rattle.grid_run.specs.Backs.{back_task}
 use Rattle.grid_run.proofs.Each.{HasChanged}
-use Rattle.grid_run.proofs.Turns.{Settles}
+use Rattle.grid_run.proofs.LoopTurns.{Settles}
 use Rattle.grid_run.proofs.backs.settle_each.Given as goal
 
 -- the second levels that were passed have settled, and the others are as they were

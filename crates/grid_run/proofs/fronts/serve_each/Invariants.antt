@@ -1,6 +1,6 @@
 use Rattle.grid_run.specs.Fronts.{front_rules}
 use Rattle.grid_run.proofs.Each.{HasChanged}
-use Rattle.grid_run.proofs.Turns.{Serves}
+use Rattle.grid_run.proofs.LoopTurns.{Serves}
 use Rattle.grid_run.proofs.fronts.serve_each.Given as goal
 
 -- the caches that were passed have served the request, and the others are as they were
