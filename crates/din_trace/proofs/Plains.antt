@@ -156,6 +156,19 @@ run-more Holds bytes start at run below holds =
       refl,
     )
 
+-- a loop over the bytes has come to this index, and has passed such a run
+abbrev pub RunsTo : (List ℕ → ℕ → ℕ → Type 0) → List ℕ → ℕ → ℕ → Type 0
+RunsTo IsRun bytes start at = record { to : at ≤ length bytes; run : IsRun bytes start at }
+
+-- so it has after one more byte with the property
+pub runs_to-more : (Holds : ℕ → Type 0) (bytes : List ℕ) (start at : ℕ)
+    → RunsTo (Run Holds) bytes start at → at < length bytes → Holds (slice_index_or bytes at 0)
+    → RunsTo (Run Holds) bytes start (at + 1)
+runs_to-more Holds bytes start at so_far below holds = record {
+  to = omega arith;
+  run = (run-more Holds bytes start at so_far.run below holds).0;
+}
+
 -- a label, blanks, a prefix or none, digits, and nothing or a comment
 pub begins_plain : (bytes : List ℕ) (digit : ℕ) (gap prefix digits comment : List ℕ) (count : ℕ)
     → is_label digit ≡ true → Each is_blank gap → 0 < length gap → IsPrefix prefix

@@ -23,19 +23,11 @@ consumes-append (Some all) None new xs ys h k = absurd h
 consumes-append (Some all) (Some some) None xs ys h k = absurd k
 consumes-append (Some all) (Some some) (Some rest) xs ys h k = rw append_assoc (rw k at h)
 
-pub consumes-none : (old mid new : Option (List ℕ)) (xs : List ℕ) → Consumes old mid xs
-    → Consumes mid new [] → Consumes old new xs
-consumes-none None mid new xs h k = tt
-consumes-none (Some all) None new xs h k = absurd h
-consumes-none (Some all) (Some some) None xs h k = absurd k
-consumes-none (Some all) (Some some) (Some rest) xs h k = rw k at h
-
-pub consumes-kept : (old mid new : Option (List ℕ)) (xs : List ℕ) → Consumes old mid xs
-    → Keeps mid new → Consumes old new xs
-consumes-kept None mid new xs h k = tt
-consumes-kept (Some all) None new xs h k = absurd h
-consumes-kept (Some all) (Some some) None xs h k = absurd k
-consumes-kept (Some all) (Some some) (Some rest) xs h k = rw k h
+-- a reader that keeps its bytes gives none
+pub keeps-consumes : (mid new : Option (List ℕ)) → Keeps mid new → Consumes mid new []
+keeps-consumes None new k = tt
+keeps-consumes (Some some) None k = absurd k
+keeps-consumes (Some some) (Some rest) k = sym k
 
 -- one more failure changes the count
 pub once_more-differs : (count : ℕ) → once_more count ≡ count → ⊥
@@ -128,31 +120,31 @@ module _ (g₁ g₂ : List ℕ) (old mid new : Option (List ℕ)) (before during
     between = λ first last e. (record { given = g₂; fails = true }, e, refl);
   }
 
+  -- the reader had ended or failed, so that the second call asked nothing
+  compose-closed : (f₁ f₂ : Fate) → FateIs f₁ old g₁ mid before during → Closes f₁ s₁
+      → IsSame mid new during after s₁ s₂ size₁ size₂
+      → ((first mid last : Script) → Follows f₁ g₁ first last → Follows f₁ g₁ first mid)
+      → Composed f₁ f₂ g₁ g₂ old new before after s₂ size₀ size₂
+  compose-closed f₁ f₂ is closes same ends = record {
+    given = g₁;
+    fate = f₁;
+    is = rw (same.bytes, same.failures) is;
+    closes = rw same.state closes;
+    size = same.size ∙ first_size;
+    between = λ first last e.
+        let mid = script_before f₂ g₂ last in
+        (mid, ends first mid last e, script_before-follows f₂ g₂ last);
+  }
+
   pub compose : (f₁ f₂ : Fate) → FateIs f₁ old g₁ mid before during
       → FateIs f₂ mid g₂ new during after → Closes f₁ s₁ → Closes f₂ s₂
       → (is_reading s₁ ≡ false → IsSame mid new during after s₁ s₂ size₁ size₂)
       → Composed f₁ f₂ g₁ g₂ old new before after s₂ size₀ size₂
   compose Open f₂ is₁ is₂ closes₁ closes₂ settled = compose-open f₂ is₁.0 is₁.1 is₂ closes₂
   compose Ended f₂ is₁ is₂ closes₁ closes₂ settled =
-      let same = settled closes₁ in
-      record {
-        given = g₁;
-        fate = Ended;
-        is = rw (same.bytes, same.failures) is₁;
-        closes = rw same.state closes₁;
-        size = same.size ∙ first_size;
-        between = λ first last e. (script_before f₂ g₂ last, e, script_before-follows f₂ g₂ last);
-      }
+      compose-closed Ended f₂ is₁ closes₁ (settled closes₁) (λ first mid last e. e)
   compose Failed f₂ is₁ is₂ closes₁ closes₂ settled =
-      let same = settled closes₁ in
-      record {
-        given = g₁;
-        fate = Failed;
-        is = rw (same.bytes, same.failures) is₁;
-        closes = rw same.state closes₁;
-        size = same.size ∙ first_size;
-        between = λ first last e. (script_before f₂ g₂ last, e, script_before-follows f₂ g₂ last);
-      }
+      compose-closed Failed f₂ is₁ closes₁ (settled closes₁) (λ first mid last e. e)
 
 records-first : (rs : List DinRecord) (fault : Option TraceFault) (r : DinRecord)
     → Ok (Some r) ≡ records_answer rs fault → rs ≡ r ∷ drop 1 rs
