@@ -132,11 +132,12 @@ module _ (ms : List ℕ) (b : ℕ) (k : Mark) (mark : IsMark ms k) where
         (distinct (since k.place (b ∷ ms))) refl ∙ sym one_less);
   }
 
-pub sizes-set : (ks : List Mark) (i : ℕ) (v : Mark) → v.size ≡ (get_or ks i v).size
+-- a mark that is put in the place of one of its size leaves the sizes
+pub sizes-set : (ks : List Mark) (i : ℕ) (v d : Mark) → v.size ≡ (get_or ks i d).size
     → map size_of (set ks i v) ≡ map size_of ks
-sizes-set [] i v e = refl
-sizes-set (k ∷ ks) zero v e = ap (λ n. n ∷ map size_of ks) e
-sizes-set (k ∷ ks) (suc i) v e = ap (λ l. k.size ∷ l) (sizes-set ks i v e)
+sizes-set [] i v d e = refl
+sizes-set (k ∷ ks) zero v d e = ap (λ n. n ∷ map size_of ks) e
+sizes-set (k ∷ ks) (suc i) v d e = ap (λ l. k.size ∷ l) (sizes-set ks i v d e)
 
 none-of : (k : Mark) → k.place ≡ 0 → 0 < k.size → IsMark [] k
 none-of k start some = record {
