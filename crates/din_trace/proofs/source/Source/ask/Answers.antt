@@ -90,12 +90,12 @@ returns-in-Err-clause-reads g c =
               (g.R.ByteReader.remaining c.refill.new.reader) c.in-Err.ensures.err.1),
           c.in-Err.ensures.err.0 ∙ ap once_more now.failures_same,
         );
-        settles = c.fail.ensures.closed;
+        settles = c.fail.ensures.ends.closed;
         taken = omega (arith, c.in-Err.ensures.taken_none, now.count);
       },
       λ before later l is left.
           let then =
-          c.fail.ensures.answer l
+          c.fail.ensures.ends.first l
           (c.in-Err.ensures.same (record { given = []; fails = true }) l
           (now.left_same (record { given = []; fails = true }) l
           (left-closed c.args.self.now.backlog true l now.given before is left))) in
@@ -117,14 +117,14 @@ returns-then-count-eq0-clause-reads g c =
           c.in-Ok.ensures.end c.if-count-eq0.true,
           c.in-Ok.ensures.ok ∙ now.failures_same,
         );
-        settles = c.end.ensures.closed;
+        settles = c.end.ensures.ends.closed;
         taken = omega (arith, c.in-Ok.ensures.taken, now.count);
       },
       λ before later l is left.
           let held = now.left_same (record { given = []; fails = false }) l
           (left-closed c.args.self.now.backlog false l now.given before is left) in
           let then =
-          c.end.ensures.answer l
+          c.end.ensures.ends.first l
           (more.3 (record { given = []; fails = false }) l (rw none held)) in
           (then.0, then.1 later),
     )
