@@ -16,6 +16,7 @@ use Rattle.cache_core.specs.Order.{ranked}
 use Rattle.cache_core.specs.Row.{holds_block, empty_way, shifted, changed, way_at, row_of}
 use Rattle.cache_core.proofs.AtAccess.{at_access}
 use Rattle.cache_core.proofs.Reuse.{has, has-ways_of}
+use Rattle.cache_core.proofs.Shadow.{eqb-comm}
 use Rattle.cache_core.proofs.Shift.{has-take_absent, padded, find-padded, any-padded, shifted-none}
 use Rattle.cache_core.proofs.Shift.{shifted-padded, map-without, padded-agree, changed-padded}
 use Rattle.cache_core.proofs.Shift.{without, take-cons_take}
@@ -37,9 +38,6 @@ pub at_block : (r : Rules) → 0 < r.bsize → (h : History) (b y : ℕ)
     → holds_block (b * r.bsize) (way_at r h y) ≡ eqb y b
 at_block r pos h b y = eqb-times r.bsize y b pos
 
-eqb-flip : (a b : ℕ) → eqb a b ≡ false → eqb b a ≡ false
-eqb-flip a b e = ne_eqb b a (λ same. eqb-false a b e (sym same))
-
 map-same : {X : Type 0} (f g : ℕ → X) → ((y : ℕ) → f y ≡ g y) → (ys : List ℕ) → map f ys ≡ map g ys
 map-same f g e [] = refl
 map-same f g e (y ∷ ys) = rw (e y, map-same f g e ys)
@@ -58,7 +56,7 @@ module _ (r : Rules) (pos : 0 < r.bsize) (h : History) where
     is_written-other : (y : ℕ) → eqb y (block_of r x) ≡ false
         → is_written r (access x ∷ h) y ≡ is_written r h y
     unfolding is_written
-    is_written-other y e = rw (eqb-flip y (block_of r x) e) refl
+    is_written-other y e = rw (eqb-comm (block_of r x) y, e) refl
 
     way_at-other : (y : ℕ) → eqb y (block_of r x) ≡ false → way_at r (access x ∷ h) y ≡ way_at r h y
     way_at-other y e = ap (λ t. record {

@@ -4,6 +4,7 @@ use Rattle.std.proofs.Common.{length, drop}
 use Rattle.std.proofs.Common.{Option, Some, None, Result, Ok, Err, refl, sym, ap, ◌∙◌, subst}
 use Rattle.std.proofs.Common.{append_assoc, length-append, arith}
 use Rattle.std.specs.Io.KnownBytes.{Consumes, Keeps}
+use Rattle.std.proofs.KnownBytes.{Consumes-trans}
 use Rattle.std.proofs.lemmas.List.{append-nil}
 use Rattle.din_trace.specs.Device.{once_more}
 use Rattle.din_trace.specs.Text.{Remaining}
@@ -15,13 +16,6 @@ use Rattle.din_trace.specs.declared.fault.TraceFault.{TraceFault}
 use Rattle.din_trace.specs.declared.backlog.State.{State}
 use Rattle.din_trace.specs.declared.backlog.Backlog.{Backlog}
 use Rattle.din_trace.specs.Backlog.{HasLeft}
-
-pub consumes-append : (old mid new : Option (List ℕ)) (xs ys : List ℕ) → Consumes old mid xs
-    → Consumes mid new ys → Consumes old new (xs ++ ys)
-consumes-append None mid new xs ys h k = tt
-consumes-append (Some all) None new xs ys h k = absurd h
-consumes-append (Some all) (Some some) None xs ys h k = absurd k
-consumes-append (Some all) (Some some) (Some rest) xs ys h k = rw append_assoc (rw k at h)
 
 -- a reader that keeps its bytes gives none
 pub keeps-consumes : (mid new : Option (List ℕ)) → Keeps mid new → Consumes mid new []
@@ -93,7 +87,7 @@ module _ (g₁ g₂ : List ℕ) (old mid new : Option (List ℕ)) (before during
   compose-open Open consumed same is closes = record {
     given = g₁ ++ g₂;
     fate = Open;
-    is = (consumes-append old mid new g₁ g₂ consumed is.0, is.1 ∙ same);
+    is = (Consumes-trans old mid new g₁ g₂ consumed is.0, is.1 ∙ same);
     closes = tt;
     size = sizes;
     between = λ first last e. (
@@ -106,7 +100,7 @@ module _ (g₁ g₂ : List ℕ) (old mid new : Option (List ℕ)) (before during
   compose-open Ended consumed same is closes = record {
     given = g₁ ++ g₂;
     fate = Ended;
-    is = (consumes-append old mid new g₁ g₂ consumed is.0, is.1, is.2 ∙ same);
+    is = (Consumes-trans old mid new g₁ g₂ consumed is.0, is.1, is.2 ∙ same);
     closes = closes;
     size = sizes;
     between = λ first last e. (record { given = g₂; fails = false }, e, refl);
@@ -114,7 +108,7 @@ module _ (g₁ g₂ : List ℕ) (old mid new : Option (List ℕ)) (before during
   compose-open Failed consumed same is closes = record {
     given = g₁ ++ g₂;
     fate = Failed;
-    is = (consumes-append old mid new g₁ g₂ consumed is.0, is.1 ∙ ap once_more same);
+    is = (Consumes-trans old mid new g₁ g₂ consumed is.0, is.1 ∙ ap once_more same);
     closes = closes;
     size = sizes;
     between = λ first last e. (record { given = g₂; fails = true }, e, refl);
@@ -175,10 +169,6 @@ first_end l = records-end l.records l.fault
 pub first_fault-is : (l : Remaining) (f : TraceFault) → Err f ≡ first_answer l
     → (l.records ≡ []) × (l.fault ≡ Some f)
 first_fault-is l f = records-fault l.records l.fault f
-
-pub consumes-nothing : (known : Option (List ℕ)) → Consumes known known []
-consumes-nothing None = tt
-consumes-nothing (Some all) = refl
 
 behind-not_nil : (items rs : List DinRecord) (r : DinRecord) → items ++ r ∷ rs ≢ []
 behind-not_nil [] rs r e = absurd cc

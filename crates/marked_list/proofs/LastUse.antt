@@ -18,7 +18,8 @@ reverse-cons m ms = reverse-append (m ∷ []) ms
 pub reverse-push : (xs : List ℕ) (b : ℕ) → reverse (xs ++ b ∷ []) ≡ b ∷ reverse xs
 reverse-push xs b = reverse-append xs (b ∷ [])
 
-some-eq : (a b : ℕ) → Some a ≡ Some b → a ≡ b
+-- `Some` of a number has that number alone
+pub some-eq : (a b : ℕ) → Some a ≡ Some b → a ≡ b
 some-eq a b e = cc
 
 -- the last use has an index, and the block stands there
@@ -71,7 +72,8 @@ has-get (x ∷ xs) (suc i) lt = by_cases (eqb x (get_or xs i 0))
     (λ f. rw f refl)
     (λ f. rw f (has-get xs i (omega arith)))
 
-has-other : (m b : ℕ) (ms : List ℕ) → eqb m b ≡ false → has (m ∷ ms) b ≡ has ms b
+-- whether b is in a list does not depend on another block in front
+pub has-other : (m b : ℕ) (ms : List ℕ) → eqb m b ≡ false → has (m ∷ ms) b ≡ has ms b
 has-other m b ms f = rw f refl
 
 pub last-other : (m b : ℕ) (ms : List ℕ) → eqb m b ≡ false → last_in (m ∷ ms) b ≡ last_in ms b

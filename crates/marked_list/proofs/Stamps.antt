@@ -1,5 +1,5 @@
 -- The stamps of the blocks: the places of their last uses.
-use Rattle.std.proofs.Common.{◌≡◌, ◌≢◌, ℕ, ◌<◌, true, false, cond, eqb, ltb, List, [], ◌∷◌}
+use Rattle.std.proofs.Common.{◌≡◌, ◌≢◌, ℕ, ◌<◌, true, cond, eqb, ltb, List, [], ◌∷◌}
 use Rattle.std.proofs.Common.{length, reverse}
 use Rattle.std.proofs.Common.{get_or, set, Option, Some, None, refl, sym, ap, ◌∙◌, arith}
 use Rattle.std.proofs.Common.{get_or-set_same, get_or-set_other}
@@ -10,7 +10,8 @@ use Rattle.cache_core.proofs.Cases.{by_cases}
 use Rattle.cache_core.specs.Residents.{distinct}
 use Rattle.marked_list.specs.Uses.{last_in, AreStamps, HaveRoom, no_stamp, read_stamp, stamp_of}
 use Rattle.marked_list.specs.Uses.{or_else}
-use Rattle.marked_list.proofs.LastUse.{has-last, has-there, none-last, last-same, last-other}
+use Rattle.marked_list.proofs.LastUse.{has-last, has-there, has-other, none-last, last-same}
+use Rattle.marked_list.proofs.LastUse.{last-other}
 
 read-some : (n : ℕ) → n < no_stamp → read_stamp n ≡ Some n
 read-some n lt = by_cases (eqb n no_stamp)
@@ -89,13 +90,10 @@ unstamped-next ms stamps b other st lt q = set-stamp stamps b no_stamp q lt
     (λ e. ap (λ t. cond t (read_stamp no_stamp) (stamp_of stamps q)) e
     ∙ sym (ap (λ t. cond t None (other q)) (has-same b q ms e)))
     (λ e. ap (λ t. cond t (read_stamp no_stamp) (stamp_of stamps q)) e
-    ∙ st q ∙ sym (ap (λ t. cond t None (other q)) (has-different b q ms e)))
+    ∙ st q ∙ sym (ap (λ t. cond t None (other q)) (has-other b q ms e)))
   where
     has-same : (m x : ℕ) (l : List ℕ) → eqb m x ≡ true → has (m ∷ l) x ≡ true
     has-same m x l e = rw e refl
-
-    has-different : (m x : ℕ) (l : List ℕ) → eqb m x ≡ false → has (m ∷ l) x ≡ has l x
-    has-different m x l e = rw e refl
 
 -- with no use there is no stamp
 pub unstamped : (ms old new : List ℕ) → AreStamps ms old

@@ -1,11 +1,12 @@
 use Rattle.std.proofs.Common.{◌≡◌, ℕ, true, false, List, [], ◌++◌, length-append, ap, ◌∙◌, arith}
 use Rattle.std.proofs.Common.{subst}
 use Rattle.std.specs.Io.KnownBytes.{Consumes}
+use Rattle.std.proofs.KnownBytes.{Consumes-trans}
 use Rattle.din_trace.specs.Device.{once_more}
 use Rattle.std.proofs.lemmas.List.{nil_from_length, append-nil}
 use Rattle.din_trace.specs.Remaining.{Open, Ended, Failed}
 use Rattle.din_trace.specs.Source as words
-use Rattle.din_trace.proofs.Scripts.{consumes-append, keeps-consumes, left-regrouped, left-closed}
+use Rattle.din_trace.proofs.Scripts.{keeps-consumes, left-regrouped, left-closed}
 use Rattle.din_trace.proofs.source.Source.ask.Goals as goal
 use Rattle.din_trace.proofs.source.Source.ask.Goals.{After-refill}
 use Rattle.din_trace.proofs.source.Source.ask.Given.{Over}
@@ -17,7 +18,7 @@ all_given : (g : Over) (c : After-refill g) (more : List ℕ)
     → Consumes (g.R.ByteReader.remaining c.args.self.now.reader)
     (g.R.ByteReader.remaining c.refill.new.reader) (c.asks.invariant.given ++ more)
 all_given g c more =
-    consumes-append (g.R.ByteReader.remaining c.args.self.now.reader)
+    Consumes-trans (g.R.ByteReader.remaining c.args.self.now.reader)
     (g.R.ByteReader.remaining c.asks.self.reader)
     (g.R.ByteReader.remaining c.refill.new.reader) c.asks.invariant.given more
     c.asks.invariant.consumed
