@@ -1,5 +1,5 @@
 -- The contracts of the calls in `Contents::serve` and `Cache::access`, put together.
-use Rattle.std.proofs.Common.{◌≡◌, ◌≢◌, ℕ, zero, suc, pred, ◌*◌, ◌%◌, ◌<◌, Bool, cond, not, ◌&&◌}
+use Rattle.std.proofs.Common.{◌≡◌, ◌≢◌, ℕ, zero, suc, pred, ◌*◌, ◌<◌, Bool, cond, not, ◌&&◌}
 use Rattle.std.proofs.Common.{◌||◌, nat_eq, List, ◌∷◌, map, Option, is_some, refl, ap, ◌∙◌, arith}
 use Rattle.std.proofs.Common.{true, false, sym}
 use Rattle.std.specs.List.{find, list_any}
@@ -11,7 +11,7 @@ use Rattle.cache_core.specs.declared.kinds.Prior.{Prior}
 use Rattle.cache_core.specs.declared.policy.Policy.{Policy}
 use Rattle.cache_core.specs.declared.geometry.Geometry.{Geometry}
 use Rattle.cache_core.specs.declared.ways.Way.{Way}
-use Rattle.cache_core.specs.History.{Rules, History, access, block_of, is_write}
+use Rattle.cache_core.specs.History.{Rules, History, access, is_write}
 use Rattle.cache_core.specs.Residents.{hits, renewals}
 use Rattle.cache_core.specs.Kinds.{referenced_blocks, shadow_of}
 use Rattle.cache_core.specs.Geometry.{size_of, bsize_of, assoc_of}
@@ -19,6 +19,7 @@ use Rattle.cache_core.specs.Order.{ways_of}
 use Rattle.cache_core.specs.Policy.{is_fifo}
 use Rattle.cache_core.specs.Row.{holds_block, next_row, pushed_out, row, row_of}
 use Rattle.cache_core.specs.Standing.{rules_from, IsServed, IsKnown}
+use Rattle.cache_core.proofs.AtAccess.{at_access}
 use Rattle.cache_core.proofs.Lawful.{IsSane, sane_of}
 use Rattle.lru.specs.LruCache.{lru_cache, promoted, put_entries}
 use Rattle.cache_core.proofs.Shadow.{pair, in_shadow-is, after_classify, shadow-step}
@@ -36,11 +37,7 @@ module _ (g : Geometry) (p : Policy) (h : History) (x : Access) where
   abbrev r : Rules
   r = rules_from g p
 
-  abbrev b : ℕ
-  b = block_of r x
-
-  abbrev s : ℕ
-  s = b % r.sets
+  open at_access r h x use {b, s}
 
   abbrev block_addr : ℕ
   block_addr = b * bsize_of g

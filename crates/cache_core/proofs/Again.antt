@@ -40,12 +40,21 @@ referenced-stays referenced b q h =
       | false ↦ λ e. refl
     ]) refl
 
+-- the entry that is found for b has b
+entry-has : (b : ℕ) (es : Shown) (e : ℕ × Unit {0}) → lookup_entry (nat_eq b) es ≡ Some e → e.0 ≡ b
+entry-has b [] e h = cc
+entry-has b (f ∷ es) e h = (elim (eqb b f.0) as (λ t. eqb b f.0 ≡ t
+    → cond t (Some f) (lookup_entry (nat_eq b) es) ≡ Some e → e.0 ≡ b) [
+      | true ↦ λ q g. let same : f ≡ e = cc in sym (eqb-true b f.0 q ∙ ap (λ z. z.0) same)
+      | false ↦ λ q g. entry-has b es e g
+    ]) refl h
+
 -- a block that is there stands first after its use
 pub promoted-first : (es : Shown) (b : ℕ) → is_some (lookup (nat_eq b) es) ≡ true
     → slice_get (promoted (nat_eq b) es) 0 ≡ Some (b, tt)
 promoted-first es b h = (elim (lookup_entry (nat_eq b) es) as (λ o. lookup_entry (nat_eq b) es ≡ o
     → slice_get (promoted (nat_eq b) es) 0 ≡ Some (b, tt)) [
-      | Some e ↦ λ q. rw q (ap (λ z. Some (z, tt)) (found es e q))
+      | Some e ↦ λ q. rw q (ap (λ z. Some (z, tt)) (entry-has b es e q))
       | None ↦ λ q. let no : true ≡ false = sym h ∙ entry es ∙ ap is_some q in cc
     ]) refl where
       entry : (fs : Shown) → is_some (lookup (nat_eq b) fs) ≡ is_some (lookup_entry (nat_eq b) fs)
@@ -55,27 +64,12 @@ promoted-first es b h = (elim (lookup_entry (nat_eq b) es) as (λ o. lookup_entr
           ≡ is_some (cond t (Some f) (lookup_entry (nat_eq b) fs)))
           [ true ↦ refl | false ↦ entry fs ])
 
-      found : (fs : Shown) (e : ℕ × Unit {0}) → lookup_entry (nat_eq b) fs ≡ Some e → e.0 ≡ b
-      found [] e h = cc
-      found (f ∷ fs) e h = (elim (eqb b f.0) as (λ t. eqb b f.0 ≡ t
-          → cond t (Some f) (lookup_entry (nat_eq b) fs) ≡ Some e → e.0 ≡ b) [
-            | true ↦ λ q g. let same : f ≡ e = cc in sym (eqb-true b f.0 q ∙ ap (λ z. z.0) same)
-            | false ↦ λ q g. found fs e g
-          ]) refl h
-
 -- a block that is put in stands first
 pub put-first : (es : Shown) (cap b : ℕ)
     → slice_get (put_entries nat_eq (lru_cache es cap) b tt) 0 ≡ Some (b, tt)
 put-first es cap b = (elim (lookup_entry (nat_eq b) es) as (λ o. lookup_entry (nat_eq b) es ≡ o
     → slice_get (option_map_or (λ e. (e.0, tt) ∷ remove_entry (nat_eq b) es) o
     ((b, tt) ∷ take (cap - 1) es)) 0 ≡ Some (b, tt)) [
-      | Some e ↦ λ q. ap (λ z. Some (z, tt)) (found es e q)
+      | Some e ↦ λ q. ap (λ z. Some (z, tt)) (entry-has b es e q)
       | None ↦ λ q. refl
-    ]) refl where
-      found : (fs : Shown) (e : ℕ × Unit {0}) → lookup_entry (nat_eq b) fs ≡ Some e → e.0 ≡ b
-      found [] e h = cc
-      found (f ∷ fs) e h = (elim (eqb b f.0) as (λ t. eqb b f.0 ≡ t
-          → cond t (Some f) (lookup_entry (nat_eq b) fs) ≡ Some e → e.0 ≡ b) [
-            | true ↦ λ q g. let same : f ≡ e = cc in sym (eqb-true b f.0 q ∙ ap (λ z. z.0) same)
-            | false ↦ λ q g. found fs e g
-          ]) refl h
+    ]) refl

@@ -149,7 +149,8 @@ contains-has (x ∷ xs) z h = elim (or_cases (eqb x z) (has xs z) h) [
   | inr t ↦ let c = contains-has xs z t in (suc c.0, (let l = c.1 in omega arith), c.2)
 ]
 
-has-at : (xs : List ℕ) (z k : ℕ) → k < length xs → get_or xs k z ≡ z → has xs z ≡ true
+-- what stands at an index is a member
+pub has-at : (xs : List ℕ) (z k : ℕ) → k < length xs → get_or xs k z ≡ z → has xs z ≡ true
 has-at [] z k l e = absurd (omega arith)
 has-at (x ∷ xs) z zero l e = or_left (eqb x z) (has xs z) (eq-eqb x z e)
 has-at (x ∷ xs) z (suc k) l e = or_right (eqb x z) (has xs z) (has-at xs z k (omega arith) e)

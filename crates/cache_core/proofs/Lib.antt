@@ -1,6 +1,7 @@
 pub mod AccessStep
 pub mod Again
 pub mod Ascending
+pub mod AtAccess
 pub mod CacheFacts
 pub mod Cases
 pub mod Flat

@@ -8,7 +8,8 @@ use Rattle.cache_core.specs.Residents.{renewals}
 use Rattle.cache_core.specs.Order.{ranked, ways_of}
 use Rattle.cache_core.specs.Row.{empty_way, row, way_at, row_of}
 
-take_none : {X : Type 0} (n : ℕ) → take {A = X} n [] ≡ []
+-- of nothing, nothing is first
+pub take_none : {X : Type 0} (n : ℕ) → take {A = X} n [] ≡ []
 take_none zero = refl
 take_none (suc n) = refl
 

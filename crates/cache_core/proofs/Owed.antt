@@ -4,20 +4,22 @@ use Rattle.std.proofs.Common.{◌&&◌, ◌||◌, eqb, ltb, List, [], ◌∷◌,
 use Rattle.std.proofs.Common.{Some, None, is_some, inl, inr, refl, sym, ap, subst, ◌∙◌, arith}
 use Rattle.std.specs.List.{find}
 use Rattle.std.proofs.lemmas.Bool.{eqb-true, eq-eqb, false≢true, or_left, or_right, or_cases}
-use Rattle.std.proofs.lemmas.Bool.{and_parts, and_from, and_right, ltb-true, lt-ltb, not-true}
+use Rattle.std.proofs.lemmas.Bool.{and_parts, and_from, ltb-true, lt-ltb, not-true}
 use Rattle.cache_core.specs.declared.access.Access.{Access}
-use Rattle.cache_core.specs.History.{Rules, History, access, block_of, is_write}
+use Rattle.cache_core.specs.History.{Rules, History}
 use Rattle.cache_core.specs.Residents.{hits, uses, renews, renewals, is_resident, victim}
 use Rattle.cache_core.specs.Dirty.{is_written, is_dirty, dirty_blocks}
 use Rattle.cache_core.specs.Parts.{dirty_victim, outcome_of, part_count}
 use Rattle.cache_core.specs.Order.{ranked}
 use Rattle.cache_core.specs.Laws.{WriteBacksAreCharged, FlushesLeaveNoneDirty, Rises}
+use Rattle.cache_core.proofs.AtAccess.{at_access}
 use Rattle.cache_core.proofs.Reuse.{has, has-take}
 use Rattle.cache_core.proofs.Shift.{IsOnce}
 use Rattle.cache_core.proofs.Ascending.{not-itself, rises-rising, has-rising}
 use Rattle.cache_core.proofs.Flushed.{has-filter_both, filter-has}
-use Rattle.cache_core.proofs.Turns.{renewals-yes, renewals-no, block-fifo}
-use Rattle.cache_core.proofs.Victim.{resident-marked, elsewhere, front-is, later-is, lru-same}
+use Rattle.cache_core.proofs.Turns.{renewals-yes, renewals-no, block-hit}
+use Rattle.cache_core.proofs.Victim.{resident-marked, no-way, elsewhere, front-is, later-is}
+use Rattle.cache_core.proofs.Victim.{lru-same}
 use Rattle.cache_core.proofs.Members.{as_many}
 use Rattle.cache_core.proofs.Cases.{by_cases}
 
@@ -70,20 +72,7 @@ module _ (r : Rules) (h : History) where
   once = rises-once _ (rises-rising (filter (is_dirty r h) (renewals r h)))
 
 module _ (r : Rules) (h : History) (x : Access) where
-  abbrev b : ℕ
-  b = block_of r x
-
-  abbrev h' : History
-  h' = access x ∷ h
-
-  abbrev ms : List ℕ
-  ms = renewals r h
-
-  abbrev s : ℕ
-  s = b % r.sets
-
-  abbrev w : Bool
-  w = is_write x
+  open at_access r h x use {b, s, ms, h', w}
 
   -- an access makes no other block resident
   in-front : (m : ℕ) → r.assoc ≡ suc m → renews r ms x ≡ true → (y : ℕ) → eqb b y ≡ false
@@ -92,9 +81,7 @@ module _ (r : Rules) (h : History) (x : Access) where
       by_cases (eqb s (y % r.sets))
       (λ e. by_cases (hits r ms x)
       (λ hit. by_cases r.fifo
-      (λ f. absurd (false≢true
-      (sym (block-fifo r ms x false f
-      (and_right (uses r ms x) (not (hits r ms x)) (ap not hit))) ∙ yes')))
+      (λ f. absurd (false≢true (sym (block-hit r ms x f hit) ∙ yes')))
       (λ f. sym (lru-same r h x m size f hit y e) ∙ res))
       (λ miss. front-is r h x m size y e
       ∙ take-mono m y (ranked r s ms)
@@ -102,14 +89,9 @@ module _ (r : Rules) (h : History) (x : Access) where
       ∙ sym (later-is r h x m size miss yes' y e) ∙ res)))
       (λ e. sym (elsewhere r h x y e) ∙ res)
 
-  no-ways : (ms' : List ℕ) (y : ℕ) → r.assoc ≡ 0 → is_resident r ms' y ≡ true → ⊥
-  unfolding is_resident
-  no-ways ms' y e res = let lt = ltb-true _ r.assoc (and_parts (has ms' y) (ltb _ r.assoc) res).1 in
-      absurd (omega arith)
-
   others-by : (n : ℕ) → r.assoc ≡ n → (y : ℕ) → eqb b y ≡ false
       → is_resident r (renewals r h') y ≡ true → is_resident r ms y ≡ true
-  others-by zero e y other res = absurd (no-ways (renewals r h') y e res)
+  others-by zero e y other res = absurd (no-way r (renewals r h') y e res)
   others-by (suc m) e y other res =
       by_cases (renews r ms x)
       (λ g. in-front m e g y other

@@ -1,5 +1,5 @@
 -- What a load pushes out of a row is the victim, if it was dirty.
-use Rattle.std.proofs.Common.{◌≡◌, ℕ, suc, ◌*◌, ◌-◌, ◌%◌, ◌<◌, ◌≤◌, true, false, cond, List, ◌∷◌}
+use Rattle.std.proofs.Common.{◌≡◌, ℕ, suc, ◌*◌, ◌-◌, ◌<◌, ◌≤◌, true, false, cond, List, ◌∷◌}
 use Rattle.std.proofs.Common.{length, take, map, replicate, get_or, Some, None, inl, inr, refl, sym}
 use Rattle.std.proofs.Common.{ap, ◌∙◌, arith}
 use Rattle.std.specs.List.{list_any}
@@ -8,12 +8,13 @@ use Rattle.std.proofs.lemmas.List.{length-map, get_or-append_right, get_or_appen
 use Rattle.std.proofs.lemmas.List.{get_or-replicate}
 use Rattle.cache_core.specs.declared.access.Access.{Access}
 use Rattle.cache_core.specs.declared.ways.Way.{Way}
-use Rattle.cache_core.specs.History.{Rules, History, block_of}
+use Rattle.cache_core.specs.History.{Rules, History}
 use Rattle.cache_core.specs.Residents.{renews, hits, renewals, is_resident, victim}
 use Rattle.cache_core.specs.Dirty.{is_written, is_dirty}
 use Rattle.cache_core.specs.Parts.{dirty_victim}
 use Rattle.cache_core.specs.Order.{ranked}
 use Rattle.cache_core.specs.Row.{holds_block, empty_way, leaving, dirty_block, way_at, row_of}
+use Rattle.cache_core.proofs.AtAccess.{at_access}
 use Rattle.cache_core.proofs.Reuse.{has}
 use Rattle.cache_core.proofs.Shift.{padded, any-padded, leaving-none}
 use Rattle.cache_core.proofs.RowTurns.{at_block, room}
@@ -24,14 +25,7 @@ use Rattle.cache_core.proofs.Victim.{front-b, last-resident, load-full, load-roo
 module _ (r : Rules) (h : History) (x : Access) (m : ℕ) (size : r.assoc ≡ suc m)
     (miss : hits r (renewals r h) x ≡ false) (yes : renews r (renewals r h) x ≡ true)
     (pos : 0 < r.bsize) (c : Way) where
-  abbrev b : ℕ
-  b = block_of r x
-
-  abbrev s : ℕ
-  s = b % r.sets
-
-  abbrev ms : List ℕ
-  ms = renewals r h
+  open at_access r h x use {b, s, ms}
 
   abbrev ranks : List ℕ
   ranks = ranked r s ms

@@ -52,7 +52,8 @@ before-distinct (m ∷ ms) b = by_cases (eqb m b)
     (before-filter (λ n. not (eqb n m)) b (other m b e) (distinct ms)
     ∙ ap (filter (λ n. not (eqb n m))) (before-distinct ms b))))
 
-ltb-suc : (a b : ℕ) → ltb (suc a) (suc b) ≡ ltb a b
+-- a number is below another where their next ones are
+pub ltb-suc : (a b : ℕ) → ltb (suc a) (suc b) ≡ ltb a b
 ltb-suc a b = grind (arith, nat_tests)
 
 -- b is among the first n just where it is there, and fewer than n stand in front of it

@@ -1,15 +1,16 @@
 -- The row of the set of an access after that access is the one that the code computes.
 use Rattle.std.proofs.Math.Bool.{or-false}
-use Rattle.std.proofs.Common.{◌≡◌, ℕ, ◌%◌, ◌*◌, ◌<◌, Bool, true, false, cond, not, ◌&&◌, ◌||◌, List}
+use Rattle.std.proofs.Common.{◌≡◌, ℕ, ◌*◌, ◌<◌, Bool, true, false, cond, not, ◌&&◌, ◌||◌, List}
 use Rattle.std.proofs.Common.{[], ◌∷◌, Some, None, refl, sym, ap, ◌∙◌}
 use Rattle.std.specs.List.{find}
 use Rattle.std.proofs.lemmas.Bool.{cond-true, cond-false, and_parts, and_from, or_left, or_right}
 use Rattle.cache_core.specs.declared.access.Access.{Access}
 use Rattle.cache_core.specs.declared.ways.Way.{Way}
-use Rattle.cache_core.specs.History.{Rules, History, access, block_of, is_write}
-use Rattle.cache_core.specs.Residents.{hits, uses, renewals}
+use Rattle.cache_core.specs.History.{Rules, History, block_of}
+use Rattle.cache_core.specs.Residents.{hits, uses}
 use Rattle.cache_core.specs.Dirty.{is_written}
 use Rattle.cache_core.specs.Row.{holds_block, shifted, changed, dirtied, next_row, way_at, row_of}
+use Rattle.cache_core.proofs.AtAccess.{at_access}
 use Rattle.cache_core.proofs.RowTurns.{find-row_of, is_written-used, row_of-unused, row_of-lru}
 use Rattle.cache_core.proofs.RowTurns.{row_of-load, row_of-fifo_hit}
 use Rattle.cache_core.proofs.Cases.{by_cases}
@@ -63,20 +64,7 @@ module _ (r : Rules) (pos : 0 < r.bsize) (h : History) (x : Access) where
   abbrev block_addr : ℕ
   block_addr = block_of r x * r.bsize
 
-  abbrev b : ℕ
-  b = block_of r x
-
-  abbrev h' : History
-  h' = access x ∷ h
-
-  abbrev ms : List ℕ
-  ms = renewals r h
-
-  abbrev s : ℕ
-  s = b % r.sets
-
-  abbrev w : Bool
-  w = is_write x
+  open at_access r h x use {b, s, ms, h', w}
 
   abbrev row : List Way
   row = row_of r h s

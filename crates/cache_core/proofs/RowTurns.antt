@@ -5,7 +5,7 @@ use Rattle.std.proofs.Common.{refl, sym, ap, ◌∙◌, arith}
 use Rattle.std.specs.List.{find}
 use Rattle.std.proofs.Math.Nat.{mul-div_cancel}
 use Rattle.std.proofs.lemmas.List.{length-append, length-replicate}
-use Rattle.std.proofs.lemmas.Bool.{eqb-true, eq-eqb, eqb-false, ne_eqb, and_left, and_right}
+use Rattle.std.proofs.lemmas.Bool.{eqb-true, eq-eqb, eqb-false, ne_eqb, and_right}
 use Rattle.std.proofs.lemmas.Bool.{not-true, and_parts}
 use Rattle.cache_core.specs.declared.access.Access.{Access}
 use Rattle.cache_core.specs.declared.ways.Way.{Way}
@@ -14,13 +14,15 @@ use Rattle.cache_core.specs.Residents.{hits, uses, loads, renews, renewals, is_r
 use Rattle.cache_core.specs.Dirty.{is_written}
 use Rattle.cache_core.specs.Order.{ranked}
 use Rattle.cache_core.specs.Row.{holds_block, empty_way, shifted, changed, way_at, row_of}
+use Rattle.cache_core.proofs.AtAccess.{at_access}
 use Rattle.cache_core.proofs.Reuse.{has, has-ways_of}
+use Rattle.cache_core.proofs.Shadow.{eqb-comm}
 use Rattle.cache_core.proofs.Shift.{has-take_absent, padded, find-padded, any-padded, shifted-none}
 use Rattle.cache_core.proofs.Shift.{shifted-padded, map-without, padded-agree, changed-padded}
-use Rattle.cache_core.proofs.Shift.{take-cons_take}
+use Rattle.cache_core.proofs.Shift.{without, take-cons_take}
 use Rattle.cache_core.proofs.Turns.{ranked-other, ranked-fifo, ranked-lru, IsOnce-ranked, absent}
-use Rattle.cache_core.proofs.Turns.{block-fifo, block-lru, renewals-yes, renewals-no, fresh}
-use Rattle.cache_core.proofs.Turns.{IsOnce-ways_of}
+use Rattle.cache_core.proofs.Turns.{block-fifo, block-lru, block-hit, block-unused, renewals-yes}
+use Rattle.cache_core.proofs.Turns.{renewals-no, fresh, IsOnce-ways_of}
 use Rattle.cache_core.proofs.Cases.{by_cases}
 
 -- blocks are told apart by their first bytes
@@ -35,9 +37,6 @@ eqb-times n y b pos = (elim (eqb y b) as (λ t. eqb y b ≡ t → eqb (y * n) (b
 pub at_block : (r : Rules) → 0 < r.bsize → (h : History) (b y : ℕ)
     → holds_block (b * r.bsize) (way_at r h y) ≡ eqb y b
 at_block r pos h b y = eqb-times r.bsize y b pos
-
-eqb-flip : (a b : ℕ) → eqb a b ≡ false → eqb b a ≡ false
-eqb-flip a b e = ne_eqb b a (λ same. eqb-false a b e (sym same))
 
 map-same : {X : Type 0} (f g : ℕ → X) → ((y : ℕ) → f y ≡ g y) → (ys : List ℕ) → map f ys ≡ map g ys
 map-same f g e [] = refl
@@ -57,7 +56,7 @@ module _ (r : Rules) (pos : 0 < r.bsize) (h : History) where
     is_written-other : (y : ℕ) → eqb y (block_of r x) ≡ false
         → is_written r (access x ∷ h) y ≡ is_written r h y
     unfolding is_written
-    is_written-other y e = rw (eqb-flip y (block_of r x) e) refl
+    is_written-other y e = rw (eqb-comm (block_of r x) y, e) refl
 
     way_at-other : (y : ℕ) → eqb y (block_of r x) ≡ false → way_at r (access x ∷ h) y ≡ way_at r h y
     way_at-other y e = ap (λ t. record {
@@ -79,14 +78,7 @@ module _ (r : Rules) (pos : 0 < r.bsize) (h : History) where
     unfolding is_written
     is_written-unused u y = rw (u, and_right (eqb (block_of r x) y) false refl) refl
 
-    abbrev b : ℕ
-    b = block_of r x
-
-    abbrev h' : History
-    h' = access x ∷ h
-
-    abbrev ms : List ℕ
-    ms = renewals r h
+    open at_access r h x use {b, s, ms, h'}
 
     row_is : (g : History) (s : ℕ)
         → row_of r g s ≡ take r.assoc (padded (way_at r g) empty_way r.assoc
@@ -107,9 +99,6 @@ module _ (r : Rules) (pos : 0 < r.bsize) (h : History) where
         (at_block r pos h b) refl (way_at r h') way_at-other r.assoc (ranked r s ms)
         (has-take_absent r.assoc b (ranked r s ms) (absent r s b ms e)))
 
-    abbrev s : ℕ
-    s = b % r.sets
-
     not-marked : renews r ms x ≡ false → ((y : ℕ) → is_written r h' y ≡ is_written r h y)
         → row_of r h' s ≡ row_of r h s
     not-marked none same = rw (row_is h' s, row_is h s, renewals-no r h x none)
@@ -118,26 +107,22 @@ module _ (r : Rules) (pos : 0 < r.bsize) (h : History) where
         ap (λ t. record { block_addr = y * r.bsize; valid = true; dirty = r.wback && t })
         (same y)) (ranked r s ms)))
 
-    -- an access that does not use the cache renews nothing
-    pub unused-block : uses r ms x ≡ false → renews r ms x ≡ false
-    unused-block u = by_cases r.fifo
-        (λ f. block-fifo r ms x false f (and_left (uses r ms x) (not (hits r ms x)) u))
-        (λ f. block-lru r ms x false f u)
-
     -- nothing is used: the row stays
     pub row_of-unused : uses r ms x ≡ false → row_of r h' s ≡ row_of r h s
-    row_of-unused u = not-marked (unused-block u) (is_written-unused u)
+    row_of-unused u = not-marked (block-unused r ms x u) (is_written-unused u)
+
+    -- where the block is renewed, its way comes first, and then the others in their order
+    renewed : (others : List ℕ) → renews r ms x ≡ true → ranked r s (b ∷ ms) ≡ b ∷ others
+        → row_of r h' s
+        ≡ take r.assoc (way_at r h' b ∷ padded (way_at r h') empty_way r.assoc others)
+    renewed others here is = rw (row_is h' s, renewals-yes r h x here, is) refl
 
     -- a use under LRU
     pub row_of-lru : r.fifo ≡ false → uses r ms x ≡ true
         → row_of r h' s ≡ shifted (holds_block (b * r.bsize)) (way_at r h' b) (row_of r h s)
-    row_of-lru f u = rw (
-      row_is h' s,
-      row_is h s,
-      renewals-yes r h x (block-lru r ms x true f u),
-      ranked-lru r b ms f,
-    )
-        (ap (λ l. take r.assoc (way_at r h' b ∷ (l ++ replicate r.assoc empty_way)))
+    row_of-lru f u = rw (row_is h s)
+        (renewed (without b (ranked r s ms)) (block-lru r ms x true f u) (ranked-lru r b ms f)
+        ∙ ap (λ l. take r.assoc (way_at r h' b ∷ (l ++ replicate r.assoc empty_way)))
         (map-without (way_at r h) empty_way r.assoc (holds_block (b * r.bsize)) b
         (at_block r pos h b) refl (way_at r h') way_at-other (ranked r s ms))
         ∙ sym (shifted-padded (way_at r h) empty_way r.assoc (holds_block (b * r.bsize)) b
@@ -162,13 +147,9 @@ module _ (r : Rules) (pos : 0 < r.bsize) (h : History) where
     -- a load
     pub row_of-load : r.fifo ≡ true → loads r ms x ≡ true
         → row_of r h' s ≡ shifted (holds_block (b * r.bsize)) (way_at r h' b) (row_of r h s)
-    row_of-load f l = rw (
-      row_is h' s,
-      row_is h s,
-      renewals-yes r h x (block-fifo r ms x true f l),
-      ranked-fifo r b ms f,
-    )
-        (sym (take-cons_take r.assoc (way_at r h' b)
+    row_of-load f l = rw (row_is h s)
+        (renewed (ranked r s ms) (block-fifo r ms x true f l) (ranked-fifo r b ms f)
+        ∙ sym (take-cons_take r.assoc (way_at r h' b)
         (map (way_at r h') (ranked r s ms) ++ replicate r.assoc empty_way))
         ∙ ap (λ row. take r.assoc (way_at r h' b ∷ row))
         (padded-agree (way_at r h) empty_way r.assoc (holds_block (b * r.bsize)) b
@@ -181,17 +162,12 @@ module _ (r : Rules) (pos : 0 < r.bsize) (h : History) where
         (any-padded (way_at r h) empty_way r.assoc (holds_block (b * r.bsize)) b
         (at_block r pos h b) refl r.assoc (ranked r s ms) ∙ new_here l) room))
 
-    -- a hit under FIFO
-    pub hit-block : r.fifo ≡ true → hits r ms x ≡ true → renews r ms x ≡ false
-    hit-block f hit = block-fifo r ms x false f
-        (and_right (uses r ms x) (not (hits r ms x)) (ap not hit))
-
     -- a hit under FIFO changes the block's way in its place
     pub row_of-fifo_hit : r.fifo ≡ true → hits r ms x ≡ true → (g : Way → Way)
         → way_at r h' b ≡ g (way_at r h b)
         → row_of r h' s ≡ changed (holds_block (b * r.bsize)) g (row_of r h s)
     row_of-fifo_hit f hit g same =
-        rw (row_is h' s, row_is h s, renewals-no r h x (hit-block f hit))
+        rw (row_is h' s, row_is h s, renewals-no r h x (block-hit r ms x f hit))
         (sym (changed-padded (way_at r h) empty_way r.assoc (holds_block (b * r.bsize)) b
         (at_block r pos h b) refl (way_at r h') way_at-other g same r.assoc (ranked r s ms)
         (IsOnce-ways_of r h s)))

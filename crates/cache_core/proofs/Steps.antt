@@ -1,5 +1,5 @@
 -- One access to a cache that stands for a history.
-use Rattle.std.proofs.Common.{◌≡◌, ◌≢◌, ℕ, suc, ◌+◌, ◌*◌, ◌%◌, ◌<◌, Bool, true, false, cond, not}
+use Rattle.std.proofs.Common.{◌≡◌, ◌≢◌, ℕ, suc, ◌+◌, ◌*◌, ◌<◌, Bool, true, false, cond, not}
 use Rattle.std.proofs.Common.{◌&&◌, ◌||◌, eqb, nat_eq, List, ◌∷◌, length, Option, Some, None}
 use Rattle.std.proofs.Common.{is_some, refl, sym, ap, subst, ◌∙◌, add_assoc, arith}
 use Rattle.std.specs.List.{find, list_any}
@@ -15,8 +15,9 @@ use Rattle.cache_core.specs.Counts.{tally, counts_of, flushes_in, flushed_back}
 use Rattle.cache_core.specs.Row.{holds_block, leaving, dirty_block, next_row, pushed_out, row}
 use Rattle.cache_core.specs.Row.{outcome_made, way_at, row_of}
 use Rattle.cache_core.specs.Counting.{with_access, with_flush}
-use Rattle.cache_core.proofs.Turns.{block-fifo, block-lru}
-use Rattle.cache_core.proofs.RowTurns.{unused-block, hit-block, find-row_of, row_of-other}
+use Rattle.cache_core.proofs.AtAccess.{at_access}
+use Rattle.cache_core.proofs.Turns.{block-fifo, block-lru, block-hit, block-unused}
+use Rattle.cache_core.proofs.RowTurns.{find-row_of, row_of-other}
 use Rattle.cache_core.proofs.RowStep.{valid_way, row_of-next, uses-hit, uses-miss}
 use Rattle.cache_core.proofs.PushedOut.{out-is}
 use Rattle.cache_core.proofs.Victim.{unmarked, lru-hit}
@@ -89,23 +90,10 @@ flush-counts r h n e =
 
 module _ (r : Rules) (pos : 0 < r.bsize) (m : ℕ) (size : r.assoc ≡ suc m) (h : History)
     (x : Access) where
-  abbrev b : ℕ
-  b = block_of r x
-
-  abbrev h' : History
-  h' = access x ∷ h
-
-  abbrev ms : List ℕ
-  ms = renewals r h
-
-  abbrev s : ℕ
-  s = b % r.sets
+  open at_access r h x use {b, s, ms, h', w}
 
   abbrev block_addr : ℕ
   block_addr = b * r.bsize
-
-  abbrev w : Bool
-  w = is_write x
 
   abbrev here : List Way
   here = row_of r h s
@@ -123,7 +111,7 @@ module _ (r : Rules) (pos : 0 < r.bsize) (m : ℕ) (size : r.assoc ≡ suc m) (h
 
   victim-hit : hits r ms x ≡ true → victim r h x ≡ None
   victim-hit e = by_cases r.fifo
-      (λ f. unmarked r h x (hit-block r pos h x f e))
+      (λ f. unmarked r h x (block-hit r ms x f e))
       (λ f. lru-hit r h x m size f e (uses-hit r pos h x e))
 
   load-block : hits r ms x ≡ false → uses r ms x ≡ true → renews r ms x ≡ true
@@ -140,7 +128,7 @@ module _ (r : Rules) (pos : 0 < r.bsize) (m : ℕ) (size : r.assoc ≡ suc m) (h
             (valid_way block_addr (r.wback && w))
         | false ↦ λ u. out-none r.wback r.walloc w block_addr here u
             ∙ sym (ap (dirty_victim r h) (unmarked r h x
-            (unused-block r pos h x (uses-miss r pos h x e ∙ u))))
+            (block-unused r ms x (uses-miss r pos h x e ∙ u))))
       ]) refl
 
   pub back-is : pushed_out r.wback r.walloc block_addr w here seen

@@ -1,8 +1,9 @@
 -- How one access moves the order of the blocks in each set.
 use Rattle.std.proofs.Common.{◌≡◌, ℕ, zero, suc, ◌%◌, Bool, true, false, not, eqb, List, [], ◌∷◌}
-use Rattle.std.proofs.Common.{take, refl, sym, subst, ◌∙◌, arith}
+use Rattle.std.proofs.Common.{take, refl, sym, ap, subst, ◌∙◌, arith}
 use Rattle.std.proofs.lemmas.List.{take-take}
-use Rattle.std.proofs.lemmas.Bool.{eqb-true, eq-eqb, not-true, and_parts, cond-true, cond-false}
+use Rattle.std.proofs.lemmas.Bool.{eqb-true, eq-eqb, not-true, and_parts, and_left, and_right}
+use Rattle.std.proofs.lemmas.Bool.{cond-true, cond-false}
 use Rattle.cache_core.specs.declared.access.Access.{Access}
 use Rattle.cache_core.specs.History.{Rules, History, access, flush, block_of}
 use Rattle.cache_core.specs.Residents.{in_set, hits, uses, loads, renews, renewals, is_resident}
@@ -55,6 +56,18 @@ module _ (r : Rules) where
   pub block-lru : (ms : List ℕ) (x : Access) (t : Bool) → r.fifo ≡ false → uses r ms x ≡ t
       → renews r ms x ≡ t
   block-lru ms x t f e = cond-false r.fifo (loads r ms x) (uses r ms x) f ∙ e
+
+  -- a hit under FIFO renews nothing
+  pub block-hit : (ms : List ℕ) (x : Access) → r.fifo ≡ true → hits r ms x ≡ true
+      → renews r ms x ≡ false
+  block-hit ms x f hit = block-fifo ms x false f
+      (and_right (uses r ms x) (not (hits r ms x)) (ap not hit))
+
+  -- nor does an access that does not use the cache
+  pub block-unused : (ms : List ℕ) (x : Access) → uses r ms x ≡ false → renews r ms x ≡ false
+  block-unused ms x u = by_cases r.fifo
+      (λ f. block-fifo ms x false f (and_left (uses r ms x) (not (hits r ms x)) u))
+      (λ f. block-lru ms x false f u)
 
   -- an access that renews its block adds it in front
   pub renewals-yes : (h : History) (x : Access) → renews r (renewals r h) x ≡ true

@@ -4,17 +4,18 @@ use Rattle.std.proofs.Common.{◌||◌, eqb, ltb, List, [], ◌∷◌, ◌++◌,
 use Rattle.std.proofs.Common.{inl, inr, refl, sym, ap, subst, ◌∙◌, add-one, arith}
 use Rattle.std.proofs.lemmas.Bool.{eqb-true, eq-eqb, false≢true, or_parts, or_left, or_right}
 use Rattle.std.proofs.lemmas.Bool.{true_from_ne_false, false_from_ne_true, cond-true, and_parts}
-use Rattle.std.proofs.lemmas.Bool.{and_right, ltb-true, cases_lt}
+use Rattle.std.proofs.lemmas.Bool.{ltb-true, cases_lt}
 use Rattle.std.proofs.lemmas.List.{take_more, take_all, take-take}
 use Rattle.cache_core.specs.declared.access.Access.{Access}
-use Rattle.cache_core.specs.History.{Rules, History, access, block_of}
-use Rattle.cache_core.specs.Residents.{leaves, renews, before, hits, uses, renewals, is_resident}
+use Rattle.cache_core.specs.History.{Rules, History}
+use Rattle.cache_core.specs.Residents.{leaves, renews, before, hits, uses, is_resident}
 use Rattle.cache_core.specs.Residents.{reuse_distance, victim}
 use Rattle.cache_core.specs.Order.{ranked}
+use Rattle.cache_core.proofs.AtAccess.{at_access}
 use Rattle.cache_core.proofs.Reuse.{has, has-take, has-ways_of}
 use Rattle.cache_core.proofs.Shift.{without, IsOnce, has-take_absent}
 use Rattle.cache_core.proofs.Shadow.{eqb-comm, take-without_there, take-without_absent}
-use Rattle.cache_core.proofs.Turns.{renewals-yes, renewals-no, block-fifo, block-lru, ranked-fifo}
+use Rattle.cache_core.proofs.Turns.{renewals-yes, renewals-no, block-hit, block-lru, ranked-fifo}
 use Rattle.cache_core.proofs.Turns.{ranked-lru, ranked-other, IsOnce-ranked, IsOnce-ways_of, absent}
 use Rattle.cache_core.proofs.Members.{find-one, find-nothing, and-not, has-append, has-moved}
 use Rattle.cache_core.proofs.Members.{last-new, only-last, none-last}
@@ -26,18 +27,15 @@ pub resident-marked : (r : Rules) (ms : List ℕ) (y : ℕ) → is_resident r ms
 unfolding is_resident
 resident-marked r ms y h = (and_parts (has ms y) (ltb (reuse_distance r ms y) r.assoc) h).0
 
+-- a cache without ways has no resident
+pub no-way : (r : Rules) (ms : List ℕ) (y : ℕ) → r.assoc ≡ 0 → is_resident r ms y ≡ true → ⊥
+unfolding is_resident
+no-way r ms y e res =
+    let lt = ltb-true _ r.assoc (and_parts (has ms y) (ltb _ r.assoc) res).1 in
+    absurd (omega arith)
+
 module _ (r : Rules) (h : History) (x : Access) where
-  abbrev b : ℕ
-  b = block_of r x
-
-  abbrev h' : History
-  h' = access x ∷ h
-
-  abbrev ms : List ℕ
-  ms = renewals r h
-
-  abbrev s : ℕ
-  s = b % r.sets
+  open at_access r h x use {b, s, ms}
 
   abbrev ranks : List ℕ
   ranks = ranked r s ms
@@ -229,20 +227,13 @@ module _ (r : Rules) (h : History) (x : Access) where
         | inr le ↦ absurd (false≢true (sym (room-stays le y) ∙ p))
       ]
 
-  no_way : r.assoc ≡ 0 → (y : ℕ) → is_resident r ms y ≡ true → ⊥
-  unfolding is_resident
-  no_way e y res = let lt = ltb-true _ r.assoc (and_parts (has ms y) (ltb _ r.assoc) res).1 in
-      absurd (omega arith)
-
   only-one_by : (n : ℕ) → r.assoc ≡ n → (y z : ℕ) → leaves r h x y ≡ true → leaves r h x z ≡ true
       → y ≡ z
-  only-one_by zero e y z p q = absurd (no_way e y (and_parts (is_resident r ms y) _ p).0)
+  only-one_by zero e y z p q = absurd (no-way r ms y e (and_parts (is_resident r ms y) _ p).0)
   only-one_by (suc m) e y z p q = by_cases (renews r ms x)
       (λ yes'. by_cases (hits r ms x)
       (λ hit. by_cases r.fifo
-      (λ f. absurd (false≢true
-      (sym (block-fifo r ms x false f
-      (and_right (uses r ms x) (not (hits r ms x)) (ap not hit))) ∙ yes')))
+      (λ f. absurd (false≢true (sym (block-hit r ms x f hit) ∙ yes')))
       (λ f. absurd (false≢true (sym (hit-stays m e f hit yes' y) ∙ p))))
       (λ miss. load-one m e miss yes' y z p q))
       (λ idle. absurd (false≢true (sym (idle-stays idle y) ∙ p)))

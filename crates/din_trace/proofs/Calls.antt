@@ -6,8 +6,9 @@ use Rattle.din_trace.specs.declared.source.Source.{Source}
 use Rattle.din_trace.specs.Text.{Remaining}
 use Rattle.din_trace.specs.Remaining.{Script, Fate, Open, Follows, first_answer, after_first}
 use Rattle.din_trace.specs.Source.{reader_of, taken_by, HasLeft, IsSettled, Settles, Takes}
-use Rattle.din_trace.proofs.Scripts.{Composed, compose, consumes-nothing}
+use Rattle.din_trace.proofs.Scripts.{Composed, compose}
 use Rattle.std.proofs.Common.{[], arith}
+use Rattle.std.proofs.KnownBytes.{Consumes-nil}
 
 -- calls from a to b and then from b to c
 pub record Calls {R : Type 0} (remaining : R → Option (List ℕ)) (failures : R
@@ -54,7 +55,7 @@ module _ {R : Type 0} (remaining : R → Option (List ℕ)) (failures : R → �
   unfolding Settles
   asks_nothing a b same taken =
       record {
-        reader = rw same (consumes-nothing (remaining (reader_of a)), refl);
+        reader = rw same (Consumes-nil (remaining (reader_of a)), refl);
         settles = tt;
         taken = omega (arith, taken);
       }

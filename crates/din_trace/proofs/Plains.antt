@@ -4,7 +4,7 @@ use Rattle.std.proofs.Common.{cond, List, [], ◌∷◌, ◌++◌, length, take,
 use Rattle.std.proofs.Common.{arith, append_assoc, length-append, inl, inr, slice_index_or}
 use Rattle.std.specs.Prelude.{nat_lt, nat_le, ◌&&◌, ◌||◌}
 use Rattle.std.specs.Char.{digit_value}
-use Rattle.std.proofs.lemmas.Bool.{cases_eq, eqb-true, ne_eqb, false≢true}
+use Rattle.std.proofs.lemmas.Bool.{cases_eq, eqb-true, ne_eqb, false≢true, and_parts, and_right}
 use Rattle.std.specs.List.{AllByRecursion}
 use Rattle.std.proofs.lemmas.List.Sums.{fold-append}
 use Rattle.std.proofs.Math.Nat.{pow-le-pow_right, pow-succ'}
@@ -78,18 +78,14 @@ each_no_lf test no_lf [] each = tt
 each_no_lf test no_lf (byte ∷ run) each =
     (no_lf byte each.0, each_no_lf test no_lf run each.1)
 
-and_false : (b : Bool) → (b && false) ≡ false
-and_false true = refl
-and_false false = refl
-
 no_prefix : (digits comment : List ℕ) → Each is_hex digits → 0 < length digits
     → IsComment comment → has_prefix (digits ++ comment) ≡ false
 no_prefix [] comment hex some is_comment = absurd (omega arith)
 no_prefix (a ∷ []) [] hex some is_comment = refl
 no_prefix (a ∷ []) (b ∷ comment) hex some is_comment = let no =
-    blank_no_x b is_comment in rw (no.0, no.1) (and_false (eqb a 48))
+    blank_no_x b is_comment in rw (no.0, no.1) (and_right (eqb a 48) false refl)
 no_prefix (a ∷ b ∷ digits) comment hex some is_comment = let no =
-    hex_no_x b hex.1.0 in rw (no.0, no.1) (and_false (eqb a 48))
+    hex_no_x b hex.1.0 in rw (no.0, no.1) (and_right (eqb a 48) false refl)
 
 no_blank : (digits tail : List ℕ) → Each is_hex digits → 0 < length digits
     → StopsAt is_blank (digits ++ tail)
@@ -105,10 +101,6 @@ record IsPart (prefix text : List ℕ) : Type 0 where
 x_no_lf : (b : ℕ) → (eqb b 120 || eqb b 88) ≡ true → eqb b 10 ≡ false
 x_no_lf b h = other_than (λ byte. eqb byte 120 || eqb byte 88) b 10 h refl
 
-and_first : (a b : Bool) → (a && b) ≡ true → (a ≡ true) × (b ≡ true)
-and_first true b h = (refl, h)
-and_first false b h = absurd (false≢true h)
-
 prefix_is_part : (prefix digits tail : List ℕ) → IsPrefix prefix → Each is_hex digits
     → 0 < length digits → IsComment tail → IsPart prefix (digits ++ tail)
 unfolding is_blank
@@ -121,7 +113,7 @@ prefix_is_part [] digits tail p hex some is_comment =
     }
 prefix_is_part (a ∷ []) digits tail p hex some is_comment = absurd p
 prefix_is_part (a ∷ b ∷ rest) digits tail p hex some is_comment =
-    let parts = and_first (eqb a 48) (eqb b 120 || eqb b 88) p.0 in
+    let parts = and_parts (eqb a 48) (eqb b 120 || eqb b 88) p.0 in
     let zero_is : a ≡ 48 = eqb-true a 48 parts.0 in
     rw p.1 (record {
       is = rw p.0 refl;
@@ -155,6 +147,19 @@ run-more Holds bytes start at run below holds =
       },
       refl,
     )
+
+-- a loop over the bytes has come to this index, and has passed such a run
+abbrev pub RunsTo : (List ℕ → ℕ → ℕ → Type 0) → List ℕ → ℕ → ℕ → Type 0
+RunsTo IsRun bytes start at = record { to : at ≤ length bytes; run : IsRun bytes start at }
+
+-- so it has after one more byte with the property
+pub runs_to-more : (Holds : ℕ → Type 0) (bytes : List ℕ) (start at : ℕ)
+    → RunsTo (Run Holds) bytes start at → at < length bytes → Holds (slice_index_or bytes at 0)
+    → RunsTo (Run Holds) bytes start (at + 1)
+runs_to-more Holds bytes start at so_far below holds = record {
+  to = omega arith;
+  run = (run-more Holds bytes start at so_far.run below holds).0;
+}
 
 -- a label, blanks, a prefix or none, digits, and nothing or a comment
 pub begins_plain : (bytes : List ℕ) (digit : ℕ) (gap prefix digits comment : List ℕ) (count : ℕ)

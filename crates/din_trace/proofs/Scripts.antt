@@ -4,6 +4,7 @@ use Rattle.std.proofs.Common.{length, drop}
 use Rattle.std.proofs.Common.{Option, Some, None, Result, Ok, Err, refl, sym, ap, ◌∙◌, subst}
 use Rattle.std.proofs.Common.{append_assoc, length-append, arith}
 use Rattle.std.specs.Io.KnownBytes.{Consumes, Keeps}
+use Rattle.std.proofs.KnownBytes.{Consumes-trans}
 use Rattle.std.proofs.lemmas.List.{append-nil}
 use Rattle.din_trace.specs.Device.{once_more}
 use Rattle.din_trace.specs.Text.{Remaining}
@@ -16,26 +17,11 @@ use Rattle.din_trace.specs.declared.backlog.State.{State}
 use Rattle.din_trace.specs.declared.backlog.Backlog.{Backlog}
 use Rattle.din_trace.specs.Backlog.{HasLeft}
 
-pub consumes-append : (old mid new : Option (List ℕ)) (xs ys : List ℕ) → Consumes old mid xs
-    → Consumes mid new ys → Consumes old new (xs ++ ys)
-consumes-append None mid new xs ys h k = tt
-consumes-append (Some all) None new xs ys h k = absurd h
-consumes-append (Some all) (Some some) None xs ys h k = absurd k
-consumes-append (Some all) (Some some) (Some rest) xs ys h k = rw append_assoc (rw k at h)
-
-pub consumes-none : (old mid new : Option (List ℕ)) (xs : List ℕ) → Consumes old mid xs
-    → Consumes mid new [] → Consumes old new xs
-consumes-none None mid new xs h k = tt
-consumes-none (Some all) None new xs h k = absurd h
-consumes-none (Some all) (Some some) None xs h k = absurd k
-consumes-none (Some all) (Some some) (Some rest) xs h k = rw k at h
-
-pub consumes-kept : (old mid new : Option (List ℕ)) (xs : List ℕ) → Consumes old mid xs
-    → Keeps mid new → Consumes old new xs
-consumes-kept None mid new xs h k = tt
-consumes-kept (Some all) None new xs h k = absurd h
-consumes-kept (Some all) (Some some) None xs h k = absurd k
-consumes-kept (Some all) (Some some) (Some rest) xs h k = rw k h
+-- a reader that keeps its bytes gives none
+pub keeps-consumes : (mid new : Option (List ℕ)) → Keeps mid new → Consumes mid new []
+keeps-consumes None new k = tt
+keeps-consumes (Some some) None k = absurd k
+keeps-consumes (Some some) (Some rest) k = sym k
 
 -- one more failure changes the count
 pub once_more-differs : (count : ℕ) → once_more count ≡ count → ⊥
@@ -101,7 +87,7 @@ module _ (g₁ g₂ : List ℕ) (old mid new : Option (List ℕ)) (before during
   compose-open Open consumed same is closes = record {
     given = g₁ ++ g₂;
     fate = Open;
-    is = (consumes-append old mid new g₁ g₂ consumed is.0, is.1 ∙ same);
+    is = (Consumes-trans old mid new g₁ g₂ consumed is.0, is.1 ∙ same);
     closes = tt;
     size = sizes;
     between = λ first last e. (
@@ -114,7 +100,7 @@ module _ (g₁ g₂ : List ℕ) (old mid new : Option (List ℕ)) (before during
   compose-open Ended consumed same is closes = record {
     given = g₁ ++ g₂;
     fate = Ended;
-    is = (consumes-append old mid new g₁ g₂ consumed is.0, is.1, is.2 ∙ same);
+    is = (Consumes-trans old mid new g₁ g₂ consumed is.0, is.1, is.2 ∙ same);
     closes = closes;
     size = sizes;
     between = λ first last e. (record { given = g₂; fails = false }, e, refl);
@@ -122,10 +108,26 @@ module _ (g₁ g₂ : List ℕ) (old mid new : Option (List ℕ)) (before during
   compose-open Failed consumed same is closes = record {
     given = g₁ ++ g₂;
     fate = Failed;
-    is = (consumes-append old mid new g₁ g₂ consumed is.0, is.1 ∙ ap once_more same);
+    is = (Consumes-trans old mid new g₁ g₂ consumed is.0, is.1 ∙ ap once_more same);
     closes = closes;
     size = sizes;
     between = λ first last e. (record { given = g₂; fails = true }, e, refl);
+  }
+
+  -- the reader had ended or failed, so that the second call asked nothing
+  compose-closed : (f₁ f₂ : Fate) → FateIs f₁ old g₁ mid before during → Closes f₁ s₁
+      → IsSame mid new during after s₁ s₂ size₁ size₂
+      → ((first mid last : Script) → Follows f₁ g₁ first last → Follows f₁ g₁ first mid)
+      → Composed f₁ f₂ g₁ g₂ old new before after s₂ size₀ size₂
+  compose-closed f₁ f₂ is closes same ends = record {
+    given = g₁;
+    fate = f₁;
+    is = rw (same.bytes, same.failures) is;
+    closes = rw same.state closes;
+    size = same.size ∙ first_size;
+    between = λ first last e.
+        let mid = script_before f₂ g₂ last in
+        (mid, ends first mid last e, script_before-follows f₂ g₂ last);
   }
 
   pub compose : (f₁ f₂ : Fate) → FateIs f₁ old g₁ mid before during
@@ -134,25 +136,9 @@ module _ (g₁ g₂ : List ℕ) (old mid new : Option (List ℕ)) (before during
       → Composed f₁ f₂ g₁ g₂ old new before after s₂ size₀ size₂
   compose Open f₂ is₁ is₂ closes₁ closes₂ settled = compose-open f₂ is₁.0 is₁.1 is₂ closes₂
   compose Ended f₂ is₁ is₂ closes₁ closes₂ settled =
-      let same = settled closes₁ in
-      record {
-        given = g₁;
-        fate = Ended;
-        is = rw (same.bytes, same.failures) is₁;
-        closes = rw same.state closes₁;
-        size = same.size ∙ first_size;
-        between = λ first last e. (script_before f₂ g₂ last, e, script_before-follows f₂ g₂ last);
-      }
+      compose-closed Ended f₂ is₁ closes₁ (settled closes₁) (λ first mid last e. e)
   compose Failed f₂ is₁ is₂ closes₁ closes₂ settled =
-      let same = settled closes₁ in
-      record {
-        given = g₁;
-        fate = Failed;
-        is = rw (same.bytes, same.failures) is₁;
-        closes = rw same.state closes₁;
-        size = same.size ∙ first_size;
-        between = λ first last e. (script_before f₂ g₂ last, e, script_before-follows f₂ g₂ last);
-      }
+      compose-closed Failed f₂ is₁ closes₁ (settled closes₁) (λ first mid last e. e)
 
 records-first : (rs : List DinRecord) (fault : Option TraceFault) (r : DinRecord)
     → Ok (Some r) ≡ records_answer rs fault → rs ≡ r ∷ drop 1 rs
@@ -183,10 +169,6 @@ first_end l = records-end l.records l.fault
 pub first_fault-is : (l : Remaining) (f : TraceFault) → Err f ≡ first_answer l
     → (l.records ≡ []) × (l.fault ≡ Some f)
 first_fault-is l f = records-fault l.records l.fault f
-
-pub consumes-nothing : (known : Option (List ℕ)) → Consumes known known []
-consumes-nothing None = tt
-consumes-nothing (Some all) = refl
 
 behind-not_nil : (items rs : List DinRecord) (r : DinRecord) → items ++ r ∷ rs ≢ []
 behind-not_nil [] rs r e = absurd cc

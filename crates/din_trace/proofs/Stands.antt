@@ -9,7 +9,7 @@ use Rattle.din_trace.specs.declared.fault.TraceFault.TheVariants.{Bad}
 use Rattle.din_trace.specs.declared.line_reader.LineReader.{LineReader}
 use Rattle.din_trace.specs.declared.line.LineSoFar.TheVariants as so_far
 use Rattle.din_trace.specs.Line.{Form, Blank, Din, Faulty, form}
-use Rattle.din_trace.specs.LineSoFar.{form_from, form_answer, begun}
+use Rattle.din_trace.specs.LineSoFar.{IsNext, form_from, form_answer, begun}
 use Rattle.din_trace.specs.Line.{ADDRESS_MAX}
 use Rattle.din_trace.specs.Text.{ended_lines, open_line, form_result}
 use Rattle.din_trace.specs.Standing.{Stands}
@@ -17,9 +17,7 @@ use Rattle.din_trace.proofs.Cuts.{cut-ended, cut-longer, IsSound, first_fault-ap
 
 pub stands-longer : (old new : LineReader) (text : List ℕ) (byte : ℕ) → byte ≢ 10 → new.fault ≡ None
     → new.line ≡ old.line
-    → ((rest : List ℕ) → form_from ADDRESS_MAX old.so_far (byte ∷ rest)
-    ≡ form_from ADDRESS_MAX new.so_far rest)
-    → begun new.so_far ≡ 1
+    → IsNext old.so_far byte new.so_far → begun new.so_far ≡ 1
     → Stands old text → Stands new (text ++ byte ∷ [])
 stands-longer old new text byte other unfaulted line next begun_is s =
     let grown = cut-longer text byte (ne_eqb byte 10 other) in

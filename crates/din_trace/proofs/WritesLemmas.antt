@@ -1,16 +1,13 @@
 -- Calls that write, one after another.
-use Rattle.std.proofs.Common.{◌≡◌, ◌∙◌, ℕ, List, ◌++◌, Option, Some, None, Result, Ok, Err, ap}
-use Rattle.std.proofs.Common.{append_assoc}
+use Rattle.std.proofs.Common.{◌≡◌, ◌∙◌, ℕ, List, ◌++◌, Option, Result, Ok, Err, ap}
 use Rattle.std.specs.Io.KnownBytes.{Appends}
+use Rattle.std.proofs.KnownBytes.{Appends-trans}
 use Rattle.din_trace.specs.Device.{Writes, once_more}
 
 -- two appends in a row are one append
 pub appends_twice : (x y z : Option (List ℕ)) (a b : List ℕ) → Appends x y a → Appends y z b
     → Appends x z (a ++ b)
-appends_twice None y z a b h k = tt
-appends_twice (Some x) None z a b h k = absurd h
-appends_twice (Some x) (Some y) None a b h k = absurd k
-appends_twice (Some x) (Some y) (Some z) a b h k = rw (k, h, append_assoc)
+appends_twice = Appends-trans
 
 module _ {W S E F : Type 0} {contents : W → Option (List ℕ)} {failures : W
     → ℕ} {old mid new : W} where

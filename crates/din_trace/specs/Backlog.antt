@@ -1,5 +1,8 @@
 -- What a source still has to answer, from the bytes that it holds and what its reader will do.
-use Rattle.std.specs.Prelude.{◌≡◌, ℕ, ◌+◌, ◌-◌, List, [], ◌++◌, length, take, drop, Some, None}
+use Rattle.std.specs.Prelude.{◌≡◌, ℕ, ◌+◌, ◌-◌, ◌<◌, List, [], ◌++◌, length, take, drop, Option}
+use Rattle.std.specs.Prelude.{Some, None, IsSome, Result, IfOk, Bool, false}
+use Rattle.din_trace.specs.declared.record.DinRecord.{DinRecord}
+use Rattle.din_trace.specs.declared.fault.TraceFault.{TraceFault}
 use Rattle.din_trace.specs.declared.backlog.Backlog.{Backlog}
 use Rattle.din_trace.specs.declared.backlog.State.{State}
 use Rattle.din_trace.specs.declared.backlog.State.TheVariants as state
@@ -8,7 +11,8 @@ use Rattle.din_trace.specs.LineSoFar.{begun}
 use Rattle.din_trace.specs.Line.{ADDRESS_MAX}
 use Rattle.din_trace.specs.Text.{open_line, Remaining, text_left}
 use Rattle.din_trace.specs.Standing.{Stands}
-use Rattle.din_trace.specs.Remaining.{Script}
+use Rattle.din_trace.specs.Remaining.{Script, first_answer, after_first}
+use Rattle.din_trace.specs.State.{is_reading}
 
 -- the bytes that came from the reader and are not judged yet
 abbrev pub held : Backlog → List ℕ
@@ -45,3 +49,27 @@ HasLeftIn (state.Failed f) reader held limit script l = l ≡ record { records =
 -- what is left of a source with this backlog
 abbrev pub HasLeft : Backlog → Script → Remaining → Type 0
 HasLeft b script l = HasLeftIn b.state b.lines (held b) b.limit script l
+
+-- what was left is still left
+abbrev pub KeepsLeft : Backlog → Backlog → Type 0
+KeepsLeft old new = (script : Script) (l : Remaining) → HasLeft old script l → HasLeft new script l
+
+-- this answer is the first of what was left, and is removed from it
+abbrev pub AnswersFirst : Result (Option DinRecord) TraceFault → Backlog → Backlog → Type 0
+AnswersFirst answer old new = (script : Script) (l : Remaining) → HasLeft old script l
+    → (answer ≡ first_answer l) × HasLeft new script (after_first l)
+
+-- if this answer is a record, fewer can follow
+abbrev pub TakesRoom : Result (Option DinRecord) TraceFault → Backlog → Backlog → Type 0
+TakesRoom answer old new = IfOk answer (λ found. IsSome found → room new < room old)
+
+-- the reader has ended, or failed (`true`), and with it the source: this answer is the first of
+-- what was left, and the rest is left whatever the reader does
+pub record EndsWith (fails : Bool) (answer : Result (Option DinRecord) TraceFault)
+    (old new : Backlog) : Type 0 where
+  pub first : (l : Remaining) → HasLeft old (record { given = []; fails = fails }) l
+      → (answer ≡ first_answer l) × ((script : Script) → HasLeft new script (after_first l))
+  pub taken_same : taken new ≡ taken old
+  pub limit_same : new.limit ≡ old.limit
+  pub no_room : room new ≡ 0
+  pub closed : is_reading new.state ≡ false

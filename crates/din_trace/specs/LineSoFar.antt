@@ -1,6 +1,6 @@
 -- The form of a line, from what was read of it and the bytes that follow.
-use Rattle.std.specs.Prelude.{ℕ, ◌+◌, ◌*◌, nat_lt, if◌then◌else◌, List, ◌∷◌, Option, Some, None}
-use Rattle.std.specs.Prelude.{Result, Ok, Err, fold}
+use Rattle.std.specs.Prelude.{◌≡◌, ℕ, ◌+◌, ◌*◌, nat_lt, if◌then◌else◌, List, ◌∷◌, Option, Some}
+use Rattle.std.specs.Prelude.{None, Result, Ok, Err, fold}
 use Rattle.std.specs.Char.{digit_value}
 use Rattle.din_trace.specs.declared.record.Label.{Label}
 use Rattle.din_trace.specs.declared.record.DinRecord.{DinRecord}
@@ -10,6 +10,7 @@ use Rattle.din_trace.specs.declared.line.LineSoFar.{LineSoFar}
 use Rattle.din_trace.specs.declared.line.LineSoFar.TheVariants as so_far
 use Rattle.din_trace.specs.Line.{Form, Blank, Din, Faulty, is_blank, is_hex, front, after}
 use Rattle.din_trace.specs.Line.{after_prefix, form, gap_form, address_form, tail_form}
+use Rattle.din_trace.specs.Line.{ADDRESS_MAX}
 
 -- the form of a line, by its label, the value of the digits and what follows them
 abbrev pub value_form : ℕ → Label → ℕ → List ℕ → Form
@@ -33,6 +34,12 @@ form_from bound (so_far.Digits r) rest =
     value_form bound r.label (more_digits r.addr (front is_hex rest)) (after is_hex rest)
 form_from bound (so_far.Record r) rest = Din r
 form_from bound (so_far.Faulty w) rest = Faulty w
+
+-- one more byte leads from what was read `before` to what is read `now`: whatever follows, the line
+-- has the same form
+abbrev pub IsNext : LineSoFar → ℕ → LineSoFar → Type 0
+IsNext before byte now = (rest : List ℕ) →
+    form_from ADDRESS_MAX before (byte ∷ rest) ≡ form_from ADDRESS_MAX now rest
 
 -- the record of a line of this form, if it holds one, or what is wrong with it
 abbrev pub form_answer : Form → Result (Option DinRecord) Why

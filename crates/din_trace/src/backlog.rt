@@ -9,7 +9,7 @@ ghost use Rattle.din_trace.specs.declared.buffer.TheConstants.{ROOM};
 ghost use Rattle.din_trace.specs.Line.{ADDRESS_MAX};
 ghost use Rattle.din_trace.specs.State.{is_sound, is_reading};
 ghost use Rattle.din_trace.specs.Text.{Remaining, text_left};
-ghost use Rattle.din_trace.specs.Remaining.{Script, first_answer, after_first};
+ghost use Rattle.din_trace.specs.Remaining.{Script};
 
 use crate::buffer::{Buffer, ROOM};
 use crate::device::{ByteReader, DeviceFailed};
@@ -51,7 +51,8 @@ pub struct Backlog {
 
 #[tactic(auto, unfolding(crate::specs::Standing::StandsFor, crate::specs::Standing::HasNoFault, crate::specs::Standing::bytes_of, crate::specs::Standing::line_of, crate::specs::Standing::begun_of))]
 impl Backlog {
-    ghost use Rattle.din_trace.specs.Backlog.{HasLeft, held, taken, room};
+    ghost use Rattle.din_trace.specs.Backlog.{HasLeft, KeepsLeft, AnswersFirst, TakesRoom};
+    ghost use Rattle.din_trace.specs.Backlog.{EndsWith, held, taken, room};
     ghost use Rattle.din_trace.specs.declared.backlog.State.{State};
 
     /// The backlog of a source that has not asked its reader yet.
@@ -77,18 +78,14 @@ impl Backlog {
     fn step(&mut self) -> Option<Result<Option<DinRecord>, TraceFault>>
         requires reading { self.old.state ≡ State.Reading }
         requires some { self.old.at < self.old.filled }
-        ensures answer { IfSome result (λ answer. (script : Script) (l : Remaining)
-            → HasLeft self.old script l
-            → (answer ≡ first_answer l) × HasLeft self.new script (after_first l)) }
-        ensures goes_on { IfNone result ((script : Script) (l : Remaining)
-            → HasLeft self.old script l → HasLeft self.new script l) }
+        ensures answer { IfSome result (λ answer. AnswersFirst answer self.old self.new) }
+        ensures goes_on { IfNone result (KeepsLeft self.old self.new) }
         ensures reading { IfNone result (self.new.state ≡ State.Reading) }
         ensures nearer { IfNone result ((self.new.at ≡ self.old.at + 1)
             × (self.new.filled ≡ self.old.filled)) }
         ensures taken { taken self.new ≡ taken self.old }
         ensures limit { self.new.limit ≡ self.old.limit }
-        ensures records { IfSome result (λ answer. IfOk answer (λ found. IsSome found
-            → room self.new < room self.old)) }
+        ensures records { IfSome result (λ answer. TakesRoom answer self.old self.new) }
         ensures room { room self.new ≤ room self.old }
     {
         if self.lines.bytes() == self.limit {
@@ -112,11 +109,8 @@ impl Backlog {
     /// The next answer, if the held bytes decide it. After `None`, no byte is held.
     #[inline(always)]
     pub fn answer(&mut self) -> Option<Result<Option<DinRecord>, TraceFault>>
-        ensures answer { IfSome result (λ answer. (script : Script) (l : Remaining)
-            → HasLeft self.old script l
-            → (answer ≡ first_answer l) × HasLeft self.new script (after_first l)) }
-        ensures goes_on { IfNone result ((script : Script) (l : Remaining)
-            → HasLeft self.old script l → HasLeft self.new script l) }
+        ensures answer { IfSome result (λ answer. AnswersFirst answer self.old self.new) }
+        ensures goes_on { IfNone result (KeepsLeft self.old self.new) }
         ensures reading { IfNone result ((self.new.state ≡ State.Reading)
             × (self.new.at ≡ self.new.filled)) }
         ensures settled { is_reading self.old.state ≡ false
@@ -126,8 +120,7 @@ impl Backlog {
             → l ≡ record { records = []; fault = Some TraceFault.Read }) }
         ensures taken { taken self.new ≡ taken self.old }
         ensures limit { self.new.limit ≡ self.old.limit }
-        ensures records { IfSome result (λ answer. IfOk answer (λ found. IsSome found
-            → room self.new < room self.old)) }
+        ensures records { IfSome result (λ answer. TakesRoom answer self.old self.new) }
         ensures room { room self.new ≤ room self.old }
     {
         match self.state {
@@ -144,9 +137,7 @@ impl Backlog {
     #[inline(always)]
     fn plain(&mut self) -> Option<DinRecord>
         requires reading { self.old.state ≡ State.Reading }
-        ensures answer { IfSome result (λ found. (script : Script) (l : Remaining)
-            → HasLeft self.old script l
-            → (Ok (Some found) ≡ first_answer l) × HasLeft self.new script (after_first l)) }
+        ensures answer { IfSome result (λ found. AnswersFirst (Ok (Some found)) self.old self.new) }
         ensures same { IfNone result (self.new ≡ self.old) }
         ensures taken { taken self.new ≡ taken self.old }
         ensures limit { self.new.limit ≡ self.old.limit }
@@ -171,17 +162,13 @@ impl Backlog {
     /// The next answer, if the held bytes decide it, read byte by byte.
     fn answer_held(&mut self) -> Option<Result<Option<DinRecord>, TraceFault>>
         requires reading { self.old.state ≡ State.Reading }
-        ensures answer { IfSome result (λ answer. (script : Script) (l : Remaining)
-            → HasLeft self.old script l
-            → (answer ≡ first_answer l) × HasLeft self.new script (after_first l)) }
-        ensures goes_on { IfNone result ((script : Script) (l : Remaining)
-            → HasLeft self.old script l → HasLeft self.new script l) }
+        ensures answer { IfSome result (λ answer. AnswersFirst answer self.old self.new) }
+        ensures goes_on { IfNone result (KeepsLeft self.old self.new) }
         ensures reading { IfNone result ((self.new.state ≡ State.Reading)
             × (self.new.at ≡ self.new.filled)) }
         ensures taken { taken self.new ≡ taken self.old }
         ensures limit { self.new.limit ≡ self.old.limit }
-        ensures records { IfSome result (λ answer. IfOk answer (λ found. IsSome found
-            → room self.new < room self.old)) }
+        ensures records { IfSome result (λ answer. TakesRoom answer self.old self.new) }
         ensures room { room self.new ≤ room self.old }
     {
         'bytes: while self.at < self.filled {
@@ -196,14 +183,8 @@ impl Backlog {
     pub fn end(&mut self) -> Result<Option<DinRecord>, TraceFault>
         requires reading { self.old.state ≡ State.Reading }
         requires empty { self.old.at ≡ self.old.filled }
-        ensures answer { (l : Remaining) → HasLeft self.old (record { given = []; fails = false }) l
-            → (result ≡ first_answer l)
-            × ((script : Script) → HasLeft self.new script (after_first l)) }
-        ensures taken { taken self.new ≡ taken self.old }
-        ensures limit { self.new.limit ≡ self.old.limit }
-        ensures records { IfOk result (λ found. IsSome found → room self.new < room self.old) }
-        ensures room { room self.new ≡ 0 }
-        ensures closed { is_reading self.new.state ≡ false }
+        ensures ends { EndsWith false result self.old self.new }
+        ensures records { TakesRoom result self.old self.new }
     {
         match self.lines.end() {
             Ok(found) => {
@@ -221,14 +202,8 @@ impl Backlog {
     pub fn fail(&mut self) -> Result<Option<DinRecord>, TraceFault>
         requires reading { self.old.state ≡ State.Reading }
         requires empty { self.old.at ≡ self.old.filled }
-        ensures answer { (l : Remaining) → HasLeft self.old (record { given = []; fails = true }) l
-            → (result ≡ first_answer l)
-            × ((script : Script) → HasLeft self.new script (after_first l)) }
-        ensures taken { taken self.new ≡ taken self.old }
-        ensures limit { self.new.limit ≡ self.old.limit }
+        ensures ends { EndsWith true result self.old self.new }
         ensures read { result ≡ Err TraceFault.Read }
-        ensures room { room self.new ≡ 0 }
-        ensures closed { is_reading self.new.state ≡ false }
     {
         self.state = State::Failed(TraceFault::Read);
         Err(TraceFault::Read)
@@ -247,8 +222,7 @@ impl Backlog {
         ensures ok { OnOk result (R.failures reader.new ≡ R.failures reader.old) }
         ensures err { OnErr result ((R.failures reader.new ≡ once_more (R.failures reader.old))
             × Keeps (R.remaining reader.old) (R.remaining reader.new)) }
-        ensures same { OnErr result ((script : Script) (l : Remaining)
-            → HasLeft self.old script l → HasLeft self.new script l) }
+        ensures same { OnErr result (KeepsLeft self.old self.new) }
         ensures taken { IfOk result (λ count. taken self.new ≡ taken self.old + count) }
         ensures taken_none { OnErr result (taken self.new ≡ taken self.old) }
         ensures reading { self.new.state ≡ State.Reading }

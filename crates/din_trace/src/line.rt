@@ -1,9 +1,9 @@
 //! One line, read byte by byte.
 
-ghost use Rattle.std.specs.Prelude.{◌≡◌, ◌<◌, ℕ, true, false, List, [], ◌∷◌, MatchOption};
+ghost use Rattle.std.specs.Prelude.{◌≡◌, ◌<◌, true, false, [], MatchOption};
 ghost use Rattle.std.specs.Char.{digit_value};
 ghost use Rattle.din_trace.specs.Line.{is_blank, is_label, label_of, is_hex};
-ghost use Rattle.din_trace.specs.LineSoFar.{form_from, form_answer, begun};
+ghost use Rattle.din_trace.specs.LineSoFar.{IsNext, form_from, form_answer, begun};
 ghost use Rattle.din_trace.specs.Line.{ADDRESS_MAX};
 
 use crate::digits::digit;
@@ -72,8 +72,7 @@ fn hex_digit(byte: u8) -> Option<u32>
 
 /// The state after a leading blank, or after the first byte that follows the leading blanks.
 fn at_start(byte: u8) -> LineSoFar
-    ensures form { (rest : List ℕ) → form_from ADDRESS_MAX LineSoFar.Blanks (byte ∷ rest)
-        ≡ form_from ADDRESS_MAX result rest }
+    ensures form { IsNext LineSoFar.Blanks byte result }
     ensures begun { begun result ≡ 1 }
 {
     if is_blank(byte) {
@@ -87,8 +86,7 @@ fn at_start(byte: u8) -> LineSoFar
 
 /// The state after the byte that has to be the first digit of the address.
 fn at_address(label: Label, byte: u8) -> LineSoFar
-    ensures form { (rest : List ℕ) → form_from ADDRESS_MAX (LineSoFar.Prefixed label) (byte ∷ rest)
-        ≡ form_from ADDRESS_MAX result rest }
+    ensures form { IsNext (LineSoFar.Prefixed label) byte result }
     ensures begun { begun result ≡ 1 }
 {
     match hex_digit(byte) {
@@ -102,8 +100,7 @@ fn at_address(label: Label, byte: u8) -> LineSoFar
 
 /// The state after a byte that follows a digit of the address.
 fn at_digit(last: DinRecord, byte: u8) -> LineSoFar
-    ensures form { (rest : List ℕ) → form_from ADDRESS_MAX (LineSoFar.Digits last) (byte ∷ rest)
-        ≡ form_from ADDRESS_MAX result rest }
+    ensures form { IsNext (LineSoFar.Digits last) byte result }
     ensures begun { begun result ≡ 1 }
 {
     match hex_digit(byte) {
@@ -129,8 +126,7 @@ fn at_digit(last: DinRecord, byte: u8) -> LineSoFar
 
 /// The state of the line after one more byte, which is not an LF.
 pub fn next(so_far: LineSoFar, byte: u8) -> LineSoFar
-    ensures form { (rest : List ℕ) → form_from ADDRESS_MAX so_far (byte ∷ rest)
-        ≡ form_from ADDRESS_MAX result rest }
+    ensures form { IsNext so_far byte result }
     ensures begun { begun result ≡ 1 }
 {
     match so_far {

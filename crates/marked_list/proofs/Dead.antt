@@ -15,11 +15,8 @@ use Rattle.marked_list.specs.Bits.{bit_of}
 use Rattle.marked_list.specs.Marks.{covers}
 use Rattle.marked_list.specs.Uses.{last_in, since, AreDead}
 use Rattle.marked_list.proofs.LastUse.{last-there, has-get, has-since, has-last, has-there}
-use Rattle.marked_list.proofs.LastUse.{reverse-cons}
+use Rattle.marked_list.proofs.LastUse.{reverse-cons, some-eq}
 use Rattle.marked_list.proofs.Passing.{not-before, pass-dead, pass-live}
-
-some-eq : (a c : ℕ) → Some a ≡ Some c → a ≡ c
-some-eq a c g = cc
 
 -- a bit says whether
 pub is-dead : (n : ℕ) (t : Bool) → n ≡ cond t 1 0 → n ≡ 1 → t ≡ true

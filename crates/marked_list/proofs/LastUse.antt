@@ -1,12 +1,14 @@
 -- Where the last use of a block is.
-use Rattle.std.proofs.Common.{◌≡◌, ℕ, zero, suc, ◌-◌, ◌<◌, ◌≤◌, true, false, not, eqb, ltb}
+use Rattle.std.proofs.Common.{◌≡◌, ℕ, suc, ◌-◌, ◌<◌, ◌≤◌, true, false, not, eqb, ltb}
 use Rattle.std.proofs.Common.{List}
 use Rattle.std.proofs.Common.{[], ◌∷◌, ◌++◌, take, length, reverse, get_or, Some, None}
 use Rattle.std.proofs.Common.{refl, sym, ap, subst, ◌∙◌, arith}
-use Rattle.std.proofs.lemmas.Bool.{eqb-true, eq-eqb, lt-ltb, ltb-true, ltb-false}
+use Rattle.std.proofs.lemmas.Bool.{eqb-true, lt-ltb, ltb-true, ltb-false}
 use Rattle.std.proofs.lemmas.Bool.{false≢true}
 use Rattle.std.proofs.lemmas.List.{length-reverse, reverse-append, reverse-reverse, get_or_at}
-use Rattle.std.proofs.lemmas.List.{get_or_append_left, get_or-reverse}
+use Rattle.std.proofs.lemmas.List.{get_or_append_left, get_or-reverse, get_or_default}
+use Rattle.cache_core.proofs.Ascending.{has-at}
+use Rattle.cache_core.proofs.Nothing.{take_none}
 use Rattle.cache_core.proofs.Reuse.{has}
 use Rattle.cache_core.proofs.Cases.{by_cases}
 use Rattle.marked_list.specs.Uses.{last_in, since}
@@ -18,7 +20,8 @@ reverse-cons m ms = reverse-append (m ∷ []) ms
 pub reverse-push : (xs : List ℕ) (b : ℕ) → reverse (xs ++ b ∷ []) ≡ b ∷ reverse xs
 reverse-push xs b = reverse-append xs (b ∷ [])
 
-some-eq : (a b : ℕ) → Some a ≡ Some b → a ≡ b
+-- `Some` of a number has that number alone
+pub some-eq : (a b : ℕ) → Some a ≡ Some b → a ≡ b
 some-eq a b e = cc
 
 -- the last use has an index, and the block stands there
@@ -45,14 +48,10 @@ none-past (m ∷ ms) b n le = by_cases (eqb m b)
     (λ f. rw f (ap not (lt-ltb (length ms) n (omega arith))))
     (λ f. rw f (none-past ms b n (omega arith)))
 
-pub take-nil : (n : ℕ) → take {A = ℕ} n [] ≡ []
-take-nil zero = refl
-take-nil (suc n) = refl
-
 -- a block was used from an index on if its last use is there
 pub has-since : (ms : List ℕ) (b n : ℕ) → n ≤ length ms
     → has (since n ms) b ≡ covers n (last_in ms b)
-has-since [] b n le = ap (λ l. has l b) (take-nil (0 - n))
+has-since [] b n le = ap (λ l. has l b) (take_none (0 - n))
 has-since (m ∷ ms) b n le = by_cases (ltb (length ms) n)
     (λ past. let lt = ltb-true (length ms) n past in
     ap (λ k. has (take k (m ∷ ms)) b) (let z : suc (length ms) - n ≡ 0 = omega arith in z)
@@ -65,13 +64,10 @@ has-since (m ∷ ms) b n le = by_cases (ltb (length ms) n)
     (λ f. rw f (has-since ms b n ge)))
 
 pub has-get : (xs : List ℕ) (i : ℕ) → i < length xs → has xs (get_or xs i 0) ≡ true
-has-get [] i lt = absurd (omega arith)
-has-get (x ∷ xs) zero lt = rw (eq-eqb x x refl) refl
-has-get (x ∷ xs) (suc i) lt = by_cases (eqb x (get_or xs i 0))
-    (λ f. rw f refl)
-    (λ f. rw f (has-get xs i (omega arith)))
+has-get xs i lt = has-at xs (get_or xs i 0) i lt (get_or_default xs i (get_or xs i 0) 0 lt)
 
-has-other : (m b : ℕ) (ms : List ℕ) → eqb m b ≡ false → has (m ∷ ms) b ≡ has ms b
+-- whether b is in a list does not depend on another block in front
+pub has-other : (m b : ℕ) (ms : List ℕ) → eqb m b ≡ false → has (m ∷ ms) b ≡ has ms b
 has-other m b ms f = rw f refl
 
 pub last-other : (m b : ℕ) (ms : List ℕ) → eqb m b ≡ false → last_in (m ∷ ms) b ≡ last_in ms b

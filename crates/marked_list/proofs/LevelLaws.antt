@@ -3,13 +3,12 @@ use Rattle.std.proofs.Common.{◌≡◌, ℕ, zero, suc, ◌%◌, ◌<◌, Bool,
 use Rattle.std.proofs.Common.{eqb, ltb, List}
 use Rattle.std.proofs.Common.{[], ◌∷◌, length, take, get_or, filter, refl, sym, ap, ◌∙◌, arith}
 use Rattle.std.proofs.lemmas.Bool.{eq-eqb, lt-ltb, le-ltb, ltb-true, and_parts}
-use Rattle.std.proofs.lemmas.Bool.Decides.{nat_tests}
 use Rattle.std.proofs.lemmas.List.Elements.{All-get_or}
 use Rattle.cache_core.specs.declared.access.Access.{Access}
 use Rattle.cache_core.specs.History.{Rules, History, access, block_of, is_write}
 use Rattle.cache_core.specs.Residents.{distinct, before, hits, renewals, is_resident}
 use Rattle.cache_core.specs.Kinds.{shadow_of}
-use Rattle.cache_core.proofs.Reuse.{has, has-take, has-ways_of}
+use Rattle.cache_core.proofs.Reuse.{has, has-take, has-ways_of, ltb-suc}
 use Rattle.cache_core.proofs.Turns.{renewals-yes, block-lru}
 use Rattle.cache_core.proofs.Cases.{by_cases}
 use Rattle.marked_list.specs.Recency.{is_among, level_of, brought_front}
@@ -22,9 +21,6 @@ grows ys b n m lt h =
     let near = ltb-true (length (before b ys)) n parts.1 in
     has-take m ys b ∙ ap (λ t. t && ltb (length (before b ys)) m) parts.0
     ∙ lt-ltb (length (before b ys)) m (omega arith)
-
-one-less : (j k : ℕ) → ltb (suc j) (suc k) ≡ ltb j k
-one-less j k = grind (arith, nat_tests)
 
 pub level-tells : (sizes : List ℕ) → IsRising sizes → (ys : List ℕ) (b j : ℕ) → j < length sizes
     → is_among b ys (get_or sizes j 0) ≡ not (ltb j (level_of sizes ys b))
@@ -39,7 +35,7 @@ level-tells (n ∷ ns) rising ys b (suc j) lt = by_cases (is_among b ys n)
     ∙ sym (ap (λ t. not (ltb (suc j) (cond t 0 (suc (level_of ns ys b))))) e
     ∙ ap not (le-ltb (suc j) 0 (omega arith))))
     (λ e. level-tells ns rising.1 ys b j (omega arith)
-    ∙ ap not (sym (one-less j (level_of ns ys b)))
+    ∙ ap not (sym (ltb-suc j (level_of ns ys b)))
     ∙ sym (ap (λ t. not (ltb (suc j) (cond t 0 (suc (level_of ns ys b))))) e))
 
 one-set : (b : ℕ) (ms : List ℕ) → filter (λ m. eqb (m % 1) (b % 1)) ms ≡ ms

@@ -1,9 +1,9 @@
 -- The blocks used from a place on, when the place moves over one use.
-use Rattle.std.proofs.Common.{◌≡◌, ℕ, ◌-◌, ◌+◌, ◌<◌, ◌≤◌, Bool, true, false, cond, not, eqb, ltb}
+use Rattle.std.proofs.Common.{◌≡◌, ℕ, ◌-◌, ◌+◌, ◌<◌, ◌≤◌, true, false, cond, eqb, ltb}
 use Rattle.std.proofs.Common.{List}
 use Rattle.std.proofs.Common.{[], ◌∷◌, ◌++◌, take, length, reverse, get_or, Some, refl, sym, ap}
 use Rattle.std.proofs.Common.{◌∙◌, arith}
-use Rattle.std.proofs.lemmas.Bool.{eq-eqb, ltb-false, false≢true}
+use Rattle.std.proofs.lemmas.Bool.{eq-eqb, ltb-false, false≢true, not-true}
 use Rattle.std.proofs.lemmas.List.{append-nil, length-append, length-reverse, reverse-reverse}
 use Rattle.std.proofs.lemmas.List.{get_or-reverse, take_more, take_at}
 use Rattle.cache_core.proofs.Reuse.{has}
@@ -69,13 +69,9 @@ module _ (log : List ℕ) (i : ℕ) (lt : i < length log) where
 
   -- the last use of what stands at an index is not before it
   pub not-before : (p : ℕ) → last_in ms x ≡ Some p → i ≤ p
-  not-before p e = ltb-false p i (flip (ltb p i)
+  not-before p e = ltb-false p i (not-true (ltb p i)
       (sym (ap (covers i) e) ∙ sym (has-since ms x i (omega (arith, inside)))
       ∙ ap (λ l. has l x) since-more ∙ has-end (since (i + 1) ms) x))
-    where
-      flip : (t : Bool) → not t ≡ true → t ≡ false
-      flip true h = absurd (false≢true h)
-      flip false h = refl
 
   -- an index moves over a use whose block was used again
   pub pass-dead : has (since (i + 1) ms) x ≡ true

@@ -1,6 +1,6 @@
 -- The stamps of the blocks: the places of their last uses.
-use Rattle.std.proofs.Common.{◌≡◌, ◌≢◌, ℕ, ◌<◌, true, false, cond, eqb, ltb, List, [], ◌∷◌}
-use Rattle.std.proofs.Common.{length}
+use Rattle.std.proofs.Common.{◌≡◌, ◌≢◌, ℕ, ◌<◌, true, cond, eqb, ltb, List, [], ◌∷◌}
+use Rattle.std.proofs.Common.{length, reverse}
 use Rattle.std.proofs.Common.{get_or, set, Option, Some, None, refl, sym, ap, ◌∙◌, arith}
 use Rattle.std.proofs.Common.{get_or-set_same, get_or-set_other}
 use Rattle.std.proofs.lemmas.Bool.{eqb-true, eqb-false, ltb-true, ltb-false}
@@ -10,7 +10,8 @@ use Rattle.cache_core.proofs.Cases.{by_cases}
 use Rattle.cache_core.specs.Residents.{distinct}
 use Rattle.marked_list.specs.Uses.{last_in, AreStamps, HaveRoom, no_stamp, read_stamp, stamp_of}
 use Rattle.marked_list.specs.Uses.{or_else}
-use Rattle.marked_list.proofs.LastUse.{has-last, none-last, last-same, last-other}
+use Rattle.marked_list.proofs.LastUse.{has-last, has-there, has-other, none-last, last-same}
+use Rattle.marked_list.proofs.LastUse.{last-other}
 
 read-some : (n : ℕ) → n < no_stamp → read_stamp n ≡ Some n
 read-some n lt = by_cases (eqb n no_stamp)
@@ -42,6 +43,11 @@ stamps-room ms stamps st b h = let u = has-last ms b h in stamp-room stamps b u.
 
 pub room-distinct : (ms stamps : List ℕ) → AreStamps ms stamps → HaveRoom (distinct ms) stamps
 room-distinct ms stamps st b h = stamps-room ms stamps st b (sym (has-distinct ms b) ∙ h)
+
+-- the stamps have a place for each number of the log
+pub room-logged : (log stamps : List ℕ) (i : ℕ) → HaveRoom (reverse log) stamps → i < length log
+    → get_or log i 0 < length stamps
+room-logged log stamps i room lt = room (get_or log i 0) (has-there log i lt)
 
 -- the stamps after a use
 pub stamps-next : (ms stamps : List ℕ) (b : ℕ) → AreStamps ms stamps → b < length stamps
@@ -84,13 +90,10 @@ unstamped-next ms stamps b other st lt q = set-stamp stamps b no_stamp q lt
     (λ e. ap (λ t. cond t (read_stamp no_stamp) (stamp_of stamps q)) e
     ∙ sym (ap (λ t. cond t None (other q)) (has-same b q ms e)))
     (λ e. ap (λ t. cond t (read_stamp no_stamp) (stamp_of stamps q)) e
-    ∙ st q ∙ sym (ap (λ t. cond t None (other q)) (has-different b q ms e)))
+    ∙ st q ∙ sym (ap (λ t. cond t None (other q)) (has-other b q ms e)))
   where
     has-same : (m x : ℕ) (l : List ℕ) → eqb m x ≡ true → has (m ∷ l) x ≡ true
     has-same m x l e = rw e refl
-
-    has-different : (m x : ℕ) (l : List ℕ) → eqb m x ≡ false → has (m ∷ l) x ≡ has l x
-    has-different m x l e = rw e refl
 
 -- with no use there is no stamp
 pub unstamped : (ms old new : List ℕ) → AreStamps ms old

@@ -5,6 +5,7 @@ use Rattle.std.proofs.Common.{[], ◌∷◌, take, length, map, get_or, refl, sy
 use Rattle.std.proofs.Common.{ap, subst, ◌∙◌, arith}
 use Rattle.std.proofs.lemmas.List.{length-take-le}
 use Rattle.std.proofs.lemmas.List.{take_all, take-take}
+use Rattle.cache_core.proofs.Nothing.{take_none}
 use Rattle.cache_core.proofs.Reuse.{has, has-distinct}
 use Rattle.cache_core.proofs.Shift.{without, without-absent, IsOnce-distinct}
 use Rattle.cache_core.proofs.Shift.{has-take_absent}
@@ -14,7 +15,7 @@ use Rattle.marked_list.specs.declared.marks.Mark.{Mark}
 use Rattle.marked_list.specs.Marks.{covers, IsMark, AreMarks, size_of, fresh_mark, restarted}
 use Rattle.marked_list.specs.Uses.{last_in, since}
 use Rattle.marked_list.specs.Recency.{is_among, index_of, level_of}
-use Rattle.marked_list.proofs.LastUse.{has-since, take-nil}
+use Rattle.marked_list.proofs.LastUse.{has-since}
 use Rattle.std.specs.List.{All}
 use Rattle.std.proofs.lemmas.List.Elements.{All-head, All-tail}
 use Rattle.std.proofs.Common.{set}
@@ -132,17 +133,18 @@ module _ (ms : List ℕ) (b : ℕ) (k : Mark) (mark : IsMark ms k) where
         (distinct (since k.place (b ∷ ms))) refl ∙ sym one_less);
   }
 
-pub sizes-set : (ks : List Mark) (i : ℕ) (v : Mark) → v.size ≡ (get_or ks i v).size
+-- a mark that is put in the place of one of its size leaves the sizes
+pub sizes-set : (ks : List Mark) (i : ℕ) (v d : Mark) → v.size ≡ (get_or ks i d).size
     → map size_of (set ks i v) ≡ map size_of ks
-sizes-set [] i v e = refl
-sizes-set (k ∷ ks) zero v e = ap (λ n. n ∷ map size_of ks) e
-sizes-set (k ∷ ks) (suc i) v e = ap (λ l. k.size ∷ l) (sizes-set ks i v e)
+sizes-set [] i v d e = refl
+sizes-set (k ∷ ks) zero v d e = ap (λ n. n ∷ map size_of ks) e
+sizes-set (k ∷ ks) (suc i) v d e = ap (λ l. k.size ∷ l) (sizes-set ks i v d e)
 
 none-of : (k : Mark) → k.place ≡ 0 → 0 < k.size → IsMark [] k
 none-of k start some = record {
   some = some;
   within = omega arith;
-  window = take-nil k.size ∙ sym (ap distinct (take-nil (0 - k.place)));
+  window = take_none k.size ∙ sym (ap distinct (take_none (0 - k.place)));
 }
 
 pub fresh-marks : (sizes : List ℕ) → All (λ n. 0 < n) sizes → AreMarks [] (map fresh_mark sizes)

@@ -17,47 +17,25 @@ err_from : {T E : Type 0} (r : Result T E) (P : T → Type 0) (Q R : E → Type 
 err_from (Ok x) P Q R h f = tt
 err_from (Err e) P Q R h f = f e h
 
-pub returns-clause-ok : goal.returns-clause-ok
+pub returns : goal.returns
 unfolding reader_of
-returns-clause-ok c =
+returns c =
     let all = c.new-source.result.reader.rest.now in
+    let is : all ≡ c.args.text.now = rw c.new-source.ensures.reader refl in
     let reads = c.rest.ensures.reads in
     let later = known-script reads.1 all _ reads.0 0 0 reads.2.reader refl in
     let told =
     reads.3 (record { given = all; fails = false }) later.0
     (text_left ADDRESS_MAX 1 all c.args.limit false) later.1
     (c.new-source.ensures.left (record { given = all; fails = false })) in
-    let is : all ≡ c.args.text.now = rw c.new-source.ensures.reader refl in
-    ok_from c.rest.result _ _ _ told
-    (λ found h. rw (← is) (h.1, h.0 ∙ text_left-records ADDRESS_MAX all c.args.limit h.1))
-
-pub returns-clause-err : goal.returns-clause-err
-unfolding reader_of
-returns-clause-err c =
-    let all = c.new-source.result.reader.rest.now in
-    let reads = c.rest.ensures.reads in
-    let later = known-script reads.1 all _ reads.0 0 0 reads.2.reader refl in
-    let told =
-    reads.3 (record { given = all; fails = false }) later.0
-    (text_left ADDRESS_MAX 1 all c.args.limit false) later.1
-    (c.new-source.ensures.left (record { given = all; fails = false })) in
-    let is : all ≡ c.args.text.now = rw c.new-source.ensures.reader refl in
-    err_from c.rest.result _ _ _ told (λ why h other. rw (← is) (h.0 other))
-
-pub returns-clause-memory : goal.returns-clause-memory
-unfolding reader_of
-returns-clause-memory c =
-    let all = c.new-source.result.reader.rest.now in
-    let reads = c.rest.ensures.reads in
-    let later = known-script reads.1 all _ reads.0 0 0 reads.2.reader refl in
-    let told =
-    reads.3 (record { given = all; fails = false }) later.0
-    (text_left ADDRESS_MAX 1 all c.args.limit false) later.1
-    (c.new-source.ensures.left (record { given = all; fails = false })) in
-    let is : all ≡ c.args.text.now = rw c.new-source.ensures.reader refl in
-    err_from c.rest.result _ _ _ told (λ why h same. rw (← is) (
-    elim (h.2 same) [
-      | inl met ↦ absurd
-          ((leaves_text ADDRESS_MAX all c.args.limit).memory false (met ∙ ap Some same))
-      | inr some ↦ some
-    ]))
+    record {
+      ok = ok_from c.rest.result _ _ _ told
+          (λ found h. rw (← is) (h.1, h.0 ∙ text_left-records ADDRESS_MAX all c.args.limit h.1));
+      err = err_from c.rest.result _ _ _ told (λ why h other. rw (← is) (h.0 other));
+      memory = err_from c.rest.result _ _ _ told (λ why h same. rw (← is) (
+          elim (h.2 same) [
+            | inl met ↦ absurd
+                ((leaves_text ADDRESS_MAX all c.args.limit).memory false (met ∙ ap Some same))
+            | inr some ↦ some
+          ]));
+    }

@@ -11,7 +11,6 @@ pub loop-index-preserved : goal.loop-index-preserved
 loop-index-preserved c =
     let i = c.loop-index.index in
     let xs = c.loop-index.marks in
-    let v = c.move_mark.new.mark in
     let first = c.args.marks.now in
     let inside : i < length xs = omega arith in
     let inside' : i < length first = omega arith in
@@ -22,15 +21,15 @@ loop-index-preserved c =
           (ap (λ (k : Mark). covers k.place c.args.last) same ∙ sym c.is_since.ensures
           ∙ c.if-is_since.false)
           c.loop-index.invariant.level;
-      sizes = sizes-set xs i v
-          (at-any (λ z. v.size ≡ z.size) xs i _ v inside c.move_mark.ensures.size)
+      sizes = sizes-set xs i c.move_mark.new.mark _ c.move_mark.ensures.size
           ∙ c.loop-index.invariant.sizes;
-      moves = λ b ms log last used are. one-more (IsMark (b ∷ ms)) xs i v inside
+      moves = λ b ms log last used are. one-more (IsMark (b ∷ ms)) xs i c.move_mark.new.mark inside
           (c.loop-index.invariant.moves b ms log last used are)
           (c.move_mark.ensures.moves b ms log last used
           (at-any (IsMark ms) xs i no_mark _ inside
           (subst (IsMark ms) same (are i inside'))));
-      left = λ k le. let ne : k ≢ i = omega arith in get_or-set_other xs i k v no_mark ne
+      left = λ k le. let ne : k ≢ i = omega arith in
+          get_or-set_other xs i k c.move_mark.new.mark no_mark ne
           ∙ c.loop-index.invariant.left k (omega arith);
     }
 

@@ -15,9 +15,7 @@ loop-index-preserved c =
     let same : get_or first i no_mark ≡ get_or xs i no_mark =
     sym (c.loop-index.invariant.left i (omega arith)) in
     record {
-      sizes = sizes-set xs i v
-          (at-any (λ z. v.size ≡ z.size) xs i _ v inside c.move_mark.ensures.size)
-          ∙ c.loop-index.invariant.sizes;
+      sizes = sizes-set xs i v _ c.move_mark.ensures.size ∙ c.loop-index.invariant.sizes;
       moves = λ b ms log last used k from lt. below_more
           (λ n. c.args.from ≤ n → IsMark ms (get_or first n no_mark)
           → IsMark (b ∷ ms) (get_or (set xs i v) n no_mark)) i

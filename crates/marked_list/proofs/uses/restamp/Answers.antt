@@ -2,25 +2,23 @@ use Rattle.std.proofs.Common.{rules, ◌≡◌, ◌<◌, ◌∷◌, ℕ, List, l
 use Rattle.std.proofs.Common.{arith, sym, ap, subst, ◌∙◌}
 use Rattle.std.proofs.lemmas.List.{length-reverse, length-take-le, take_more, take_all}
 use Rattle.marked_list.specs.Uses.{last_in, no_stamp, stamp_of, or_else}
-use Rattle.marked_list.proofs.LastUse.{has-there, reverse-push}
-use Rattle.marked_list.proofs.Stamps.{restamped-next}
+use Rattle.marked_list.proofs.LastUse.{reverse-push}
+use Rattle.marked_list.proofs.Stamps.{room-logged, restamped-next}
 use Rattle.marked_list.proofs.uses.restamp.Goals as goal
 
 pub bounds-stamps-number : goal.bounds-stamps-number
 bounds-stamps-number c =
-    let log = c.args.log.now in
     let i = c.loop-place.place in
-    let lt : i < length log = omega arith in
-    let room = c.requires.room (get_or log i 0) (has-there log i lt) in
-    omega arith
+    let lt : i < length c.args.log.now = omega arith in
+    omega (arith, room-logged c.args.log.now c.args.stamps.now i c.requires.room lt)
 
 pub offset_bounds-stamps-number : goal.offset_bounds-stamps-number
 offset_bounds-stamps-number c =
     let log = c.args.log.now in
     let i = c.loop-place.place in
     let lt : i < length log = omega arith in
-    let room = c.requires.room (get_or log i 0) (has-there log i lt) in
-    let below : get_or log i 0 < length c.loop-place.stamps = omega arith in
+    let below : get_or log i 0 < length c.loop-place.stamps =
+    omega (arith, room-logged log c.args.stamps.now i c.requires.room lt) in
     search rules
 
 pub loop-place-preserved : goal.loop-place-preserved
@@ -30,8 +28,8 @@ loop-place-preserved c =
     let stamps = c.loop-place.stamps in
     let lt : i < length log = omega arith in
     let x = get_or log i 0 in
-    let room = c.requires.room x (has-there log i lt) in
-    let below : x < length stamps = omega arith in
+    let below : x < length stamps =
+    omega (arith, room-logged log c.args.stamps.now i c.requires.room lt) in
     let ms = reverse (take i log) in
     let long : length ms ≡ i = length-reverse (take i log) ∙ length-take-le i log (omega arith) in
     let small : length ms < no_stamp = omega (arith, c.requires.short) in

@@ -1,4 +1,4 @@
-use Rattle.std.proofs.Common.{◌≡◌, ℕ, ◌/◌, ◌%◌, ap, ◌∙◌}
+use Rattle.std.proofs.Common.{◌≡◌, ℕ, ◌/◌, ◌%◌, refl, ap, ◌∙◌}
 use Rattle.std.proofs.Math.Nat.{mod-lt}
 use Rattle.cache_core.specs.Geometry.{bsize_of, sets_of}
 use Rattle.cache_core.specs.Sets.{ways_in}
@@ -22,23 +22,9 @@ invariant_of-self c =
       room = rw c.assoc-assoc.ensures at c.serve_set.ensures.shape (sets_of old.geometry) old.room;
     }
 
-pub returns-clause-served : goal.returns-clause-served
+pub returns : goal.returns
 unfolding rules_held ways_held
-returns-clause-served c = λ h st.
-    let old = c.args.self.now in
-    let served = rw (
-      c.assoc-assoc.ensures,
-      c.set-set.ensures,
-      c.first_byte-block_addr.ensures,
-      c.block-block.ensures,
-      c.writes.ensures,
-    ) at c.in-Ok.ensures.served in
-    served-is old.geometry old.policy h c.args.access (ways_in old.sets) st.rows c.in-Ok.served
-    served.hit served.back
-
-pub returns-clause-holds : goal.returns-clause-holds
-unfolding rules_held ways_held
-returns-clause-holds c = λ h st.
+returns c =
     let old = c.args.self.now in
     let g = old.geometry in
     let x = c.args.access in
@@ -54,6 +40,13 @@ returns-clause-holds c = λ h st.
     let others = λ (t : ℕ) (apart : t ≡ x.addr / bsize_of g % sets_of g → ⊥).
     rw c.assoc-assoc.ensures at (c.serve_set.ensures.others t (λ e. apart (e ∙ set-is))) in
     record {
-      rows = λ t below. rows-after g old.policy h x (ways_in old.sets) st.rows
-          (ways_in c.serve_set.new.sets) served.row others t below;
+      served = λ h st. served-is g old.policy h x (ways_in old.sets) st.rows c.in-Ok.served
+          served.hit served.back;
+      holds = λ h st. record {
+        rows = λ t below. rows-after g old.policy h x (ways_in old.sets) st.rows
+            (ways_in c.serve_set.new.sets) served.row others t below;
+      };
+      charged = c.in-Ok.ensures.charged;
+      keeps = tt;
+      rules = refl;
     }

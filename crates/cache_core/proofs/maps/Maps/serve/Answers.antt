@@ -7,6 +7,18 @@ use Rattle.cache_core.specs.Mapped.{cap_of, shown, flat}
 use Rattle.cache_core.proofs.Flat.{row-here, row-set, row-set_other, count-set, cap-at}
 use Rattle.cache_core.proofs.Charged.{charged-row, charged-by}
 use Rattle.cache_core.proofs.maps.Maps.serve.Goals as goal
+use Rattle.cache_core.proofs.maps.Maps.serve.Goals.{After-index_mut}
+
+-- the set has a map
+inside : (c : After-index_mut) → c.args.set < length c.args.self.now.sets.items
+inside c = subst (λ k. c.args.set < k) c.args.self.now.sets.ok.0 c.requires
+
+-- and that map has the ways of each
+cap : (c : After-index_mut) → c.index_mut.result.now.cap ≡ c.args.self.now.assoc
+cap c =
+    let m = c.args.self.now in
+    ap (λ z. z.cap) c.index_mut.ensures.value
+    ∙ cap-at m.assoc m.sets.items c.args.set _ c.index_mut.result.now m.caps (inside c)
 
 pub returns-clause-others : goal.returns-clause-others
 returns-clause-others c = λ s apart.
@@ -16,30 +28,24 @@ returns-clause-others c = λ s apart.
 pub returns-clause-served : goal.returns-clause-served
 returns-clause-served c =
     let m = c.args.self.now in let o = c.index_mut.result.now in
-    let inside : c.args.set < length m.sets.items =
-    subst (λ k. c.args.set < k) m.sets.ok.0 c.requires in
-    let cap : o.cap ≡ m.assoc = ap (λ z. z.cap) c.index_mut.ensures.value
-    ∙ cap-at m.assoc m.sets.items c.args.set _ o m.caps inside in
+    let c₁ = (goal.at.returns-clause-served c).After-index_mut in
     let old : row m.assoc c.args.set (flat m.assoc m.sets.items) ≡ shown m.assoc o.entries =
-    row-here m.assoc m.sets.items c.args.set o inside
+    row-here m.assoc m.sets.items c.args.set o (inside c₁)
     ∙ ap (λ z. shown m.assoc z.entries) (sym c.index_mut.ensures.value) in
-    let new = row-set m.assoc m.sets.items c.args.set c.serve_map.new.map inside in
-    rw (old, new) (rw cap at c.in-Ok.ensures.served)
+    let new = row-set m.assoc m.sets.items c.args.set c.serve_map.new.map (inside c₁) in
+    rw (old, new) (rw (cap c₁) at c.in-Ok.ensures.served)
 
 pub returns-clause-charged : goal.returns-clause-charged
 returns-clause-charged c =
     let m = c.args.self.now in let o = c.index_mut.result.now in
-    let inside : c.args.set < length m.sets.items =
-    subst (λ k. c.args.set < k) m.sets.ok.0 c.requires in
-    let cap : o.cap ≡ m.assoc = ap (λ z. z.cap) c.index_mut.ensures.value
-    ∙ cap-at m.assoc m.sets.items c.args.set _ o m.caps inside in
+    let c₁ = (goal.at.returns-clause-charged c).After-index_mut in
     let old = shown m.assoc o.entries in
     let p = c.args.policy in
     let served = c.in-Ok.ensures.served in
-    let step = charged-by old _ _ _ _ (rw cap at served.row) (rw cap at served.back)
+    let step = charged-by old _ _ _ _ (rw (cap c₁) at served.row) (rw (cap c₁) at served.back)
     (charged-row old (is_fifo p) p.wback p.walloc c.args.write c.args.block_addr
     (find (holds_block c.args.block_addr) old)) in
-    let sum = count-set m.assoc m.sets.items c.args.set c.serve_map.new.map o inside in
+    let sum = count-set m.assoc m.sets.items c.args.set c.serve_map.new.map o (inside c₁) in
     let same : dirty_count (shown m.assoc (get_or m.sets.items c.args.set o).entries)
     ≡ dirty_count old = ap (λ z. dirty_count (shown m.assoc z.entries))
     (sym c.index_mut.ensures.value) in

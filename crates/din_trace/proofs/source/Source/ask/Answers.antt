@@ -1,11 +1,35 @@
-use Rattle.std.proofs.Common.{◌≡◌, true, false, [], ◌++◌, length-append, ap, ◌∙◌, arith, subst}
+use Rattle.std.proofs.Common.{◌≡◌, ℕ, true, false, List, [], ◌++◌, length-append, ap, ◌∙◌, arith}
+use Rattle.std.proofs.Common.{subst}
+use Rattle.std.specs.Io.KnownBytes.{Consumes}
+use Rattle.std.proofs.KnownBytes.{Consumes-trans}
 use Rattle.din_trace.specs.Device.{once_more}
-use Rattle.std.proofs.lemmas.List.{nil_from_length}
+use Rattle.std.proofs.lemmas.List.{nil_from_length, append-nil}
 use Rattle.din_trace.specs.Remaining.{Open, Ended, Failed}
 use Rattle.din_trace.specs.Source as words
-use Rattle.din_trace.proofs.Scripts.{consumes-append, consumes-none, consumes-kept, left-regrouped}
-use Rattle.din_trace.proofs.Scripts.{left-closed}
+use Rattle.din_trace.proofs.Scripts.{keeps-consumes, left-regrouped, left-closed}
 use Rattle.din_trace.proofs.source.Source.ask.Goals as goal
+use Rattle.din_trace.proofs.source.Source.ask.Goals.{After-refill}
+use Rattle.din_trace.proofs.source.Source.ask.Given.{Over}
+
+-- the reader gave the bytes so far, and then those of this call
+all_given : (g : Over) (c : After-refill g) (more : List ℕ)
+    → Consumes (g.R.ByteReader.remaining c.asks.self.reader)
+    (g.R.ByteReader.remaining c.refill.new.reader) more
+    → Consumes (g.R.ByteReader.remaining c.args.self.now.reader)
+    (g.R.ByteReader.remaining c.refill.new.reader) (c.asks.invariant.given ++ more)
+all_given g c more =
+    Consumes-trans (g.R.ByteReader.remaining c.args.self.now.reader)
+    (g.R.ByteReader.remaining c.asks.self.reader)
+    (g.R.ByteReader.remaining c.refill.new.reader) c.asks.invariant.given more
+    c.asks.invariant.consumed
+
+-- the bytes so far, if this call gave none
+no_more : (g : Over) (c : After-refill g)
+    → Consumes (g.R.ByteReader.remaining c.asks.self.reader)
+    (g.R.ByteReader.remaining c.refill.new.reader) []
+    → Consumes (g.R.ByteReader.remaining c.args.self.now.reader)
+    (g.R.ByteReader.remaining c.refill.new.reader) c.asks.invariant.given
+no_more g c none = rw append-nil at (all_given g c [] none)
 
 pub asks-preserved : goal.asks-preserved
 unfolding words.reader_of words.limit_of words.taken_by words.room_of words.HasLeft words.MustAsk words.Settles
@@ -19,11 +43,8 @@ asks-preserved g c =
       failures_same = ap g.R.ByteReader.failures c.at_hand.ensures.reader ∙ c.in-Ok.ensures.ok
           ∙ now.failures_same;
       given = now.given ++ more.0;
-      consumed =
-          rw c.at_hand.ensures.reader
-          (consumes-append (g.R.ByteReader.remaining c.args.self.now.reader)
-          (g.R.ByteReader.remaining c.asks.self.reader)
-          (g.R.ByteReader.remaining c.refill.new.reader) now.given more.0 now.consumed more.2);
+      consumed = rw c.at_hand.ensures.reader
+          (all_given g (goal.at.asks-preserved g c).After-refill more.0 more.2);
       count = simp length-append
           (omega (arith, c.at_hand.ensures.taken, c.in-Ok.ensures.taken, more.1, now.count));
       left_same =
@@ -43,9 +64,7 @@ returns-in-Some-clause-reads g c =
       record {
         reader = (
           rw c.at_hand.ensures.reader
-              (consumes-append (g.R.ByteReader.remaining c.args.self.now.reader)
-              (g.R.ByteReader.remaining c.asks.self.reader)
-              (g.R.ByteReader.remaining c.refill.new.reader) now.given more.0 now.consumed more.2),
+              (all_given g (goal.at.returns-in-Some-clause-reads g c).After-refill more.0 more.2),
           ap g.R.ByteReader.failures c.at_hand.ensures.reader ∙ c.in-Ok.ensures.ok
               ∙ now.failures_same,
         );
@@ -67,18 +86,17 @@ returns-in-Err-clause-reads g c =
       Failed,
       record {
         reader = (
-          consumes-kept (g.R.ByteReader.remaining c.args.self.now.reader)
-              (g.R.ByteReader.remaining c.asks.self.reader)
-              (g.R.ByteReader.remaining c.refill.new.reader) now.given now.consumed
-              c.in-Err.ensures.err.1,
+          no_more g (goal.at.returns-in-Err-clause-reads g c).After-refill
+              (keeps-consumes (g.R.ByteReader.remaining c.asks.self.reader)
+              (g.R.ByteReader.remaining c.refill.new.reader) c.in-Err.ensures.err.1),
           c.in-Err.ensures.err.0 ∙ ap once_more now.failures_same,
         );
-        settles = c.fail.ensures.closed;
+        settles = c.fail.ensures.ends.closed;
         taken = omega (arith, c.in-Err.ensures.taken_none, now.count);
       },
       λ before later l is left.
           let then =
-          c.fail.ensures.answer l
+          c.fail.ensures.ends.first l
           (c.in-Err.ensures.same (record { given = []; fails = true }) l
           (now.left_same (record { given = []; fails = true }) l
           (left-closed c.args.self.now.backlog true l now.given before is left))) in
@@ -95,21 +113,19 @@ returns-then-count-eq0-clause-reads g c =
       Ended,
       record {
         reader = (
-          consumes-none (g.R.ByteReader.remaining c.args.self.now.reader)
-              (g.R.ByteReader.remaining c.asks.self.reader)
-              (g.R.ByteReader.remaining c.refill.new.reader) now.given now.consumed
+          no_more g (goal.at.returns-then-count-eq0-clause-reads g c).After-refill
               (rw none at more.2),
           c.in-Ok.ensures.end c.if-count-eq0.true,
           c.in-Ok.ensures.ok ∙ now.failures_same,
         );
-        settles = c.end.ensures.closed;
+        settles = c.end.ensures.ends.closed;
         taken = omega (arith, c.in-Ok.ensures.taken, now.count);
       },
       λ before later l is left.
           let held = now.left_same (record { given = []; fails = false }) l
           (left-closed c.args.self.now.backlog false l now.given before is left) in
           let then =
-          c.end.ensures.answer l
+          c.end.ensures.ends.first l
           (more.3 (record { given = []; fails = false }) l (rw none held)) in
           (then.0, then.1 later),
     )

@@ -22,28 +22,20 @@ module _ (log ws other : List ℕ) (same : other ≡ ws) (dead : AreDead (revers
   inside = first-inside log other dead-other m q start
       (λ below. zero_there (omega (arith, long))) ones
 
-  within : q + 1 ≤ length (reverse log)
-  within = omega (arith, inside, length-reverse log)
+  -- the first zero from m on is a use, and behind it there is one block less
+  one_less : (q + 1 ≤ length (reverse log)) × (distinct (since (q + 1) (reverse log))
+      ≡ take (length (distinct (since m (reverse log))) - 1) (distinct (since m (reverse log))))
+  one_less = (
+    omega (arith, inside, length-reverse log),
+    behind log other dead-other m q le inside (zero_there (omega (arith, inside, long))) ones,
+  )
 
-  one_less : distinct (since (q + 1) (reverse log))
-      ≡ take (length (distinct (since m (reverse log))) - 1) (distinct (since m (reverse log)))
-  one_less = behind log other dead-other m q le inside
-      (zero_there (omega (arith, inside, long))) ones
-
-pub returns-clause-one_less : goal.returns-clause-one_less
+pub returns : goal.returns
 unfolding uses_of
-returns-clause-one_less c = let self = c.args.self.now in
+returns c = let self = c.args.self.now in
     let long : c.len.result ≡ length self.log.items = omega (arith, self.log.ok.0, c.len.ensures) in
-    one_less self.log.items self.dead.items c.deref.result.now c.deref.ensures.value
+    let less = one_less self.log.items self.dead.items c.deref.result.now c.deref.ensures.value
     self.marked_dead
     c.args.place c.first_zero.result c.len.result c.requires long c.first_zero.ensures.after
-    c.first_zero.ensures.zero c.first_zero.ensures.ones
-
-pub returns-clause-within : goal.returns-clause-within
-unfolding uses_of
-returns-clause-within c = let self = c.args.self.now in
-    let long : c.len.result ≡ length self.log.items = omega (arith, self.log.ok.0, c.len.ensures) in
-    within self.log.items self.dead.items c.deref.result.now c.deref.ensures.value
-    self.marked_dead
-    c.args.place c.first_zero.result c.len.result c.requires long c.first_zero.ensures.after
-    c.first_zero.ensures.zero c.first_zero.ensures.ones
+    c.first_zero.ensures.zero c.first_zero.ensures.ones in
+    record { within = less.0; one_less = less.1 }
