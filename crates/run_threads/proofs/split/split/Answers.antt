@@ -7,10 +7,11 @@ use Rattle.din_trace.proofs.Calls.{Calls, calls, no_calls}
 use Rattle.stage_core.specs.Events.{events, events_at, picked, picked_events, is_reference}
 use Rattle.stage_core.specs.Waiting.{HasPosted}
 use Rattle.stage_core.specs.declared.selection.Selection.{Selection}
+use Rattle.stage_core.proofs.Sides.{each_side}
 use Rattle.stage_core.proofs.Place.{flat_map_with_past-more}
 use Rattle.run_threads.specs.Faults.{MayAnswer}
 use Rattle.run_threads.specs.Waits.{splitter_at}
-use Rattle.run_threads.proofs.Splitting.{same-ends, ends-stay, each_side, posted-same, left-record}
+use Rattle.run_threads.proofs.Splitting.{same-ends, ends-stay, posted-same, left-record}
 use Rattle.run_threads.proofs.Splitting.{left-end, left-fault, rest-answer, rest-cut, answers-fault}
 use Rattle.run_threads.proofs.split.split.Goals as goal
 use Rattle.run_threads.proofs.split.split.Goals.{After-next_record}
