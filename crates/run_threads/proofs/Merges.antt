@@ -4,7 +4,7 @@ use Rattle.pipe_rings.specs.Rings.{received, SameRx}
 use Rattle.pipe_rings.proofs.Ends.{rx_stays}
 use Rattle.cache_core.specs.Standing.{rules_of}
 use Rattle.stage_core.specs.Merging.{MergeState, AtOrder}
-use Rattle.stage_core.specs.Merging.{wanted, after_turn, after_message, what_in}
+use Rattle.stage_core.specs.Merging.{wanted, want_of, after_turn, after_message, what_in}
 use Rattle.stage_core.specs.Standing.{L2StandsFor, l2_cache}
 use Rattle.stage_core.specs.Waiting.{HasMerged}
 use Rattle.stage_core.specs.declared.message.Side.{Side}
@@ -17,8 +17,8 @@ use Rattle.stage_core.specs.declared.l2_stage.L2Stage.{L2Stage}
 use Rattle.run_threads.specs.declared.ends.MergeEnds.{MergeEnds}
 use Rattle.run_threads.specs.Ends.{UnusedMerge, SameMergeEnds}
 use Rattle.run_threads.specs.Threads.{MergeServed}
-use Rattle.run_threads.specs.Waits.{OnlyFrom, end_from, merge_at, want_of}
-use Rattle.stage_core.proofs.OnePop.{merged-turn, merged-i, merged-d}
+use Rattle.run_threads.specs.Waits.{OnlyFrom, end_from, merge_at}
+use Rattle.stage_core.proofs.OnePop.{merged-turn, merged-from}
 
 pub merges-nothing : (u : L2Stage) (ends : MergeEnds) (at : MergeState) → at ≡ AtOrder
     → L2StandsFor u [] → UnusedMerge ends → MergeServed at u ends u ends
@@ -73,10 +73,10 @@ module _ (began : L2Stage) (start : MergeEnds) (at : MergeState) (u : L2Stage)
     used-from : (s : Side) → wanted at ≡ want_of s → OnlyFrom s was now
         → received (end_from now s) ≡ received (end_from was s) ++ m ∷ []
         → next ≡ after_message at m → HasMerged (merge_at next (going.requests ++ what_in m) now)
-    used-from side.I wants only got to = rw (only.0, got, only.2, to) (merged-i
+    used-from side.I wants only got to = rw (only.0, got, only.2, to) (merged-from side.I
         (received was.order) (received was.from_i) (received was.from_d) going.requests at m
         going.used wants)
-    used-from side.D wants only got to = rw (only.0, only.2, got, to) (merged-d
+    used-from side.D wants only got to = rw (only.0, only.2, got, to) (merged-from side.D
         (received was.order) (received was.from_i) (received was.from_d) going.requests at m
         going.used wants)
 

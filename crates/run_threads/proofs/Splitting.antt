@@ -25,6 +25,7 @@ use Rattle.stage_core.specs.declared.message.Turn.{Turn}
 use Rattle.stage_core.specs.declared.message.ToStage.{ToStage}
 use Rattle.stage_core.specs.declared.message.Routed.{Routed}
 use Rattle.stage_core.specs.declared.selection.Selection.{Selection}
+use Rattle.stage_core.proofs.Sides.{each_side}
 use Rattle.stage_core.proofs.Place.{flat_map_with_past-more}
 use Rattle.run_threads.specs.declared.ends.SplitterEnds.{SplitterEnds}
 use Rattle.din_trace.specs.declared.fault.TraceFault.TheVariants.{Bad, TooLong, Read, Memory}
@@ -47,11 +48,6 @@ ends-stay a b c s t = record {
   to_i = tx_stays a.to_i b.to_i c.to_i s.to_i t.to_i;
   to_d = tx_stays a.to_d b.to_d c.to_d s.to_d t.to_d;
 }
-
--- what holds for both sides holds for each
-pub each_side : (P : Side → Type 0) → P side.I → P side.D → (s : Side) → P s
-each_side P i d side.I = i
-each_side P i d side.D = d
 
 -- ends that have sent the same messages have posted those of the same events
 pub posted-same : (es : List DinRecord) (closed : Bool) (was now : SplitterEnds)

@@ -14,8 +14,6 @@ use Rattle.stage_core.specs.Waiting.{HasPosted, HasMerged, SplitterMayWait, Spli
 use Rattle.stage_core.specs.Waiting as waiting
 use Rattle.stage_core.specs.declared.message.Side.{Side}
 use Rattle.stage_core.specs.declared.message.Side.TheVariants as side
-use Rattle.stage_core.specs.declared.message.Want.{Want}
-use Rattle.stage_core.specs.declared.message.Want.TheVariants as want
 use Rattle.stage_core.specs.declared.message.What.{What}
 use Rattle.stage_core.specs.declared.message.ToStage.{ToStage}
 use Rattle.stage_core.specs.declared.message.FromStage.{FromStage}
@@ -98,11 +96,6 @@ StageHasEnded = OfStage waiting.StageEnded
 abbrev pub end_from : MergeEnds → Side → Rx FromStage
 end_from ends side.I = ends.from_i
 end_from ends side.D = ends.from_d
-
--- the ring from a side, as the merge wants it
-abbrev pub want_of : Side → Want
-want_of side.I = want.I
-want_of side.D = want.D
 
 -- of the merge's ends, at most the one from this side has received a message
 abbrev pub OnlyFrom : Side → MergeEnds → MergeEnds → Type 0

@@ -3,7 +3,7 @@
 ghost use Rattle.std.specs.Prelude.{◌≡◌, ◌≤◌, ◌⊎◌, [], ◌∷◌, ◌++◌, List, IfOk, OnOk, IfErr};
 ghost use Rattle.pipe_rings.specs.Rings.{received, SameRx};
 ghost use Rattle.cache_core.specs.Standing.{rules_of, served_of};
-ghost use Rattle.stage_core.specs.Merging.{AtEnd, wanted, after_message, what_in};
+ghost use Rattle.stage_core.specs.Merging.{AtEnd, wanted, want_of, after_message, what_in};
 ghost use Rattle.stage_core.specs.Standing.{L2StandsFor, l2_cache};
 ghost use Rattle.stage_core.specs.declared.message.Want.TheVariants as want;
 ghost use Rattle.stage_core.specs.declared.message.What.{What};
@@ -11,7 +11,7 @@ ghost use Rattle.stage_core.specs.declared.message.FromStage.{FromStage};
 ghost use Rattle.run_threads.specs.declared.fault.Stop.{Stop};
 ghost use Rattle.run_threads.specs.Ends.{UnusedMerge};
 ghost use Rattle.run_threads.specs.Threads.{MergeServed};
-ghost use Rattle.run_threads.specs.Waits.{MergeUsed, OnlyFrom, end_from, want_of};
+ghost use Rattle.run_threads.specs.Waits.{MergeUsed, OnlyFrom, end_from};
 
 use crate::ends::MergeEnds;
 use crate::fault::{NoThread, Stop};

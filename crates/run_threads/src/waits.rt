@@ -7,14 +7,13 @@
 ghost use Rattle.std.specs.Prelude.{◌≡◌, ◌<◌, [], ◌∷◌, ◌++◌, length, OnOk, IfOk, IfErr};
 ghost use Rattle.pipe_rings.specs.Rings.{sent, posted, received, SameTx, SameRx};
 ghost use Rattle.pipe_rings.specs.Rings.{LookedForRoom, LookedForItem, IsAnnounced};
-ghost use Rattle.stage_core.specs.Merging.{wanted};
+ghost use Rattle.stage_core.specs.Merging.{wanted, want_of};
 ghost use Rattle.stage_core.specs.Waiting.{MayAwaitRoom, MayAwaitMessage};
 ghost use Rattle.stage_core.specs.declared.message.Want.TheVariants as want;
 ghost use Rattle.run_threads.specs.declared.fault.Stop.{Stop};
 ghost use Rattle.run_threads.specs.Ends.{SameSplitterEnds, SentSame};
 ghost use Rattle.run_threads.specs.Waits.{SplitterMay, LookedEverywhere, OfStage, MergeUsed, held};
 ghost use Rattle.run_threads.specs.Waits.{AllAnnounced, AnswersPublished, OnlyFrom, end_from};
-ghost use Rattle.run_threads.specs.Waits.{want_of};
 
 use crate::ends::{MergeEnds, SplitterEnds, StageEnds};
 use crate::fault::Stop;

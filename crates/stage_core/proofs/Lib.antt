@@ -1,3 +1,4 @@
+pub mod Sides
 pub mod Place
 pub mod Stands
 pub mod Merged

@@ -2,13 +2,13 @@
 -- requests.
 use Rattle.std.proofs.Common.{◌≡◌, ℕ, ◌+◌, List, [], ◌∷◌, ◌++◌, map, length, refl, ap, ◌∙◌}
 use Rattle.std.proofs.Common.{append_assoc, append-nil}
-use Rattle.cache_core.specs.History.{flush}
+use Rattle.cache_core.specs.History.{Event, flush}
 use Rattle.cache_core.specs.declared.access.Class.TheVariants as class
 use Rattle.din_trace.specs.declared.record.DinRecord.{DinRecord}
 use Rattle.din_trace.specs.declared.record.Label.{Label}
 use Rattle.din_trace.specs.declared.record.Label.TheVariants as label
 use Rattle.stage_core.specs.Places.{flat_map_after}
-use Rattle.stage_core.specs.Events.{access_of, history}
+use Rattle.stage_core.specs.Events.{access_of, asked, history}
 use Rattle.stage_core.specs.SecondLevel.{Parts, sent_up}
 use Rattle.stage_core.specs.Streams.{turn_of, answer, numbered, answered}
 use Rattle.stage_core.specs.Merging.{Merged, merged, all_used, up_to_end, with_what, MergeState}
@@ -69,6 +69,14 @@ module _ (parts : Parts) where
       ∙ ap (with_requests ws) rest
       ∙ with_requests-all_used ws us AtEnd ∙ ap (λ zs. all_used zs AtEnd) same
 
+  -- one event, with a request to D alone
+  one_d : (e : DinRecord) (x : Event) (before es : List DinRecord) → turn_of e.label ≡ turn.D
+      → asked side.I e ≡ [] → asked side.D e ≡ x ∷ [] → Law (before ++ e ∷ []) es
+      → Law before (e ∷ es)
+  one_d e x before es t i d rest =
+      rw (t, i, d) (one_side (length before + 1) (parts side.D (history side.D before) x)
+      _ _ _ _ _ (simp append-nil) rest)
+
   -- one event
   one : (l : Label) (a : ℕ) (before es : List DinRecord)
       → Law (before ++ record { label = l; addr = a } ∷ []) es
@@ -76,15 +84,9 @@ module _ (parts : Parts) where
   one label.Instr a before es rest =
       one_side (length before + 1) (parts side.I (history side.I before) (access_of class.Instr a))
       _ _ _ _ _ (simp append-nil) rest
-  one label.Read a before es rest =
-      one_side (length before + 1) (parts side.D (history side.D before) (access_of class.Read a))
-      _ _ _ _ _ (simp append-nil) rest
-  one label.Write a before es rest =
-      one_side (length before + 1) (parts side.D (history side.D before) (access_of class.Write a))
-      _ _ _ _ _ (simp append-nil) rest
-  one label.Misc a before es rest =
-      one_side (length before + 1) (parts side.D (history side.D before) (access_of class.Misc a))
-      _ _ _ _ _ (simp append-nil) rest
+  one label.Read a before es rest = one_d _ (access_of class.Read a) before es refl refl refl rest
+  one label.Write a before es rest = one_d _ (access_of class.Write a) before es refl refl refl rest
+  one label.Misc a before es rest = one_d _ (access_of class.Misc a) before es refl refl refl rest
   one label.Flush a before es rest =
       one_side (length before + 1) (parts side.I (history side.I before) flush)
       (parts side.D (history side.D before) flush

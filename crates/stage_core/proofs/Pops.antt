@@ -1,10 +1,13 @@
 -- The merge's rule as a list of pops, each from the ring that the merge wants then.
 use Rattle.std.proofs.Common.{◌≡◌, ℕ, zero, suc, ◌+◌, ◌<◌, List, [], ◌∷◌, ◌++◌, length, refl, sym}
 use Rattle.std.proofs.Common.{ap, ◌∙◌, append_assoc, arith, subst}
+use Rattle.std.specs.List.{flat_map}
+use Rattle.stage_core.specs.Network.Sides.{of_side}
 use Rattle.stage_core.specs.Network.Pushes.{for_side}
 use Rattle.stage_core.specs.Merging.{Merged, merged, all_used, up_to_end, stops, MergeState}
 use Rattle.stage_core.specs.Merging.{AtOrder, AtI, AtD, AtBoth, LastI, LastD, AtEnd, wanted}
-use Rattle.stage_core.specs.Merging.{after_turn, after_message, what_in}
+use Rattle.stage_core.specs.Merging.{after_turn, after_end, after_message, what_in, with_what}
+use Rattle.stage_core.specs.Merging.{want_of}
 use Rattle.stage_core.specs.declared.message.Side.{Side}
 use Rattle.stage_core.specs.declared.message.Side.TheVariants as side
 use Rattle.stage_core.specs.declared.message.What.{What}
@@ -55,87 +58,75 @@ at_order turn.D o i d = refl
 at_order turn.Both o i d = refl
 at_order turn.Finish o i d = refl
 
-at_i : (m : FromStage) (o : List Turn) (i d : List FromStage)
-    → continue AtI o (m ∷ i) d ≡ with_requests (what_in m) (continue (after_message AtI m) o i d)
-at_i (from_stage.Part p n w) o i d = refl
-at_i (from_stage.Done p n) o i d = refl
-at_i from_stage.Finish o i d = refl
-
-at_both : (m : FromStage) (o : List Turn) (i d : List FromStage)
-    → continue AtBoth o (m ∷ i) d
-    ≡ with_requests (what_in m) (continue (after_message AtBoth m) o i d)
-at_both (from_stage.Part p n w) o i d = refl
-at_both (from_stage.Done p n) o i d = refl
-at_both from_stage.Finish o i d = refl
-
-last_i : (m : FromStage) (o : List Turn) (i d : List FromStage)
-    → continue LastI o (m ∷ i) d
-    ≡ with_requests (what_in m) (continue (after_message LastI m) o i d)
-last_i (from_stage.Part p n w) o i d = refl
-last_i (from_stage.Done p n) o i d = refl
-last_i from_stage.Finish o i d = refl
-
-at_d : (m : FromStage) (o : List Turn) (i d : List FromStage)
-    → continue AtD o i (m ∷ d) ≡ with_requests (what_in m) (continue (after_message AtD m) o i d)
-at_d (from_stage.Part p n w) o i d = refl
-at_d (from_stage.Done p n) o i d = refl
-at_d from_stage.Finish o i d = refl
-
-last_d : (m : FromStage) (o : List Turn) (i d : List FromStage)
-    → continue LastD o i (m ∷ d)
-    ≡ with_requests (what_in m) (continue (after_message LastD m) o i d)
-last_d (from_stage.Part p n w) o i d = refl
-last_d (from_stage.Done p n) o i d = refl
-last_d from_stage.Finish o i d = refl
+-- The rule takes the next message of a side: with a Part it stays where it is, and an end leads on.
+-- `from` is the rule, continued from a state, on what comes behind that message.
+next_message : (m : FromStage) (ms : List FromStage) (stopped : Merged)
+    (next : List FromStage → Merged) (at : MergeState) (from : MergeState → Merged)
+    → from at ≡ up_to_end ms stopped next → from (after_end at) ≡ next ms
+    → up_to_end (m ∷ ms) stopped next ≡ with_requests (what_in m) (from (after_message at m))
+next_message (from_stage.Part p n w) ms stopped next at from stays ends =
+    ap (with_what w) (sym stays)
+next_message (from_stage.Done p n) ms stopped next at from stays ends = sym ends
+next_message from_stage.Finish ms stopped next at from stays ends = sym ends
 
 goes_at : (at : MergeState) → Goes (wanted at) at
 goes_at AtOrder = (at_order, λ i d. refl)
-goes_at AtI = (at_i, λ o d. refl)
-goes_at AtD = (at_d, λ o i. refl)
-goes_at AtBoth = (at_both, λ o d. refl)
-goes_at LastI = (last_i, λ o d. refl)
-goes_at LastD = (last_d, λ o i. refl)
+goes_at AtI =
+    (λ m o i d. next_message m i _ _ AtI (λ at. continue at o i d) refl refl, λ o d. refl)
+goes_at AtD =
+    (λ m o i d. next_message m d _ _ AtD (λ at. continue at o i d) refl refl, λ o i. refl)
+goes_at AtBoth =
+    (λ m o i d. next_message m i _ _ AtBoth (λ at. continue at o i d) refl refl, λ o d. refl)
+goes_at LastI =
+    (λ m o i d. next_message m i _ _ LastI (λ at. continue at o i d) refl refl, λ o d. refl)
+goes_at LastD =
+    (λ m o i d. next_message m d _ _ LastD (λ at. continue at o i d) refl refl, λ o i. refl)
 goes_at AtEnd = λ o i d. refl
 
 goes : (at : MergeState) (w : Want) → wanted at ≡ w → Goes w at
 goes at w h = subst (λ (v : Want). Goes v at) h (goes_at at)
 
+rest_by : (w : Want) (at : MergeState) → Goes w at → continue at [] [] [] ≡ all_used [] at
+rest_by want.Order at g = g.1 [] []
+rest_by want.I at g = g.1 [] []
+rest_by want.D at g = g.1 [] []
+rest_by want.Nothing at g = g [] [] []
+
+-- on three empty lists the rule stops at once
 at_rest : (at : MergeState) → continue at [] [] [] ≡ all_used [] at
-at_rest AtOrder = refl
-at_rest AtI = refl
-at_rest AtD = refl
-at_rest AtBoth = refl
-at_rest LastI = refl
-at_rest LastD = refl
-at_rest AtEnd = refl
+at_rest at = rest_by (wanted at) at (goes_at at)
 
 -- a pop of the merge
 pub data Pop : Type 0 where
   Turned : Turn → Pop
   From : Side → FromStage → Pop
 
--- the ring of a side
-abbrev pub want_of : Side → Want
-want_of side.I = want.I
-want_of side.D = want.D
+-- the turn of a pop, if it is one
+abbrev pub turn_in : Pop → List Turn
+turn_in (Turned t) = t ∷ []
+turn_in (From s m) = []
 
 -- the turns that were popped
 abbrev pub turns_of : List Pop → List Turn
-turns_of [] = []
-turns_of (Turned t ∷ ps) = t ∷ turns_of ps
-turns_of (From s m ∷ ps) = turns_of ps
+turns_of = flat_map turn_in
+
+-- the message of a pop, if it is one from this side
+abbrev pub message_from : Side → Pop → List FromStage
+message_from s (Turned t) = []
+message_from s (From r m) = for_side s r m
 
 -- the messages that were popped from a side
 abbrev pub from_of : Side → List Pop → List FromStage
-from_of s [] = []
-from_of s (Turned t ∷ ps) = from_of s ps
-from_of s (From r m ∷ ps) = for_side s r m ++ from_of s ps
+from_of s = flat_map (message_from s)
+
+-- the request that a pop brought, if any
+abbrev pub request_in : Pop → List What
+request_in (Turned t) = []
+request_in (From s m) = what_in m
 
 -- what the popped messages brought
 abbrev pub requests_of : List Pop → List What
-requests_of [] = []
-requests_of (Turned t ∷ ps) = requests_of ps
-requests_of (From s m ∷ ps) = what_in m ++ requests_of ps
+requests_of = flat_map request_in
 
 -- where the merge stands after these pops
 abbrev pub state_after : MergeState → List Pop → MergeState
@@ -154,8 +145,7 @@ pub record Log (at : MergeState) (o : List Turn) (i d : List FromStage) (m : Mer
   pub pops : List Pop
   pub lawful : Lawful at pops
   pub turns : turns_of pops ++ m.turns ≡ o
-  pub from_i : from_of side.I pops ++ m.from_i ≡ i
-  pub from_d : from_of side.D pops ++ m.from_d ≡ d
+  pub from : (s : Side) → from_of s pops ++ of_side s m.from_i m.from_d ≡ of_side s i d
   pub taken : requests_of pops ≡ m.taken
   pub at_end : state_after at pops ≡ m.at
 
@@ -164,8 +154,7 @@ no_pop at o i d = record {
   pops = [];
   lawful = tt;
   turns = refl;
-  from_i = refl;
-  from_d = refl;
+  from = λ s. refl;
   taken = refl;
   at_end = refl;
 }
@@ -177,39 +166,31 @@ a_turn at t o i d m h l =
       pops = Turned t ∷ l.pops;
       lawful = (h, l.lawful);
       turns = ap (λ x. t ∷ x) l.turns;
-      from_i = l.from_i;
-      from_d = l.from_d;
+      from = l.from;
       taken = l.taken;
       at_end = l.at_end;
     }
 
-an_i : (at : MergeState) (x : FromStage) (o : List Turn) (i d : List FromStage) (m : Merged)
-    → wanted at ≡ want.I → Log (after_message at x) o i d m
-    → Log at o (x ∷ i) d (with_requests (what_in x) m)
-an_i at x o i d m h l =
-    record {
-      pops = From side.I x ∷ l.pops;
-      lawful = (h, l.lawful);
-      turns = l.turns;
-      from_i = ap (λ y. x ∷ y) l.from_i;
-      from_d = l.from_d;
-      taken =
-          ap (λ y. what_in x ++ y) l.taken;
-      at_end = l.at_end;
-    }
+-- the messages of each side, with one more of the side s in front
+more_from : (s r : Side) (x : FromStage) (i d : List FromStage)
+    → for_side r s x ++ of_side r i d
+    ≡ of_side r (of_side s (x ∷ i) i) (of_side s d (x ∷ d))
+more_from side.I side.I x i d = refl
+more_from side.I side.D x i d = refl
+more_from side.D side.I x i d = refl
+more_from side.D side.D x i d = refl
 
-a_d : (at : MergeState) (x : FromStage) (o : List Turn) (i d : List FromStage) (m : Merged)
-    → wanted at ≡ want.D → Log (after_message at x) o i d m
-    → Log at o i (x ∷ d) (with_requests (what_in x) m)
-a_d at x o i d m h l =
+a_message : (s : Side) (at : MergeState) (x : FromStage) (o : List Turn) (i d : List FromStage)
+    (m : Merged) → wanted at ≡ want_of s → Log (after_message at x) o i d m
+    → Log at o (of_side s (x ∷ i) i) (of_side s d (x ∷ d)) (with_requests (what_in x) m)
+a_message s at x o i d m h l =
     record {
-      pops = From side.D x ∷ l.pops;
+      pops = From s x ∷ l.pops;
       lawful = (h, l.lawful);
       turns = l.turns;
-      from_i = l.from_i;
-      from_d = ap (λ y. x ∷ y) l.from_d;
-      taken =
-          ap (λ y. what_in x ++ y) l.taken;
+      from = λ r. append_assoc (for_side r s x) (from_of r l.pops) (of_side r m.from_i m.from_d)
+          ∙ ap (λ y. for_side r s x ++ y) (l.from r) ∙ more_from s r x i d;
+      taken = ap (λ y. what_in x ++ y) l.taken;
       at_end = l.at_end;
     }
 
@@ -226,11 +207,11 @@ by_want k at want.Order (t ∷ o) i d h lt rest =
     (a_turn at t o i d _ h (rest (after_turn t) o i d (omega arith)))
 by_want k at want.I o [] d h lt rest = rw ((goes at want.I h).1 o d) (no_pop at o [] d)
 by_want k at want.I o (x ∷ i) d h lt rest =
-    rw ((goes at want.I h).0 x o i d) (an_i at x o i d _ h
+    rw ((goes at want.I h).0 x o i d) (a_message side.I at x o i d _ h
     (rest (after_message at x) o i d (omega arith)))
 by_want k at want.D o i [] h lt rest = rw ((goes at want.D h).1 o i) (no_pop at o i [])
 by_want k at want.D o i (x ∷ d) h lt rest =
-    rw ((goes at want.D h).0 x o i d) (a_d at x o i d _ h
+    rw ((goes at want.D h).0 x o i d) (a_message side.D at x o i d _ h
     (rest (after_message at x) o i d (omega arith)))
 by_want k at want.Nothing o i d h lt rest = rw (goes at want.Nothing h o i d) (no_pop at o i d)
 
@@ -261,28 +242,6 @@ pub Lawful-more : (ps : List Pop) (at : MergeState) (p : Pop) → Lawful at ps
 Lawful-more [] at p h l = l
 Lawful-more (Turned t ∷ ps) at p h l = (h.0, Lawful-more ps (after_turn t) p h.1 l)
 Lawful-more (From s m ∷ ps) at p h l = (h.0, Lawful-more ps (after_message at m) p h.1 l)
-
--- the turns of two lists of pops are those of the first, and then those of the second
-pub turns_of-append : (ps qs : List Pop) → turns_of (ps ++ qs) ≡ turns_of ps ++ turns_of qs
-turns_of-append [] qs = refl
-turns_of-append (Turned t ∷ ps) qs = ap (λ x. t ∷ x) (turns_of-append ps qs)
-turns_of-append (From s m ∷ ps) qs = turns_of-append ps qs
-
--- so are a side's messages
-pub from_of-append : (s : Side) (ps qs : List Pop)
-    → from_of s (ps ++ qs) ≡ from_of s ps ++ from_of s qs
-from_of-append s [] qs = refl
-from_of-append s (Turned t ∷ ps) qs = from_of-append s ps qs
-from_of-append s (From r m ∷ ps) qs = ap (λ x. for_side s r m ++ x) (from_of-append s ps qs)
-    ∙ sym (append_assoc (for_side s r m) _ _)
-
--- so is what they brought
-pub requests_of-append : (ps qs : List Pop)
-    → requests_of (ps ++ qs) ≡ requests_of ps ++ requests_of qs
-requests_of-append [] qs = refl
-requests_of-append (Turned t ∷ ps) qs = requests_of-append ps qs
-requests_of-append (From s m ∷ ps) qs = ap (λ x. what_in m ++ x) (requests_of-append ps qs)
-    ∙ sym (append_assoc (what_in m) _ _)
 
 -- where the merge stands after two lists of pops is where the second leads from the first
 pub state_after-append : (ps qs : List Pop) (at : MergeState)

@@ -5,7 +5,7 @@ use Rattle.std.proofs.lemmas.List.{nil_from_length}
 use Rattle.din_trace.specs.declared.record.DinRecord.{DinRecord}
 use Rattle.stage_core.specs.SecondLevel.{Parts}
 use Rattle.stage_core.specs.Network.Pushes.{turns_in}
-use Rattle.stage_core.specs.Merging.{wanted}
+use Rattle.stage_core.specs.Merging.{wanted, want_of}
 use Rattle.stage_core.specs.Network.{Lane, lane, finish_taken, Consistent, IsFinished}
 use Rattle.stage_core.specs.Waiting.{Sender, HasPosted, HasAnswered, HasMerged, HasPublished}
 use Rattle.stage_core.specs.Waiting.{splitter_holds, Threads, RingsCarry, NoRoom, NothingFor}
@@ -18,7 +18,6 @@ use Rattle.stage_core.specs.declared.message.Want.{Want}
 use Rattle.stage_core.specs.declared.message.Want.TheVariants as want
 use Rattle.stage_core.specs.declared.message.Turn.{Turn}
 use Rattle.stage_core.specs.declared.message.Turn.TheVariants as turn
-use Rattle.stage_core.proofs.Pops.{want_of}
 use Rattle.stage_core.proofs.network.Ends.{visits, known}
 use Rattle.stage_core.proofs.network.Positions.{pending}
 use Rattle.stage_core.proofs.network.Blocked.{SplitterBlocked}

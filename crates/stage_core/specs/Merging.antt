@@ -1,5 +1,7 @@
 -- The merge's rule: in which order the second level takes the requests of the two sides.
 use Rattle.std.specs.Prelude.{List, [], ◌∷◌}
+use Rattle.stage_core.specs.declared.message.Side.{Side}
+use Rattle.stage_core.specs.declared.message.Side.TheVariants as side
 use Rattle.stage_core.specs.declared.message.What.{What}
 use Rattle.stage_core.specs.declared.message.Turn.{Turn}
 use Rattle.stage_core.specs.declared.message.Turn.TheVariants as turn
@@ -22,6 +24,11 @@ wanted AtBoth = want.I
 wanted LastI = want.I
 wanted LastD = want.D
 wanted AtEnd = want.Nothing
+
+-- the ring from a side, as the merge wants it
+abbrev pub want_of : Side → Want
+want_of side.I = want.I
+want_of side.D = want.D
 
 -- the state after a turn
 abbrev pub after_turn : Turn → MergeState

@@ -1,5 +1,6 @@
 -- The network: five rings and four machines, of which one makes one push or one pop at a time.
 pub mod Rings
+pub mod Sides
 pub mod Pushes
 pub mod Laws
 pub mod Lanes

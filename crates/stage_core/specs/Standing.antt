@@ -1,9 +1,10 @@
 -- How the fields of the machines relate to what the machines have received.
-use Rattle.std.specs.Prelude.{◌≡◌, ℕ, Bool, true, false, List, [], length, count_by}
+use Rattle.std.specs.Prelude.{◌≡◌, ℕ, ◌+◌, Bool, true, false, List, [], length, count_by}
+use Rattle.std.specs.Prelude.{Result, OnOk, OnErr, IsErr}
 use Rattle.std.specs.List.{list_any}
 use Rattle.din_trace.specs.declared.record.DinRecord.{DinRecord}
 use Rattle.cache_core.specs.declared.cache.Cache.{Cache}
-use Rattle.cache_core.specs.Standing.{StandsFor, served_of, counts_kept, has_failed}
+use Rattle.cache_core.specs.Standing.{StandsFor, rules_of, served_of, counts_kept, has_failed}
 use Rattle.stage_core.specs.Events.{is_reference}
 use Rattle.stage_core.specs.SecondLevel.{second_history}
 use Rattle.stage_core.specs.Streams.{taken_in, is_finish}
@@ -76,6 +77,14 @@ pub record HasFailedSince (old new : Cache) : Type 0 where
   pub failed : has_failed new ≡ true
   pub counts : counts_kept new ≡ counts_kept old
   pub served : served_of new ≡ served_of old
+
+-- a call has served one event more, or an allocation failed and so has the cache
+pub record ServesOne {E : Type 0} (result : Result (Unit {0}) E) (old new : Cache) : Type 0 where
+  pub served : OnOk result (served_of new ≡ served_of old + 1)
+  pub works : OnOk result (has_failed new ≡ false)
+  pub refused : OnErr result (HasFailedSince old new)
+  pub failed : has_failed old ≡ true → IsErr result
+  pub rules : rules_of new ≡ rules_of old
 
 -- the cache of the second level
 unfoldable pub l2_cache : L2Stage → Cache

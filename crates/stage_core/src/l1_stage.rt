@@ -110,8 +110,8 @@ impl L1Stage {
     ghost use Rattle.stage_core.specs.SecondLevel.{parts_of};
     ghost use Rattle.stage_core.specs.Streams.{answer, reply, asked_in, taken_in, is_finish};
     ghost use Rattle.stage_core.specs.Standing.{StageStandsFor, IsReady, StageIsFinished};
-    ghost use Rattle.stage_core.specs.Standing.{HasFailedSince, cache_of, side_of, outbox_of};
-    ghost use Rattle.stage_core.specs.Standing.{took_finish};
+    ghost use Rattle.stage_core.specs.Standing.{ServesOne, HasFailedSince, cache_of, side_of};
+    ghost use Rattle.stage_core.specs.Standing.{outbox_of, took_finish};
     ghost use Rattle.stage_core.specs.declared.message.ToStage.{ToStage};
     ghost use Rattle.stage_core.specs.declared.message.FromStage.TheVariants as from_stage;
 
@@ -201,15 +201,10 @@ impl L1Stage {
             (accessed access))) }
         ensures stands { OnOk result ((h : History) → StandsFor (cache_of self.old) h →
             StandsFor (cache_of self.new) (accessed access ∷ h)) }
-        ensures served { OnOk result (served_of (cache_of self.new)
-            ≡ served_of (cache_of self.old) + 1) }
-        ensures works { OnOk result (has_failed (cache_of self.new) ≡ false) }
-        ensures refused { OnErr result (HasFailedSince (cache_of self.old) (cache_of self.new)
-            × (outbox_of self.new ≡ outbox_of self.old)) }
-        ensures failed { has_failed (cache_of self.old) ≡ true → IsErr result }
+        ensures serves { ServesOne result (cache_of self.old) (cache_of self.new) }
+        ensures unsent { OnErr result (outbox_of self.new ≡ outbox_of self.old) }
         ensures side { side_of self.new ≡ side_of self.old }
         ensures finish { took_finish self.new ≡ took_finish self.old }
-        ensures rules { rules_of (cache_of self.new) ≡ rules_of (cache_of self.old) }
     {
         let outcome = self.cache.access(access)?;
         let first = self.geometry.first_byte(self.geometry.block(access.addr));
@@ -226,15 +221,10 @@ impl L1Stage {
             ≡ answer place (parts_of (rules_of (cache_of self.old)) (side_of self.old) h flushed)) }
         ensures stands { OnOk result ((h : History) → StandsFor (cache_of self.old) h →
             StandsFor (cache_of self.new) (flushed ∷ h)) }
-        ensures served { OnOk result (served_of (cache_of self.new)
-            ≡ served_of (cache_of self.old) + 1) }
-        ensures works { OnOk result (has_failed (cache_of self.new) ≡ false) }
-        ensures refused { OnErr result (HasFailedSince (cache_of self.old) (cache_of self.new)
-            × (outbox_of self.new ≡ outbox_of self.old)) }
-        ensures failed { has_failed (cache_of self.old) ≡ true → IsErr result }
+        ensures serves { ServesOne result (cache_of self.old) (cache_of self.new) }
+        ensures unsent { OnErr result (outbox_of self.new ≡ outbox_of self.old) }
         ensures side { side_of self.new ≡ side_of self.old }
         ensures finish { took_finish self.new ≡ took_finish self.old }
-        ensures rules { rules_of (cache_of self.new) ≡ rules_of (cache_of self.old) }
     {
         let mut backs = Vec::new(self.alloc);
         self.cache.flush(&mut backs)?;

@@ -7,7 +7,7 @@ ghost use Rattle.cache_core.specs.Counts.{KindsAddUp, counts_of};
 ghost use Rattle.cache_core.specs.Standing.{StandsFor, rules_of, rules_from, served_of};
 ghost use Rattle.cache_core.specs.Standing.{counts_kept, has_failed};
 ghost use Rattle.stage_core.specs.SecondLevel.{second_history};
-ghost use Rattle.stage_core.specs.Standing.{L2StandsFor, HasFailedSince, l2_cache};
+ghost use Rattle.stage_core.specs.Standing.{L2StandsFor, ServesOne, HasFailedSince, l2_cache};
 ghost use Rattle.stage_core.specs.declared.message.What.{What};
 
 use crate::memory::NoMemory;
@@ -66,13 +66,7 @@ impl L2Stage {
         requires { served_of (l2_cache self.old) < MAX_EVENTS }
         ensures stands { OnOk result ((h : History) → StandsFor (l2_cache self.old) h →
             StandsFor (l2_cache self.new) (accessed access ∷ h)) }
-        ensures served { OnOk result (served_of (l2_cache self.new)
-            ≡ served_of (l2_cache self.old) + 1) }
-        ensures works { OnOk result (has_failed (l2_cache self.new) ≡ false) }
-        ensures refused { OnErr result (HasFailedSince (l2_cache self.old)
-            (l2_cache self.new)) }
-        ensures failed { has_failed (l2_cache self.old) ≡ true → IsErr result }
-        ensures rules { rules_of (l2_cache self.new) ≡ rules_of (l2_cache self.old) }
+        ensures serves { ServesOne result (l2_cache self.old) (l2_cache self.new) }
     {
         self.cache.access(access)?;
         Ok(())
@@ -83,13 +77,7 @@ impl L2Stage {
         requires { served_of (l2_cache self.old) < MAX_EVENTS }
         ensures stands { OnOk result ((h : History) → StandsFor (l2_cache self.old) h →
             StandsFor (l2_cache self.new) (flushed ∷ h)) }
-        ensures served { OnOk result (served_of (l2_cache self.new)
-            ≡ served_of (l2_cache self.old) + 1) }
-        ensures works { OnOk result (has_failed (l2_cache self.new) ≡ false) }
-        ensures refused { OnErr result (HasFailedSince (l2_cache self.old)
-            (l2_cache self.new)) }
-        ensures failed { has_failed (l2_cache self.old) ≡ true → IsErr result }
-        ensures rules { rules_of (l2_cache self.new) ≡ rules_of (l2_cache self.old) }
+        ensures serves { ServesOne result (l2_cache self.old) (l2_cache self.new) }
     {
         let mut to_memory = Vec::new(self.alloc);
         self.cache.flush(&mut to_memory)?;

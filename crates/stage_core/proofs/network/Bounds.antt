@@ -19,23 +19,13 @@ use Rattle.stage_core.specs.declared.message.ToStage.TheVariants as to_stage
 use Rattle.stage_core.specs.declared.message.FromStage.{FromStage}
 use Rattle.stage_core.specs.declared.message.FromStage.TheVariants as from_stage
 use Rattle.stage_core.proofs.network.Sums.{total}
-use Rattle.stage_core.proofs.network.Ends.{visit, visits, ends}
+use Rattle.stage_core.proofs.network.Ends.{visits, few-visits, ends}
 use Rattle.stage_core.proofs.network.StreamCounts.{ends-replies, visits-order}
 use Rattle.stage_core.proofs.network.StateCounts.{whole-to}
 use Rattle.stage_core.proofs.Merged.{merged-streams}
 use Rattle.stage_core.proofs.Messages.{replies-to_side}
 use Rattle.stage_core.proofs.network.Given.{part_in, merged-count, given-few}
 use Rattle.stage_core.proofs.Worked.{length-second_history}
-
-few-visits : (s : Side) (t : Turn) → visit s t ≤ 1
-few-visits side.I turn.I = omega arith
-few-visits side.I turn.D = omega arith
-few-visits side.I turn.Both = omega arith
-few-visits side.I turn.Finish = omega arith
-few-visits side.D turn.I = omega arith
-few-visits side.D turn.D = omega arith
-few-visits side.D turn.Both = omega arith
-few-visits side.D turn.Finish = omega arith
 
 visits-few : (s : Side) (ts : List Turn) → visits s ts ≤ length ts
 visits-few s [] = omega arith

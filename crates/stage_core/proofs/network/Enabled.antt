@@ -12,6 +12,7 @@ use Rattle.din_trace.specs.declared.record.DinRecord.{DinRecord}
 use Rattle.stage_core.specs.declared.message.ToStage.{ToStage}
 use Rattle.stage_core.specs.declared.message.Side.{Side}
 use Rattle.stage_core.specs.declared.message.Side.TheVariants as side
+use Rattle.stage_core.proofs.Sides.{each_side}
 use Rattle.stage_core.proofs.network.NeverStuck.{never_stuck}
 
 abbrev number : Bool → ℕ
@@ -23,6 +24,22 @@ cond-length : {A : Type 0} (b : Bool) (x : A) (ys : List A)
 cond-length true x ys = omega arith
 cond-length false x ys = omega arith
 
+-- each machine that can step is one that is enabled
+enabled-count : (parts : Parts) (capacity : ℕ) (n : Network)
+    → length (enabled parts capacity n)
+    ≡ number (can parts capacity n Splitter) + number (can parts capacity n (Stage side.I))
+    + number (can parts capacity n (Stage side.D)) + number (can parts capacity n Merging)
+enabled-count parts capacity n =
+    let p : Machine → Bool = can parts capacity n in
+    omega (
+      arith,
+      cond-length (p Splitter) Splitter
+          (filter p (Stage side.I ∷ Stage side.D ∷ Merging ∷ [])),
+      cond-length (p (Stage side.I)) (Stage side.I) (filter p (Stage side.D ∷ Merging ∷ [])),
+      cond-length (p (Stage side.D)) (Stage side.D) (filter p (Merging ∷ [])),
+      cond-length (p Merging) Merging [],
+    )
+
 none-some : {A : Type 0} (o : Option A) → number (is_some o) ≡ 0 → o ≡ None
 none-some None h = refl
 none-some (Some x) h = absurd (omega arith)
@@ -31,20 +48,13 @@ none-some (Some x) h = absurd (omega arith)
 pub none_enabled : (parts : Parts) (capacity : ℕ) (n : Network)
     → length (enabled parts capacity n) ≡ 0 → (m : Machine) → next parts capacity m n ≡ None
 none_enabled parts capacity n h =
-    let p : Machine → Bool = can parts capacity n in
-    let a = cond-length (p Splitter) Splitter
-    (filter p (Stage side.I ∷ Stage side.D ∷ Merging ∷ [])) in
-    let b = cond-length (p (Stage side.I)) (Stage side.I)
-    (filter p (Stage side.D ∷ Merging ∷ [])) in
-    let c = cond-length (p (Stage side.D)) (Stage side.D) (filter p (Merging ∷ [])) in
-    let d = cond-length (p Merging) Merging [] in
+    let all = enabled-count parts capacity n in
     λ m. elim m as (λ m. next parts capacity m n ≡ None) [
-      | Splitter ↦ none-some (next parts capacity Splitter n) (omega (arith, a, b, c, d, h))
-      | Stage s ↦ elim s as (λ s. next parts capacity (Stage s) n ≡ None) [
-        | side.I ↦ none-some (next parts capacity (Stage side.I) n) (omega (arith, a, b, c, d, h))
-        | side.D ↦ none-some (next parts capacity (Stage side.D) n) (omega (arith, a, b, c, d, h))
-      ]
-      | Merging ↦ none-some (next parts capacity Merging n) (omega (arith, a, b, c, d, h))
+      | Splitter ↦ none-some (next parts capacity Splitter n) (omega (arith, all, h))
+      | Stage s ↦ each_side (λ s. next parts capacity (Stage s) n ≡ None)
+          (none-some (next parts capacity (Stage side.I) n) (omega (arith, all, h)))
+          (none-some (next parts capacity (Stage side.D) n) (omega (arith, all, h))) s
+      | Merging ↦ none-some (next parts capacity Merging n) (omega (arith, all, h))
     ]
 
 -- a consistent state in which no machine is enabled is finished
@@ -90,20 +100,11 @@ module _ (parts : Parts) (capacity : ℕ) (n : Network) (f : IsFinished n) where
   pub finished-none : length (enabled parts capacity n) ≡ 0
   finished-none =
       let p : Machine → Bool = can parts capacity n in
-      let a = cond-length (p Splitter) Splitter
-      (filter p (Stage side.I ∷ Stage side.D ∷ Merging ∷ [])) in
-      let b = cond-length (p (Stage side.I)) (Stage side.I)
-      (filter p (Stage side.D ∷ Merging ∷ [])) in
-      let c = cond-length (p (Stage side.D)) (Stage side.D) (filter p (Merging ∷ [])) in
-      let d = cond-length (p Merging) Merging [] in
       let none : (m : Machine) → next parts capacity m n ≡ None → number (p m) ≡ 0 =
       λ m e. ap (λ o. number (is_some o)) e in
       omega (
         arith,
-        a,
-        b,
-        c,
-        d,
+        enabled-count parts capacity n,
         none Splitter (ap (λ x. split capacity x n) f.splitter),
         none (Stage side.I) (stage-ended side.I),
         none (Stage side.D) (stage-ended side.D),

@@ -1,8 +1,10 @@
 -- How many ends of answers the merge has popped.
-use Rattle.std.proofs.Common.{◌≡◌, ℕ, ◌+◌, List, [], ◌∷◌, refl, sym, ap, ◌∙◌, append-nil, arith}
-use Rattle.std.proofs.Common.{subst}
+use Rattle.std.proofs.Common.{◌≡◌, ℕ, ◌+◌, ◌≤◌, List, [], ◌∷◌, refl, ap, subst, arith}
 use Rattle.stage_core.specs.Merging.{merged, all_used, MergeState, AtOrder, AtI, AtD, AtBoth, LastI}
-use Rattle.stage_core.specs.Merging.{LastD, AtEnd, wanted, after_turn, after_end}
+use Rattle.stage_core.specs.Merging.{LastD, AtEnd, wanted, want_of, after_turn, after_end}
+use Rattle.stage_core.specs.Merging.{after_message}
+use Rattle.stage_core.specs.Network.Pushes.{for_side}
+use Rattle.stage_core.specs.Network.Sides.{of_side}
 use Rattle.stage_core.specs.declared.message.Side.{Side}
 use Rattle.stage_core.specs.declared.message.Side.TheVariants as side
 use Rattle.stage_core.specs.declared.message.What.{What}
@@ -12,10 +14,9 @@ use Rattle.stage_core.specs.declared.message.Turn.{Turn}
 use Rattle.stage_core.specs.declared.message.Turn.TheVariants as turn
 use Rattle.stage_core.specs.declared.message.FromStage.{FromStage}
 use Rattle.stage_core.specs.declared.message.FromStage.TheVariants as from_stage
-use Rattle.stage_core.proofs.network.Sums.{total}
-use Rattle.stage_core.proofs.OnePop.{used_log}
-use Rattle.stage_core.proofs.Pops.{Pop, Turned, From, Log, want_of, turns_of, from_of, state_after}
-use Rattle.stage_core.proofs.Pops.{Lawful}
+use Rattle.stage_core.proofs.network.Sums.{total, total-append}
+use Rattle.stage_core.proofs.OnePop.{used_log, used_turns, used_from}
+use Rattle.stage_core.proofs.Pops.{Pop, Turned, From, Log, turns_of, from_of, state_after, Lawful}
 
 -- 1 if a turn concerns a side, else 0
 abbrev pub visit : Side → Turn → ℕ
@@ -27,6 +28,17 @@ visit side.D turn.I = 0
 visit side.D turn.D = 1
 visit side.D turn.Both = 1
 visit side.D turn.Finish = 1
+
+-- a turn visits a side at most once
+pub few-visits : (s : Side) (t : Turn) → visit s t ≤ 1
+few-visits side.I turn.I = omega arith
+few-visits side.I turn.D = omega arith
+few-visits side.I turn.Both = omega arith
+few-visits side.I turn.Finish = omega arith
+few-visits side.D turn.I = omega arith
+few-visits side.D turn.D = omega arith
+few-visits side.D turn.Both = omega arith
+few-visits side.D turn.Finish = omega arith
 
 -- how many of these turns visit a side
 abbrev pub visits : Side → List Turn → ℕ
@@ -80,6 +92,11 @@ finish turn.Finish = 1
 abbrev pub finishes : List Turn → ℕ
 finishes = total finish
 
+-- the other side
+abbrev other : Side → Side
+other side.I = side.D
+other side.D = side.I
+
 -- what the end of an answer of the side s changes, if r is the other side
 abbrev EndsTurn : Side → Side → MergeState → Type 0
 EndsTurn s r at = (owed s at ≡ 1) × (owed s (after_end at) ≡ 0)
@@ -105,10 +122,42 @@ known_at AtEnd = (refl, refl, refl)
 pub known : (at : MergeState) (w : Want) → wanted at ≡ w → Known w at
 known at w h = subst (λ (v : Want). Known v at) h (known_at at)
 
--- a side whose ring the merge wants owes it the end of this turn's messages
+-- a side whose ring the merge wants owes it the end of this turn's messages, and that end leaves
+-- what the other side owes
+ends-turn : (s : Side) (at : MergeState) → wanted at ≡ want_of s → EndsTurn s (other s) at
+ends-turn side.I at h = known at want.I h
+ends-turn side.D at h = (known at want.D h).0
+
+-- so that side owes it
 pub owed-wanted : (s : Side) (at : MergeState) → wanted at ≡ want_of s → owed s at ≡ 1
-owed-wanted side.I at h = (known at want.I h).0
-owed-wanted side.D at h = ((known at want.D h).0).0
+owed-wanted s at h = (ends-turn s at h).0
+
+-- before a turn neither side owes anything
+owed-order : (s : Side) (at : MergeState) → wanted at ≡ want.Order → owed s at ≡ 0
+owed-order side.I at h = (known at want.Order h).0
+owed-order side.D at h = (known at want.Order h).1
+
+-- what a message of the side s changes, if r is the other side: s owes an end less, if it is one
+abbrev Settles : Side → Side → MergeState → FromStage → Type 0
+Settles s r at m = (end m + owed s (after_message at m) ≡ owed s at)
+    × (owed r (after_message at m) ≡ owed r at) × (last (after_message at m) ≡ last at)
+
+settles_by : (s r : Side) (at : MergeState) → EndsTurn s r at → (m : FromStage) → Settles s r at m
+settles_by s r at e (from_stage.Part p n w) = (omega arith, refl, refl)
+settles_by s r at e (from_stage.Done p n) = (omega (arith, e), e.2, e.3)
+settles_by s r at e from_stage.Finish = (omega (arith, e), e.2, e.3)
+
+settles : (s : Side) (at : MergeState) (m : FromStage) → wanted at ≡ want_of s
+    → Settles s (other s) at m
+settles s at m h = settles_by s (other s) at (ends-turn s at h) m
+
+-- what the side s owes after a message of the side r
+owed-message : (s r : Side) (at : MergeState) (m : FromStage) → wanted at ≡ want_of r
+    → ends (for_side s r m) + owed s (after_message at m) ≡ owed s at
+owed-message side.I side.I at m h = omega (arith, settles side.I at m h)
+owed-message side.I side.D at m h = omega (arith, settles side.D at m h)
+owed-message side.D side.I at m h = omega (arith, settles side.I at m h)
+owed-message side.D side.D at m h = omega (arith, settles side.D at m h)
 
 owed-turn : (s : Side) (t : Turn) → owed s (after_turn t) ≡ visit s t
 owed-turn side.I turn.I = refl
@@ -127,45 +176,17 @@ last-turn turn.Both = refl
 last-turn turn.Finish = refl
 
 -- the ends that were popped and the one still to come are as many as the turns of that side
-pub ends-visits : (s : Side) (ps : List Pop) (at : MergeState) → Lawful at ps
+ends-visits : (s : Side) (ps : List Pop) (at : MergeState) → Lawful at ps
     → ends (from_of s ps) + owed s (state_after at ps) ≡ owed s at + visits s (turns_of ps)
 ends-visits s [] at h = omega arith
-ends-visits side.I (Turned t ∷ ps) at h = omega (
+ends-visits s (Turned t ∷ ps) at h =
+    omega (arith, ends-visits s ps (after_turn t) h.1, owed-order s at h.0, owed-turn s t)
+ends-visits s (From r m ∷ ps) at h = omega (
   arith,
-  ends-visits side.I ps (after_turn t) h.1,
-  known at want.Order h.0,
-  owed-turn side.I t,
+  ends-visits s ps (after_message at m) h.1,
+  owed-message s r at m h.0,
+  total-append end (for_side s r m) (from_of s ps),
 )
-ends-visits side.D (Turned t ∷ ps) at h = omega (
-  arith,
-  ends-visits side.D ps (after_turn t) h.1,
-  known at want.Order h.0,
-  owed-turn side.D t,
-)
-ends-visits side.I (From side.I (from_stage.Part p n w) ∷ ps) at h =
-    omega (arith, ends-visits side.I ps at h.1)
-ends-visits side.I (From side.I (from_stage.Done p n) ∷ ps) at h =
-    omega (arith, ends-visits side.I ps (after_end at) h.1, known at want.I h.0)
-ends-visits side.I (From side.I from_stage.Finish ∷ ps) at h =
-    omega (arith, ends-visits side.I ps (after_end at) h.1, known at want.I h.0)
-ends-visits side.I (From side.D (from_stage.Part p n w) ∷ ps) at h =
-    omega (arith, ends-visits side.I ps at h.1)
-ends-visits side.I (From side.D (from_stage.Done p n) ∷ ps) at h =
-    omega (arith, ends-visits side.I ps (after_end at) h.1, known at want.D h.0)
-ends-visits side.I (From side.D from_stage.Finish ∷ ps) at h =
-    omega (arith, ends-visits side.I ps (after_end at) h.1, known at want.D h.0)
-ends-visits side.D (From side.I (from_stage.Part p n w) ∷ ps) at h =
-    omega (arith, ends-visits side.D ps at h.1)
-ends-visits side.D (From side.I (from_stage.Done p n) ∷ ps) at h =
-    omega (arith, ends-visits side.D ps (after_end at) h.1, known at want.I h.0)
-ends-visits side.D (From side.I from_stage.Finish ∷ ps) at h =
-    omega (arith, ends-visits side.D ps (after_end at) h.1, known at want.I h.0)
-ends-visits side.D (From side.D (from_stage.Part p n w) ∷ ps) at h =
-    omega (arith, ends-visits side.D ps at h.1)
-ends-visits side.D (From side.D (from_stage.Done p n) ∷ ps) at h =
-    omega (arith, ends-visits side.D ps (after_end at) h.1, known at want.D h.0)
-ends-visits side.D (From side.D from_stage.Finish ∷ ps) at h =
-    omega (arith, ends-visits side.D ps (after_end at) h.1, known at want.D h.0)
 
 last-finishes : (ps : List Pop) (at : MergeState) → Lawful at ps
     → last (state_after at ps) ≡ last at + finishes (turns_of ps)
@@ -176,41 +197,28 @@ last-finishes (Turned t ∷ ps) at h = omega (
   known at want.Order h.0,
   last-turn t,
 )
-last-finishes (From s (from_stage.Part p n w) ∷ ps) at h = last-finishes ps at h.1
-last-finishes (From side.I (from_stage.Done p n) ∷ ps) at h =
-    omega (arith, last-finishes ps (after_end at) h.1, known at want.I h.0)
-last-finishes (From side.I from_stage.Finish ∷ ps) at h =
-    omega (arith, last-finishes ps (after_end at) h.1, known at want.I h.0)
-last-finishes (From side.D (from_stage.Done p n) ∷ ps) at h =
-    omega (arith, last-finishes ps (after_end at) h.1, known at want.D h.0)
-last-finishes (From side.D from_stage.Finish ∷ ps) at h =
-    omega (arith, last-finishes ps (after_end at) h.1, known at want.D h.0)
+last-finishes (From s m ∷ ps) at h =
+    omega (arith, last-finishes ps (after_message at m) h.1, settles s at m h.0)
 
--- the ends popped from I, with one that it owes, are as many as the turns that visit it
-pub merged-ends-i : (o : List Turn) (i d : List FromStage) (ws : List What) (at : MergeState)
-    → merged o i d ≡ all_used ws at → ends i + owed side.I at ≡ visits side.I o
-merged-ends-i o i d ws at e =
+-- the ends popped from a side, with one that it owes, are as many as the turns that visit it
+pub merged-ends : (s : Side) (o : List Turn) (i d : List FromStage) (ws : List What)
+    (at : MergeState) → merged o i d ≡ all_used ws at
+    → ends (of_side s i d) + owed s at ≡ visits s o
+merged-ends s o i d ws at e =
     let l : Log AtOrder o i d (all_used ws at) = used_log e in
-    let ei : from_of side.I l.pops ≡ i = sym (append-nil _) ∙ l.from_i in
-    let eo : turns_of l.pops ≡ o = sym (append-nil _) ∙ l.turns in
-    let count = ends-visits side.I l.pops AtOrder l.lawful in
-    omega (arith, count, ap ends ei, ap (visits side.I) eo, ap (owed side.I) l.at_end)
-
--- so are those of D
-pub merged-ends-d : (o : List Turn) (i d : List FromStage) (ws : List What) (at : MergeState)
-    → merged o i d ≡ all_used ws at → ends d + owed side.D at ≡ visits side.D o
-merged-ends-d o i d ws at e =
-    let l : Log AtOrder o i d (all_used ws at) = used_log e in
-    let ed : from_of side.D l.pops ≡ d = sym (append-nil _) ∙ l.from_d in
-    let eo : turns_of l.pops ≡ o = sym (append-nil _) ∙ l.turns in
-    let count = ends-visits side.D l.pops AtOrder l.lawful in
-    omega (arith, count, ap ends ed, ap (visits side.D) eo, ap (owed side.D) l.at_end)
+    omega (
+      arith,
+      ends-visits s l.pops AtOrder l.lawful,
+      owed-order s AtOrder refl,
+      ap ends (used_from s l),
+      ap (visits s) (used_turns l),
+      ap (owed s) l.at_end,
+    )
 
 -- the merge is in its last turn where it has popped Finish from the order ring
 pub merged-last : (o : List Turn) (i d : List FromStage) (ws : List What) (at : MergeState)
     → merged o i d ≡ all_used ws at → last at ≡ finishes o
 merged-last o i d ws at e =
     let l : Log AtOrder o i d (all_used ws at) = used_log e in
-    let eo : turns_of l.pops ≡ o = sym (append-nil _) ∙ l.turns in
     let count = last-finishes l.pops AtOrder l.lawful in
-    omega (arith, count, ap finishes eo, ap last l.at_end)
+    omega (arith, count, ap finishes (used_turns l), ap last l.at_end)

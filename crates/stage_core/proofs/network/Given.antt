@@ -1,12 +1,13 @@
 -- In every state, the second level was given at most as many requests as it gets in all.
-use Rattle.std.proofs.Common.{◌≡◌, ℕ, ◌+◌, ◌≤◌, List, [], ◌∷◌, length, refl, sym, ap, ◌∙◌}
-use Rattle.std.proofs.Common.{append-nil, arith, length-append}
+use Rattle.std.proofs.Common.{◌≡◌, ℕ, ◌+◌, ◌≤◌, List, [], ◌∷◌, length, refl, ap}
+use Rattle.std.proofs.Common.{arith, length-append}
 use Rattle.stage_core.specs.SecondLevel.{Parts, second_level_requests}
 use Rattle.stage_core.specs.Streams.{order, from_side}
 use Rattle.stage_core.specs.Merging.{MergeState, AtOrder, AtEnd, merged, all_used, what_in}
-use Rattle.stage_core.specs.Network.{Network, Consistent}
+use Rattle.stage_core.specs.Network.{Network, Consistent, lane}
 use Rattle.stage_core.specs.Network.Rings.{carried}
 use Rattle.din_trace.specs.declared.record.DinRecord.{DinRecord}
+use Rattle.stage_core.specs.declared.message.Side.{Side}
 use Rattle.stage_core.specs.declared.message.Side.TheVariants as side
 use Rattle.stage_core.specs.declared.message.What.{What}
 use Rattle.stage_core.specs.declared.message.Turn.{Turn}
@@ -14,7 +15,7 @@ use Rattle.stage_core.specs.declared.message.FromStage.{FromStage}
 use Rattle.stage_core.specs.declared.message.FromStage.TheVariants as from_stage
 use Rattle.stage_core.proofs.network.Sums.{total, total-append}
 use Rattle.stage_core.proofs.Pops.{Pop, Turned, From, Log, from_of, requests_of}
-use Rattle.stage_core.proofs.OnePop.{used_log}
+use Rattle.stage_core.proofs.OnePop.{used_log, used_from}
 use Rattle.stage_core.proofs.Merged.{merged-streams}
 use Rattle.stage_core.proofs.network.Schedules.{from-prefix}
 
@@ -51,13 +52,11 @@ pub merged-count : (o : List Turn) (i d : List FromStage) (ws : List What) (at :
     → merged o i d ≡ all_used ws at → length ws ≡ total part_in i + total part_in d
 merged-count o i d ws at e =
     let l : Log AtOrder o i d (all_used ws at) = used_log e in
-    let ei : from_of side.I l.pops ≡ i = sym (append-nil _) ∙ l.from_i in
-    let ed : from_of side.D l.pops ≡ d = sym (append-nil _) ∙ l.from_d in
     omega (
       arith,
       requests-count l.pops,
-      ap (total part_in) ei,
-      ap (total part_in) ed,
+      ap (total part_in) (used_from side.I l),
+      ap (total part_in) (used_from side.D l),
       ap length l.taken,
     )
 
@@ -68,16 +67,12 @@ given-few parts es n k =
     let now = merged-count n.order.popped n.i.from.popped n.d.from.popped n.given n.at k.merge in
     let all = merged-count (order es) (from_side parts side.I es) (from_side parts side.D es)
     (second_level_requests parts es) AtEnd (merged-streams parts es) in
-    let fi = from-prefix parts es n k side.I in
-    let fd = from-prefix parts es n k side.D in
-    omega (
+    let few : (s : Side)
+    → total part_in (lane s n).from.popped ≤ total part_in (from_side parts s es) =
+    λ s. omega (
       arith,
-      now,
-      all,
-      ap (total part_in) fi.1,
-      ap (total part_in) fd.1,
-      total-append part_in (carried n.i.from) fi.0,
-      total-append part_in n.i.from.popped n.i.from.waiting,
-      total-append part_in (carried n.d.from) fd.0,
-      total-append part_in n.d.from.popped n.d.from.waiting,
-    )
+      ap (total part_in) (from-prefix parts es n k s).1,
+      total-append part_in (carried (lane s n).from) (from-prefix parts es n k s).0,
+      total-append part_in (lane s n).from.popped (lane s n).from.waiting,
+    ) in
+    omega (arith, now, all, few side.I, few side.D)

@@ -6,7 +6,8 @@ use Rattle.std.specs.Option.{option_map}
 use Rattle.stage_core.specs.SecondLevel.{Parts}
 use Rattle.stage_core.specs.Network.Pushes.{Push, Order, To, pushes, turns_in, sent_to}
 use Rattle.stage_core.specs.Streams.{reply, replies}
-use Rattle.stage_core.specs.Merging.{wanted, merged, all_used, after_turn, after_message, what_in}
+use Rattle.stage_core.specs.Merging.{wanted, want_of, merged, all_used, after_turn, after_message}
+use Rattle.stage_core.specs.Merging.{what_in}
 use Rattle.stage_core.specs.Network.Rings.{with_message, Ring, carried, push, pop, pop_from}
 use Rattle.stage_core.specs.Network.{Lane, Network, lane, finish_taken, next, Machine, Splitter}
 use Rattle.stage_core.specs.Network.{Stage, Merging, split, stage, merge, with_lane, Consistent}
@@ -19,9 +20,9 @@ use Rattle.stage_core.specs.declared.message.Want.{Want}
 use Rattle.stage_core.specs.declared.message.Want.TheVariants as want
 use Rattle.stage_core.specs.declared.message.ToStage.{ToStage}
 use Rattle.stage_core.specs.declared.message.FromStage.{FromStage}
+use Rattle.stage_core.proofs.Sides.{each_side}
 use Rattle.stage_core.proofs.Place.{flat_map_with_past-more}
-use Rattle.stage_core.proofs.Pops.{want_of}
-use Rattle.stage_core.proofs.OnePop.{merged-turn, merged-i, merged-d}
+use Rattle.stage_core.proofs.OnePop.{merged-turn, merged-from}
 use Rattle.stage_core.proofs.network.StreamCounts.{turns_in-append, sent_to-append}
 
 -- what is mapped and there was there before
@@ -67,10 +68,6 @@ pop_from-some popped (x ∷ xs) p h =
 -- a pop that is possible does that
 pub pop-some : {A : Type 0} (r : Ring A) (p : A × Ring A) → pop r ≡ Some p → Popped r p.0 p.1
 pop-some r p h = pop_from-some r.popped r.waiting p h
-
-each_side : (P : Side → Type 0) → P side.I → P side.D → (s : Side) → P s
-each_side P i d side.I = i
-each_side P i d side.D = d
 
 -- what a step of a stage keeps in its lane
 pub record LaneKeeps (parts : Parts) (s : Side) (old new : Lane) : Type 0 where
@@ -230,13 +227,13 @@ module _ (parts : Parts) (es : List DinRecord) where
         keeps_by _ k.pushed k.front k.turns (k.to_side side.I) (k.to_side side.D)
         (ap (λ x. x ++ n.i.outbox) h.carried_same ∙ k.from_side side.I) (k.from_side side.D)
         (ap (λ x. merged n.order.popped x n.d.from.popped) h.popped
-        ∙ merged-i n.order.popped n.i.from.popped n.d.from.popped n.given n.at m k.merge w)
+        ∙ merged-from side.I n.order.popped _ _ n.given n.at m k.merge w)
     keeps-takes side.D w m r h =
         keeps_by _ k.pushed k.front k.turns (k.to_side side.I) (k.to_side side.D)
         (k.from_side side.I)
         (ap (λ x. x ++ n.d.outbox) h.carried_same ∙ k.from_side side.D)
         (ap (λ x. merged n.order.popped n.i.from.popped x) h.popped
-        ∙ merged-d n.order.popped n.i.from.popped n.d.from.popped n.given n.at m k.merge w)
+        ∙ merged-from side.D n.order.popped _ _ n.given n.at m k.merge w)
 
     keeps-merge : (w : Want) → wanted n.at ≡ w → (n' : Network) → merge w n ≡ Some n'
         → Consistent parts es n'

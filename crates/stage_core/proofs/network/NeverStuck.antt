@@ -5,7 +5,7 @@ use Rattle.std.proofs.lemmas.List.{nil_from_length}
 use Rattle.stage_core.specs.SecondLevel.{Parts}
 use Rattle.stage_core.specs.Network.Pushes.{turns_in, sent_to}
 use Rattle.stage_core.specs.Streams.{replies}
-use Rattle.stage_core.specs.Merging.{wanted}
+use Rattle.stage_core.specs.Merging.{wanted, want_of}
 use Rattle.stage_core.specs.Network.Rings.{carried}
 use Rattle.stage_core.specs.Network.{Network, lane, finish_taken, Consistent, IsFinished, next}
 use Rattle.stage_core.specs.Network.{Machine}
@@ -15,7 +15,6 @@ use Rattle.stage_core.specs.declared.message.Side.TheVariants as side
 use Rattle.stage_core.specs.declared.message.Want.{Want}
 use Rattle.stage_core.specs.declared.message.Want.TheVariants as want
 use Rattle.stage_core.proofs.network.Sums.{total, total-append, nothing_after}
-use Rattle.stage_core.proofs.Pops.{want_of}
 use Rattle.stage_core.proofs.network.Ends.{visit, visits, end, ends, finish, finishes, owed, known}
 use Rattle.stage_core.proofs.network.Ends.{owed-wanted}
 use Rattle.stage_core.proofs.network.Blocked.{StageBlocked, SplitterBlocked, AllBlocked}

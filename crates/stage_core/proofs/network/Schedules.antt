@@ -6,14 +6,16 @@ use Rattle.stage_core.specs.Places.{flat_map_after}
 use Rattle.stage_core.specs.SecondLevel.{Parts, second_level_requests}
 use Rattle.stage_core.specs.Network.Pushes.{Push, Order, To, turns_in, sent_to}
 use Rattle.stage_core.specs.Streams.{order, to_side, from_side, reply, replies}
-use Rattle.stage_core.specs.Merging.{Merged, wanted, merged}
+use Rattle.stage_core.specs.Merging.{MergeState, Merged, wanted, merged}
 use Rattle.stage_core.specs.Network.Rings.{with_message, Ring, carried, push, pop, ring_steps}
 use Rattle.stage_core.specs.Network.{Lane, Network, lane, finish_taken, next, Machine, Splitter}
-use Rattle.stage_core.specs.Network.{Stage, Merging, split, stage, merge, Consistent, start, run}
-use Rattle.stage_core.specs.Network.{lane_steps, steps_made, messages, IsFinished}
+use Rattle.stage_core.specs.Network.{Stage, Merging, split, stage, merge, take_from, with_lane}
+use Rattle.stage_core.specs.Network.{Consistent, start, run, lane_steps, steps_made, messages}
+use Rattle.stage_core.specs.Network.{IsFinished}
 use Rattle.din_trace.specs.declared.record.DinRecord.{DinRecord}
 use Rattle.stage_core.specs.declared.message.Side.{Side}
 use Rattle.stage_core.specs.declared.message.Side.TheVariants as side
+use Rattle.stage_core.specs.declared.message.What.{What}
 use Rattle.stage_core.specs.declared.message.Want.{Want}
 use Rattle.stage_core.specs.declared.message.Want.TheVariants as want
 use Rattle.stage_core.specs.declared.message.FromStage.{FromStage}
@@ -45,6 +47,14 @@ pop-made r x r' p = omega (
   length-append r.popped (x ∷ []),
 )
 
+-- the network has made one step more if one of its lanes has
+lane-made : (s : Side) (n : Network) (l : Lane) (still : List Push) (at : MergeState)
+    (given : List What) → lane_steps l ≡ suc (lane_steps (lane s n))
+    → steps_made (with_lane s l (record n { still = still; at = at; given = given }))
+    ≡ suc (steps_made n)
+lane-made side.I n l still at given one = omega (arith, one)
+lane-made side.D n l still at given one = omega (arith, one)
+
 split-made : (capacity : ℕ) (n : Network) (ps : List Push) (n' : Network)
     → split capacity ps n ≡ Some n' → steps_made n' ≡ suc (steps_made n)
 split-made capacity n [] n' h = absurd (cc)
@@ -52,14 +62,11 @@ split-made capacity n (Order t ∷ rest) n' h =
     let x = option_map-some _ (push capacity t n.order) n' h in
     let e = ap ring_steps (push-some capacity t n.order x.0 x.1) in
     omega (arith, ap steps_made x.2, e, push-made t n.order)
-split-made capacity n (To side.I m ∷ rest) n' h =
-    let x = option_map-some _ (push capacity m n.i.to) n' h in
-    let e = ap ring_steps (push-some capacity m n.i.to x.0 x.1) in
-    omega (arith, ap steps_made x.2, e, push-made m n.i.to)
-split-made capacity n (To side.D m ∷ rest) n' h =
-    let x = option_map-some _ (push capacity m n.d.to) n' h in
-    let e = ap ring_steps (push-some capacity m n.d.to x.0 x.1) in
-    omega (arith, ap steps_made x.2, e, push-made m n.d.to)
+split-made capacity n (To s m ∷ rest) n' h =
+    let x = option_map-some _ (push capacity m (lane s n).to) n' h in
+    let e = ap ring_steps (push-some capacity m (lane s n).to x.0 x.1) in
+    ap steps_made (sym x.2) ∙ lane-made s n _ rest n.at n.given
+    (omega (arith, e, push-made m (lane s n).to))
 
 stage-made : (parts : Parts) (capacity : ℕ) (s : Side) (outbox : List FromStage) (l l' : Lane)
     → stage parts capacity s outbox l ≡ Some l' → lane_steps l' ≡ suc (lane_steps l)
@@ -72,39 +79,31 @@ stage-made parts capacity s [] l l' h =
     let p = pop-some l.to x.0 (cond-none-some (finish_taken l) (pop l.to) x.0 x.1) in
     omega (arith, ap lane_steps x.2, pop-made l.to (x.0).0 (x.0).1 p)
 
+take-made : (n : Network) (s : Side) (n' : Network) → take_from s n ≡ Some n'
+    → steps_made n' ≡ suc (steps_made n)
+take-made n s n' h =
+    let x = option_map-some _ (pop (lane s n).from) n' h in
+    let p = pop-some (lane s n).from x.0 x.1 in
+    ap steps_made (sym x.2) ∙ lane-made s n _ n.still _ _
+    (omega (arith, pop-made (lane s n).from (x.0).0 (x.0).1 p))
+
 merge-made : (n : Network) (w : Want) (n' : Network) → merge w n ≡ Some n'
     → steps_made n' ≡ suc (steps_made n)
 merge-made n want.Order n' h =
     let x = option_map-some _ (pop n.order) n' h in
     omega (arith, ap steps_made x.2, pop-made n.order (x.0).0 (x.0).1 (pop-some n.order x.0 x.1))
-merge-made n want.I n' h =
-    let x = option_map-some _ (pop n.i.from) n' h in
-    omega (
-      arith,
-      ap steps_made x.2,
-      pop-made n.i.from (x.0).0 (x.0).1
-          (pop-some n.i.from x.0 x.1),
-    )
-merge-made n want.D n' h =
-    let x = option_map-some _ (pop n.d.from) n' h in
-    omega (
-      arith,
-      ap steps_made x.2,
-      pop-made n.d.from (x.0).0 (x.0).1
-          (pop-some n.d.from x.0 x.1),
-    )
+merge-made n want.I n' h = take-made n side.I n' h
+merge-made n want.D n' h = take-made n side.D n' h
 merge-made n want.Nothing n' h = absurd (cc)
 
 -- each step counts as one
 pub next-made : (parts : Parts) (capacity : ℕ) (m : Machine) (n n' : Network)
     → next parts capacity m n ≡ Some n' → steps_made n' ≡ suc (steps_made n)
 next-made parts capacity Splitter n n' h = split-made capacity n n.still n' h
-next-made parts capacity (Stage side.I) n n' h =
-    let x = option_map-some _ (stage parts capacity side.I n.i.outbox n.i) n' h in
-    omega (arith, ap steps_made x.2, stage-made parts capacity side.I n.i.outbox n.i x.0 x.1)
-next-made parts capacity (Stage side.D) n n' h =
-    let x = option_map-some _ (stage parts capacity side.D n.d.outbox n.d) n' h in
-    omega (arith, ap steps_made x.2, stage-made parts capacity side.D n.d.outbox n.d x.0 x.1)
+next-made parts capacity (Stage s) n n' h =
+    let x = option_map-some _ (stage parts capacity s (lane s n).outbox (lane s n)) n' h in
+    ap steps_made (sym x.2) ∙ lane-made s n x.0 n.still n.at n.given
+    (stage-made parts capacity s (lane s n).outbox (lane s n) x.0 x.1)
 next-made parts capacity Merging n n' h = merge-made n (wanted n.at) n' h
 
 -- what two steps give is what the second gives for what the first gave

@@ -3,18 +3,16 @@ use Rattle.std.proofs.Common.{◌≡◌, ℕ, suc, ◌+◌, ◌<◌, ◌≤◌, 
 use Rattle.std.proofs.Common.{length, get_or, drop, Some, None, IsSome, refl, sym, ap, ◌∙◌, subst}
 use Rattle.std.proofs.Common.{arith, length-drop, drop-cons, add-one}
 use Rattle.std.specs.Option.{option_map}
-use Rattle.stage_core.specs.Config.{hierarchy_of, ring_of}
+use Rattle.stage_core.specs.Config.{ring_of}
 use Rattle.stage_core.specs.Network.Rings.{Ring}
 use Rattle.stage_core.specs.Network.Pushes.{Push, Order, To, IsPushed}
-use Rattle.stage_core.specs.Network.{Network, Splitter, Consistent, split}
-use Rattle.stage_core.specs.Network.Cores.{Sound, CachesStand, core_of, network_of, next_in}
-use Rattle.stage_core.specs.Network.Cores.{parts_for}
+use Rattle.stage_core.specs.Network.{Network, Splitter, split}
+use Rattle.stage_core.specs.Network.Cores.{Sound, core_of, network_of, next_in}
 use Rattle.stage_core.specs.declared.message.Side.TheVariants as side
 use Rattle.stage_core.specs.declared.message.Turn.{Turn}
 use Rattle.stage_core.specs.declared.message.ToStage.{ToStage}
 use Rattle.stage_core.specs.declared.network.Core.TheInside.{Inside}
-use Rattle.stage_core.proofs.network.Kept.{keeps-order, keeps-to}
-use Rattle.stage_core.proofs.network.Steps.{Steps}
+use Rattle.stage_core.proofs.network.Steps.{Steps, reaches}
 
 -- if a push is possible, it gives the new state
 some-push : {A B : Type 0} (f : A → B) (b : Bool) (x : A)
@@ -28,14 +26,30 @@ some-pushes : (capacity : ℕ) (n : Network) (ps : List Push) → IsSome (split 
 some-pushes capacity n [] h = absurd (cc)
 some-pushes capacity n (p ∷ ps) h = omega arith
 
--- if the step is possible, it is made
-next-split : (c : Inside) {p : Push} {rest : List Push} {new : Network}
-    → drop c.pushed c.pushes.items ≡ p ∷ rest
-    → (IsSome (split (ring_of c.config) (p ∷ rest) (network_of c))
-    → split (ring_of c.config) (p ∷ rest) (network_of c) ≡ Some new)
-    → IsSome (next_in (core_of c) Splitter) → next_in (core_of c) Splitter ≡ Some new
-next-split c e made some = ap (λ ps. split (ring_of c.config) ps (network_of c)) e
-    ∙ made (subst (λ ps. IsSome (split (ring_of c.config) ps (network_of c))) e some)
+-- the network after the splitter pushed a message
+next-split : (capacity : ℕ) (p : Push) (rest : List Push) (n : Network) (o : Ring Turn)
+    (i d : Ring ToStage) → IsSome (split capacity (p ∷ rest) n)
+    → IsPushed p n.order n.i.to n.d.to o i d
+    → split capacity (p ∷ rest) n ≡ Some (record n {
+      still = rest;
+      order = o;
+      i = record (n.i) { to = i };
+      d = record (n.d) { to = d };
+    })
+next-split capacity (Order t) rest n o i d some h = rw (h.0, h.1, h.2) (some-push _ _ _ some)
+next-split capacity (To side.I m) rest n o i d some h = rw (h.0, h.1, h.2) (some-push _ _ _ some)
+next-split capacity (To side.D m) rest n o i d some h = rw (h.0, h.1, h.2) (some-push _ _ _ some)
+
+-- the messages that were popped from a ring to a stage
+abbrev popped_of : Ring ToStage → List ToStage
+popped_of r = r.popped
+
+-- a push pops nothing
+same-popped : (p : Push) (o o' : Ring Turn) (i d i' d' : Ring ToStage)
+    → IsPushed p o i d o' i' d' → (i'.popped ≡ i.popped) × (d'.popped ≡ d.popped)
+same-popped (Order t) o o' i d i' d' h = (ap popped_of h.1, ap popped_of h.2)
+same-popped (To side.I m) o o' i d i' d' h = (ap popped_of h.1, ap popped_of h.2)
+same-popped (To side.D m) o o' i d i' d' h = (ap popped_of h.1, ap popped_of h.2)
 
 -- the next push of the splitter is the one at its index
 next-push : (capacity : ℕ) (n : Network) (ps : List Push) (k : ℕ) (p : Push)
@@ -59,36 +73,22 @@ with_push c o i d f = record c {
   failed = f;
 }
 
-pushed-steps : (c : Inside) (o : Ring Turn) (i d : Ring ToStage) (f : Bool) → Sound c
-    → c.pushed + 1 ≤ length c.pushes.items
-    → CachesStand (hierarchy_of c.config) c.i.stage c.d.stage c.u i.popped d.popped
-    (network_of (with_push c o i d f)).given
-    → Consistent (parts_for c.config) c.events.items (network_of (with_push c o i d f))
-    → next_in (core_of c) Splitter ≡ Some (network_of (with_push c o i d f))
-    → Steps Splitter c (with_push c o i d f)
-pushed-steps c o i d f s lt caches consistent step = record {
-  sound = record { consistent = consistent; caches = caches; pushed = lt; runnable = s.runnable };
-  step = step;
-}
-
--- it made the next event of the splitter, and is sound
+-- it made the next step of the splitter, and is sound
 pub split-steps : (p : Push) (c : Inside) (o : Ring Turn) (i d : Ring ToStage) (f : Bool)
     → Sound c → IsSome (next_in (core_of c) Splitter) → p ≡ get_or c.pushes.items c.pushed p
     → IsPushed p c.order c.i.to c.d.to o i d → Steps Splitter c (with_push c o i d f)
-split-steps (Order t) c o i d f s some e h =
-    let at = next-push (ring_of c.config) (network_of c) c.pushes.items c.pushed (Order t) some e in
-    rw (h.0, h.1, h.2) (pushed-steps c _ _ _ f s at.1 s.caches
-    (keeps-order (parts_for c.config) c.events.items (network_of c) s.consistent t _ at.0)
-    (next-split c at.0 (some-push _ _ _) some))
-split-steps (To side.I m) c o i d f s some e h =
-    let at = next-push (ring_of c.config) (network_of c) c.pushes.items c.pushed (To side.I m)
-    some e in
-    rw (h.0, h.1, h.2) (pushed-steps c _ _ _ f s at.1 s.caches
-    (keeps-to (parts_for c.config) c.events.items (network_of c) s.consistent side.I m _ at.0)
-    (next-split c at.0 (some-push _ _ _) some))
-split-steps (To side.D m) c o i d f s some e h =
-    let at = next-push (ring_of c.config) (network_of c) c.pushes.items c.pushed (To side.D m)
-    some e in
-    rw (h.0, h.1, h.2) (pushed-steps c _ _ _ f s at.1 s.caches
-    (keeps-to (parts_for c.config) c.events.items (network_of c) s.consistent side.D m _ at.0)
-    (next-split c at.0 (some-push _ _ _) some))
+split-steps p c o i d f sound some e h =
+    let n : Network = network_of c in
+    let capacity = ring_of c.config in
+    let at = next-push capacity n c.pushes.items c.pushed p some e in
+    let rest = drop (c.pushed + 1) c.pushes.items in
+    let popped = same-popped p c.order o c.i.to c.d.to i d h in
+    reaches (record n {
+      still = rest;
+      order = o;
+      i = record (n.i) { to = i };
+      d = record (n.d) { to = d };
+    }) sound (record { config = refl; events = refl })
+    (ap (λ ps. split capacity ps n) at.0 ∙ next-split capacity p rest n o i d
+    (subst (λ ps. IsSome (split capacity ps n)) at.0 some) h)
+    refl (rw (popped.0, popped.1) sound.caches) at.1

@@ -1,30 +1,26 @@
 -- A core after a step of a stage.
-use Rattle.std.proofs.Common.{◌≡◌, ℕ, Bool, cond, List, [], ◌∷◌, ◌++◌, Option, Some, None, refl}
-use Rattle.std.proofs.Common.{sym, ap, ◌∙◌, subst}
+use Rattle.std.proofs.Common.{◌≡◌, ℕ, ◌^◌, ◌<◌, Bool, cond, List, [], ◌∷◌, Option, Some, None}
+use Rattle.std.proofs.Common.{IsSome, refl, sym, ap, ◌∙◌, subst}
 use Rattle.std.specs.Option.{option_map}
 use Rattle.cache_core.specs.History.{Rules}
-use Rattle.cache_core.specs.Standing.{rules_of}
-use Rattle.stage_core.specs.SecondLevel.{Parts, Hierarchy, parts_of, parts_in, rules_at}
-use Rattle.stage_core.specs.Streams.{reply, replies}
-use Rattle.stage_core.specs.Merging.{merged}
+use Rattle.cache_core.specs.Standing.{rules_of, served_of}
+use Rattle.stage_core.specs.SecondLevel.{Hierarchy, parts_of, parts_in, rules_at}
+use Rattle.stage_core.specs.Streams.{reply}
 use Rattle.stage_core.specs.Config.{hierarchy_of, ring_of}
-use Rattle.stage_core.specs.Standing.{StageStandsFor, L2StandsFor, cache_of, side_of, outbox_of}
-use Rattle.stage_core.specs.Network.Rings.{carried, Ring, pop}
-use Rattle.stage_core.specs.Network.{Lane, Network, Stage, Consistent, finish_taken, stage}
-use Rattle.stage_core.specs.Network.{with_lane}
-use Rattle.stage_core.specs.Network.Lanes.{lane_of, stage_next, TookIn}
-use Rattle.stage_core.specs.Network.Cores.{Sound, network_of, parts_for}
+use Rattle.stage_core.specs.Standing.{cache_of, outbox_of}
+use Rattle.stage_core.specs.Network.Rings.{Ring, pop}
+use Rattle.stage_core.specs.Network.Sides.{of_side, OneChanges}
+use Rattle.stage_core.specs.Network.{Lane, Network, Stage, finish_taken, stage, with_lane}
+use Rattle.stage_core.specs.Network.Lanes.{lane_of, stage_next, TookIn, MayStep, HasStepped}
+use Rattle.stage_core.specs.Network.Cores.{Sound, core_of, network_of, next_in}
 use Rattle.stage_core.specs.declared.message.Side.{Side}
 use Rattle.stage_core.specs.declared.message.Side.TheVariants as side
-use Rattle.stage_core.specs.declared.message.What.{What}
 use Rattle.stage_core.specs.declared.message.ToStage.{ToStage}
 use Rattle.stage_core.specs.declared.message.ToStage.TheVariants as to_stage
 use Rattle.stage_core.specs.declared.message.FromStage.{FromStage}
-use Rattle.stage_core.specs.declared.l1_stage.L1Stage.{L1Stage}
 use Rattle.stage_core.specs.declared.network.lane.Lane as code
 use Rattle.stage_core.specs.declared.network.Core.TheInside.{Inside}
-use Rattle.stage_core.proofs.network.Kept.{keeps-lane, stage-keeps, LaneKeeps}
-use Rattle.stage_core.proofs.network.Steps.{Steps}
+use Rattle.stage_core.proofs.network.Steps.{Steps, reaches, room-below}
 
 -- a stage's step is the same by the rules of its own cache and by those of its side
 by_rules : (h : Hierarchy) (r : Rules) (s : Side) → r ≡ rules_at h s
@@ -51,6 +47,11 @@ same-stage h r s e capacity [] l =
     ap (λ (o : List FromStage). record { to = x.1; outbox = o; from = l.from })
     (by_rules h r s e l.to.popped x.0)) (cond (finish_taken l) None (pop l.to))
 
+-- what a mapped value comes from is there
+some-mapped : {A B : Type 0} (f : A → B) (o : Option A) → IsSome (option_map f o) → IsSome o
+some-mapped f None h = absurd (cc)
+some-mapped f (Some x) h = refl
+
 stage-is : (h : Hierarchy) (s : Side) (ms : List ToStage) (capacity : ℕ) (l : code.Lane)
     → TookIn (rules_at h s) s l.stage ms
     → stage_next capacity l ≡ stage (parts_in h) capacity s (outbox_of l.stage) (lane_of l)
@@ -60,99 +61,74 @@ stage-is h s ms capacity l took =
     ∙ same-stage h (rules_of (cache_of l.stage)) s took.same_rules capacity (outbox_of l.stage)
     (lane_of l)
 
--- a lane after a step of its stage
-record LaneSteps (parts : Parts) (capacity : ℕ) (s : Side) (old new : code.Lane) : Type 0 where
-  pub made : stage parts capacity s (outbox_of old.stage) (lane_of old) ≡ Some (lane_of new)
-  pub kept : LaneKeeps parts s (lane_of old) (lane_of new)
+-- a lane after a step of its stage, whose cache has the rules of its side
+module _ (h : Hierarchy) (capacity : ℕ) (s : Side) (was now : code.Lane)
+    (took : TookIn (rules_at h s) s was.stage was.to.popped)
+    (steps : HasStepped capacity was now) where
+  lane-next : stage (parts_in h) capacity s (outbox_of was.stage) (lane_of was)
+      ≡ Some (lane_of now)
+  lane-next = sym (stage-is h s was.to.popped capacity was took) ∙ steps.step
 
-lane-steps : (h : Hierarchy) (capacity : ℕ) (s : Side) (ms : List ToStage) (old new : code.Lane)
-    → TookIn (rules_at h s) s old.stage ms
-    → carried old.from ++ outbox_of old.stage ≡ replies (parts_in h) s old.to.popped
-    → stage_next capacity old ≡ Some (lane_of new)
-    → LaneSteps (parts_in h) capacity s old new
-lane-steps h capacity s ms old new took sent e =
-    let made = sym (stage-is h s ms capacity old took) ∙ e in
-    record {
-      made = made;
-      kept = stage-keeps (parts_in h) capacity s (outbox_of old.stage) (lane_of old) (lane_of new)
-          refl sent made;
-    }
+  still-took : TookIn (rules_at h s) s now.stage now.to.popped
+  still-took = record {
+    same_rules = steps.rules ∙ took.same_rules;
+    same_side = steps.side ∙ took.same_side;
+    stands = steps.stands;
+  }
 
-still-took : {r : Rules} {s : Side} {old new : L1Stage} {ms ns : List ToStage}
-    → TookIn r s old ms → StageStandsFor new ns → side_of new ≡ side_of old
-    → rules_of (cache_of new) ≡ rules_of (cache_of old) → TookIn r s new ns
-still-took took stands sides rules = record {
-  same_rules = rules ∙ took.same_rules;
-  same_side = sides ∙ took.same_side;
-  stands = stands;
+-- what the network and the stages' caches have come to, after a step of one stage
+record Stepped (c : Inside) (s : Side) (i d : code.Lane) : Type 0 where
+  next : next_in (core_of c) (Stage s)
+      ≡ Some (record (network_of c) { i = lane_of i; d = lane_of d })
+  took_i : TookIn (hierarchy_of c.config).i side.I i.stage i.to.popped
+  took_d : TookIn (hierarchy_of c.config).d side.D d.stage d.to.popped
+
+stepped : (s : Side) (c : Inside) (i d : code.Lane) → Sound c
+    → OneChanges s (HasStepped (ring_of c.config)) c.i c.d i d → Stepped c s i d
+stepped side.I c i d sound h = rw h.1 (record {
+  next = ap (option_map (λ l. record (network_of c) { i = l }))
+      (lane-next (hierarchy_of c.config) (ring_of c.config) side.I c.i i sound.caches.i h.0);
+  took_i = still-took (hierarchy_of c.config) (ring_of c.config) side.I c.i i sound.caches.i h.0;
+  took_d = sound.caches.d;
+})
+stepped side.D c i d sound h = rw h.0 (record {
+  next = ap (option_map (λ l. record (network_of c) { d = l }))
+      (lane-next (hierarchy_of c.config) (ring_of c.config) side.D c.d d sound.caches.d h.1);
+  took_i = sound.caches.i;
+  took_d = still-took (hierarchy_of c.config) (ring_of c.config) side.D c.d d sound.caches.d h.1;
+})
+
+-- the core after a step of one stage
+abbrev pub with_lanes : Inside → code.Lane → code.Lane → Bool → Inside
+with_lanes c i d f = record c { i = i; d = d; failed = f }
+
+-- it made the next step of that stage, and is sound
+pub stage-steps : (s : Side) (c : Inside) (i d : code.Lane) (f : Bool) → Sound c
+    → OneChanges s (HasStepped (ring_of c.config)) c.i c.d i d
+    → Steps (Stage s) c (with_lanes c i d f)
+stage-steps s c i d f sound h =
+    let now = stepped s c i d sound h in
+    reaches (record (network_of c) { i = lane_of i; d = lane_of d }) sound
+    (record { config = refl; events = refl }) now.next refl
+    (record { i = now.took_i; d = now.took_d; u = sound.caches.u; u_rules = sound.caches.u_rules })
+    sound.pushed
+
+-- a lane of a sound core can make a step that the network can make
+lane-may : (h : Hierarchy) (capacity : ℕ) (s : Side) (l : code.Lane) (f : Lane → Network)
+    → TookIn (rules_at h s) s l.stage l.to.popped
+    → IsSome (option_map f (stage (parts_in h) capacity s (outbox_of l.stage) (lane_of l)))
+    → served_of (cache_of l.stage) < 2 ^ 44 → MayStep capacity l
+lane-may h capacity s l f took possible room = record {
+  stands = took.stands;
+  possible = subst IsSome (sym (stage-is h s l.to.popped capacity l took))
+      (some-mapped f _ possible);
+  room = room;
 }
 
--- the core after an event of the stage I
-abbrev pub with_i : Inside → code.Lane → Bool → Inside
-with_i c l f = record c { i = l; failed = f }
-
--- it made the next step of the stage I, and is sound
-pub step_i-steps : (c : Inside) (l : code.Lane) (f : Bool) → Sound c
-    → stage_next (ring_of c.config) c.i ≡ Some (lane_of l)
-    → StageStandsFor l.stage l.to.popped → side_of l.stage ≡ side_of c.i.stage
-    → rules_of (cache_of l.stage) ≡ rules_of (cache_of c.i.stage)
-    → Steps (Stage side.I) c (with_i c l f)
-step_i-steps c l f s e stands sides rules =
-    let parts : Parts = parts_for c.config in
-    let n : Network = network_of c in
-    let steps = lane-steps (hierarchy_of c.config) (ring_of c.config) side.I _ c.i l s.caches.i
-    (s.consistent.from_side side.I) e in
-    let given : n.given ≡ (network_of (with_i c l f)).given =
-    ap (λ x. (merged c.order.popped x c.d.from.popped).taken) (sym steps.kept.popped) in
-    let same : with_lane side.I (lane_of l) n ≡ network_of (with_i c l f) =
-    ap (λ (x : List What). record (with_lane side.I (lane_of l) n) { given = x }) given in
-    record {
-      sound = record {
-        consistent = subst (Consistent parts c.events.items) same
-            (keeps-lane parts c.events.items n s.consistent side.I (lane_of l) steps.kept);
-        caches = record {
-          i = still-took s.caches.i stands sides rules;
-          d = s.caches.d;
-          u = subst (L2StandsFor c.u) given s.caches.u;
-          u_rules = s.caches.u_rules;
-        };
-        pushed = s.pushed;
-        runnable = s.runnable;
-      };
-      step = ap (option_map (λ x. with_lane side.I x n)) steps.made ∙ ap Some same;
-    }
-
--- the core after an event of the stage D
-abbrev pub with_d : Inside → code.Lane → Bool → Inside
-with_d c l f = record c { d = l; failed = f }
-
--- it made the next step of the stage D, and is sound
-pub step_d-steps : (c : Inside) (l : code.Lane) (f : Bool) → Sound c
-    → stage_next (ring_of c.config) c.d ≡ Some (lane_of l)
-    → StageStandsFor l.stage l.to.popped → side_of l.stage ≡ side_of c.d.stage
-    → rules_of (cache_of l.stage) ≡ rules_of (cache_of c.d.stage)
-    → Steps (Stage side.D) c (with_d c l f)
-step_d-steps c l f s e stands sides rules =
-    let parts : Parts = parts_for c.config in
-    let n : Network = network_of c in
-    let steps = lane-steps (hierarchy_of c.config) (ring_of c.config) side.D _ c.d l s.caches.d
-    (s.consistent.from_side side.D) e in
-    let given : n.given ≡ (network_of (with_d c l f)).given =
-    ap (λ x. (merged c.order.popped c.i.from.popped x).taken) (sym steps.kept.popped) in
-    let same : with_lane side.D (lane_of l) n ≡ network_of (with_d c l f) =
-    ap (λ (x : List What). record (with_lane side.D (lane_of l) n) { given = x }) given in
-    record {
-      sound = record {
-        consistent = subst (Consistent parts c.events.items) same
-            (keeps-lane parts c.events.items n s.consistent side.D (lane_of l) steps.kept);
-        caches = record {
-          i = s.caches.i;
-          d = still-took s.caches.d stands sides rules;
-          u = subst (L2StandsFor c.u) given s.caches.u;
-          u_rules = s.caches.u_rules;
-        };
-        pushed = s.pushed;
-        runnable = s.runnable;
-      };
-      step = ap (option_map (λ x. with_lane side.D x n)) steps.made ∙ ap Some same;
-    }
+-- so can the stage of a side
+pub may-step : (s : Side) (c : Inside) → Sound c → IsSome (next_in (core_of c) (Stage s))
+    → MayStep (ring_of c.config) (of_side s c.i c.d)
+may-step side.I c sound possible = lane-may (hierarchy_of c.config) _ side.I c.i
+    (λ l. with_lane side.I l (network_of c)) sound.caches.i possible (room-below side.I sound)
+may-step side.D c sound possible = lane-may (hierarchy_of c.config) _ side.D c.d
+    (λ l. with_lane side.D l (network_of c)) sound.caches.d possible (room-below side.D sound)

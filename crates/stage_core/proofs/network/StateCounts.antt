@@ -14,7 +14,7 @@ use Rattle.stage_core.specs.declared.message.ToStage.{ToStage}
 use Rattle.stage_core.specs.declared.message.ToStage.TheVariants as to_stage
 use Rattle.stage_core.proofs.network.Sums.{total, total-append, nothing_after}
 use Rattle.stage_core.proofs.network.Ends.{visit, visits, end, ends, finish, finishes, owed, last}
-use Rattle.stage_core.proofs.network.Ends.{merged-ends-i, merged-ends-d, merged-last}
+use Rattle.stage_core.proofs.network.Ends.{merged-ends, merged-last}
 use Rattle.stage_core.proofs.network.Positions.{pending, Position, position}
 use Rattle.stage_core.proofs.network.StreamCounts.{turns_in-append, sent_to-append, turns_in-pushes}
 use Rattle.stage_core.proofs.network.StreamCounts.{sent_to-pushes, finishes-order, last-order}
@@ -51,10 +51,8 @@ module _ (parts : Parts) (es : List DinRecord) (n : Network) (k : Consistent par
   -- the merge has popped as many ends from a side as its turns have visits there, but for one that
   -- it is owed
   pub merge-count : (s : Side) → ends (lane s n).from.popped + owed s n.at ≡ visits s n.order.popped
-  merge-count side.I =
-      merged-ends-i n.order.popped n.i.from.popped n.d.from.popped n.given n.at k.merge
-  merge-count side.D =
-      merged-ends-d n.order.popped n.i.from.popped n.d.from.popped n.given n.at k.merge
+  merge-count side.I = merged-ends side.I n.order.popped _ _ n.given n.at k.merge
+  merge-count side.D = merged-ends side.D n.order.popped _ _ n.given n.at k.merge
 
   -- the merge is in its last turn where it has popped Finish from the order ring
   pub merge-last : last n.at ≡ finishes n.order.popped
@@ -83,23 +81,14 @@ module _ (parts : Parts) (es : List DinRecord) (n : Network) (k : Consistent par
   pub split-count : (s : Side)
       → length (lane s n).to.popped + length (lane s n).to.waiting + pending s n.still
       ≡ visits s n.order.popped + visits s n.order.waiting
-  split-count side.I =
+  split-count s =
       omega (
         arith,
-        length-append n.i.to.popped n.i.to.waiting,
-        ap length (k.to_side side.I),
-        where_it_is.i,
-        total-append (visit side.I) n.order.popped n.order.waiting,
-        ap (visits side.I) k.turns,
-      )
-  split-count side.D =
-      omega (
-        arith,
-        length-append n.d.to.popped n.d.to.waiting,
-        ap length (k.to_side side.D),
-        where_it_is.d,
-        total-append (visit side.D) n.order.popped n.order.waiting,
-        ap (visits side.D) k.turns,
+        length-append (lane s n).to.popped (lane s n).to.waiting,
+        ap length (k.to_side s),
+        where_it_is.count s,
+        total-append (visit s) n.order.popped n.order.waiting,
+        ap (visits s) k.turns,
       )
 
   -- what was popped, what waits and what is still to be pushed is the whole stream: of the order

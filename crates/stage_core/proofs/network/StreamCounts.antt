@@ -51,6 +51,19 @@ Streams before es =
     × (visits side.D (map (λ e. turn_of e.label) es ++ turn.Finish ∷ [])
     ≡ length (flat_map_after (messages_to side.D) before es ++ to_stage.Finish ∷ []))
 
+-- an event with a request to D alone
+streams_d : (e : DinRecord) (x : Event) (before es : List DinRecord) → turn_of e.label ≡ turn.D
+    → asked side.I e ≡ [] → asked side.D e ≡ x ∷ [] → Streams (before ++ e ∷ []) es
+    → Streams before (e ∷ es)
+streams_d e x before es t i d h =
+    rw (t, i, d) (
+      ap (λ y. turn.D ∷ y) h.0,
+      h.1,
+      ap (λ y. message (length before + 1) x ∷ y) h.2,
+      omega (arith, h.3),
+      omega (arith, h.4),
+    )
+
 streams_at : (l : Label) (a : ℕ) (before es : List DinRecord)
     → Streams (before ++ record { label = l; addr = a } ∷ []) es
     → Streams before (record { label = l; addr = a } ∷ es)
@@ -61,27 +74,12 @@ streams_at label.Instr a before es h = (
   omega (arith, h.3),
   omega (arith, h.4),
 )
-streams_at label.Read a before es h = (
-  ap (λ x. turn.D ∷ x) h.0,
-  h.1,
-  ap (λ x. to_stage.Ref (length before + 1) class.Read a ∷ x) h.2,
-  omega (arith, h.3),
-  omega (arith, h.4),
-)
-streams_at label.Write a before es h = (
-  ap (λ x. turn.D ∷ x) h.0,
-  h.1,
-  ap (λ x. to_stage.Ref (length before + 1) class.Write a ∷ x) h.2,
-  omega (arith, h.3),
-  omega (arith, h.4),
-)
-streams_at label.Misc a before es h = (
-  ap (λ x. turn.D ∷ x) h.0,
-  h.1,
-  ap (λ x. to_stage.Ref (length before + 1) class.Misc a ∷ x) h.2,
-  omega (arith, h.3),
-  omega (arith, h.4),
-)
+streams_at label.Read a before es h =
+    streams_d _ (access_of class.Read a) before es refl refl refl h
+streams_at label.Write a before es h =
+    streams_d _ (access_of class.Write a) before es refl refl refl h
+streams_at label.Misc a before es h =
+    streams_d _ (access_of class.Misc a) before es refl refl refl h
 streams_at label.Flush a before es h = (
   ap (λ x. turn.Both ∷ x) h.0,
   ap (λ x. to_stage.Flush (length before + 1) ∷ x) h.1,

@@ -1,15 +1,20 @@
 //! What each machine of the network does at its next step, and whether it can.
 
-ghost use Rattle.std.specs.Prelude.{◌≡◌, ◌<◌, ◌++◌, OnOk, List, option_to_list};
+ghost use Rattle.std.specs.Prelude.{◌≡◌, ◌<◌, ◌++◌, Some, OnOk, List, length, option_to_list};
 ghost use Rattle.cache_core.specs.Standing.{rules_of, served_of};
 ghost use Rattle.stage_core.specs.Standing.{L2StandsFor, l2_cache};
+ghost use Rattle.stage_core.specs.Network.Rings.{pop};
+ghost use Rattle.stage_core.specs.Network.Sides.{of_side, OneChanges};
+ghost use Rattle.stage_core.specs.Network.Lanes.{MayStep, HasStepped};
 ghost use Rattle.stage_core.specs.declared.message.What.{What};
 
 use crate::l2_stage::L2Stage;
 use crate::laws::second_level_sees_at_most_two;
 use crate::memory::NoMemory;
-use crate::message::{Side, Want, What};
+use crate::message::{FromStage, Side, Want, What};
+use crate::network::lane::Lane;
 use crate::network::pushes::{Push, push_to};
+use crate::network::ring::Ring;
 use crate::network::{Core, Machine};
 use cache_core::MAX_EVENTS;
 
@@ -26,12 +31,33 @@ fn serve_l2(u: &mut L2Stage, what: Option<What>) -> Result<(), NoMemory>
     }
 }
 
+// Makes the next step of the stage of a side, if each ring has this capacity.
+fn step_of_side(side: Side, capacity: usize, i: &mut Lane, d: &mut Lane) -> Result<(), NoMemory>
+    requires { MayStep capacity (of_side side i.old d.old) }
+    ensures { OnOk result (OneChanges side (HasStepped capacity) i.old d.old i.new d.new) }
+{
+    match side {
+        Side::I => i.step(capacity),
+        Side::D => d.step(capacity),
+    }
+}
+
+// Pops the oldest message of the ring from a side.
+fn pop_of_side(side: Side, i: &mut Ring<FromStage>, d: &mut Ring<FromStage>) -> FromStage
+    requires { 0 < length (of_side side i.old d.old).waiting }
+    ensures { OneChanges side (λ was now. pop was ≡ Some (result, now)) i.old d.old i.new d.new }
+{
+    match side {
+        Side::I => i.pop(),
+        Side::D => d.pop(),
+    }
+}
+
 impl Core {
     ghost use Rattle.std.specs.Prelude.{◌≡◌, ◌<◌, IsSome, OnOk, OnErr, true, false, length};
-    ghost use Rattle.stage_core.specs.Merging.{wanted};
-    ghost use Rattle.stage_core.specs.Network.{Splitter, Stage, Merging};
+    ghost use Rattle.stage_core.specs.Merging.{wanted, want_of};
+    ghost use Rattle.stage_core.specs.Network.{Splitter, Stage, Merging, lane};
     ghost use Rattle.stage_core.specs.Network.Cores.{next_in, can_in, MakesStep, IsSameRun};
-    ghost use Rattle.stage_core.specs.declared.message.Side.TheVariants as side;
     ghost use Rattle.stage_core.specs.declared.message.Want.TheVariants as want;
 
     // Whether the splitter's next step is possible.
@@ -88,28 +114,15 @@ impl Core {
         sent
     }
 
-    // Makes the next step of the stage I.
-    fn step_i(&mut self) -> Result<(), NoMemory>
+    // Makes the next step of the stage of a side.
+    fn step_stage(&mut self, side: Side) -> Result<(), NoMemory>
         requires works { self.old.failed ≡ false }
-        requires possible { IsSome (next_in self.old (Stage side.I)) }
-        ensures made { OnOk result (MakesStep (Stage side.I) self.old self.new) }
+        requires possible { IsSome (next_in self.old (Stage side)) }
+        ensures made { OnOk result (MakesStep (Stage side) self.old self.new) }
         ensures refused { OnErr result (self.new.failed ≡ true) }
         ensures run { IsSameRun self.old self.new }
     {
-        let made = self.i.step(self.config.ring());
-        self.failed = made.is_err();
-        made
-    }
-
-    // Makes the next step of the stage D.
-    fn step_d(&mut self) -> Result<(), NoMemory>
-        requires works { self.old.failed ≡ false }
-        requires possible { IsSome (next_in self.old (Stage side.D)) }
-        ensures made { OnOk result (MakesStep (Stage side.D) self.old self.new) }
-        ensures refused { OnErr result (self.new.failed ≡ true) }
-        ensures run { IsSameRun self.old self.new }
-    {
-        let made = self.d.step(self.config.ring());
+        let made = step_of_side(side, self.config.ring(), &mut self.i, &mut self.d);
         self.failed = made.is_err();
         made
     }
@@ -133,34 +146,17 @@ impl Core {
         self.merge.turn(turn);
     }
 
-    // The merge takes a message from I.
-    fn take_i(&mut self) -> Result<(), NoMemory>
+    // The merge takes a message of a side.
+    fn take_from(&mut self, side: Side) -> Result<(), NoMemory>
         requires works { self.old.failed ≡ false }
-        requires wants { wanted self.old.network.at ≡ want.I }
-        requires waits { 0 < length self.old.network.i.from.waiting }
+        requires wants { wanted self.old.network.at ≡ want_of side }
+        requires waits { 0 < length (lane side self.old.network).from.waiting }
         ensures made { OnOk result (MakesStep Merging self.old self.new) }
         ensures refused { OnErr result (self.new.failed ≡ true) }
         ensures run { IsSameRun self.old self.new }
     {
         second_level_sees_at_most_two();
-        let message = self.i.from.pop();
-        let what = self.merge.take(message);
-        let served = serve_l2(&mut self.u, what);
-        self.failed = served.is_err();
-        served
-    }
-
-    // The merge takes a message from D.
-    fn take_d(&mut self) -> Result<(), NoMemory>
-        requires works { self.old.failed ≡ false }
-        requires wants { wanted self.old.network.at ≡ want.D }
-        requires waits { 0 < length self.old.network.d.from.waiting }
-        ensures made { OnOk result (MakesStep Merging self.old self.new) }
-        ensures refused { OnErr result (self.new.failed ≡ true) }
-        ensures run { IsSameRun self.old self.new }
-    {
-        second_level_sees_at_most_two();
-        let message = self.d.from.pop();
+        let message = pop_of_side(side, &mut self.i.from, &mut self.d.from);
         let what = self.merge.take(message);
         let served = serve_l2(&mut self.u, what);
         self.failed = served.is_err();
@@ -180,8 +176,8 @@ impl Core {
                 self.take_turn();
                 Ok(())
             }
-            Want::I => self.take_i(),
-            Want::D => self.take_d(),
+            Want::I => self.take_from(Side::I),
+            Want::D => self.take_from(Side::D),
             Want::Nothing => Ok(()),
         }
     }
@@ -196,8 +192,7 @@ impl Core {
     {
         match machine {
             Machine::Splitter => self.split(),
-            Machine::Stage(Side::I) => self.step_i(),
-            Machine::Stage(Side::D) => self.step_d(),
+            Machine::Stage(side) => self.step_stage(side),
             Machine::Merging => self.merge_step(),
         }
     }

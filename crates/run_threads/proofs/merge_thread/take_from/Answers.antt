@@ -1,17 +1,7 @@
-use Rattle.std.proofs.Common.{◌≡◌, ◌⊎◌, inl, inr}
 use Rattle.stage_core.specs.Merging.{wanted}
-use Rattle.stage_core.specs.declared.message.Side.{Side}
-use Rattle.stage_core.specs.declared.message.Side.TheVariants as side
-use Rattle.stage_core.specs.declared.message.Want.{Want}
-use Rattle.stage_core.specs.declared.message.Want.TheVariants as want
-use Rattle.run_threads.specs.Waits.{want_of}
+use Rattle.stage_core.proofs.Sides.{one-wanted}
 use Rattle.run_threads.proofs.Merges.{merges-from}
 use Rattle.run_threads.proofs.merge_thread.take_from.Goals as goal
-
--- a merge that wants a side's message wants I's or D's
-one-wanted : (s : Side) (w : Want) → w ≡ want_of s → (w ≡ want.I) ⊎ (w ≡ want.D)
-one-wanted side.I w is = inl is
-one-wanted side.D w is = inr is
 
 pub take_and_serve-requires : goal.take_and_serve-requires
 take_and_serve-requires g c = one-wanted c.args.side (wanted c.args.merge.now) c.requires.wants

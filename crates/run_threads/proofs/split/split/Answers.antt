@@ -1,16 +1,21 @@
 use Rattle.std.proofs.Common.{rules, ◌≡◌, ◌∙◌, ap, sym, subst, refl, ℕ, List, [], ◌∷◌, ◌++◌, Option}
-use Rattle.std.proofs.Common.{Some, None, Ok, count_by, arith, inl, inr, ◌<◌, true, false, length}
-use Rattle.din_trace.specs.Remaining.{Fate, Open}
+use Rattle.std.proofs.Common.{Some, None, Result, Ok, count_by, arith, inl, inr, ◌<◌, true, false}
+use Rattle.std.proofs.Common.{length}
+use Rattle.din_trace.specs.Text.{Remaining}
+use Rattle.din_trace.specs.Remaining.{Script, Fate, Open, Follows}
 use Rattle.din_trace.specs.Source.{HasLeft, Takes, room_of}
 use Rattle.din_trace.specs.declared.record.DinRecord.{DinRecord}
-use Rattle.din_trace.proofs.Calls.{Calls, calls, no_calls}
+use Rattle.din_trace.specs.declared.fault.TraceFault.{TraceFault}
+use Rattle.din_trace.proofs.Calls.{Answers, Calls, calls, no_calls}
 use Rattle.stage_core.specs.Events.{events, events_at, picked, picked_events, is_reference}
 use Rattle.stage_core.specs.Waiting.{HasPosted}
 use Rattle.stage_core.specs.declared.selection.Selection.{Selection}
+use Rattle.stage_core.proofs.Sides.{each_side}
 use Rattle.stage_core.proofs.Place.{flat_map_with_past-more}
 use Rattle.run_threads.specs.Faults.{MayAnswer}
+use Rattle.run_threads.specs.Threads.{LeavesRest}
 use Rattle.run_threads.specs.Waits.{splitter_at}
-use Rattle.run_threads.proofs.Splitting.{same-ends, ends-stay, each_side, posted-same, left-record}
+use Rattle.run_threads.proofs.Splitting.{same-ends, ends-stay, posted-same, left-record}
 use Rattle.run_threads.proofs.Splitting.{left-end, left-fault, rest-answer, rest-cut, answers-fault}
 use Rattle.run_threads.proofs.split.split.Goals as goal
 use Rattle.run_threads.proofs.split.split.Goals.{After-next_record}
@@ -27,6 +32,20 @@ composed g c given fate went =
     calls g.R.ByteReader.remaining g.R.ByteReader.failures c.args.source.now c.loop.source
     c.next_record.new.source going.given given going.fate fate going.went went
     c.next_record.ensures.settled
+
+-- a splitter that stops after an answer of the source leaves the rest of the records there
+stops : (g : Over) (c : After-next_record g) (answer : Result (Option DinRecord) TraceFault)
+    → Answers g.R.ByteReader.remaining g.R.ByteReader.failures c.loop.source
+    c.next_record.new.source answer
+    → (given : List ℕ) × (fate : Fate)
+    × Takes g.R.ByteReader.remaining g.R.ByteReader.failures c.args.source.now
+    c.next_record.new.source given fate
+    × ((first last : Script) (l : Remaining) → Follows fate given first last
+    → HasLeft c.args.source.now first l
+    → LeavesRest l (HasLeft c.next_record.new.source last))
+stops g c answer reads =
+    let all = composed g c reads.0 reads.1 reads.2 in
+    (all.given, all.fate, all.went, rest-answer c.loop.invariant.2 all answer reads.3)
 
 pub next_record-requires : goal.next_record-requires
 next_record-requires g c = (
@@ -119,15 +138,9 @@ returns-in_default-clause-reads g c =
 
 pub returns-then-is_err-clause-reads : goal.returns-then-is_err-clause-reads
 returns-then-is_err-clause-reads g c =
-    let read = c.in-Ok.ensures.reads in
     let c₁ = (goal.at.returns-then-is_err-clause-reads g c).After-next_record in
-    let all = composed g c₁ read.0 read.1 read.2 in (
-      all.given,
-      all.fate,
-      all.went,
-      λ first last l is left.
-          (tt, rest-answer c.loop.invariant.2 all c.in-Ok.answer read.3 first last l is left),
-    )
+    let stop = stops g c₁ c.in-Ok.answer c.in-Ok.ensures.reads in
+    (stop.0, stop.1, stop.2, λ first last l is left. (tt, stop.3 first last l is left))
 
 pub returns-in-Err-clause-reads : goal.returns-in-Err-clause-reads
 returns-in-Err-clause-reads g c =
@@ -149,15 +162,9 @@ returns-in-Err-clause-reads g c =
 
 pub returns-then-is_err-2-clause-reads : goal.returns-then-is_err-2-clause-reads
 returns-then-is_err-2-clause-reads g c =
-    let read = c.in-Ok.ensures.reads in
     let c₁ = (goal.at.returns-then-is_err-2-clause-reads g c).After-next_record in
-    let all = composed g c₁ read.0 read.1 read.2 in (
-      all.given,
-      all.fate,
-      all.went,
-      λ first last l is left.
-          (tt, rest-answer c.loop.invariant.2 all c.in-Ok.answer read.3 first last l is left),
-    )
+    let stop = stops g c₁ c.in-Ok.answer c.in-Ok.ensures.reads in
+    (stop.0, stop.1, stop.2, λ first last l is left. (tt, stop.3 first last l is left))
 
 pub returns-in-Ok-None-clause-reads : goal.returns-in-Ok-None-clause-reads
 returns-in-Ok-None-clause-reads g c =

@@ -1,37 +1,34 @@
-use Rattle.std.proofs.Common.{rules, Err, ◌≡◌, List, subst, refl}
+use Rattle.std.proofs.Common.{rules, Err, ◌≡◌, List, subst}
 use Rattle.din_trace.specs.declared.record.DinRecord.{DinRecord}
-use Rattle.din_trace.specs.Source.{reader_of}
-use Rattle.din_trace.proofs.Told.{script_of_told}
 use Rattle.stage_core.specs.Config.{hierarchy_of, ring_of}
 use Rattle.stage_core.specs.Events.{events}
 use Rattle.run_threads.specs.declared.fault.RunFault.TheVariants.{Trace}
 use Rattle.run_threads.specs.Runs.{HasRun}
 use Rattle.run_threads.proofs.Endings.{of-some-text}
 use Rattle.sim_run.specs.TraceReport.{report_of}
+use Rattle.sim_run.proofs.KnownText.{left-of-text}
 use Rattle.sim_run.proofs.simulation.simulate.Goals as goal
 
 pub returns-in_err-settled-clause-trace : goal.returns-in_err-settled-clause-trace
 returns-in_err-settled-clause-trace g c text known why is =
+    let source = c.new-source.ensures in
     let reads = c.run_pipeline-source.ensures.reads in
-    let same : reader_of c.new-source.result ≡ c.args.reader = c.new-source.ensures.reader in
-    let script = script_of_told g.R.ByteReader.remaining g.R.ByteReader.failures c.args.reader
-    (reader_of c.run_pipeline-source.result.0) text c.args.limit reads.1 reads.0 _ refl
-    (rw (same, known) at reads.2.reader) in
+    let left = left-of-text g.R.ByteReader.remaining g.R.ByteReader.failures c.args.reader text
+    c.args.limit _ c.run_pipeline-source.result.0 reads.0 reads.1 source.reader source.left reads.2
+    known in
     let met : c.run_pipeline-source.result.1 ≡ Err (Trace why) = search rules in
-    let ended = rw met at reads.3 script.0 script.1 _ script.2
-    (c.new-source.ensures.left script.0) in
-    script.3.some_fault why ended.0
+    let ended = rw met at reads.3 left.0 left.1 _ left.2 left.3 in
+    left.4.some_fault why ended.0
 
 pub returns-clause-run : goal.returns-clause-run
 returns-clause-run g c text known =
+    let source = c.new-source.ensures in
     let reads = c.run_pipeline-source.ensures.reads in
-    let same : reader_of c.new-source.result ≡ c.args.reader = c.new-source.ensures.reader in
-    let script = script_of_told g.R.ByteReader.remaining g.R.ByteReader.failures c.args.reader
-    (reader_of c.run_pipeline-source.result.0) text c.args.limit reads.1 reads.0 _ refl
-    (rw (same, known) at reads.2.reader) in
-    let ended = rw c.in_ok-settled.was at reads.3 script.0 script.1 _ script.2
-    (c.new-source.ensures.left script.0) in
-    let good = script.3.no_fault ended.0 in (
+    let left = left-of-text g.R.ByteReader.remaining g.R.ByteReader.failures c.args.reader text
+    c.args.limit _ c.run_pipeline-source.result.0 reads.0 reads.1 source.reader source.left reads.2
+    known in
+    let ended = rw c.in_ok-settled.was at reads.3 left.0 left.1 _ left.2 left.3 in
+    let good = left.4.no_fault ended.0 in (
       good.0,
       subst (λ (t : List DinRecord). HasRun (ring_of c.args.config.now)
           (hierarchy_of c.args.config.now) (events c.args.selection.now t)
