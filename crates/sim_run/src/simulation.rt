@@ -24,8 +24,8 @@ use std::thread::Threads;
 /// trace is read, writes the report and flushes the writer. Of the trace, memory holds a buffer of
 /// bytes at a time, and the messages on their way. Each number of the selection is at most 2^40.
 ///
-/// `Ok` has the counts and the rings: all threads have ended, and each message that was sent was
-/// received, once and in order.
+/// The answer `Ok` holds what was counted, and what the rings have carried: all threads have ended,
+/// and each message that was sent was received, once and in order.
 pub fn simulate<H: Threads + Wait + Sync, R: ByteReader + Drop, G: Gate, W: ByteWriter>(
     rt: &H,
     alloc: Global,
