@@ -128,6 +128,28 @@ impl Caches {
         self.access_each(access)
     }
 
+    /// Serves an access the short way, if all caches have a stack order: see `Stacked::again`.
+    #[inline(always)]
+    pub fn again(&mut self, access: Access) -> bool
+        requires { (n : ℕ) × AreInStep n self.old × (n < 2 ^ 44) }
+        ensures stands { result ≡ true → (h : History) → CachesStandFor h self.old →
+            CachesStandFor (accessed access ∷ h) self.new }
+        ensures answers { result ≡ true → (h : History) → CachesStandFor h self.old →
+            HaveAnswered h access self.new }
+        ensures silent { result ≡ true → (h : History) (x : Access) → HaveAnswered h x self.new →
+            (place : Place) → HasPlace self.new place → SendsNothing (outcome_of
+            (rules_placed (together_rules self.new) (apart_rules self.new) place) h x) }
+        ensures step { result ≡ true → (n : ℕ) → AreInStep n self.old →
+            AreInStep (n + 1) self.new }
+        ensures leaves { result ≡ false → self.new ≡ self.old }
+        ensures rules { HaveSameRules self.new self.old }
+    {
+        if !self.shades.is_empty() || !self.singles.is_empty() || self.stacked.cells() == 0 {
+            return false;
+        }
+        self.stacked.again(access)
+    }
+
     /// Empties all caches, and answers for each seat what its cache writes back. What can fail
     /// comes first, and only then is it counted.
     pub fn flush(&mut self, alloc: Global, seats: &Vec<Seat>) -> Result<Vec<Vec<u64>>, AllocError>

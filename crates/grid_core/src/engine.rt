@@ -105,6 +105,31 @@ impl Engine {
         Ok(())
     }
 
+    /// Serves an access the short way, which a use of the block that was used last may go: it hits
+    /// in all caches, changes none, sends nothing and needs no memory. Answers whether it went this
+    /// way; if not, nothing is changed, and `access` serves it.
+    #[inline(always)]
+    pub fn again(&mut self, access: Access) -> bool
+        requires { served_in self.old < 2 ^ 44 }
+        ensures stands { result ≡ true → (h : History) → EngineStandsFor self.old h →
+            EngineStandsFor self.new (accessed access ∷ h) }
+        ensures answers { result ≡ true → (h : History) → EngineStandsFor self.old h →
+            HasAnswered self.new h access }
+        ensures silent { result ≡ true → (h : History) (x : Access) → HasAnswered self.new h x →
+            (index : ℕ) → index < length (rules_in self.new) →
+            SendsNothing (outcome_of (rules_at (rules_in self.new) index) h x) }
+        ensures served { result ≡ true → served_in self.new ≡ served_in self.old + 1 }
+        ensures works { result ≡ true → has_failed self.new ≡ false }
+        ensures leaves { result ≡ false → self.new ≡ self.old }
+        ensures rules { rules_in self.new ≡ rules_in self.old }
+    {
+        if self.failed || !self.caches.again(access) {
+            return false;
+        }
+        self.served += 1;
+        true
+    }
+
     /// Empties all caches and the shadows, and answers for each cache the first bytes of the blocks
     /// that it writes back, in rising order. Known blocks stay known.
     pub fn flush(&mut self) -> Result<Vec<Vec<u64>>, NoMemory>

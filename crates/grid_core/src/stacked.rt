@@ -112,6 +112,7 @@ impl Stacked {
 
     /// Serves an access to the block that was used last, and that it makes dirty nowhere. It hits
     /// in all caches and shadows, and changes none.
+    #[inline(always)]
     fn repeat(&mut self, access: Access)
         requires few { stacked_served self.old < 2 ^ 44 }
         requires again { IsAgain (access.addr / bsize_of self.old.geometry) (is_write access)
@@ -122,6 +123,9 @@ impl Stacked {
             StackedHasAnswered self.new h access }
         ensures served { stacked_served self.new ≡ stacked_served self.old + 1 }
         ensures rules { stacked_rules self.new ≡ stacked_rules self.old }
+        ensures again { self.new.again ≡ true }
+        ensures write { self.new.write ≡ is_write access }
+        ensures policy { self.new.wback ≡ self.old.wback }
     {
         count(&mut self.alike.fetches, access, true);
         self.write = writes(access);
@@ -154,6 +158,37 @@ impl Stacked {
         self.prior = prior;
         self.served += 1;
         Ok(())
+    }
+
+    /// Serves an access if it repeats the use of the block that was used last, makes it dirty
+    /// nowhere and sends nothing: this is the short way. It leaves any other access, and answers
+    /// `false`.
+    #[inline(always)]
+    pub fn again(&mut self, access: Access) -> bool
+        requires { stacked_served self.old < 2 ^ 44 }
+        ensures stands { result ≡ true → (h : History) → StackedStandsFor self.old h →
+            StackedStandsFor self.new (accessed access ∷ h) }
+        ensures answers { result ≡ true → (h : History) → StackedStandsFor self.old h →
+            StackedHasAnswered self.new h access }
+        ensures silent { result ≡ true → (h : History) (x : Access) →
+            StackedHasAnswered self.new h x →
+            (index : ℕ) → index < length (stacked_rules self.new) →
+            SendsNothing (outcome_of (rules_at (stacked_rules self.new) index) h x) }
+        ensures served { result ≡ true →
+            stacked_served self.new ≡ stacked_served self.old + 1 }
+        ensures leaves { result ≡ false → self.new ≡ self.old }
+        ensures rules { stacked_rules self.new ≡ stacked_rules self.old }
+    {
+        let write = writes(access);
+        if sends_on(write, self.wback) {
+            return false;
+        }
+        let block = self.geometry.block(access.addr);
+        if !self.shadows.is_again(block, write) {
+            return false;
+        }
+        self.repeat(access);
+        true
     }
 
     /// Serves one access in all caches.

@@ -83,11 +83,20 @@ fn sends_nothing(outcome: Outcome) -> bool {
     outcome.back.is_none() && !outcome.fetch && !outcome.through
 }
 
+/// Serves an access in the engine, each second one the short way where it may go it.
+fn serve(rt: &impl Abort, engine: &mut Engine, access: Access) {
+    assert!(rt; engine.served() < MAX_EVENTS);
+    if engine.served() % 2 == 0 && engine.again(access) {
+        return;
+    }
+    assert!(rt; engine.served() < MAX_EVENTS);
+    engine.access(access).expect(rt, "memory");
+}
+
 /// Serves an access in the engine and in each cache. The outcomes have to agree, and where the
 /// engine says that nothing was sent, no outcome sends anything.
 fn access_alike(rt: &impl Abort, engine: &mut Engine, caches: &mut Vec<Cache>, access: Access) {
-    assert!(rt; engine.served() < MAX_EVENTS);
-    engine.access(access).expect(rt, "memory");
+    serve(rt, engine, access);
     for (index, cache) in caches.iter_mut().enumerate() {
         assert!(rt; cache.served() < MAX_EVENTS);
         let outcome = cache.access(access).expect(rt, "memory");

@@ -1,6 +1,6 @@
 -- What second levels get from a cache in front of them.
 use Rattle.std.proofs.Common.{◌≡◌, ◌<◌, ℕ, List, [], ◌∷◌, length, get_or, map, ap, sym, subst}
-use Rattle.std.proofs.Common.{◌∙◌, arith}
+use Rattle.std.proofs.Common.{◌∙◌, ◌++◌, append-nil, arith}
 use Rattle.std.specs.List.{All}
 use Rattle.std.proofs.lemmas.List.{get_or-map, get_or_default, length-map}
 use Rattle.cache_core.specs.History.{History, Rules}
@@ -8,10 +8,11 @@ use Rattle.grid_core.specs.Written.{rules_at}
 use Rattle.stage_core.specs.SecondLevel.{parts_of}
 use Rattle.stage_core.specs.declared.message.Side.{Side}
 use Rattle.stage_core.specs.declared.message.What.{What}
-use Rattle.grid_run.specs.Backs.{BackTask, IsSeatIn, RequestsFor, WereAsked, back_task}
+use Rattle.grid_run.specs.Backs.{BackTask, IsPlacedOn, IsSeatIn, RequestsFor, WereAsked, back_task}
+use Rattle.grid_run.specs.Backs.{followed_by, seat_on, sent_for}
 use Rattle.grid_run.specs.Fronts.{HasSent, IsSilent, front_rules}
 use Rattle.grid_run.specs.Levels.{rules_in}
-use Rattle.grid_run.specs.Seats.{rules_of_seat}
+use Rattle.grid_run.specs.Seats.{Table, rules_of_seat}
 use Rattle.grid_run.specs.Sending.{SecondAsked, event_of}
 use Rattle.grid_run.specs.declared.back.Back.{Back}
 use Rattle.grid_run.specs.declared.front.Front.{Front}
@@ -87,3 +88,20 @@ pub task-at : (P : BackTask → Type 0) (bs : List Back) → All P (map back_tas
 task-at P bs all k b lt =
     subst P (get_or-map back_task bs k b (back_task b) lt)
     (all k (back_task b) (omega (arith, lt, length-map bs back_task)))
+
+-- silent caches of a side ask for nothing
+pub nothing-asked : (fs : List Front) (old : Table) → map front_rules fs ≡ old → (s : Side)
+    (bs : List Back) → All (IsPlacedOn s old) (map back_task bs) → All IsSilent fs
+    → (h : History) (q : Request) → All (HasSent h q) fs
+    → (before : RequestsFor) → All (WereAsked before) bs
+    → All (WereAsked (followed_by before (sent_for s old h (event_of q)))) bs
+nothing-asked fs old rules s bs placed silent h q sent before =
+    asked-same before (followed_by before (sent_for s old h (event_of q))) bs
+    (λ k b lt.
+    let t = back_task (get_or bs k b) in
+    let on = task-at (IsPlacedOn s old) bs placed k b lt in
+    let none : parts_of (rules_of_seat old (seat_on s t)) s h (event_of q) ≡ [] =
+    subst (λ (rs : Table). parts_of (rules_of_seat rs (seat_on s t)) s h (event_of q) ≡ []) rules
+    (silent-at-seat fs (seat_on s t)
+    (subst (λ (rs : Table). IsPlacedOn s rs t) (sym rules) on).seat silent s h q sent) in
+    sym (append-nil (before t)) ∙ ap (λ (ws : List What). before t ++ ws) (sym none))

@@ -45,7 +45,7 @@ fn last_of(access: Access, sent_nothing: bool) -> Last
 
 impl Front {
     ghost use Rattle.std.specs.Prelude.{◌≡◌, ◌<◌, ◌^◌, ◌++◌, ◌∷◌, [], List, IfOk, OnOk};
-    ghost use Rattle.std.specs.Prelude.{true, length};
+    ghost use Rattle.std.specs.Prelude.{true, false, length};
     ghost use Rattle.cache_core.specs.History.{History, access as accessed, flush as flushed};
     ghost use Rattle.grid_core.specs.Written.{rules_at};
     ghost use Rattle.stage_core.specs.SecondLevel.{parts_of};
@@ -80,6 +80,25 @@ impl Front {
         self.level.access(access)?;
         self.last = last_of(access, self.level.sent_nothing());
         Ok(())
+    }
+
+    /// Serves an access the short way, if it may go it. Any other access is left.
+    #[inline(always)]
+    pub fn again(&mut self, access: Access) -> bool
+        requires room { (h : History) × FrontAt h self.old × (length h < 2 ^ 44) }
+        ensures stands { result ≡ true → (h : History) → FrontAt h self.old →
+            FrontAt (accessed access ∷ h) self.new }
+        ensures last { result ≡ true → (h : History) → FrontAt h self.old →
+            HasSent h (asked.Access access) self.new }
+        ensures silent { result ≡ true → IsSilent self.new }
+        ensures leaves { result ≡ false → self.new ≡ self.old }
+        ensures rules { front_rules self.new ≡ front_rules self.old }
+    {
+        if !self.level.again(access) {
+            return false;
+        }
+        self.last = Last::Silence;
+        true
     }
 
     /// Serves a flush.

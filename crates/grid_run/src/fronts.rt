@@ -1,6 +1,6 @@
 //! The first-level caches of one side.
 
-ghost use Rattle.std.specs.Prelude.{◌≡◌, ◌<◌, ◌^◌, ◌∷◌, [], IfOk, OnOk, map, length, true};
+ghost use Rattle.std.specs.Prelude.{◌≡◌, ◌<◌, ◌^◌, ◌∷◌, [], IfOk, OnOk, map, length, true, false};
 ghost use Rattle.std.specs.List.{All};
 ghost use Rattle.cache_core.specs.History.{History};
 ghost use Rattle.grid_run.specs.Fronts.{FrontAt, HasSent, IsSilent, front_rules};
@@ -48,6 +48,28 @@ pub(crate) fn serve_fronts(fronts: &mut Vec<Front>, request: Request) -> Result<
     ensures rules { map front_rules fronts.new.items ≡ map front_rules fronts.old.items }
 {
     serve_each(fronts, request)
+}
+
+/// Serves a request the short way, if all caches of the side are served together and it may go it.
+/// It sends nothing then. Any other request is left.
+#[inline(always)]
+pub(crate) fn serve_again(fronts: &mut Vec<Front>, request: Request) -> bool
+    requires room { (h : History) × All (FrontAt h) fronts.old.items × (length h < 2 ^ 44) }
+    ensures stands { result ≡ true → (h : History) → All (FrontAt h) fronts.old.items →
+        All (FrontAt (event_of request ∷ h)) fronts.new.items }
+    ensures sent { result ≡ true → (h : History) → All (FrontAt h) fronts.old.items →
+        All (HasSent h request) fronts.new.items }
+    ensures silent { result ≡ true → All IsSilent fronts.new.items }
+    ensures leaves { result ≡ false → fronts.new.items ≡ fronts.old.items }
+    ensures rules { map front_rules fronts.new.items ≡ map front_rules fronts.old.items }
+{
+    let Request::Access(access) = request else {
+        return false;
+    };
+    if fronts.len() != 1 {
+        return false;
+    }
+    fronts[0].again(access)
 }
 
 /// Whether no cache sent anything for the last request. May be `false` though none did.

@@ -21,7 +21,7 @@ use crate::back::Back;
 use crate::backs::{ask_backs, backs_for, settle_backs};
 use crate::figures::{Figures, ShadowMisses};
 use crate::front::Front;
-use crate::fronts::{are_silent, fronts_for, serve_fronts};
+use crate::fronts::{are_silent, fronts_for, serve_again, serve_fronts};
 use crate::plan::{LanePlan, Place};
 use crate::requests::{Request, asked_of};
 use cache_core::NoMemory;
@@ -75,6 +75,7 @@ fn serve_request(
 }
 
 /// Serves what an event asks of a side, if it does.
+#[inline(always)]
 fn serve_side(
     fronts: &mut Vec<Front>,
     backs: &mut Vec<Back>,
@@ -95,10 +96,13 @@ fn serve_side(
     ensures rules { map front_rules fronts.new.items ≡ map front_rules fronts.old.items }
     ensures tasks { map back_task backs.new.items ≡ map back_task backs.old.items }
 {
-    match asked_of(side, event) {
-        Some(request) => serve_request(fronts, backs, side, request),
-        None => Ok(()),
+    let Some(request) = asked_of(side, event) else {
+        return Ok(());
+    };
+    if serve_again(fronts, request) {
+        return Ok(());
     }
+    serve_request(fronts, backs, side, request)
 }
 
 #[tactic(auto, unfolding(crate::specs::Lanes::lane_task, crate::specs::Lanes::task_of_plan))]
@@ -119,6 +123,7 @@ impl Lane {
     }
 
     /// Serves an event in all first-level caches. What these send waits for the second levels.
+    #[inline(always)]
     fn take_event(&mut self, event: DinRecord) -> Result<(), NoMemory>
         requires placed { IsPlaced (lane_task self.old) }
         requires room { (es : List Event) × HasServed self.old es
@@ -133,6 +138,7 @@ impl Lane {
     }
 
     /// The same for an event, if there is one.
+    #[inline(always)]
     fn take_some(&mut self, event: Option<DinRecord>) -> Result<(), NoMemory>
         requires placed { IsPlaced (lane_task self.old) }
         requires room { (es : List Event) × HasServed self.old es

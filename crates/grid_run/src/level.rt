@@ -23,7 +23,7 @@ pub(crate) struct Level {
 #[tactic(auto, unfolding(crate::specs::Levels::rules_in))]
 impl Level {
     ghost use Rattle.std.specs.Prelude.{◌≡◌, ◌<◌, ◌*◌, ◌/◌, ◌∷◌, [], ℕ, IfOk, OnOk, length, map};
-    ghost use Rattle.std.specs.Prelude.{true};
+    ghost use Rattle.std.specs.Prelude.{true, false};
     ghost use Rattle.cache_core.specs.History.{History, access as accessed, flush as flushed};
     ghost use Rattle.cache_core.specs.Parts.{outcome_of};
     ghost use Rattle.cache_core.specs.declared.access.Access.{Access as Asked};
@@ -64,6 +64,24 @@ impl Level {
         ensures rules { rules_in self.new ≡ rules_in self.old }
     {
         self.engine.access(access)
+    }
+
+    /// Serves an access the short way, if it may go it, as a use of the block that was used last may.
+    /// It sends nothing then. Any other access is left.
+    #[inline(always)]
+    pub fn again(&mut self, access: Access) -> bool
+        requires room { CanServe self.old }
+        ensures last { result ≡ true → (h : History) → LevelStandsFor self.old h →
+            HasServedLast self.new h access }
+        ensures silent { result ≡ true → (h : History) → LevelStandsFor self.old h →
+            (cell : ℕ) → cell < length (rules_in self.new) →
+            SendsNothing (outcome_of (rules_at (rules_in self.new) cell) h access) }
+        ensures stands { result ≡ true → (h : History) → LevelStandsFor self.old h →
+            LevelStandsFor self.new (accessed access ∷ h) }
+        ensures leaves { result ≡ false → self.new ≡ self.old }
+        ensures rules { rules_in self.new ≡ rules_in self.old }
+    {
+        self.engine.again(access)
     }
 
     /// Serves a flush, and answers for each cache the first bytes of the blocks that it writes

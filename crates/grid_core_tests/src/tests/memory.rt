@@ -54,6 +54,12 @@ fn stays_failed(rt: &impl Abort, engine: &mut Engine, before: Snapshot) {
     });
     assert_eq!(rt; again, Err(NoMemory));
     assert!(rt; engine.served() < MAX_EVENTS);
+    let short = engine.again(Access {
+        class: Class::Read,
+        addr: 0,
+    });
+    assert!(rt; !short);
+    assert!(rt; engine.served() < MAX_EVENTS);
     assert!(rt; engine.flush().is_err());
     assert!(rt; engine.failed());
     assert_eq!(rt; kept(rt, engine), before);

@@ -27,6 +27,12 @@ fn expect_sent(rt: &impl Abort, engine: &mut Engine, class: Class, addr: u64, se
     assert_eq!(rt; engine.sent_nothing(), !sent);
 }
 
+/// Serves an access the short way, if it may go it, and answers whether it did.
+fn goes_short(rt: &impl Abort, engine: &mut Engine, class: Class, addr: u64) -> bool {
+    assert!(rt; engine.served() < MAX_EVENTS);
+    engine.again(Access { class, addr })
+}
+
 /// Reads of two blocks of one set. Both stay in the two-way cache, and push one another out of the
 /// direct-mapped one.
 fn reads_alike(rt: &impl Abort, engine: &mut Engine) {
@@ -103,4 +109,47 @@ fn fifo_caches_tell_what_they_send(rt: HostRuntime) -> Result<(), Fail> {
     reads_alike(&rt, &mut through);
     writes_alike(&rt, &mut through, true);
     Ok(())
+}
+
+#[test]
+fn the_block_used_last_goes_the_short_way(rt: HostRuntime) -> Result<(), Fail> {
+    let mut engine = made(&rt, rt.alloc(), Repl::Lru, true);
+    assert!(&rt; !goes_short(&rt, &mut engine, Class::Read, 0));
+    expect_sent(&rt, &mut engine, Class::Read, 0, true);
+    assert!(&rt; goes_short(&rt, &mut engine, Class::Misc, 3));
+    assert!(&rt; engine.sent_nothing());
+    assert!(&rt; !goes_short(&rt, &mut engine, Class::Read, 4));
+    // The first write makes the block dirty.
+    assert!(&rt; !goes_short(&rt, &mut engine, Class::Write, 1));
+    expect_sent(&rt, &mut engine, Class::Write, 1, false);
+    assert!(&rt; goes_short(&rt, &mut engine, Class::Write, 2));
+    assert_eq!(&rt; engine.served(), 4);
+    assert!(&rt; engine.served() < MAX_EVENTS);
+    let _lists = engine.flush()?;
+    assert!(&rt; !goes_short(&rt, &mut engine, Class::Read, 0));
+    assert_eq!(&rt; engine.served(), 5);
+    assert!(&rt; 1 < engine.cells());
+    for index in 0..2 {
+        let counts = engine.counts(index);
+        let fetches = [
+            counts.fetches.read,
+            counts.fetches.write,
+            counts.fetches.misc,
+        ];
+        assert_eq!(&rt; fetches, [1, 2, 1]);
+        assert_eq!(&rt; counts.misses.total(), 1);
+        assert_eq!(&rt; counts.written_back, 1);
+    }
+    Ok(())
+}
+
+#[test]
+fn what_sends_or_has_no_order_goes_no_short_way(rt: HostRuntime) {
+    let mut through = made(&rt, rt.alloc(), Repl::Lru, false);
+    expect_sent(&rt, &mut through, Class::Write, 0, true);
+    assert!(&rt; !goes_short(&rt, &mut through, Class::Write, 0));
+    assert!(&rt; goes_short(&rt, &mut through, Class::Instr, 0));
+    let mut fifo = made(&rt, rt.alloc(), Repl::Fifo, true);
+    expect_sent(&rt, &mut fifo, Class::Read, 0, true);
+    assert!(&rt; !goes_short(&rt, &mut fifo, Class::Read, 0));
 }

@@ -1,4 +1,4 @@
-use Rattle.std.proofs.Common.{◌++◌, List, get_or, map, ap, subst}
+use Rattle.std.proofs.Common.{◌++◌, List, get_or, map, ap, refl, subst, sym}
 use Rattle.std.specs.List.{All}
 use Rattle.std.proofs.lemmas.Result.{on_ok_weaker}
 use Rattle.cache_core.specs.History.{History}
@@ -8,37 +8,56 @@ use Rattle.grid_run.specs.Backs.{back_task, followed_by, seat_on, sent_for, sent
 use Rattle.grid_run.specs.Fronts.{FrontAt, front_rules}
 use Rattle.grid_run.specs.Seats.{Table, rules_of_seat}
 use Rattle.grid_run.specs.Sending.{event_of}
-use Rattle.grid_run.proofs.Behind.{asked-same}
+use Rattle.grid_run.specs.declared.front.Front.{Front}
+use Rattle.grid_run.proofs.Behind.{asked-same, nothing-asked}
 use Rattle.grid_run.proofs.Events.{few-served, history-one, sent-one}
 use Rattle.grid_run.proofs.lane.serve_side.Goals as goal
 
-pub serve_request-requires : goal.serve_request-requires
-serve_request-requires c =
-    let room = c.requires.room in
-    record {
-      placed = c.requires.placed;
-      room = (history c.args.side room.0, room.1, few-served c.args.side room.0 room.2);
-    }
-
-pub returns-in-Some-clause-stands : goal.returns-in-Some-clause-stands
-returns-in-Some-clause-stands c =
-    on_ok_weaker c.serve_request.result (λ served es all.
-    subst (λ (h : History). All (FrontAt h) c.serve_request.new.fronts.items)
+pub returns-then-serve_again-clause-stands : goal.returns-then-serve_again-clause-stands
+returns-then-serve_again-clause-stands c = λ es all.
+    subst (λ (h : History). All (FrontAt h) c.serve_again.new.fronts.items)
     (history-one c.args.side es c.args.event c.in-Some.request c.in-Some.ensures)
-    (served (history c.args.side es) all)) c.serve_request.ensures.stands
+    (c.if-serve_again.ensures.stands refl (history c.args.side es) all)
 
-pub returns-in-Some-clause-asked : goal.returns-in-Some-clause-asked
-returns-in-Some-clause-asked c =
+pub returns-then-serve_again-clause-asked : goal.returns-then-serve_again-clause-asked
+returns-then-serve_again-clause-asked c = λ es before all was.
     let s = c.args.side in
-    let e = c.args.event in
     let q = c.in-Some.request in
-    let bs = c.serve_request.new.backs.items in
+    let bs = c.args.backs.now.items in
     let fronts : Table = map front_rules c.args.fronts.now.items in
-    on_ok_weaker c.serve_request.result (λ asked es before all was.
+    let again = c.if-serve_again.ensures in
     asked-same (followed_by before (sent_for s fronts (history s es) (event_of q)))
-    (followed_by before (sent_on_side s fronts es e)) bs
+    (followed_by before (sent_on_side s fronts es c.args.event)) bs
     (λ k b lt.
     let t = back_task (get_or bs k b) in
     ap (λ (ws : List What). before t ++ ws)
-    (sent-one s es e (rules_of_seat fronts (seat_on s t)) q c.in-Some.ensures))
-    (asked (history s es) before all was)) c.serve_request.ensures.asked
+    (sent-one s es c.args.event (rules_of_seat fronts (seat_on s t)) q c.in-Some.ensures))
+    (nothing-asked c.serve_again.new.fronts.items fronts c.serve_again.ensures.rules s bs
+    c.requires.placed (again.silent refl) (history s es) q (again.sent refl (history s es) all)
+    before was)
+
+pub serve_again-requires : goal.serve_again-requires
+serve_again-requires c =
+    let room = c.requires.room in
+    record {
+      room = (history c.args.side room.0, room.1, few-served c.args.side room.0 room.2);
+    }
+
+pub serve_request-requires-clause-room : goal.serve_request-requires-clause-room
+serve_request-requires-clause-room c =
+    let room = c.requires.room in
+    let past = history c.args.side room.0 in (
+      past,
+      subst (λ (fs : List Front). All (FrontAt past) fs)
+          (sym (c.if-serve_again.ensures.leaves refl)) room.1,
+      few-served c.args.side room.0 room.2,
+    )
+
+pub returns-clause-stands : goal.returns-clause-stands
+returns-clause-stands c =
+    on_ok_weaker c.serve_request.result (λ served es all.
+    let past = history c.args.side es in
+    subst (λ (h : History). All (FrontAt h) c.serve_request.new.fronts.items)
+    (history-one c.args.side es c.args.event c.in-Some.request c.in-Some.ensures)
+    (served past (subst (λ (fs : List Front). All (FrontAt past) fs)
+    (sym (c.if-serve_again.ensures.leaves refl)) all))) c.serve_request.ensures.stands
