@@ -11,8 +11,8 @@
 //!
 //! The modules: `ends` has the rings, and which end each thread owns. `gate` lets tests hold
 //! threads. `split`, `stage_thread` and `merge_thread` are the bodies of the threads. `pipeline`
-//! starts the threads and collects their results, and `joins` joins them. `fault` has the faults of
-//! a run, and which of several is answered.
+//! starts the threads and collects their results, `gap` keeps their machines apart in memory, and
+//! `joins` joins them. `fault` has the faults of a run, and which of several is answered.
 //!
 //! What programs need of this, sim_run passes on. All else that is public here is for the tests of
 //! single threads, and of runs that are given up.
@@ -30,6 +30,7 @@
 
 mod ends;
 mod fault;
+mod gap;
 mod gate;
 mod joins;
 mod merge_thread;

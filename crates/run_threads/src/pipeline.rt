@@ -19,6 +19,7 @@ ghost use Rattle.run_threads.specs.Waits.{splitter_at};
 
 use crate::ends::{MergeEnds, Rings, SplitterEnds, StageEnds};
 use crate::fault::{NoThread, RunFault, gravest};
+use crate::gap::gap;
 use crate::gate::{Gate, Who};
 use crate::joins::{all_ended, join_merge, join_stage, why_stopped, wind_up};
 use crate::merge_thread::{MergeEnd, MergeHandle, start_merge};
@@ -53,25 +54,6 @@ pub struct Machines {
     pub u: L2Stage,
 }
 
-/// How many small blocks of memory a gap has.
-const GAP: usize = 4;
-
-/// Allocates a gap between two machines: blocks that no thread uses, of the size of those at the
-/// ends of a shadow's list. Each access writes to the latter, and an allocator puts small blocks
-/// side by side. Without a gap, two threads would write to one line of the processor's caches.
-fn gap(alloc: Global) -> Result<Vec<Vec<u64>>, NoMemory> {
-    let mut blocks = Vec::new(alloc);
-    for _ in 0..GAP {
-        let Ok(block) = vec![in alloc; 0u64; 3] else {
-            return Err(NoMemory);
-        };
-        if blocks.push(block).is_err() {
-            return Err(NoMemory);
-        }
-    }
-    Ok(blocks)
-}
-
 impl Machines {
     fn new(alloc: Global, config: &Config) -> Result<Machines, NoMemory>
         ensures new { IfOk result (λ machines. AreNew machines) }
@@ -80,11 +62,11 @@ impl Machines {
         let (i_geometry, i_policy) = config.i();
         let (d_geometry, d_policy) = config.d();
         let (u_geometry, u_policy) = config.u();
-        let gap_before_i = gap(alloc)?;
+        let _gap_before_i = gap(alloc)?;
         let i = L1Stage::new(alloc, Side::I, i_geometry, i_policy)?;
-        let gap_before_d = gap(alloc)?;
+        let _gap_before_d = gap(alloc)?;
         let d = L1Stage::new(alloc, Side::D, d_geometry, d_policy)?;
-        let gap_before_u = gap(alloc)?;
+        let _gap_before_u = gap(alloc)?;
         let u = L2Stage::new(alloc, u_geometry, u_policy)?;
         Ok(Machines { i, d, u })
     }

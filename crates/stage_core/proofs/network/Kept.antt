@@ -70,7 +70,7 @@ pub pop-some : {A : Type 0} (r : Ring A) (p : A × Ring A) → pop r ≡ Some p 
 pop-some r p h = pop_from-some r.popped r.waiting p h
 
 -- what a step of a stage keeps in its lane
-pub record LaneKeeps (parts : Parts) (s : Side) (old new : Lane) : Type 0 where
+record LaneKeeps (parts : Parts) (s : Side) (old new : Lane) : Type 0 where
   pub to : carried new.to ≡ carried old.to
   pub stage : carried new.from ++ new.outbox ≡ replies parts s new.to.popped
   pub popped : new.from.popped ≡ old.from.popped
@@ -101,7 +101,7 @@ lane-takes parts s l m r e h p =
     }
 
 -- the next step of a stage keeps what holds of its lane
-pub stage-keeps : (parts : Parts) (capacity : ℕ) (s : Side) (outbox : List FromStage) (l l' : Lane)
+stage-keeps : (parts : Parts) (capacity : ℕ) (s : Side) (outbox : List FromStage) (l l' : Lane)
     → l.outbox ≡ outbox → carried l.from ++ l.outbox ≡ replies parts s l.to.popped
     → stage parts capacity s outbox l ≡ Some l' → LaneKeeps parts s l l'
 stage-keeps parts capacity s (m ∷ rest) l l' e h st =
@@ -149,7 +149,7 @@ module _ (parts : Parts) (es : List DinRecord) where
         ∙ k.front
 
     -- the push of a turn keeps a state consistent
-    pub keeps-order : (t : Turn) (rest : List Push) → n.still ≡ Order t ∷ rest
+    keeps-order : (t : Turn) (rest : List Push) → n.still ≡ Order t ∷ rest
         → Consistent parts es (record n { still = rest; order = with_message t n.order })
     keeps-order t rest e =
         keeps_by _ (k.pushed ++ Order t ∷ []) (more-suffix (Order t) rest e)
@@ -162,7 +162,7 @@ module _ (parts : Parts) (es : List DinRecord) where
         (k.from_side side.I) (k.from_side side.D) k.merge
 
     -- so does the push of a message to a side
-    pub keeps-to : (s : Side) (m : ToStage) (rest : List Push) → n.still ≡ To s m ∷ rest
+    keeps-to : (s : Side) (m : ToStage) (rest : List Push) → n.still ≡ To s m ∷ rest
         → Consistent parts es (with_lane s (record
         (lane s n) { to = with_message m (lane s n).to }) (record n { still = rest }))
     keeps-to side.I m rest e =
@@ -198,7 +198,7 @@ module _ (parts : Parts) (es : List DinRecord) where
         (keeps-to s m rest e)
 
     -- so does a stage's step
-    pub keeps-lane : (s : Side) (l : Lane) → LaneKeeps parts s (lane s n) l
+    keeps-lane : (s : Side) (l : Lane) → LaneKeeps parts s (lane s n) l
         → Consistent parts es (with_lane s l n)
     keeps-lane side.I l h =
         keeps_by _ k.pushed k.front k.turns (h.to ∙ k.to_side side.I) (k.to_side side.D) h.stage
@@ -210,7 +210,7 @@ module _ (parts : Parts) (es : List DinRecord) where
         (ap (λ x. merged n.order.popped n.i.from.popped x) h.popped ∙ k.merge)
 
     -- so does the merge's pop of a turn
-    pub keeps-turns : wanted n.at ≡ want.Order → (t : Turn) (r : Ring Turn) → Popped n.order t r
+    keeps-turns : wanted n.at ≡ want.Order → (t : Turn) (r : Ring Turn) → Popped n.order t r
         → Consistent parts es (record n { order = r; at = after_turn t })
     keeps-turns w t r h =
         keeps_by _ k.pushed k.front (h.carried_same ∙ k.turns) (k.to_side side.I)
@@ -219,7 +219,7 @@ module _ (parts : Parts) (es : List DinRecord) where
         ∙ merged-turn n.order.popped n.i.from.popped n.d.from.popped n.given n.at t k.merge w)
 
     -- so does its pop of a side's message
-    pub keeps-takes : (s : Side) → wanted n.at ≡ want_of s → (m : FromStage) (r : Ring FromStage)
+    keeps-takes : (s : Side) → wanted n.at ≡ want_of s → (m : FromStage) (r : Ring FromStage)
         → Popped (lane s n).from m r → Consistent parts es
         (with_lane s (record (lane s n) { from = r })
         (record n { at = after_message n.at m; given = n.given ++ what_in m }))

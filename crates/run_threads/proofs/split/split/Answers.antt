@@ -26,9 +26,9 @@ composed : (g : Over) (c : After-next_record g) (given : List ℕ) (fate : Fate)
     → Takes g.R.ByteReader.remaining g.R.ByteReader.failures c.loop.source c.next_record.new.source
     given fate
     → Calls g.R.ByteReader.remaining g.R.ByteReader.failures c.args.source.now
-    c.next_record.new.source c.loop.invariant.2.given given c.loop.invariant.2.fate fate
+    c.next_record.new.source c.loop.invariant.given given c.loop.invariant.fate fate
 composed g c given fate went =
-    let going = c.loop.invariant.2 in
+    let going = c.loop.invariant in
     calls g.R.ByteReader.remaining g.R.ByteReader.failures c.args.source.now c.loop.source
     c.next_record.new.source going.given given going.fate fate going.went went
     c.next_record.ensures.settled
@@ -45,42 +45,38 @@ stops : (g : Over) (c : After-next_record g) (answer : Result (Option DinRecord)
     → LeavesRest l (HasLeft c.next_record.new.source last))
 stops g c answer reads =
     let all = composed g c reads.0 reads.1 reads.2 in
-    (all.given, all.fate, all.went, rest-answer c.loop.invariant.2 all answer reads.3)
+    (all.given, all.fate, all.went, rest-answer c.loop.invariant all answer reads.3)
 
 pub next_record-requires : goal.next_record-requires
 next_record-requires g c = (
   search rules,
-  (events c.args.selection c.loop.invariant.2.past, false, c.loop.invariant.2.posted),
+  (events c.args.selection c.loop.invariant.past, false, c.loop.invariant.posted),
 )
 
 pub loop-init : goal.loop-init
-loop-init g c = (
-  tt,
-  tt,
-  record {
-    past = [];
-    given = [];
-    fate = Open;
-    went = no_calls g.R.ByteReader.remaining g.R.ByteReader.failures c.args.source.now;
-    left = λ first last l is left.
-        (l, refl, refl, subst (λ s. HasLeft c.args.source.now s l) is left);
-    chosen = c.new-selector.ensures.selection;
-    offered = c.new-selector.ensures.none;
-    room = inl c.new-selector.ensures.none.count;
-    at_most = omega (arith, c.new-splitter.ensures);
-    rings = same-ends c.args.ends.now;
-    counted = c.new-splitter.ensures ∙ sym (ap length c.requires.unused.order);
-    posted = record {
-      order = c.requires.unused.order;
-      to = each_side _ c.requires.unused.to_i c.requires.unused.to_d;
-    };
-  },
-)
+loop-init g c = record {
+  past = [];
+  given = [];
+  fate = Open;
+  went = no_calls g.R.ByteReader.remaining g.R.ByteReader.failures c.args.source.now;
+  left = λ first last l is left.
+      (l, refl, refl, subst (λ s. HasLeft c.args.source.now s l) is left);
+  chosen = c.new-selector.ensures.selection;
+  offered = c.new-selector.ensures.none;
+  room = inl c.new-selector.ensures.none.count;
+  at_most = omega (arith, c.new-splitter.ensures);
+  rings = same-ends c.args.ends.now;
+  counted = c.new-splitter.ensures ∙ sym (ap length c.requires.unused.order);
+  posted = record {
+    order = c.requires.unused.order;
+    to = each_side _ c.requires.unused.to_i c.requires.unused.to_d;
+  };
+}
 
 pub loop-preserved : goal.loop-preserved
 loop-preserved g c =
     let c₁ = (goal.at.loop-preserved g c).After-next_record in
-    let going = c.loop.invariant.2 in
+    let going = c.loop.invariant in
     let read = c.in-Ok.ensures.reads in
     let all = composed g c₁ read.0 read.1 read.2 in
     let next = c.in-Ok-Some.next in
@@ -98,32 +94,29 @@ loop-preserved g c =
     ∙ sym (flat_map_with_past-more (events_at c.args.selection) going.past next) in
     let posts : (xs : List DinRecord) → HasPosted (splitter_at xs false c.next_record.new.ends)
     → HasPosted (splitter_at (xs ++ picked_events c.offer-picked.result) false
-    c.send_picked.new.ends) = search rules in (
-      tt,
-      tt,
-      record {
-        past = going.past ++ next ∷ [];
-        given = all.given;
-        fate = all.fate;
-        went = all.went;
-        left = left-record going all c.in-Ok.answer read.3 next answered;
-        chosen = offers.selection ∙ going.chosen;
-        offered = offers.stands going.past going.offered;
-        room = inr (elim going.room [
-          | inl e ↦ omega (arith, offers.offered, c.in-Ok.ensures.room)
-          | inr h ↦ omega (arith, offers.offered)
-        ]);
-        at_most = omega (arith, offers.offered, c.send_picked.ensures.place, going.at_most);
-        rings = ends-stay c.args.ends.now c.next_record.new.ends c.send_picked.new.ends
-            (ends-stay c.args.ends.now c.loop.ends c.next_record.new.ends going.rings
-            c.next_record.ensures.rings) c.send_picked.ensures.rings;
-        counted = search rules;
-        posted = subst (λ (l : List DinRecord).
-            HasPosted (splitter_at l false c.send_picked.new.ends)) longer
-            (posts es (posted-same es false c.loop.ends c.next_record.new.ends
-            c.next_record.ensures.sent going.posted));
-      },
-    )
+    c.send_picked.new.ends) = search rules in
+    record {
+      past = going.past ++ next ∷ [];
+      given = all.given;
+      fate = all.fate;
+      went = all.went;
+      left = left-record going all c.in-Ok.answer read.3 next answered;
+      chosen = offers.selection ∙ going.chosen;
+      offered = offers.stands going.past going.offered;
+      room = inr (elim going.room [
+        | inl e ↦ omega (arith, offers.offered, c.in-Ok.ensures.room)
+        | inr h ↦ omega (arith, offers.offered)
+      ]);
+      at_most = omega (arith, offers.offered, c.send_picked.ensures.place, going.at_most);
+      rings = ends-stay c.args.ends.now c.next_record.new.ends c.send_picked.new.ends
+          (ends-stay c.args.ends.now c.loop.ends c.next_record.new.ends going.rings
+          c.next_record.ensures.rings) c.send_picked.ensures.rings;
+      counted = search rules;
+      posted = subst (λ (l : List DinRecord).
+          HasPosted (splitter_at l false c.send_picked.new.ends)) longer
+          (posts es (posted-same es false c.loop.ends c.next_record.new.ends
+          c.next_record.ensures.sent going.posted));
+    }
 
 pub returns-in_default-clause-reads : goal.returns-in_default-clause-reads
 returns-in_default-clause-reads g c =
@@ -133,7 +126,7 @@ returns-in_default-clause-reads g c =
       all.given,
       all.fate,
       all.went,
-      λ first last l is left. (tt, rest-cut c.loop.invariant.2 all read.3 first last l is left),
+      λ first last l is left. (tt, rest-cut c.loop.invariant all read.3 first last l is left),
     )
 
 pub returns-then-is_err-clause-reads : goal.returns-then-is_err-clause-reads
@@ -146,7 +139,7 @@ pub returns-in-Err-clause-reads : goal.returns-in-Err-clause-reads
 returns-in-Err-clause-reads g c =
     let read = c.in-Ok.ensures.reads in
     let c₁ = (goal.at.returns-in-Err-clause-reads g c).After-next_record in
-    let going = c.loop.invariant.2 in
+    let going = c.loop.invariant in
     let all = composed g c₁ read.0 read.1 read.2 in (
       all.given,
       all.fate,
@@ -169,7 +162,7 @@ returns-then-is_err-2-clause-reads g c =
 pub returns-in-Ok-None-clause-reads : goal.returns-in-Ok-None-clause-reads
 returns-in-Ok-None-clause-reads g c =
     let c₁ = (goal.at.returns-in-Ok-None-clause-reads g c).After-next_record in
-    let going = c.loop.invariant.2 in
+    let going = c.loop.invariant in
     let read = c.in-Ok.ensures.reads in
     let all = composed g c₁ read.0 read.1 read.2 in
     let answered : c.in-Ok.answer ≡ Ok None =

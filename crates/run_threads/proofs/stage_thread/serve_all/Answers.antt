@@ -38,11 +38,11 @@ served g c = record {
 pub send_outbox-requires : goal.send_outbox-requires
 send_outbox-requires g c = record {
   answered = answers-more c.args.stage.now c.args.ends.now c.loop.stage c.loop.ends
-      c.in-Ok.message c.on.new.self c.receive.new.ends c.loop.invariant.2 c.in-Ok.ensures.received
+      c.in-Ok.message c.on.new.self c.receive.new.ends c.loop.invariant.0 c.in-Ok.ensures.received
       c.on.ensures.side c.on.ensures.rules
       (rw (
         c.receive.ensures.sent,
-        c.in-Ok-on.ensures.sent (received c.loop.ends.from_splitter) c.loop.invariant.2.stands,
+        c.in-Ok-on.ensures.sent (received c.loop.ends.from_splitter) c.loop.invariant.0.stands,
       ) refl);
 }
 
@@ -50,7 +50,7 @@ send_outbox-requires g c = record {
 served-all : (g : Over) (c : After-finished g)
     → StageServed c.args.stage.now c.args.ends.now c.send_outbox.new.stage c.send_outbox.new.ends
 served-all g c = serves-more c.args.stage.now c.args.ends.now c.loop.stage c.loop.ends
-    c.in-Ok.message c.send_outbox.new.stage c.send_outbox.new.ends c.loop.invariant.2 (served g c)
+    c.in-Ok.message c.send_outbox.new.stage c.send_outbox.new.ends c.loop.invariant.0 (served g c)
 
 pub publish-requires : goal.publish-requires
 publish-requires g c =
@@ -71,8 +71,8 @@ returns-then-finished-clause-ended g c =
     let c₂ = (goal.at.returns-then-finished-clause-ended g c).After-publish in
     let done : took_finish c.send_outbox.new.stage ≡ true = search rules in
     let ended = serves-finish c.args.stage.now c.args.ends.now c.loop.stage c.loop.ends
-    c.in-Ok.message c.send_outbox.new.stage c.send_outbox.new.ends c.loop.invariant.2
-    c.loop.invariant.3.goes_on (served g c₁)
+    c.in-Ok.message c.send_outbox.new.stage c.send_outbox.new.ends c.loop.invariant.0
+    c.loop.invariant.1.goes_on (served g c₁)
     (sym c.in-Ok-on.ensures.finish ∙ sym c.send_outbox.ensures.finish ∙ done) in
     record {
       served = served-published g c₂ (served-all g c₁);
@@ -95,8 +95,6 @@ returns-then-finished-clause-rests g c =
 
 pub loop-init : goal.loop-init
 loop-init g c = (
-  tt,
-  tt,
   search rules,
   search rules,
   inr (unused-published c.args.ends.now c.requires.unused),
@@ -105,10 +103,8 @@ loop-init g c = (
 pub loop-preserved : goal.loop-preserved
 loop-preserved g c =
     let c₁ = (goal.at.loop-preserved g c).After-finished in (
-      tt,
-      tt,
       serves-more c.args.stage.now c.args.ends.now c.loop.stage c.loop.ends c.in-Ok.message
-          c.send_outbox.new.stage c.send_outbox.new.ends c.loop.invariant.2 (served g c₁),
+          c.send_outbox.new.stage c.send_outbox.new.ends c.loop.invariant.0 (served g c₁),
       search rules,
       elim (cases_Bool c.is_open.result) [
         | inl opens ↦ inl (c.is_open.ensures opens)

@@ -6,8 +6,6 @@ use Rattle.run_threads.proofs.stage_thread.serve_all.Given as goal
 
 abbrev pub invariant-loop : goal.invariant-loop
 invariant-loop g l =
-    (goal.iterator-loop g).can_next l.iterator'
-    × (goal.iterator-loop g).is_finite l.iterator'
-    × StageServed l.fn.stage l.fn.ends l.stage l.ends
+    StageServed l.fn.stage l.fn.ends l.stage l.ends
     × IsReady l.stage
     × ((g.G.Gate.open l.fn.gate ≡ true) ⊎ AnswersPublished l.ends)

@@ -4,7 +4,5 @@ use Rattle.run_threads.proofs.waits.await_item.Given as goal
 
 abbrev pub invariant-loop : goal.invariant-loop
 invariant-loop g l =
-    (goal.iterator-loop g).can_next l.iterator'
-    × (goal.iterator-loop g).is_finite l.iterator'
-    × SameRx l.fn.rx l.rx
+    SameRx l.fn.rx l.rx
     × (received l.rx ≡ received l.fn.rx)

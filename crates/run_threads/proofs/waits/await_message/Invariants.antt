@@ -5,9 +5,7 @@ use Rattle.run_threads.proofs.waits.await_message.Given as goal
 
 abbrev pub invariant-loop : goal.invariant-loop
 invariant-loop g l =
-    (goal.iterator-loop g).can_next l.iterator'
-    × (goal.iterator-loop g).is_finite l.iterator'
-    × SameRx l.fn.ends.from_splitter l.ends.from_splitter
+    SameRx l.fn.ends.from_splitter l.ends.from_splitter
     × SameTx l.fn.ends.to_merge l.ends.to_merge
     × (received l.ends.from_splitter ≡ received l.fn.ends.from_splitter)
     × (sent l.ends.to_merge ≡ sent l.fn.ends.to_merge)

@@ -4,9 +4,7 @@ use Rattle.run_threads.proofs.waits.await_room.Given as goal
 
 abbrev pub invariant-loop : goal.invariant-loop
 invariant-loop g l =
-    (goal.iterator-loop g).can_next l.iterator'
-    × (goal.iterator-loop g).is_finite l.iterator'
-    × (l.ends.from_splitter ≡ l.fn.ends.from_splitter)
+    (l.ends.from_splitter ≡ l.fn.ends.from_splitter)
     × SameTx l.fn.ends.to_merge l.ends.to_merge
     × (sent l.ends.to_merge ≡ sent l.fn.ends.to_merge)
     × (length (posted l.ends.to_merge) ≤ length (posted l.fn.ends.to_merge))

@@ -5,8 +5,6 @@ use Rattle.run_threads.proofs.waits.await_rooms.Given as goal
 
 abbrev pub invariant-loop : goal.invariant-loop
 invariant-loop g l =
-    (goal.iterator-loop g).can_next l.iterator'
-    × (goal.iterator-loop g).is_finite l.iterator'
-    × SameSplitterEnds l.fn.ends l.ends
+    SameSplitterEnds l.fn.ends l.ends
     × SentSame l.fn.ends l.ends
     × (held l.ends ≤ held l.fn.ends)

@@ -1,9 +1,9 @@
-use Rattle.std.proofs.Common.{IsSome, ap, refl, sym, subst, ◌∙◌}
+use Rattle.std.proofs.Common.{IsSome, ap, sym, subst, ◌∙◌}
 use Rattle.stage_core.specs.Network.{Stage}
 use Rattle.stage_core.specs.Network.Sides.{OneChanges}
 use Rattle.stage_core.specs.Network.Lanes.{HasStepped}
 use Rattle.stage_core.specs.Network.Cores.{CoreState, next_in}
-use Rattle.stage_core.proofs.network.Steps.{Steps, makes-step, on_ok_by}
+use Rattle.stage_core.proofs.network.Steps.{Steps, on_ok_by}
 use Rattle.stage_core.proofs.network.StageSteps.{with_lanes, stage-steps, may-step}
 use Rattle.stage_core.proofs.network.Core.step_stage.Goals as goal
 
