@@ -9,10 +9,11 @@ commands=(record sweep plot)
 
 # grow TREE VERSION: it fails where a file can't be written.
 grow() {
-    local lib=$1/lib/dinero_pipe pages=$1/share/man/man1 name
+    local lib=$1/lib/dinero_pipe pages=$1/share/man/man1 name place
     mkdir -p "$lib" "$pages" "$1/bin" || return
     for name in "${programs[@]}"; do
-        ln -s "$(place_of "$name")" "$1/bin/$name" || return
+        find_place "$name"
+        ln -s "$place" "$1/bin/$name" || return
         with_version "$2" < "$top/docs/$name.1" > "$pages/$name.1" || return
     done
     installed_text < "$top/bin/installed_program.sh" > "$lib/program.sh" || return

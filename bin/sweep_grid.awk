@@ -1,5 +1,7 @@
-# A grid, as its description tells of it. The other programs of sweep are read behind this one, and
-# see only the lines behind the description, which ends in the line `rows`.
+# A grid, as its description tells of it, and the whole rows that are there. The other programs of
+# sweep are read behind this one. They are given the description first; then, with `part=rows`,
+# whole rows, which the array `row` has by their numbers in the grid; and with another `part`, what
+# only they see. What they make goes to files in the folder of the sweep.
 #
 # Each line of a description has its words between tabs:
 #
@@ -17,10 +19,10 @@
 
 BEGIN {
     FS = OFS = "\t"
-    described = 0
+    cells_of_trace = 1
 }
 
-!described {
+part == "" {
     if ($1 == "counts") {
         heads = substr($0, 8)
         head_count = NF - 1
@@ -33,41 +35,51 @@ BEGIN {
     } else if ($1 == "with") {
         tied[++ties] = $2
         lead[$2] = $3
+        is_lead[$3] = 1
     } else if ($1 == "shown") {
         full = 1
         shown[$2, $3] = $4
     } else if ($1 == "trace") {
         read_trace()
-    } else if ($1 == "rows") {
-        described = 1
-        finish_grid()
     }
     next
 }
 
-function read_values(name, list,   part, i) {
-    varied[++dimensions] = name
-    dimension_of[name] = dimensions
-    count[dimensions] = split(list, part, ",")
-    for (i = 1; i <= count[dimensions]; i++) {
-        value[dimensions, i] = part[i]
-        place[dimensions, part[i]] = i
-    }
+part == "rows" {
+    keep_row($0)
+    next
 }
 
-# read_trace(): its name is the rest of the line.
+# file(NAME): of the sweep's folder.
+function file(name) {
+    return ENVIRON["work"] "/" name
+}
+
+# keep_row(TEXT): a whole row, if it is of the grid.
+function keep_row(text,   n) {
+    $0 = text
+    n = number_of_row()
+    if (n) row[n] = text
+}
+
+function read_values(name, list,   one, i) {
+    varied[++dimensions] = name
+    dimension_of[name] = dimensions
+    count[dimensions] = split(list, one, ",")
+    for (i = 1; i <= count[dimensions]; i++) {
+        value[dimensions, i] = one[i]
+        place[dimensions, one[i]] = i
+    }
+    cells_of_trace *= count[dimensions]
+}
+
+# read_trace(): its name is the rest of the line. The traces stand behind the options.
 function read_trace(   name) {
     name = substr($0, length($1 $2 $3) + 4)
     trace[++traces] = name
     trace_at[name] = traces
     sum_of[name] = $2
     unpacker[traces] = $3
-}
-
-function finish_grid(   d) {
-    for (d = 1; d <= ties; d++) is_lead[lead[tied[d]]] = 1
-    cells_of_trace = 1
-    for (d = 1; d <= dimensions; d++) cells_of_trace *= count[d]
     cells = traces * cells_of_trace
 }
 

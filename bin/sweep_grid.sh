@@ -1,10 +1,14 @@
 # The grid of a sweep, and how it is cut into runs. Read by sweep.
 # shellcheck shell=bash disable=SC2154,SC2034  # names that sweep and its other files set, or use
 
-# of_grid PROGRAM [WORD..]: a program of awk, which reads the grid's description, and then the lines
-# on standard input.
+# of_grid PROGRAMS WORD..: programs of awk, which read the grid's description, and then what the
+# words say: files, and values of names.
 of_grid() {
-    LC_ALL=C awk -f "$here/sweep_grid.awk" -f "$here/$1" "${@:2}" "$described" <(echo rows) -
+    local program programs=()
+    for program in grid $1; do
+        programs+=(-f "$here/sweep_$program.awk")
+    done
+    LC_ALL=C work=$work awk "${programs[@]}" "$described" "${@:2}"
 }
 
 # no_room: for the files that a sweep keeps for itself.
@@ -14,9 +18,10 @@ no_room() {
 
 # run_trial OPTION VALUES: runs the simulator with these values, and the first one of each other
 # option that has several, on a trace without records, and sets `status`. Its table, with a line for
-# each value, is in the file `tried`.
+# each value, is in the file `tried`. All values of all options at once could be more than the
+# memory holds.
 run_trial() {
-    local i list words=(${full:+"$full"} "${fixed[@]}")
+    local i list words=(--threads 1 ${full:+"$full"} "${fixed[@]}")
     for i in "${!varied[@]}"; do
         [ "${varied[i]}" = "$1" ] || words+=("${varied[i]}" "${values[i]%%,*}")
     done
@@ -24,7 +29,7 @@ run_trial() {
         find_list "${leads[i]}"
         [ "${tied[i]}" = "$1" ] || words+=("${tied[i]}" "${list%%,*}")
     done
-    [ -z "$1" ] || words+=("$1" "$2")
+    words+=("$1" "$2")
     status=0
     "$program" "${words[@]}" < /dev/null > "$work/tried" 2> "$work/told" || status=$?
 }
@@ -51,23 +56,20 @@ find_list() {
     done
 }
 
-# find_counts: sets `counts` to the names of the columns behind those of options. With one value of
-# each option, only a full table has any of these.
+# find_counts: sets `counts` to the names of the columns behind those of options, in the table that
+# was tried.
 find_counts() {
-    try '' ''
-    counts=$(head -n 1 "$work/tried")
-    [ -z "$full" ] || counts=$(cut -f "$(($(wc -l <<<"$options") + 1))-" <<<"$counts")
+    local name
+    IFS= read -r counts < "$work/tried"
+    while read -r name _; do
+        counts=${counts#"$name"$'\t'}
+    done <<<"$options"
 }
 
 # check_values: one that the simulator can't read would spoil all rows of a run, so it is refused
 # before any.
 check_values() {
-    local i list name value
-    find_counts
-    while read -r name value; do
-        find_value "--$name"
-        [ -z "$value" ] || note_shown "$name" "$value"
-    done <<<"$options"
+    local i list
     for i in "${!varied[@]}"; do
         try_values "${varied[i]}" "${values[i]}"
     done
@@ -75,6 +77,8 @@ check_values() {
         find_list "${leads[i]}"
         try_values "${tied[i]}" "$list"
     done
+    find_counts
+    [ -z "$full" ] || note_shared
 }
 
 # try_values OPTION LIST: all at once where the simulator takes them, and else one by one: some
@@ -83,25 +87,42 @@ try_values() {
     local status value
     run_trial "$1" "$2"
     if [ "$status" -eq 0 ] || [ "$status" -eq 5 ]; then
-        note_shown "${1#--}" "$2"
+        [ -z "$full" ] || note_shown "${1#--}" "$2"
         return
     fi
     for value in ${2//,/ }; do
         try "$1" "$value"
-        note_shown "${1#--}" "$value"
+        [ -z "$full" ] || note_shown "${1#--}" "$value"
     done
 }
 
-# note_shown NAME LIST: keeps how a full table has each of these values, from the one that was
-# tried, as lines of the grid's description.
+# note_shown NAME LIST: adds to `shown`, for each of the values that were tried, the name, the
+# value, and how a full table has it.
+shown=()
 note_shown() {
-    [ -z "$full" ] || awk -F '\t' -v OFS='\t' -v "name=$1" -v "list=$2" '
-        NR == 1 {
-            split(list, value, ",")
-            for (i = 1; i <= NF; i++) if ($i == name) at = i
-        }
-        NR > 1 { print "shown", name, value[NR - 1], $at }' "$work/tried" 2>/dev/null \
-        >> "$work/shown" || no_room
+    local name value row at=0
+    while read -r name _ && [ "$name" != "$1" ]; do
+        at=$((at + 1))
+    done <<<"$options"
+    {
+        read -r _
+        for value in ${2//,/ }; do
+            IFS=$'\t' read -ra row
+            shown+=("$1" "$value" "${row[at]}")
+        done
+    } < "$work/tried"
+}
+
+# note_shared: the same, in front of those, for each value that all rows have.
+note_shared() {
+    local name value row shared=() at=0
+    { read -r _ && IFS=$'\t' read -ra row; } < "$work/tried"
+    while read -r name value; do
+        find_value "--$name"
+        [ -z "$value" ] || shared+=("$name" "$value" "${row[at]}")
+        at=$((at + 1))
+    done <<<"$options"
+    shown=("${shared[@]}" "${shown[@]}")
 }
 
 # find_value OPTION: sets `value` to that of all rows, or to nothing if they have several.
@@ -127,7 +148,7 @@ describe_grid() {
     for i in "${!tied[@]}"; do
         printf 'with\t%s\t%s\n' "${tied[i]#--}" "${leads[i]#--}"
     done
-    [ -z "$full" ] || cat "$work/shown"
+    [ -z "$full" ] || printf 'shown\t%s\t%s\t%s\n' "${shown[@]}"
     for i in "${!traces[@]}"; do
         printf 'trace\t%s\t%s\t%s\n' "${sums[i]:--}" "${unpackers[i]}" "${traces[i]}"
     done
@@ -139,32 +160,31 @@ find_sums() {
     local trace sum
     for trace in "${traces[@]}"; do
         sum=$({ stat -L -c '%s %.9Y' -- "$trace" && head -c 1M < "$trace" | sha256sum &&
-            tail -c 1M < "$trace" | sha256sum; } 2>/dev/null | sha256sum | cut -c 1-16) ||
+            tail -c 1M < "$trace" | sha256sum; } 2>/dev/null | sha256sum) ||
             die 4 "no trace to read: $trace"
-        sums+=("$sum")
+        sums+=("${sum::16}")
     done
 }
 
-# find_path NAME: sets `path` to the whole path of the file, in which any byte may stand.
-find_path() {
-    IFS= read -r -d '' path < <(realpath -zm -- "$1")
+# find_paths NAME..: sets `paths` to the whole paths of the files, in which any byte may stand.
+find_paths() {
+    mapfile -d '' -t paths < <(realpath -zm -- "$@")
+    [ ${#paths[@]} -eq $# ]
 }
 
 # furnish FOLDER: gives the program and the traces their short names in it.
 furnish() {
-    local i path
-    mkdir "$1" && ln -s "$program" "$1/dinero_grid" || return
-    for i in "${!traces[@]}"; do
-        find_path "${traces[i]}" && ln -s "$path" "$1/$i.din" || return
+    local i paths
+    ln -s "$program" "$1/dinero_grid" && find_paths "${traces[@]}" || return
+    for i in "${!paths[@]}"; do
+        ln -s "${paths[i]}" "$1/$i.din" || return
     done
 }
 
-# make_work: the folder of the sweep.
+# make_work: the folder of the sweep. Its name has no link.
 make_work() {
-    local path
-    work=$(mktemp -d) || die 4 'no folder for temporary files'
-    find_path "$work"
-    work=$path
+    work=$(made=$(mktemp -d) && cd -P -- "$made" && pwd) ||
+        die 4 'no folder for temporary files'
     leftovers+=("$work")
     described=$work/grid
 }
@@ -172,16 +192,17 @@ make_work() {
 prepare() {
     check_values
     [ -z "$log" ] || find_sums
-    { describe_grid > "$described" && furnish "$work/run" && mkdir "$work/raw" &&
-        : > "$work/pending"; } 2>/dev/null || no_room
+    { describe_grid > "$described" && furnish "$work" && : > "$work/pending"; } 2>/dev/null ||
+        no_room
 }
 
-# plan WORD..: the runs that are left to make, and the lines of shell that make them. The words say
-# how to cut the grid. Sets `run_lines` to a line for each run, and `runs` to how many there are.
+# plan PROGRAMS WORD..: the runs that are left to make. The words say how to cut the grid. Sets
+# `run_lines` and `commands` to a line for each run and the line of shell that makes it, and `runs`
+# to how many there are.
 plan() {
-    { of_grid sweep_plan.awk "$@" < "$work/pending" > "$work/runs" &&
-        of_grid sweep_commands.awk < "$work/runs" > "$work/commands"; } 2>/dev/null || no_room
+    of_grid "$1" part=rows "${@:2}" "$work/pending" 2>/dev/null || no_room
     mapfile -t run_lines < "$work/runs"
+    mapfile -t commands < "$work/commands"
     runs=${#run_lines[@]}
 }
 
@@ -198,8 +219,8 @@ claim() {
 
 # choose_folder FOLDER: of the reports. Its name is kept for what is said of it.
 choose_folder() {
-    local path
+    local paths
     folder=$1
-    find_path "$folder"
-    reports=$path
+    find_paths "$folder"
+    reports=${paths[0]}
 }

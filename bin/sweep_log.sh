@@ -38,9 +38,8 @@ open_log() {
 read_log() {
     local what
     has_names || say_other_names
-    { tail -n +2 < "$log" | of_grid sweep_log.awk > "$work/read" &&
-        head -n -1 "$work/read" > "$work/pending"; } 2>/dev/null || no_room
-    what=$(tail -n 1 "$work/read")
+    { of_grid log part=log - < "$log" && IFS= read -r what < "$work/verdict"; } 2>/dev/null ||
+        no_room
     case $what in
     good) ;;
     damaged) refuse "$log is no log of a sweep" ;;
@@ -62,6 +61,7 @@ say_other_names() {
     else
         full=
     fi
+    try "${varied[0]}" "${values[0]%%,*}"
     find_counts
     log_names > "$work/names" || no_room
     ! has_names || die 2 "$log was begun $how --full; --restart begins anew"

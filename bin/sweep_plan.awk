@@ -1,6 +1,7 @@
-# Cuts a grid into runs, and prints a line for each. The lines on standard input are whole rows,
-# whose configurations need no run. With `task` and `tasks`, these are the runs of one part of so
-# many; with `slots`, so many can be made at once. sweep_grid.awk is read before it.
+# Cuts a grid into runs. For each, the file `runs` has a line, and `commands` the line of shell that
+# makes it. A configuration whose whole row was read needs no run. With `task` and `tasks`, these
+# are the runs of one part of so many; with `slots`, so many can be made at once. sweep_grid.awk is
+# read before it, and sweep_commands.awk beside it.
 
 # What one call of dinero_grid takes.
 BEGIN { most = 4096 }
@@ -20,15 +21,17 @@ function parts_of_trace(some,   a, b, rest) {
     return slots / a
 }
 
-{
-    n = number_of_row()
-    if (n) is_done[n] = 1
-}
-
 END {
+    printf "" > file("runs")
+    printf "" > file("commands")
     if (tasks == cells) plan_row(task)
     else if (tasks) plan_task()
     else plan_rest()
+}
+
+function put_run(line) {
+    print line > file("runs")
+    print command_of(line) > file("commands")
 }
 
 # plan_row(N): a run of one configuration.
@@ -36,7 +39,7 @@ function plan_row(n,   d, line) {
     choose(n)
     line = chosen[0]
     for (d = 1; d <= dimensions; d++) line = line "\t" value[d, chosen[d]]
-    print line
+    put_run(line)
 }
 
 # plan_task(): the same runs are found for each task, each of which makes its share of them.
@@ -48,7 +51,7 @@ function plan_task(   i, past, n) {
         past += size[i]
     }
     for (i = 1; i <= runs; i++)
-        if (runs <= tasks ? i == task : int((i - 1) * tasks / runs) + 1 == task) print found[i]
+        if (runs <= tasks ? i == task : int((i - 1) * tasks / runs) + 1 == task) put_run(found[i])
 }
 
 # plan_rest(): of what is not done.
@@ -56,7 +59,7 @@ function plan_rest(   i, number, left, parts) {
     parts = parts_of_trace(cover_all())
     for (i = 1; i <= boxes; i++) left[box_trace[i]] += size[i]
     for (i = 1; i <= boxes; i++) cut(box[i], int(parts * size[i] / left[box_trace[i]] + 0.5))
-    for (i = 1; i <= runs; i++) print found[i]
+    for (i = 1; i <= runs; i++) put_run(found[i])
 }
 
 # cover_all(): finds boxes that together are all that is not done; how many traces have one.
@@ -73,7 +76,7 @@ function cover_all(   t, before, some) {
 # A long text that grows letter by letter would be copied as often.
 function marks_of_trace(past,   i, marks, some) {
     for (i = 1; i <= cells_of_trace; i++) {
-        some = some ((past + i) in is_done ? "0" : "1")
+        some = some ((past + i) in row ? "0" : "1")
         if (i % 512 == 0) { marks = marks some; some = "" }
     }
     return marks some

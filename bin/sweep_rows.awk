@@ -1,5 +1,5 @@
-# Makes whole rows of what a run has printed, which follows the line of the run on standard input.
-# The first line that it prints has two words: `whole`, or `again` if another run of the same could
+# Makes whole rows of what a run has printed, which follows the line of the run. They go to the file
+# `rows`, and two words to the file `verdict`: `whole`, or `again` if another run of the same could
 # end otherwise; and the fault of the run, which is a hyphen if there is none. sweep_grid.awk is
 # read before it.
 
@@ -70,12 +70,17 @@ function is_table() {
 }
 
 function give_table(   i) {
-    print "whole", "-"
-    for (i = 1; i <= rows; i++) print front[i], substr(line[i], length(label[i]) + 1)
+    print "whole", "-" > file("verdict")
+    for (i = 1; i <= rows; i++) give_row(i, substr(line[i], length(label[i]) + 1))
 }
 
 function give_fault(how, fault,   i, hyphens) {
-    print how, fault
+    print how, fault > file("verdict")
     for (i = 1; i < head_count; i++) hyphens = hyphens "-\t"
-    for (i = 1; i <= rows; i++) print front[i], hyphens fault
+    for (i = 1; i <= rows; i++) give_row(i, hyphens fault)
+}
+
+function give_row(i, counts) {
+    print front[i], counts > file("rows")
+    keep_row(front[i] "\t" counts)
 }

@@ -1,31 +1,28 @@
 # The runs of a sweep, here and on other machines. Read by sweep.
 # shellcheck shell=bash disable=SC2154,SC2034  # names that sweep and its other files set, or use
 
-# run_one N: leaves what the run has printed in the folder `raw`, and says the number.
-run_one() {
-    local command
-    command=$(sed -n "$1p" "$work/commands")
-    (cd "$work/run" && { exec > "$work/raw/$1"; } 2>/dev/null && exec sh -c "$command") || true
-    echo "$1"
-}
+# What a shell does, in the folder of the sweep, to make a run, whose number and line of shell it is
+# given. It leaves what the run prints in the file `raw.N`, and says the number at the end.
+# shellcheck disable=SC2016  # the inner shell's words
+one_run='{ { eval "$2"; } > "raw.$1"; } 2>/dev/null; echo "$1"'
 
 run_with_xargs() {
-    export -f run_one
-    export work
-    # shellcheck disable=SC2016  # the inner shell's word
-    seq "$runs" | xargs -P "$slots" -n 1 bash -c 'run_one "$1"' run_one
+    local number
+    for ((number = 1; number <= runs; number++)); do
+        printf '%s\0' "$number" "${commands[number - 1]}"
+    done | (cd "$work" && exec xargs -0 -P "$slots" -n 2 sh -c "$one_run" run)
 }
 
 # parallel logs each run as it ends, and keeps what it printed. It takes braces in the name of a
 # file for its own, and runs what stands in them; so it is given names of ours.
 run_with_parallel() {
-    local number words=(--plain --joblog ../joblog --results '../raw/{#}')
+    local number words=(--plain --joblog joblog --results 'raw.{#}')
     [ -z "$jobs" ] || words+=(--jobs "$jobs")
     [ ! -t 2 ] || words+=(--bar)
     [ -z "$hosts" ] || words+=("${host_words[@]}")
-    cd "$work/run" && : > ../joblog || return
-    TMPDIR=${work%/*} PARALLEL_SHELL=/bin/sh parallel "${words[@]}" < ../commands > /dev/null &
-    tail --pid $! -s 0.1 -n +1 -f ../joblog |
+    cd "$work" && : > joblog || return
+    TMPDIR=${work%/*} PARALLEL_SHELL=/bin/sh parallel "${words[@]}" < commands > /dev/null &
+    tail --pid $! -s 0.1 -n +1 -f joblog |
         while IFS=$'\t' read -r number _; do
             ! is_number "$number" || echo "$number"
         done
@@ -35,17 +32,17 @@ run_with_parallel() {
 # is not the folder that is copied, since a list may name this machine by its address too.
 host_words=()
 choose_hosts() {
-    local name path place=$work
-    find_path "$hosts"
-    hosts=$path
+    local name paths place=$work
+    find_paths "$hosts"
+    hosts=${paths[0]}
     # Other machines' shells, and parallel, could take other characters for their own.
     if [[ $place =~ [^A-Za-z0-9/._-] ]]; then
         place=$(mktemp -d /tmp/sweep.XXXXXXXXXX) || die 4 'no folder for temporary files'
         leftovers+=("$place")
     fi
-    furnish "$place/host" 2>/dev/null || no_room
-    cp "$hosts" "$work/hosts" 2>/dev/null || no_room
-    host_words=(--sshloginfile ../hosts --workdir "$place/host")
+    { mkdir "$place/host" && furnish "$place/host" && cp "$hosts" "$work/hosts"; } 2>/dev/null ||
+        no_room
+    host_words=(--sshloginfile hosts --workdir "$place/host")
     grep -qvE '^([0-9]+/)?:$' "$work/hosts" || return 0
     need ssh openssh-client
     need rsync rsync
@@ -107,6 +104,8 @@ make_runs() {
         heard[number]=yes
         take_in "$number"
     done < "$work/finished"
+    wait "$group" || true
+    group=
     for ((number = 1; number <= runs; number++)); do
         [ -n "${heard[number]-}" ] || take_in "$number"
     done
@@ -128,11 +127,12 @@ one_task() {
     local number name=$task failed=
     [ "$tasks" -eq "$cells" ] || name=$task-$tasks
     claim "$into"
-    plan -v "task=$task" -v "tasks=$tasks"
+    plan 'plan commands' "task=$task" "tasks=$tasks"
     : > "$work/kept"
     for ((number = 1; number <= runs; number++)); do
-        run_one "$number" > /dev/null
-        read_run "$number"
+        (cd "$work" && exec sh -c "$one_run" run "$number" "${commands[number - 1]}") > /dev/null ||
+            true
+        read_run "$number" rows
         tell_fault
         if [ "$ended" != whole ]; then
             end_where_stuck

@@ -1,24 +1,22 @@
 # Makes lines of the table from whole rows, which come in any order. The names of the columns are
-# line 0. Prints how many lines it makes, how many of them have a fault, and how many the grid has;
-# then the lines, from number `from` on, as far as there is a row for each, or with `all` to the end
-# of the grid; then the rows that are left. sweep_grid.awk is read before it.
-
-{
-    n = number_of_row()
-    if (n >= from && n > 0) {
-        row[n] = $0
-        has_fault[n] = $NF != "-"
-    }
-}
+# line 0. The file `lines` has how many of those that it makes have a fault, and how many lines the
+# grid has; then the lines, from number `from` on, as far as there is a row for each, or with `all`
+# to the end of the grid. The rows that are left go to the file `pending`. sweep_grid.awk is read
+# before it.
 
 END {
     for (n = from; n <= cells && (n == 0 || all || n in row); n++)
-        if (n > 0 && (!(n in row) || has_fault[n])) faults++
-    print n - from, faults + 0, cells
+        if (n > 0 && !(n in row && row[n] ~ /\t-$/)) faults++
+    print faults + 0, cells > file("lines")
     to = n
-    for (n = from; n < to; n++) print n == 0 ? names() : label(n) "\t" counts(n)
+    for (n = from; n < to; n++) print line_of(n) > file("lines")
+    printf "" > file("pending")
     # What is taken from an index is a text, and would be compared as one.
-    for (n in row) if (n + 0 >= to) print row[n]
+    for (n in row) if (n + 0 >= to) print row[n] > file("pending")
+}
+
+function line_of(n) {
+    return n == 0 ? names() : label_of(n) "\t" counts_of(n)
 }
 
 function names(   text, i) {
@@ -32,7 +30,7 @@ function names(   text, i) {
     return text "\t" heads
 }
 
-function label(n,   text, i) {
+function label_of(n,   text, i) {
     choose(n)
     text = trace[chosen[0]]
     if (full)
@@ -52,7 +50,7 @@ function chosen_of(name,   d) {
     return value[d, chosen[d]]
 }
 
-function counts(n,   text, field, i) {
+function counts_of(n,   text, field, i) {
     if (!(n in row)) {
         for (i = 1; i < head_count; i++) text = text "-\t"
         return text "no report"

@@ -6,33 +6,33 @@ next=0
 faults=0
 last=0
 
-# put_lines [all=yes]: each that can follow the last one, as soon as its row and all before it are
-# there; at the end, also those that have no row.
+# put_lines: those that sweep_table.awk has made: each that can follow the last one, as soon as its
+# row and all before it are there.
 put_lines() {
-    local count some status=0
-    {
-        of_grid sweep_table.awk -v "from=$next" ${1+-v "$1"} < "$work/pending" > "$work/lines" &&
-            IFS=$'\t' read -r count some last < "$work/lines" &&
-            tail -n "+$((count + 2))" "$work/lines" > "$work/pending"
-    } 2>/dev/null || no_room
+    local some lines status=0
+    { IFS=$'\t' read -r some last && mapfile lines; } < "$work/lines" 2>/dev/null || no_room
     faults=$((faults + some))
-    next=$((next + count))
-    [ "$count" -gt 0 ] || return 0
-    sed -n "2,$((count + 1))p" "$work/lines" 2>/dev/null || status=$?
+    next=$((next + ${#lines[@]}))
+    [ ${#lines[@]} -gt 0 ] || return 0
+    (printf %s "${lines[@]}") 2>/dev/null || status=$?
     # If its reader has gone away, a command ends so.
     [ "$status" -ne 141 ] || exit 141
     [ "$status" -eq 0 ] || die 4 'the table could not be written'
 }
 
-# read_run N: sets `ended` and `fault`, and puts the rows of the run into the file `rows`.
+# put_last_lines: also those that have no row.
+put_last_lines() {
+    of_grid table part=rows "from=$next" all=yes "$work/pending" 2>/dev/null || no_room
+    put_lines
+}
+
+# read_run N PROGRAMS [WORD..]: sets `ended` and `fault`, and puts the rows of the run into the file
+# `rows`.
 read_run() {
-    local raw=$work/raw/$1 line=${run_lines[$1 - 1]}
+    local raw=$work/raw.$1 line=${run_lines[$1 - 1]}
     [ -f "$raw" ] || raw=/dev/null
-    {
-        { echo "$line" && cat "$raw"; } | of_grid sweep_rows.awk > "$work/made" &&
-            IFS=$'\t' read -r ended fault < "$work/made" &&
-            tail -n +2 "$work/made" > "$work/rows"
-    } 2>/dev/null || no_room
+    { of_grid "${@:2}" part=run - "$raw" <<<"$line" &&
+        IFS=$'\t' read -r ended fault < "$work/verdict"; } 2>/dev/null || no_room
     trace=${traces[${line%%$'\t'*} - 1]}
 }
 
@@ -47,15 +47,14 @@ tell_fault() {
 
 # take_in N: a run that has ended. Only what another run would say again is kept in the log.
 take_in() {
-    read_run "$1"
-    rm -f "$work/raw/$1" "$work/raw/$1".*
+    read_run "$1" 'rows table' part=rows "from=$next" "$work/pending"
+    { : > "$work/raw.$1"; } 2>/dev/null || true
     if [ "$ended" != whole ]; then
         end_where_full
     elif [ -n "$log" ]; then
         keep "$work/rows"
     fi
     tell_fault
-    cat "$work/rows" >> "$work/pending" 2>/dev/null || no_room
     put_lines
 }
 
@@ -77,7 +76,7 @@ gather_table() {
     for file in "$reports"/*; do
         [[ ! ${file##*/} =~ ^[0-9]+(-[0-9]+)?$ ]] || cat "$file"
     done > "$work/pending" 2>/dev/null || no_room
-    put_lines all=yes
+    put_last_lines
     tell_faults
 }
 

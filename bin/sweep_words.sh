@@ -106,11 +106,18 @@ is_number() {
     [[ $1 =~ ^[1-9][0-9]{0,8}$ ]]
 }
 
-# list_options: those of the simulator's that say what is counted, as its help has them, a line for
-# each: its name, and its default if it has one.
-list_options() {
-    "$program" --help | sed -nE '/^ +--threads /d; s/^ +--([a-z0-9-]+) <[^>]*>  +[^ ].*/\1 &/p' |
-        sed -E 's/ .*\[default: ([^]]*)\]$/ \1/; t; s/ .*//'
+# find_options: sets `options` to those of the simulator's that say what is counted, as its help has
+# them, a line for each: its name, and its default if it has one.
+find_options() {
+    local help line name option='^ +--([a-z0-9-]+) <[^>]*>  +[^ ]' default='\[default: ([^]]*)\]$'
+    help=$("$program" --help)
+    while IFS= read -r line; do
+        [[ $line =~ $option ]] || continue
+        name=${BASH_REMATCH[1]}
+        [ "$name" != threads ] || continue
+        [[ ! $line =~ $default ]] || name+=" ${BASH_REMATCH[1]}"
+        options+=${options:+$'\n'}$name
+    done <<<"$help"
 }
 
 check_words() {
@@ -132,7 +139,7 @@ check_words() {
 # check_options: the simulator has each that is given, and each that it requires is given.
 check_options() {
     local option value given=' ' known=' '
-    options=$(list_options)
+    find_options
     while read -r option value; do
         known+="--$option "
     done <<<"$options"
@@ -152,13 +159,14 @@ check_options() {
 
 # check_task: sets `task` and `tasks` to the numbers of N/M, or of a configuration and of all.
 check_task() {
-    local i
+    local list one
     [[ $task =~ ^([1-9][0-9]{0,8})(/([1-9][0-9]{0,8}))?$ ]] ||
         refuse "--task: neither N nor N/M: '$task'"
     task=${BASH_REMATCH[1]} tasks=${BASH_REMATCH[3]}
     cells=${#traces[@]}
-    for i in "${!values[@]}"; do
-        cells=$((cells * $(tr , '\n' <<<"${values[i]}" | wc -l)))
+    for list in "${values[@]}"; do
+        IFS=, read -ra one <<<"$list"
+        cells=$((cells * ${#one[@]}))
     done
     [ "${tasks:=$cells}" -le "$cells" ] ||
         refuse "--task: the grid has $cells configurations, which are no $tasks parts"
@@ -167,13 +175,17 @@ check_task() {
     [ "$task" -le "$tasks" ] || refuse "--task: there is no part $task of $tasks"
 }
 
-# packer_of TRACE: the command that unpacks it, if its first bytes are those of a packed file.
-packer_of() {
-    case $(head -c 6 < "$1" | od -An -v -tx1 | tr -d ' \n') in
-    1f8b*) echo zcat ;;
-    fd377a585a00) echo xzcat ;;
-    28b52ffd*) echo zstdcat ;;
-    425a68*) echo bzcat ;;
+# find_packer TRACE: sets `packer` to the command that unpacks it, if its first bytes are those of a
+# packed file. They are read up to a zero byte, as the sixth of xz is, unless the file ends before.
+find_packer() {
+    local LC_ALL=C bytes ends=
+    IFS= read -r -d '' -n 6 bytes < "$1" || ends=yes
+    case $bytes$ends in
+    $'\x1f\x8b'*) packer='zcat' ;;
+    $'\xfd7zXZ') packer=xzcat ;;
+    $'\x28\xb5\x2f\xfd'*) packer=zstdcat ;;
+    BZh*) packer=bzcat ;;
+    *) packer= ;;
     esac
 }
 
@@ -184,7 +196,7 @@ check_trace() {
     if [ ! -f "$1" ] || [ ! -r "$1" ]; then
         die 4 "no trace to read: $1"
     fi
-    packer=$(packer_of "$1")
+    find_packer "$1"
     case $1 in
     *.gz) unpacker='zcat' package=gzip ;;
     *.xz) unpacker=xzcat package=xz-utils ;;
@@ -197,14 +209,27 @@ check_trace() {
     die 4 "$1 is compressed: pipe it through $packer into a file, and take that"
 }
 
+# check_once: no trace is given twice. Of several that are, the first in the order of bytes is
+# named.
+check_once() {
+    local LC_ALL=C trace twice=
+    local -A given=()
+    for trace in "${traces[@]}"; do
+        if [ -n "${given[$trace]-}" ] && [[ -z $twice || $trace < $twice ]]; then
+            twice=$trace
+        fi
+        given[$trace]=yes
+    done
+    [ -z "$twice" ] || refuse "the trace $twice is given twice"
+}
+
 check_files() {
-    local trace unpacker twice
+    local trace unpacker
     for trace in "${traces[@]}"; do
         [[ $trace != *[$'\t\n']* ]] || refuse 'the name of a trace has a tab or a line feed'
         check_trace "$trace"
         unpackers+=("$unpacker")
     done
-    twice=$(printf '%s\n' "${traces[@]}" | LC_ALL=C sort | LC_ALL=C uniq -d | head -n 1)
-    [ -z "$twice" ] || refuse "the trace $twice is given twice"
+    check_once
     [ -z "$hosts" ] || [ -r "$hosts" ] || die 4 "no list of machines to read: $hosts"
 }
