@@ -80,10 +80,3 @@ asked-same before after bs same all k b lt =
       second = subst (λ (ws : List What). SecondAsked (get_or bs k b).second ws) (same k b lt)
           (all k b lt).second;
     }
-
--- what holds of the task of each holds of that of the second levels at an index
-pub task-at : (P : BackTask → Type 0) (bs : List Back) → All P (map back_task bs) → (k : ℕ)
-    (b : Back) → k < length bs → P (back_task (get_or bs k b))
-task-at P bs all k b lt =
-    subst P (get_or-map back_task bs k b (back_task b) lt)
-    (all k (back_task b) (omega (arith, lt, length-map bs back_task)))

@@ -2,6 +2,7 @@ use Rattle.std.proofs.Common.{◌≡◌, ◌++◌, [], List, get_or, map, ap, sy
 use Rattle.std.proofs.Common.{append-nil}
 use Rattle.std.specs.List.{All}
 use Rattle.std.proofs.lemmas.Result.{on_ok_weaker}
+use Rattle.grid_core.proofs.ListLoops.{told-at}
 use Rattle.stage_core.specs.SecondLevel.{parts_of}
 use Rattle.stage_core.specs.declared.message.What.{What}
 use Rattle.grid_run.specs.Backs.{IsPlacedOn, WereAsked, back_task, followed_by, seat_on}
@@ -10,7 +11,7 @@ use Rattle.grid_run.specs.Fronts.{HasSent, IsSilent, front_rules}
 use Rattle.grid_run.specs.Seats.{Table, rules_of_seat}
 use Rattle.grid_run.specs.Sending.{event_of}
 use Rattle.grid_run.specs.declared.front.Front.{Front}
-use Rattle.grid_run.proofs.Behind.{asked-same, silent-at-seat, task-at}
+use Rattle.grid_run.proofs.Behind.{asked-same, silent-at-seat}
 use Rattle.grid_run.proofs.lane.serve_request.Goals as goal
 
 pub returns-then-are_silent-clause-asked : goal.returns-then-are_silent-clause-asked
@@ -27,7 +28,7 @@ returns-then-are_silent-clause-asked c = λ h before all was.
     asked-same before (followed_by before (sent_for s old h (event_of q))) bs
     (λ k b lt.
     let t = back_task (get_or bs k b) in
-    let on = task-at (IsPlacedOn s old) bs c.requires.placed k b lt in
+    let on = told-at back_task (IsPlacedOn s old) bs c.requires.placed k b lt in
     let none : parts_of (rules_of_seat old (seat_on s t)) s h (event_of q) ≡ [] =
     subst (λ (fs : Table). parts_of (rules_of_seat fs (seat_on s t)) s h (event_of q) ≡ []) rules
     (silent-at-seat new (seat_on s t)
