@@ -1,10 +1,9 @@
 -- The state of the caches after one more use of the block that was used last: it is as before.
 use Rattle.std.proofs.Common.{◌≡◌, ℕ, ◌%◌, ◌/◌, ◌<◌, Bool, true, false, not, ◌||◌, ◌==◌, ltb}
-use Rattle.std.proofs.Common.{List, [], ◌∷◌, length, get_or, map, refl, sym, ap, subst, ◌∙◌, arith}
+use Rattle.std.proofs.Common.{List, [], ◌∷◌, get_or, map, refl, sym, ap, subst, ◌∙◌, arith}
 use Rattle.std.specs.List.{All, list_any}
 use Rattle.std.proofs.Math.Nat.{mod-lt}
 use Rattle.std.proofs.lemmas.Bool.{eqb-true, lt-ltb, le-ltb, false≢true}
-use Rattle.std.proofs.lemmas.List.{length-map, get_or-map}
 use Rattle.cache_core.specs.declared.geometry.Geometry.{Geometry}
 use Rattle.cache_core.specs.declared.access.Access.{Access}
 use Rattle.cache_core.specs.Counting.{with_one}
@@ -34,6 +33,7 @@ use Rattle.grid_core.specs.Written.{no_rules}
 use Rattle.grid_core.proofs.After.{referenced-next, referenced-size}
 use Rattle.grid_core.proofs.Counted.{counted-first}
 use Rattle.grid_core.proofs.Hitting.{with-none}
+use Rattle.grid_core.proofs.ListLoops.{told-at}
 use Rattle.grid_core.proofs.Repeats.{distance-last, front-again, level-last, recent-again}
 use Rattle.grid_core.proofs.Repeats.{renewed-last, resident-last, row-again}
 use Rattle.grid_core.proofs.Served.{hit-is}
@@ -68,12 +68,9 @@ known-again n b r (access y ∷ h) same e c =
     twice false t = refl
 
 -- the block size of the rows at an index
-pub size-at : (n : ℕ) (stacks : List Stack) → HaveBsize n stacks → (k : ℕ) (d : Stack)
-    → k < length stacks → (rules_of (get_or stacks k d)).bsize ≡ n
-size-at n stacks all k d lt =
-    let long : k < length (map rules_of stacks) = omega (arith, length-map stacks rules_of) in
-    ap (λ (r : Rules). r.bsize) (sym (get_or-map rules_of stacks k d (rules_of d) lt))
-    ∙ all k (rules_of d) long
+pub size-at : (n : ℕ) (stacks : List Stack) → HaveBsize n stacks
+    → All (λ s. (rules_of s).bsize ≡ n) stacks
+size-at n stacks = told-at rules_of (λ r. r.bsize ≡ n) stacks
 
 module _ (n : ℕ) (h : History) (x : Access) (last : used_last n (x.addr / n) h ≡ true) where
   -- in the words of the rules of a cache of the block size

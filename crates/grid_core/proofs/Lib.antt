@@ -1,4 +1,5 @@
 pub mod ListLoops
+pub mod LoopTurns
 pub mod Distances
 pub mod Levels
 pub mod Positions

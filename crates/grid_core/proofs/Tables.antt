@@ -10,8 +10,6 @@ use Rattle.cache_core.specs.declared.access.Access.{Access}
 use Rattle.cache_core.specs.declared.counts.PerClass.{PerClass}
 use Rattle.cache_core.specs.Counting.{with_one, IsWithin}
 use Rattle.cache_core.specs.Counts.{none_by_class}
-use Rattle.cache_core.specs.History.{is_instr, is_misc, is_read, is_write}
-use Rattle.cache_core.specs.Parts.{one_if}
 use Rattle.grid_core.specs.Totals.{added, past, table_of, total}
 use Rattle.grid_core.proofs.Hitting.{with-none}
 use Rattle.grid_core.proofs.Totals.{far-in, far-out, none-added, one-first, one-later}
@@ -228,19 +226,6 @@ module _ (vs : List (Vec PerClass)) {p : ℕ} {v : Vec PerClass} {l : List PerCl
       → f ≡ total (drop k l) → IsWithin w b → IsWithin (added s f) b
   sum-within b s f w so sum all = within-left b (added s f) (past (p + 1) k ts)
       (subst (λ z. IsWithin z b) (sym (sum-next s f w so sum)) all)
-
-one-le : (t : Bool) → one_if t ≤ 1
-one-le true = omega arith
-one-le false = omega arith
-
--- one more is within a bound that is larger by one
-pub within-one : (x : Access) (t : Bool) (p : PerClass) (n : ℕ) → IsWithin p n
-    → IsWithin (with_one x t p) (n + 1)
-within-one x t p n all =
-    let a = all.instr in let b = all.read in let c = all.write in let d = all.misc in
-    let e = one-le (is_instr x && t) in let f = one-le (is_read x && t) in
-    let g = one-le (is_write x && t) in let h = one-le (is_misc x && t) in
-    record { instr = omega arith; read = omega arith; write = omega arith; misc = omega arith }
 
 -- new tables are of one length
 pub wide-new : (ts : List (List PerClass)) (n m : ℕ)

@@ -5,6 +5,7 @@ use Rattle.std.specs.List.{All}
 use Rattle.std.proofs.lemmas.List.{get_or-map, get_or_default, length-map}
 use Rattle.cache_core.specs.History.{History, Rules}
 use Rattle.grid_core.specs.Written.{rules_at}
+use Rattle.grid_core.proofs.ListLoops.{told-at}
 use Rattle.stage_core.specs.SecondLevel.{parts_of}
 use Rattle.stage_core.specs.declared.message.Side.{Side}
 use Rattle.stage_core.specs.declared.message.What.{What}
@@ -82,13 +83,6 @@ asked-same before after bs same all k b lt =
           (all k b lt).second;
     }
 
--- what holds of the task of each holds of that of the second levels at an index
-pub task-at : (P : BackTask → Type 0) (bs : List Back) → All P (map back_task bs) → (k : ℕ)
-    (b : Back) → k < length bs → P (back_task (get_or bs k b))
-task-at P bs all k b lt =
-    subst P (get_or-map back_task bs k b (back_task b) lt)
-    (all k (back_task b) (omega (arith, lt, length-map bs back_task)))
-
 -- silent caches of a side ask for nothing
 pub nothing-asked : (fs : List Front) (old : Table) → map front_rules fs ≡ old → (s : Side)
     (bs : List Back) → All (IsPlacedOn s old) (map back_task bs) → All IsSilent fs
@@ -99,7 +93,7 @@ nothing-asked fs old rules s bs placed silent h q sent before =
     asked-same before (followed_by before (sent_for s old h (event_of q))) bs
     (λ k b lt.
     let t = back_task (get_or bs k b) in
-    let on = task-at (IsPlacedOn s old) bs placed k b lt in
+    let on = told-at back_task (IsPlacedOn s old) bs placed k b lt in
     let none : parts_of (rules_of_seat old (seat_on s t)) s h (event_of q) ≡ [] =
     subst (λ (rs : Table). parts_of (rules_of_seat rs (seat_on s t)) s h (event_of q) ≡ []) rules
     (silent-at-seat fs (seat_on s t)

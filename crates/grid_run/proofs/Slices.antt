@@ -1,8 +1,6 @@
 -- What a call does to the slice of a vector.
 use Rattle.std.proofs.Common.{◌≡◌, ℕ, ◌++◌, List, length, map, take, drop, ap, sym, subst, ◌∙◌}
-use Rattle.std.proofs.Common.{arith}
-use Rattle.std.proofs.lemmas.Grind.{common_steps}
-use Rattle.std.proofs.lemmas.List.{length-map}
+use Rattle.grid_core.proofs.ListLoops.{as-long, given-back}
 
 -- if what each element does stays, what holds of the slice before and after the call holds of the
 -- items of the vector
@@ -11,8 +9,5 @@ pub on-items : {X V : Type 0} (task : X → V) (items slice new : List X) (n : �
     → map task new ≡ map task slice → S slice new
     → S items (take n (new ++ drop (length new) items))
 on-items task items slice new n S len is same done =
-    let as_many : length new ≡ length slice =
-    omega (arith, ap length same, length-map new task, length-map slice task) in
-    let long : length new ≡ length items = as_many ∙ ap length is in
-    let whole : take n (new ++ drop (length new) items) ≡ new = grind (arith, common_steps) in
-    subst (S items) (sym whole) (subst (λ l. S l new) is done)
+    let long : length new ≡ n = as-long task new slice same ∙ ap length is ∙ sym len in
+    subst (S items) (sym (given-back n new items long)) (subst (λ l. S l new) is done)

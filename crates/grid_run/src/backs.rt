@@ -29,23 +29,6 @@ pub(crate) fn backs_for(alloc: Global, shelves: &[BackShelf]) -> Result<Vec<Back
 }
 
 /// Asks all second levels for what the first-level caches of a side sent for the last request.
-fn ask_each(backs: &mut [Back], fronts: &[Front], side: Side) -> Result<(), NoMemory>
-    requires placed { All (IsPlacedOn side (map front_rules fronts.now))
-        (map back_task backs.old) }
-    requires sent { (h : History) × (q : Asked) × All (HasSent h q) fronts.now }
-    ensures asked { OnOk result ((h : History) (q : Asked) (before : RequestsFor) →
-        All (HasSent h q) fronts.now → All (WereAsked before) backs.old →
-        All (WereAsked (followed_by before (sent_for side (map front_rules fronts.now) h
-        (event_of q)))) backs.new) }
-    ensures tasks { map back_task backs.new ≡ map back_task backs.old }
-{
-    for back in backs.iter_mut() {
-        back.ask(fronts, side)?;
-    }
-    Ok(())
-}
-
-/// The same for the second levels of a vector.
 pub(crate) fn ask_backs(backs: &mut Vec<Back>, fronts: &[Front], side: Side) -> Result<(), NoMemory>
     requires placed { All (IsPlacedOn side (map front_rules fronts.now))
         (map back_task backs.old.items) }
@@ -56,24 +39,13 @@ pub(crate) fn ask_backs(backs: &mut Vec<Back>, fronts: &[Front], side: Side) -> 
         (event_of q)))) backs.new.items) }
     ensures tasks { map back_task backs.new.items ≡ map back_task backs.old.items }
 {
-    ask_each(backs, fronts, side)
-}
-
-/// Serves all requests that wait, one second level after another.
-fn settle_each(backs: &mut [Back]) -> Result<(), NoMemory>
-    requires room { (all : RequestsFor) × All (WereAsked all) backs.old × AreFew all }
-    ensures asked { OnOk result ((all : RequestsFor) → All (WereAsked all) backs.old →
-        All (WereAsked all) backs.new) }
-    ensures settled { OnOk result (All NothingWaits backs.new) }
-    ensures tasks { map back_task backs.new ≡ map back_task backs.old }
-{
     for back in backs.iter_mut() {
-        back.settle()?;
+        back.ask(fronts, side)?;
     }
     Ok(())
 }
 
-/// The same for the second levels of a vector.
+/// Serves all requests that wait, one second level after another.
 pub(crate) fn settle_backs(backs: &mut Vec<Back>) -> Result<(), NoMemory>
     requires room { (all : RequestsFor) × All (WereAsked all) backs.old.items × AreFew all }
     ensures asked { OnOk result ((all : RequestsFor) → All (WereAsked all) backs.old.items →
@@ -81,5 +53,8 @@ pub(crate) fn settle_backs(backs: &mut Vec<Back>) -> Result<(), NoMemory>
     ensures settled { OnOk result (All NothingWaits backs.new.items) }
     ensures tasks { map back_task backs.new.items ≡ map back_task backs.old.items }
 {
-    settle_each(backs)
+    for back in backs.iter_mut() {
+        back.settle()?;
+    }
+    Ok(())
 }

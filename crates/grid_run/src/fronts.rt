@@ -24,21 +24,6 @@ pub(crate) fn fronts_for(alloc: Global, shelves: &[Shelf]) -> Result<Vec<Front>,
 }
 
 /// Serves a request in all caches.
-fn serve_each(fronts: &mut [Front], request: Request) -> Result<(), NoMemory>
-    requires room { (h : History) × All (FrontAt h) fronts.old × (length h < 2 ^ 44) }
-    ensures stands { OnOk result ((h : History) → All (FrontAt h) fronts.old →
-        All (FrontAt (event_of request ∷ h)) fronts.new) }
-    ensures sent { OnOk result ((h : History) → All (FrontAt h) fronts.old →
-        All (HasSent h request) fronts.new) }
-    ensures rules { map front_rules fronts.new ≡ map front_rules fronts.old }
-{
-    for front in fronts.iter_mut() {
-        front.serve(request)?;
-    }
-    Ok(())
-}
-
-/// The same for the caches of a vector.
 pub(crate) fn serve_fronts(fronts: &mut Vec<Front>, request: Request) -> Result<(), NoMemory>
     requires room { (h : History) × All (FrontAt h) fronts.old.items × (length h < 2 ^ 44) }
     ensures stands { OnOk result ((h : History) → All (FrontAt h) fronts.old.items →
@@ -47,7 +32,10 @@ pub(crate) fn serve_fronts(fronts: &mut Vec<Front>, request: Request) -> Result<
         All (HasSent h request) fronts.new.items) }
     ensures rules { map front_rules fronts.new.items ≡ map front_rules fronts.old.items }
 {
-    serve_each(fronts, request)
+    for front in fronts.iter_mut() {
+        front.serve(request)?;
+    }
+    Ok(())
 }
 
 /// Serves a request the short way, if all caches of the side are served together and it may go it.

@@ -1,8 +1,9 @@
 use Rattle.std.proofs.Common.{◌+◌, true, not, ◌&&◌, ltb, drop, sym, ap, subst, ◌∙◌}
 use Rattle.cache_core.specs.declared.counts.PerClass.{PerClass}
 use Rattle.cache_core.specs.Counting.{IsWithin, with_one}
+use Rattle.cache_core.proofs.CacheFacts.{IsWithin-with_one}
 use Rattle.grid_core.specs.Totals.{total}
-use Rattle.grid_core.proofs.Tables.{total-from, within-one}
+use Rattle.grid_core.proofs.Tables.{total-from}
 use Rattle.grid_core.proofs.Totals.{total-set}
 use Rattle.grid_core.proofs.histogram.count_first.Goals as goal
 
@@ -19,4 +20,4 @@ returns-then-writes-clause-bounds c = λ b all.
     let ps = c.args.counts.now.items in
     subst (λ (p : PerClass). IsWithin p (b + 1))
     (sym (ap total c.count_at.ensures ∙ total-set c.args.access ps c.args.clean c.requires.clean))
-    (within-one c.args.access true (total ps) b all)
+    (IsWithin-with_one c.args.access true (total ps) b all)

@@ -1,30 +1,28 @@
-use Rattle.std.proofs.Common.{◌^◌, ◌+◌, ◌∷◌, arith}
-use Rattle.cache_core.specs.History.{access as accessed}
-use Rattle.grid_core.specs.Shades.{ShadeStandsFor, ShadeReached, ShadeHasHit, HasCounted}
-use Rattle.grid_core.specs.Shades.{shade_rules}
-use Rattle.grid_core.proofs.ListLoops.{left-within, one-passed}
+use Rattle.std.proofs.Common.{arith}
+use Rattle.grid_core.specs.Shades.{HasCounted}
+use Rattle.grid_core.proofs.ListLoops.{all_changed, changed_more, still}
 use Rattle.grid_core.proofs.shades.settle_shades.Goals as goal
 
 pub settle-requires : goal.settle-requires
-settle-requires c = left-within HasCounted (2 ^ 44)
-    c.deref_mut-shade-items.result.now c.loop-shade.shade-items c.loop-shade.shade-index
-    c.shade-item.result c.loop-shade.invariant.left (omega arith)
-    (rw c.deref_mut-shade-items.ensures.value c.requires)
+settle-requires c =
+    let before = c.requires in
+    let counted = still c.loop-shade.invariant c.deref_mut-shade-items.ensures.value
+    (HasCounted before.0) (omega arith) before.1 c.shade-item.result in
+    (before.0, counted, before.2)
 
 pub loop-shade-preserved : goal.loop-shade-preserved
 loop-shade-preserved c =
-    let x = c.args.access in
-    let was = c.loop-shade.invariant in
-    let step = one-passed c.deref_mut-shade-items.result.now c.loop-shade.shade-items
-    c.loop-shade.shade-index c.shade-item.result c.settle.new.self was.left (omega arith)
-    (omega arith) in
+    let one = c.settle.ensures in
+    changed_more c.loop-shade.invariant c.shade-item.result c.settle.new.self (omega arith)
+    one.rules (record { stands = one.stands; hit = one.hit; counted = one.counted })
+
+pub returns : goal.returns
+returns c =
+    let all = all_changed c.loop-shade.invariant c.deref_mut-shade-items.ensures.value
+    c.args.shades.now.ok.0 (omega arith) in
     record {
-      rules = step.told shade_rules c.settle.ensures.rules was.rules;
-      stands = λ h all. step.each (ShadeReached h x) (ShadeStandsFor (accessed x ∷ h))
-          (was.stands h all) all (c.settle.ensures.stands h);
-      hit = λ h all. step.each (ShadeReached h x) (ShadeHasHit h x) (was.hit h all) all
-          (c.settle.ensures.hit h);
-      counted = λ n all. step.each (HasCounted n) (HasCounted (n + 1)) (was.counted n all) all
-          (c.settle.ensures.counted n);
-      left = step.left;
+      stands = λ h were j d lt. (all.changed j d lt).stands h (were j d (all.inside j lt));
+      hit = λ h were j d lt. (all.changed j d lt).hit h (were j d (all.inside j lt));
+      counted = λ n were j d lt. (all.changed j d lt).counted n (were j d (all.inside j lt));
+      rules = all.told;
     }

@@ -1,16 +1,13 @@
-use Rattle.std.proofs.Common.{◌≡◌, ℕ, ◌<◌, ◌≤◌, ◌+◌, ◌∷◌, [], List, length, get_or, map, sym}
-use Rattle.std.proofs.Common.{ap, subst, ◌∙◌, arith}
+use Rattle.std.proofs.Common.{◌≡◌, ℕ, ◌<◌, ◌≤◌, [], List, length, get_or, map, sym, ap, subst}
+use Rattle.std.proofs.Common.{◌∙◌, arith}
 use Rattle.std.specs.Global.{Vec}
-use Rattle.std.proofs.Math.Seq.{map-set_same}
 use Rattle.std.proofs.lemmas.List.{get_or-map, length-map}
-use Rattle.cache_core.specs.History.{History, flush as flushed}
+use Rattle.cache_core.specs.History.{History}
 use Rattle.grid_core.specs.declared.single.Single.{Single}
 use Rattle.grid_core.specs.Cells.{items_of}
-use Rattle.grid_core.specs.Singles.{SingleStandsFor, HasSettled, single_rules, single_dirty}
-use Rattle.grid_core.specs.Singles.{single_shading}
+use Rattle.grid_core.specs.Singles.{single_rules, single_dirty}
 use Rattle.grid_core.specs.Written.{no_rules, written_by}
-use Rattle.grid_core.proofs.ListLoops.{one-passed}
-use Rattle.grid_core.proofs.Shadings.{shading-same}
+use Rattle.grid_core.proofs.ListLoops.{all_changed, changed_more, next, part-told}
 use Rattle.grid_core.proofs.singles.clear_all.Goals as goal
 
 -- the length of a list at an index, in the lengths of all
@@ -37,42 +34,42 @@ clear-requires-clause-few c =
     let i = c.loop-index.index in
     let e = c.single-item.result in
     let v = c.index.result.now in
-    let first = c.args.singles.now.items in
+    let singles = c.args.singles.now.items in
     let lists = c.args.lists.now.items in
-    let inside : i < length first = omega arith in
-    let inside' : i < length lists = (let len = c.requires.len in omega arith) in
-    let few = c.requires.few i inside in
-    let same = sym (ap (λ (l : List Single). get_or l i e) c.deref_mut-single-items.ensures.value)
-    ∙ sym (c.loop-index.invariant.left i e (omega arith)) in
+    let inside : i < length singles = omega arith in
+    let listed : i < length lists = (let len = c.requires.len in omega arith) in
+    let here = sym (next c.loop-index.invariant c.deref_mut-single-items.ensures.value e) in
     subst (λ n. n ≤ single_dirty (get_or c.loop-index.single-items i e))
-    (sym (c.len.ensures ∙ v.ok.0 ∙ long-at lists i v inside' c.index.ensures))
+    (sym (c.len.ensures ∙ v.ok.0 ∙ long-at lists i v listed c.index.ensures))
     (subst (λ n. get_or (map (λ w. length w.items) lists) i 0 ≤ n)
-    (get_or-map single_dirty first i e 0 inside ∙ ap single_dirty same) few)
+    (get_or-map single_dirty singles i e 0 inside ∙ ap single_dirty here)
+    (c.requires.few i inside))
 
 pub loop-index-preserved : goal.loop-index-preserved
 loop-index-preserved c =
-    let xs = c.loop-index.single-items in
     let i = c.loop-index.index in
-    let w = c.clear.new.self in
     let e = c.single-item.result in
     let v = c.index.result.now in
-    let was = c.loop-index.invariant in
-    let first = c.deref_mut-single-items.result.now in
+    let singles = c.args.singles.now.items in
     let lists = c.args.lists.now.items in
-    let inside : i < length first = omega arith in
+    let inside : i < length singles = omega arith in
     let listed : i < length lists = (let len = c.requires.len in omega arith) in
-    let step = one-passed first xs i e w was.left inside (omega arith) in
+    let here = sym (next c.loop-index.invariant c.deref_mut-single-items.ensures.value e) in
+    changed_more c.loop-index.invariant e c.clear.new.self (omega arith) (cc) (record {
+      stands = λ h was same. c.clear.ensures.stands h was (c.len.ensures ∙ v.ok.0
+          ∙ written-at h lists singles i v e listed inside c.index.ensures same
+          ∙ ap (λ s. length (written_by h (single_rules s))) here);
+      settled = c.clear.ensures.settled;
+    })
+
+pub returns : goal.returns
+returns c =
+    let all = all_changed c.loop-index.invariant c.deref_mut-single-items.ensures.value
+    c.args.singles.now.ok.0 (omega arith) in
     record {
-      rules = step.told single_rules c.clear.ensures.rules was.rules;
-      shading = map-set_same single_shading xs i w e
-          (shading-same w (get_or xs i e) c.clear.ensures.shade c.clear.ensures.rules)
-          ∙ was.shading;
-      stands = λ h all same. step.each (SingleStandsFor h) (SingleStandsFor (flushed ∷ h))
-          (was.stands h all same) all (λ here. c.clear.ensures.stands h here
-          (c.len.ensures ∙ v.ok.0 ∙ written-at h lists first i v e listed inside c.index.ensures
-          same ∙ ap (λ s. length (written_by h (single_rules s)))
-          (sym (was.left i e (omega arith)))));
-      settled = λ n all. step.each (HasSettled n) (HasSettled (n + 1)) (was.settled n all) all
-          (c.clear.ensures.settled n);
-      left = step.left;
+      stands = λ h were same j d lt.
+          (all.changed j d lt).stands h (were j d (all.inside j lt)) same;
+      settled = λ n were j d lt. (all.changed j d lt).settled n (were j d (all.inside j lt));
+      rules = part-told _ _ _ all.told (λ t. t.1);
+      shading = all.told;
     }

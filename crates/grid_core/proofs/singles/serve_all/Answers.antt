@@ -1,69 +1,41 @@
-use Rattle.std.proofs.Common.{get_or, map, ap, ◌∙◌, arith}
-use Rattle.std.proofs.Math.Seq.{map-set_same}
-use Rattle.grid_core.specs.Singles.{SingleStandsFor, SingleReached, HasSettled, IsPending}
-use Rattle.grid_core.specs.Singles.{single_counts, single_rules, single_shading}
-use Rattle.grid_core.proofs.ListLoops.{left-still, one-passed, mapped-back, all-passed}
-use Rattle.grid_core.proofs.Shadings.{shading-same}
+use Rattle.std.proofs.Common.{arith, rules}
+use Rattle.grid_core.specs.Singles.{HasSettled}
+use Rattle.grid_core.proofs.ListLoops.{all_changed, changed_more, part-told, still, told_failed}
 use Rattle.grid_core.proofs.singles.serve_all.Goals as goal
 
 pub serve-requires : goal.serve-requires
-serve-requires c = (
-  c.requires.0,
-  left-still (HasSettled c.requires.0) c.deref_mut-single-items.result.now
-      c.loop-single.single-items c.loop-single.single-index c.single-item.result
-      c.loop-single.invariant.left (omega arith)
-      (rw c.deref_mut-single-items.ensures.value c.requires.1),
-)
+serve-requires c =
+    let before = c.requires in
+    let settled = still c.loop-single.invariant c.deref_mut-single-items.ensures.value
+    (HasSettled before.0) (omega arith) before.1 c.single-item.result in
+    (before.0, settled)
 
 pub loop-single-preserved : goal.loop-single-preserved
 loop-single-preserved c =
-    let xs = c.loop-single.single-items in
-    let i = c.loop-single.single-index in
-    let v = c.serve.new.self in
-    let e = c.single-item.result in
-    let was = c.loop-single.invariant in
-    let first = c.deref_mut-single-items.result.now in
-    let step = one-passed first xs i e v was.left (omega arith) (omega arith) in
+    let one = c.in_ok-serve.ensures in
+    changed_more c.loop-single.invariant c.single-item.result c.serve.new.self (omega arith) (cc)
+    (record { reached = one.reached; pending = one.pending })
+
+pub returns-in_err-serve : goal.returns-in_err-serve
+returns-in_err-serve c =
+    let told = told_failed c.loop-single.invariant c.deref_mut-single-items.ensures.value
+    c.args.singles.now.ok.0 c.single-item.result c.serve.new.self (cc) in
     record {
-      rules = step.told single_rules c.serve.ensures.rules was.rules;
-      shading = map-set_same single_shading xs i v e
-          (shading-same v (get_or xs i e) c.serve.ensures.shade c.serve.ensures.rules)
-          ∙ was.shading;
-      counts = step.told single_counts c.serve.ensures.counts was.counts;
-      reached = λ h all. step.each (SingleStandsFor h) (SingleReached h c.args.access)
-          (was.reached h all) all (c.in_ok-serve.ensures.reached h);
-      pending = λ n all. step.each (HasSettled n) (IsPending n) (was.pending n all) all
-          (c.in_ok-serve.ensures.pending n);
-      left = step.left;
+      reached = search rules;
+      pending = search rules;
+      counts = part-told _ _ _ told (λ t. t.1);
+      rules = part-told _ _ _ told (λ t. t.0.1);
+      shading = part-told _ _ _ told (λ t. t.0);
     }
 
-pub returns-in_err-serve-clause-counts : goal.returns-in_err-serve-clause-counts
-returns-in_err-serve-clause-counts c =
-    mapped-back single_counts c.args.singles.now.len c.loop-single.single-items
-    c.args.singles.now.items c.loop-single.single-index c.serve.new.self c.single-item.result
-    (omega arith) c.serve.ensures.counts
-    (c.loop-single.invariant.counts ∙ ap (map single_counts) c.deref_mut-single-items.ensures.value)
-
-pub returns-in_err-serve-clause-rules : goal.returns-in_err-serve-clause-rules
-returns-in_err-serve-clause-rules c =
-    mapped-back single_rules c.args.singles.now.len c.loop-single.single-items
-    c.args.singles.now.items c.loop-single.single-index c.serve.new.self c.single-item.result
-    (omega arith) c.serve.ensures.rules
-    (c.loop-single.invariant.rules ∙ ap (map single_rules) c.deref_mut-single-items.ensures.value)
-
-pub returns-in_err-serve-clause-shading : goal.returns-in_err-serve-clause-shading
-returns-in_err-serve-clause-shading c =
-    let xs = c.loop-single.single-items in
-    let i = c.loop-single.single-index in
-    let e = c.single-item.result in
-    mapped-back single_shading c.args.singles.now.len xs c.args.singles.now.items i
-    c.serve.new.self e (omega arith) (shading-same c.serve.new.self (get_or xs i e)
-    c.serve.ensures.shade c.serve.ensures.rules) (c.loop-single.invariant.shading
-    ∙ ap (map single_shading) c.deref_mut-single-items.ensures.value)
-
-pub returns-clause-reached : goal.returns-clause-reached
-returns-clause-reached c = λ h all.
-    all-passed (SingleReached h c.args.access) c.args.singles.now.len
-    c.loop-single.single-items c.args.singles.now.items c.loop-single.single-index (omega arith)
-    (omega arith) (c.loop-single.invariant.reached h
-    (rw c.deref_mut-single-items.ensures.value all))
+pub returns : goal.returns
+returns c =
+    let all = all_changed c.loop-single.invariant c.deref_mut-single-items.ensures.value
+    c.args.singles.now.ok.0 (omega arith) in
+    record {
+      reached = λ h were j d lt. (all.changed j d lt).reached h (were j d (all.inside j lt));
+      pending = λ n were j d lt. (all.changed j d lt).pending n (were j d (all.inside j lt));
+      counts = part-told _ _ _ all.told (λ t. t.1);
+      rules = part-told _ _ _ all.told (λ t. t.0.1);
+      shading = part-told _ _ _ all.told (λ t. t.0);
+    }

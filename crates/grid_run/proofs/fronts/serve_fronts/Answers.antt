@@ -1,24 +1,32 @@
-use Rattle.std.proofs.Common.{◌∷◌, List, OnOk}
-use Rattle.std.specs.List.{All}
-use Rattle.cache_core.specs.History.{History}
-use Rattle.grid_run.specs.Fronts.{FrontAt, HasSent, front_rules}
-use Rattle.grid_run.specs.Sending.{event_of}
-use Rattle.grid_run.specs.declared.front.Front.{Front}
-use Rattle.grid_run.proofs.Slices.{on-items}
+use Rattle.std.proofs.Common.{arith}
+use Rattle.grid_core.proofs.ListLoops.{all_changed, changed_more, still, told_failed}
+use Rattle.grid_run.specs.Fronts.{FrontAt}
 use Rattle.grid_run.proofs.fronts.serve_fronts.Goals as goal
 
-pub returns-clause-stands : goal.returns-clause-stands
-returns-clause-stands c =
-    let fronts = c.args.fronts.now in
-    on-items front_rules fronts.items _ _ fronts.len
-    (λ (old new : List Front). OnOk c.serve_each.result ((h : History) → All (FrontAt h) old →
-    All (FrontAt (event_of c.args.request ∷ h)) new))
-    fronts.ok.0 c.deref_mut.ensures.value c.serve_each.ensures.rules c.serve_each.ensures.stands
+pub serve-requires : goal.serve-requires
+serve-requires c =
+    let room = c.requires.room in
+    let at = still c.loop-front.invariant c.deref_mut-front-items.ensures.value (FrontAt room.0)
+    (omega arith) room.1 c.front-item.result in
+    record { room = (room.0, at, room.2) }
 
-pub returns-clause-sent : goal.returns-clause-sent
-returns-clause-sent c =
-    let fronts = c.args.fronts.now in
-    on-items front_rules fronts.items _ _ fronts.len
-    (λ (old new : List Front). OnOk c.serve_each.result ((h : History) → All (FrontAt h) old →
-    All (HasSent h c.args.request) new))
-    fronts.ok.0 c.deref_mut.ensures.value c.serve_each.ensures.rules c.serve_each.ensures.sent
+pub loop-front-preserved : goal.loop-front-preserved
+loop-front-preserved c =
+    changed_more c.loop-front.invariant c.front-item.result c.serve.new.self (omega arith)
+    c.serve.ensures.rules
+    (record { stands = c.in_ok-serve.ensures.stands; sent = c.in_ok-serve.ensures.last })
+
+pub returns-in_err-serve-clause-rules : goal.returns-in_err-serve-clause-rules
+returns-in_err-serve-clause-rules c =
+    told_failed c.loop-front.invariant c.deref_mut-front-items.ensures.value
+    c.args.fronts.now.ok.0 c.front-item.result c.serve.new.self c.serve.ensures.rules
+
+pub returns : goal.returns
+returns c =
+    let all = all_changed c.loop-front.invariant c.deref_mut-front-items.ensures.value
+    c.args.fronts.now.ok.0 (omega arith) in
+    record {
+      stands = λ h were j d lt. (all.changed j d lt).stands h (were j d (all.inside j lt));
+      sent = λ h were j d lt. (all.changed j d lt).sent h (were j d (all.inside j lt));
+      rules = all.told;
+    }

@@ -1,8 +1,9 @@
+use Rattle.grid_core.proofs.ListLoops.{HasChanged}
 use Rattle.grid_run.specs.Backs.{back_task}
-use Rattle.grid_run.proofs.Each.{HasChanged}
 use Rattle.grid_run.proofs.LoopTurns.{Settles}
-use Rattle.grid_run.proofs.backs.settle_each.Given as goal
+use Rattle.grid_run.proofs.backs.settle_backs.Given as goal
 
 -- the second levels that were passed have settled, and the others are as they were
 abbrev pub invariant-loop-back : goal.invariant-loop-back
-invariant-loop-back l = HasChanged Settles back_task l.initial.backs l.back-index l.backs
+invariant-loop-back l =
+    HasChanged Settles back_task l.initial.back-items l.back-index l.back-items
