@@ -101,6 +101,22 @@ call 'two sizes in three threads' 0 "$work/sizes" '' "$trace" "${caches[@]}" --l
     --threads 3
 call 'two sizes in threads without a number' 0 "$work/sizes" '' "$trace" "${caches[@]}" \
     --l1-dsize 8,16 --threads=0
+
+# Of a trace of three batches of records, each line counts all.
+{ yes '0 0' | head -n 100000; echo '0 8'; } >"$work/long.din"
+{
+    heads l1-dsize
+    for size in 8 16; do
+        columns $size 0 0 0.000000 0 0 0 0 0 0 0 0 100001 2 0.000019 2 0 0 2 2 0 0 0
+        columns 2 2 1.000000 2 0 0 2 2 0 0 0
+        echo -
+    done
+} >"$work/long"
+for threads in 1 2 4; do
+    call "a long trace in $threads threads" 0 "$work/long" '' "$work/long.din" "${caches[@]}" \
+        --l1-dsize 8,16 --threads $threads
+done
+
 call 'a refused size among others' 5 "$work/some" '' "$trace" "${caches[@]}" --l1-dsize 8,3,16
 call 'a required option is missing' 2 "$nothing" 'dinero_grid: command line refused, try --help
 ' "$trace" "${caches[@]}"

@@ -7,6 +7,7 @@ pub mod Seats
 pub mod Backs
 pub mod Lanes
 pub mod Workers
+pub mod Readings
 pub mod Rows
 pub mod Plans
 pub mod Faults

@@ -1,9 +1,7 @@
 -- The lanes of a grid, each the work of one thread.
-use Rattle.std.specs.Prelude.{◌≡◌, ◌++◌, false, List}
-use Rattle.std.specs.List.{All}
+use Rattle.std.specs.Prelude.{◌≡◌, false, List}
 use Rattle.din_trace.specs.declared.record.DinRecord.{DinRecord}
 use Rattle.grid_run.specs.Lanes.{HasTaken, LaneTask, lane_task}
-use Rattle.grid_run.specs.declared.crew.Crew.{Crew}
 use Rattle.grid_run.specs.declared.worker.Worker.{Worker}
 
 -- what a worker's lane does
@@ -17,9 +15,3 @@ pub record Took (records : List DinRecord) (w : Worker) : Type 0 where
 -- a worker has taken these records, unless it was refused memory
 pub record MayHaveTaken (records : List DinRecord) (w : Worker) : Type 0 where
   pub lane : w.failed ≡ false → HasTaken w.lane records
-
--- these records were given to a crew: its workers have taken those that do not wait any more
-pub record WereGiven (records : List DinRecord) (c : Crew) : Type 0 where
-  pub taken : List DinRecord
-  pub all : records ≡ taken ++ c.waiting.items
-  pub served : All (MayHaveTaken taken) c.workers.items

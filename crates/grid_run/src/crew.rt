@@ -6,7 +6,7 @@ ghost use Rattle.std.specs.List.{All};
 ghost use Rattle.din_trace.specs.declared.record.DinRecord.{DinRecord as Event};
 ghost use Rattle.grid_run.specs.Lanes.{task_of_plan};
 ghost use Rattle.grid_run.specs.Rows.{IsSound};
-ghost use Rattle.grid_run.specs.Workers.{MayHaveTaken, Took, WereGiven, worker_task};
+ghost use Rattle.grid_run.specs.Workers.{MayHaveTaken, Took, worker_task};
 
 use crate::lists::made_for_each;
 use crate::plan::LanePlan;
@@ -17,16 +17,10 @@ use std::alloc::Global;
 use std::thread;
 use std::thread::Threads;
 
-/// How many records are taken together. A thread takes some tens of microseconds to start; a batch
-/// gives it milliseconds of work. More of them are served a little faster, since each second level
-/// finds its own in the processor's caches for longer; but what waits for it takes more memory.
-const BATCH: usize = 49_152;
-
-/// The workers of all lanes, and the records that wait for them.
+/// The workers of all lanes.
 #[derive(Drop)]
 pub(crate) struct Crew {
     pub workers: Vec<Worker>,
-    waiting: Vec<DinRecord>,
     /// At most so many threads take a batch; 0 counts as 1.
     threads: usize,
 }
@@ -89,52 +83,45 @@ fn has_failed(workers: &[Worker]) -> bool
 }
 
 impl Crew {
-    /// The workers of these plans, to whom no record was given, for at most so many threads.
+    /// The workers of these plans, for at most so many threads.
     pub fn new(alloc: Global, plans: &[LanePlan], threads: usize) -> Result<Crew, NoMemory>
         requires { All IsSound plans.now }
         ensures tasks { IfOk result (λ crew.
             map worker_task crew.workers.items ≡ map task_of_plan plans.now) }
-        ensures given { IfOk result (WereGiven []) }
+        ensures taken { IfOk result (λ crew. All (MayHaveTaken []) crew.workers.items) }
     {
         Ok(Crew {
             workers: workers_for(alloc, plans)?,
-            waiting: Vec::new(alloc),
             threads,
         })
     }
 
-    /// All workers take the records that wait.
-    pub fn work<T: Threads + Sync>(&mut self, rt: &T) -> Result<(), NoMemory>
-        requires room { (past : List Event) × WereGiven past self.old × (length past ≤ MAX_LIMIT) }
-        ensures taken { OnOk result ((past : List Event) → WereGiven past self.old →
-            All (Took past) self.new.workers.items) }
-        ensures given { OnOk result ((past : List Event) → WereGiven past self.old →
-            WereGiven past self.new) }
+    /// All workers take these records.
+    pub fn take<T: Threads + Sync>(
+        &mut self,
+        rt: &T,
+        batch: &Vec<DinRecord>,
+    ) -> Result<(), NoMemory>
+        requires room { (past : List Event) × All (MayHaveTaken past) self.old.workers.items
+            × (length past + length batch.now.items ≤ MAX_LIMIT) }
+        ensures taken { OnOk result ((past : List Event) →
+            All (MayHaveTaken past) self.old.workers.items →
+            All (Took (past ++ batch.now.items)) self.new.workers.items) }
+        ensures goes_on { OnOk result ((past : List Event) →
+            All (MayHaveTaken past) self.old.workers.items →
+            All (MayHaveTaken (past ++ batch.now.items)) self.new.workers.items) }
         ensures tasks { map worker_task self.new.workers.items
             ≡ map worker_task self.old.workers.items }
     {
-        take_in(rt, &mut self.workers, self.threads.max(1), &self.waiting);
-        self.waiting.clear();
+        take_in(rt, &mut self.workers, self.threads.max(1), batch);
         if has_failed(&self.workers) {
             return Err(NoMemory);
         }
         Ok(())
     }
 
-    /// Gives a record to all workers. They take it when a batch is full.
-    pub fn give<T: Threads + Sync>(&mut self, rt: &T, next: DinRecord) -> Result<(), NoMemory>
-        requires room { (past : List Event) × WereGiven past self.old × (length past < MAX_LIMIT) }
-        ensures given { OnOk result ((past : List Event) → WereGiven past self.old →
-            WereGiven (past ++ next ∷ []) self.new) }
-        ensures tasks { map worker_task self.new.workers.items
-            ≡ map worker_task self.old.workers.items }
-    {
-        if self.waiting.len() >= BATCH {
-            self.work(rt)?;
-        }
-        if self.waiting.push(next).is_err() {
-            return Err(NoMemory);
-        }
-        Ok(())
+    /// Whether a thread is to spare while all workers take records.
+    pub fn has_thread_to_spare(&self) -> bool {
+        self.workers.len() < self.threads
     }
 }

@@ -1,25 +1,105 @@
 //! One reading of a trace, in which the caches of all rows are served.
 
-ghost use Rattle.std.specs.Prelude.{◌≡◌, ◌≢◌, [], List, ℕ, IfErr, map};
+ghost use Rattle.std.specs.Prelude.{◌≡◌, ◌≢◌, ◌+◌, ◌≤◌, ◌++◌, [], List, ℕ, IfErr, OnOk, length, map};
+ghost use Rattle.std.specs.List.{All};
 ghost use Rattle.din_trace.specs.Text.{Remaining};
 ghost use Rattle.din_trace.specs.Remaining.{Script, Fate, Follows};
 ghost use Rattle.din_trace.specs.Source.{HasLeft, Takes};
+ghost use Rattle.din_trace.specs.declared.record.DinRecord.{DinRecord as Event};
+ghost use Rattle.grid_run.specs.Readings.{HasReadBatch};
 ghost use Rattle.grid_run.specs.Rows.{ServedAll};
-ghost use Rattle.grid_run.specs.Workers.{WereGiven, worker_task};
+ghost use Rattle.grid_run.specs.Workers.{MayHaveTaken, worker_task};
 
 use crate::crew::Crew;
 use crate::fault::{GridFault, fault_of_source};
-use din_trace::{ByteReader, Source, TraceFault};
-use std::thread::Threads;
+use din_trace::{ByteReader, DinRecord, MAX_LIMIT, Source, TraceFault};
+use std::alloc::Global;
+use std::mem::swap;
+use std::thread::{Threads, join_mut};
 
-/// Reads the records one by one, and gives each to all workers, who serve what each row selects.
+/// How many records are taken together. A thread takes some tens of microseconds to start; a batch
+/// gives it milliseconds of work. More of them are served a little faster, since each second level
+/// finds its own in the processor's caches for longer; but what waits for it takes more memory.
+const BATCH: usize = 49_152;
+
+/// Reads records into an empty batch until it is full, or to the end of the trace. Answers whether
+/// there may be more. Stops at a fault of the trace; the rest is then not read.
+fn read_batch<R: ByteReader>(
+    source: &mut Source<R>,
+    batch: &mut Vec<DinRecord>,
+) -> Result<bool, GridFault>
+    ensures read { HasReadBatch R.remaining R.failures source.old source.new batch.new.items
+        result }
+    ensures unwritten { IfErr result (λ why. why ≢ GridFault.Write) }
+    ensures memory { result ≢ Err (GridFault.Trace TraceFault.Memory) }
+{
+    batch.clear();
+    'records: loop {
+        match source.next() {
+            Ok(Some(next)) => {
+                if batch.push(next).is_err() {
+                    return Err(GridFault::Memory);
+                }
+                if batch.len() >= BATCH {
+                    return Ok(true);
+                }
+            }
+            Ok(None) => return Ok(false),
+            Err(fault) => return Err(fault_of_source(fault)),
+        }
+    }
+}
+
+/// All workers take a batch, and the next one is read: beside that if a thread is to spare, and
+/// else after it.
+fn take_and_read<R: ByteReader, T: Threads + Sync>(
+    rt: &T,
+    crew: &mut Crew,
+    batch: &Vec<DinRecord>,
+    source: &mut Source<R>,
+    next: &mut Vec<DinRecord>,
+) -> Result<bool, GridFault>
+    requires room { (past : List Event) × All (MayHaveTaken past) crew.old.workers.items
+        × (length past + length batch.now.items ≤ MAX_LIMIT) }
+    ensures taken { OnOk result ((past : List Event) →
+        All (MayHaveTaken past) crew.old.workers.items →
+        All (MayHaveTaken (past ++ batch.now.items)) crew.new.workers.items) }
+    ensures tasks { map worker_task crew.new.workers.items
+        ≡ map worker_task crew.old.workers.items }
+    ensures read { HasReadBatch R.remaining R.failures source.old source.new next.new.items
+        result }
+    ensures unwritten { IfErr result (λ why. why ≢ GridFault.Write) }
+    ensures memory { result ≢ Err (GridFault.Trace TraceFault.Memory) }
+{
+    if !crew.has_thread_to_spare() {
+        if crew.take(rt, batch).is_err() {
+            return Err(GridFault::Memory);
+        }
+        return read_batch(source, next);
+    }
+    let (taken, read) = join_mut(
+        rt,
+        &mut ||
+            requires { (past : List Event) × All (MayHaveTaken past) crew.now.workers.items
+                × (length past + length batch.now.items ≤ MAX_LIMIT) }
+        { crew.take(rt, batch) },
+        &mut || read_batch(source, next),
+    );
+    if taken.is_err() {
+        return Err(GridFault::Memory);
+    }
+    read
+}
+
+/// Reads the records in batches, and gives each to all workers, who serve what each row selects.
 /// Stops at a fault of the trace; the rest is then not read.
 pub(crate) fn serve_trace<R: ByteReader, T: Threads + Sync>(
     rt: &T,
+    alloc: Global,
     source: &mut Source<R>,
     crew: &mut Crew,
 ) -> Result<(), GridFault>
-    requires fresh { WereGiven [] crew.old }
+    requires fresh { All (MayHaveTaken []) crew.old.workers.items }
     ensures tasks { map worker_task crew.new.workers.items
         ≡ map worker_task crew.old.workers.items }
     ensures unwritten { IfErr result (λ why. why ≢ GridFault.Write) }
@@ -31,20 +111,15 @@ pub(crate) fn serve_trace<R: ByteReader, T: Threads + Sync>(
         → Follows fate given before later → HasLeft source.old before l
         → ServedAll l crew.new.workers.items result) }
 {
-    'records: loop {
-        match source.next() {
-            Ok(Some(next)) => {
-                if crew.give(rt, next).is_err() {
-                    return Err(GridFault::Memory);
-                }
-            }
-            Ok(None) => {
-                if crew.work(rt).is_err() {
-                    return Err(GridFault::Memory);
-                }
-                return Ok(());
-            }
-            Err(fault) => return Err(fault_of_source(fault)),
-        }
+    let mut batch = Vec::new(alloc);
+    let mut next = Vec::new(alloc);
+    let mut more = read_batch(source, &mut batch)?;
+    'batches: while more {
+        more = take_and_read(rt, crew, &batch, source, &mut next)?;
+        swap(&mut batch, &mut next);
     }
+    if crew.take(rt, &batch).is_err() {
+        return Err(GridFault::Memory);
+    }
+    Ok(())
 }
