@@ -55,7 +55,7 @@ fn threads_for<T: Threads>(rt: &T, asked: usize) -> usize
 
 /// Reads a trace of at most 2^40 bytes once, and writes the table of the grid that is asked for.
 /// Answers whether some configuration was refused.
-fn table<T: Threads + Sync, R: ByteReader + Drop, W: ByteWriter>(
+fn table<T: Threads + Sync, R: ByteReader + Drop + Send, W: ByteWriter>(
     rt: &T,
     alloc: Global,
     asked: ParsedGrid,
@@ -87,7 +87,7 @@ fn table<T: Threads + Sync, R: ByteReader + Drop, W: ByteWriter>(
 }
 
 /// As `table`, from any reader to any writer, through a buffer.
-fn table_through_buffer<T: Threads + Sync, R: Read + Drop, W: Write + Drop>(
+fn table_through_buffer<T: Threads + Sync, R: Read + Drop + Send, W: Write + Drop>(
     rt: &T,
     alloc: Global,
     asked: ParsedGrid,

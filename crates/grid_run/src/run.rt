@@ -51,8 +51,8 @@ fn read_batch<R: ByteReader>(
 }
 
 /// All workers take a batch, and the next one is read: beside that if a thread is to spare, and
-/// else after it.
-fn take_and_read<R: ByteReader, T: Threads + Sync>(
+/// else after it. The caches stay in this thread, since their blocks stand in the caches of its core.
+fn take_and_read<R: ByteReader + Send, T: Threads + Sync>(
     rt: &T,
     crew: &mut Crew,
     batch: &Vec<DinRecord>,
@@ -77,13 +77,13 @@ fn take_and_read<R: ByteReader, T: Threads + Sync>(
         }
         return read_batch(source, next);
     }
-    let (taken, read) = join_mut(
+    let (read, taken) = join_mut(
         rt,
+        &mut || read_batch(source, next),
         &mut ||
             requires { (past : List Event) × All (MayHaveTaken past) crew.now.workers.items
                 × (length past + length batch.now.items ≤ MAX_LIMIT) }
         { crew.take(rt, batch) },
-        &mut || read_batch(source, next),
     );
     if taken.is_err() {
         return Err(GridFault::Memory);
@@ -93,7 +93,7 @@ fn take_and_read<R: ByteReader, T: Threads + Sync>(
 
 /// Reads the records in batches, and gives each to all workers, who serve what each row selects.
 /// Stops at a fault of the trace; the rest is then not read.
-pub(crate) fn serve_trace<R: ByteReader, T: Threads + Sync>(
+pub(crate) fn serve_trace<R: ByteReader + Send, T: Threads + Sync>(
     rt: &T,
     alloc: Global,
     source: &mut Source<R>,

@@ -16,9 +16,9 @@ returns-then-not-has_thread_to_spare-clause-taken g c =
 pub returns-then-is_err-2-clause-read : goal.returns-then-is_err-2-clause-read
 returns-then-is_err-2-clause-read g c =
     wanting-beside g.R.ByteReader.remaining g.R.ByteReader.failures c.args.source.now _ _
-    c.join_mut-taken.result.1 (search of_calls)
+    c.join_mut-read.result.0 (search of_calls)
 
 pub returns-clause-taken : goal.returns-clause-taken
 returns-clause-taken g c =
-    on-any c.join_mut-taken.result.1
-    (when-ok c.join_mut-taken.result.0 c.if-is_err-2.ensures.negation (search of_calls))
+    on-any c.join_mut-read.result.0
+    (when-ok c.join_mut-read.result.1 c.if-is_err-2.ensures.negation (search of_calls))
