@@ -162,7 +162,8 @@ impl Stacked {
 
     /// Serves an access if it repeats the use of the block that was used last, makes it dirty
     /// nowhere and sends nothing: this is the short way. It leaves any other access, and answers
-    /// `false`.
+    /// `false`. This is inlined, as are its callers and `repeat`, so that the short way is served
+    /// within the loop over the records. Not inlined, a fetch took about 30 instructions more.
     #[inline(always)]
     pub fn again(&mut self, access: Access) -> bool
         requires { stacked_served self.old < 2 ^ 44 }

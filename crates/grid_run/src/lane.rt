@@ -74,7 +74,9 @@ fn serve_request(
     ask_backs(backs, fronts, side)
 }
 
-/// Serves what an event asks of a side, if it does.
+/// Serves what an event asks of a side, if it does. This is inlined, as are its callers and what
+/// leads to the short way, which is so served within the loop over the records. Not inlined, a
+/// fetch took about 30 instructions more.
 #[inline(always)]
 fn serve_side(
     fronts: &mut Vec<Front>,

@@ -66,8 +66,8 @@ impl Level {
         self.engine.access(access)
     }
 
-    /// Serves an access the short way, if it may go it, as a use of the block that was used last may.
-    /// It sends nothing then. Any other access is left.
+    /// Serves an access the short way, if it may go it, as a use of the block that was used last
+    /// may. It sends nothing then. Any other access is left.
     #[inline(always)]
     pub fn again(&mut self, access: Access) -> bool
         requires room { CanServe self.old }
