@@ -11,9 +11,14 @@ find_place() {
     place=$programs/$1
 }
 
-# build_where_needed NAME: there is nothing here to build it from.
-build_where_needed() {
+# is_current NAME: the program stands there.
+is_current() {
     local place
     find_place "$1"
-    [ -x "$place" ] || die 69 "$1 is missing: install it again"
+    [ -x "$place" ]
+}
+
+# build_where_needed NAME: there is nothing here to build it from.
+build_where_needed() {
+    is_current "$1" || die 69 "$1 is missing: install it again"
 }

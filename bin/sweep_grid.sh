@@ -16,9 +16,34 @@ no_room() {
     die 4 "no room for temporary files in ${TMPDIR:-/tmp}"
 }
 
-# run_trial OPTION VALUES: runs the simulator with these values, and the first one of each other
-# option that has several, on a trace without records, and sets `status`. Its table, with a line for
-# each value, is in the file `tried`. All values of all options at once could be more than the
+# ask: begins what the simulator is asked before any run: its options, and whether it takes the
+# values of each that has several. It may yet turn out that it is of other sources.
+ask() {
+    local i list
+    begin help ask_for_help
+    for i in "${!varied[@]}"; do
+        begin "${varied[i]}" run_trial "${varied[i]}" "${values[i]}"
+    done
+    for i in "${!tied[@]}"; do
+        find_list "${leads[i]}"
+        begin "${tied[i]}" run_trial "${tied[i]}" "$list"
+    done
+} 2>/dev/null
+
+ask_for_help() {
+    exec "$program" --help > "$work/help"
+}
+
+# ask_anew: what a simulator of other sources has said, or none, counts for nothing.
+ask_anew() {
+    end_asides
+    build_where_needed dinero_grid
+    ask
+}
+
+# run_trial OPTION VALUES: becomes the simulator with these values, and the first one of each other
+# option that has several, on a trace without records. Its table, with a line for each value, is in
+# a file that is named for the option. All values of all options at once could be more than the
 # memory holds.
 run_trial() {
     local i list words=(--threads 1 ${full:+"$full"} "${fixed[@]}")
@@ -30,20 +55,19 @@ run_trial() {
         [ "${tied[i]}" = "$1" ] || words+=("${tied[i]}" "${list%%,*}")
     done
     words+=("$1" "$2")
-    status=0
-    "$program" "${words[@]}" < /dev/null > "$work/tried" 2> "$work/told" || status=$?
+    exec "$program" "${words[@]}" < /dev/null > "$work/tried$1" 2> "$work/told$1"
 }
 
 # try OPTION VALUES: the same, and refuses what the simulator does.
 try() {
-    local status
-    run_trial "$@"
+    local status=0
+    (run_trial "$@") || status=$?
     case $status in
     0 | 5) ;;
-    2) refuse "$(sed 's/^dinero_grid: //' "$work/told")" ;;
+    2) refuse "$(sed 's/^dinero_grid: //' "$work/told$1")" ;;
     *)
         end_where_full
-        die 4 "the simulator failed with status $status: $(< "$work/told")"
+        die 4 "the simulator failed with status $status: $(< "$work/told$1")"
         ;;
     esac
 }
@@ -51,16 +75,17 @@ try() {
 # find_list OPTION: sets `list` to the values of one that is varied.
 find_list() {
     local i
+    list=
     for i in "${!varied[@]}"; do
         [ "${varied[i]}" != "$1" ] || list=${values[i]}
     done
 }
 
-# find_counts: sets `counts` to the names of the columns behind those of options, in the table that
-# was tried.
+# find_counts: sets `counts` to the names of the columns behind those of options, in the tables that
+# were tried.
 find_counts() {
     local name
-    IFS= read -r counts < "$work/tried"
+    IFS= read -r counts < "$work/tried${varied[0]}"
     while read -r name _; do
         counts=${counts#"$name"$'\t'}
     done <<<"$options"
@@ -84,8 +109,8 @@ check_values() {
 # try_values OPTION LIST: all at once where the simulator takes them, and else one by one: some
 # options take no list, and a grid has a greatest size.
 try_values() {
-    local status value
-    run_trial "$1" "$2"
+    local status=0 value
+    finish "$1" || status=$?
     if [ "$status" -eq 0 ] || [ "$status" -eq 5 ]; then
         [ -z "$full" ] || note_shown "${1#--}" "$2"
         return
@@ -110,13 +135,13 @@ note_shown() {
             IFS=$'\t' read -ra row
             shown+=("$1" "$value" "${row[at]}")
         done
-    } < "$work/tried"
+    } < "$work/tried--$1"
 }
 
 # note_shared: the same, in front of those, for each value that all rows have.
 note_shared() {
     local name value row shared=() at=0
-    { read -r _ && IFS=$'\t' read -ra row; } < "$work/tried"
+    { read -r _ && IFS=$'\t' read -ra row; } < "$work/tried${varied[0]}"
     while read -r name value; do
         find_value "--$name"
         [ -z "$value" ] || shared+=("$name" "$value" "${row[at]}")
@@ -174,26 +199,32 @@ find_paths() {
 
 # furnish FOLDER: gives the program and the traces their short names in it.
 furnish() {
-    local i paths
-    ln -s "$program" "$1/dinero_grid" && find_paths "${traces[@]}" || return
-    for i in "${!paths[@]}"; do
-        ln -s "${paths[i]}" "$1/$i.din" || return
+    local i path
+    ln -s "$program" "$1/dinero_grid" || return
+    for i in "${!traces[@]}"; do
+        path=${traces[i]}
+        [[ $path == /* ]] || path=$PWD/$path
+        ln -s "$path" "$1/$i.din" || return
     done
 }
 
-# make_work: the folder of the sweep. Its name has no link.
+# furnish_work: the folder of the sweep. Its shell ends behind all that it begins.
+furnish_work() {
+    trap exit TERM
+    furnish "$work" && : > "$work/pending" && mkfifo "$work/finished"
+}
+
+# make_work: the folder of the sweep, which is removed at the end. Its name has no link.
 make_work() {
-    work=$(made=$(mktemp -d) && cd -P -- "$made" && pwd) ||
+    work=$(trap '' HUP INT TERM && made=$(mktemp -d) && cd -P -- "$made" && pwd) ||
         die 4 'no folder for temporary files'
-    leftovers+=("$work")
     described=$work/grid
 }
 
 prepare() {
     check_values
     [ -z "$log" ] || find_sums
-    { describe_grid > "$described" && furnish "$work" && : > "$work/pending"; } 2>/dev/null ||
-        no_room
+    { describe_grid > "$described" && finish links; } 2>/dev/null || no_room
 }
 
 # plan PROGRAMS WORD..: the runs that are left to make. The words say how to cut the grid. Sets

@@ -1,27 +1,47 @@
-# Makes whole rows of what a run has printed, which follows the line of the run. They go to the file
-# `rows`, and two words to the file `verdict`: `whole`, or `again` if another run of the same could
-# end otherwise; and the fault of the run, which is a hyphen if there is none. sweep_grid.awk is
-# read before it.
+# Makes whole rows of what runs have printed. The lines that it reads have the number of a run, and
+# the run. The rows of those that would end so again go to the file `rows`. The file `verdict` has
+# two words for each run: `whole`, or `again` if another run of the same could end otherwise; and
+# the fault of the run, which is a hyphen if there is none. sweep_grid.awk is read before it.
 
-!has_run {
-    read_run($0)
-    has_run = 1
+BEGIN { printf "" > file("rows") }
+
+{ take_run($1, substr($0, length($1) + 2)) }
+
+# take_run(N, LINE): what it has printed is in the file `raw.N`, if there is one.
+function take_run(n, line,   raw, text) {
+    read_run(line)
+    find_head()
+    lines = rows = in_table = is_cut = is_other = 0
+    said = ended = unpacked = ""
+    raw = file("raw." n)
+    while ((getline text < raw) > 0) take_line(text)
+    close(raw)
+    end_run()
+}
+
+# find_head(): sets `head` to the names of the options for which the run has a column, and `labels`
+# to how many these are.
+function find_head(   i) {
+    labels = 0
     head = ""
     for (i = 1; i <= options; i++)
         if (has_column(option[i])) {
             labels++
             head = head option[i] "\t"
         }
-    next
 }
 
-/^unpacked [0-9]+$/ { unpacked = substr($0, 10) + 0; next }
-/^ended [0-9]+$/ { ended = substr($0, 7); next }
-!in_table && $0 == head heads { in_table = 1; next }
-in_table { line[++lines] = $0; if (NF != labels + head_count) is_cut = 1; next }
-said == "" { said = $0 }
+function take_line(text,   field) {
+    if (text ~ /^unpacked [0-9]+$/) unpacked = substr(text, 10) + 0
+    else if (text ~ /^ended [0-9]+$/) ended = substr(text, 7)
+    else if (!in_table && text == head heads) in_table = 1
+    else if (in_table) {
+        line_of_table[++lines] = text
+        if (split(text, field, "\t") != labels + head_count) is_cut = 1
+    } else if (said == "") said = text
+}
 
-END {
+function end_run() {
     sub(/^dinero_grid: /, "", said)
     gsub(/\t/, " ", said)
     if (said == "" || ended == "") said = "no report"
@@ -62,7 +82,7 @@ function make_row(   i, name) {
         if (!has_column(name)) continue
         label[rows] = label[rows] (full ? shown[name, now[name]] : now[name]) "\t"
     }
-    if (substr(line[rows], 1, length(label[rows])) != label[rows]) is_other = 1
+    if (substr(line_of_table[rows], 1, length(label[rows])) != label[rows]) is_other = 1
 }
 
 function is_table() {
@@ -71,16 +91,16 @@ function is_table() {
 
 function give_table(   i) {
     print "whole", "-" > file("verdict")
-    for (i = 1; i <= rows; i++) give_row(i, substr(line[i], length(label[i]) + 1))
+    for (i = 1; i <= rows; i++) give_row("whole", i, substr(line_of_table[i], length(label[i]) + 1))
 }
 
 function give_fault(how, fault,   i, hyphens) {
     print how, fault > file("verdict")
     for (i = 1; i < head_count; i++) hyphens = hyphens "-\t"
-    for (i = 1; i <= rows; i++) give_row(i, hyphens fault)
+    for (i = 1; i <= rows; i++) give_row(how, i, hyphens fault)
 }
 
-function give_row(i, counts) {
-    print front[i], counts > file("rows")
+function give_row(how, i, counts) {
+    if (how == "whole") print front[i], counts > file("rows")
     keep_row(front[i] "\t" counts)
 }

@@ -86,40 +86,44 @@ choose_engine() {
 
 # make_runs: here or on other machines, and takes in what each has to say, as soon as it has ended;
 # at the end, also those that were not heard of.
-group=
 make_runs() {
-    local number heard=()
-    mkfifo "$work/finished"
-    # In a group of their own, the runs can be ended together. They do not hold the log, so that
-    # another call can go on from it as soon as this one has ended.
-    set -m
-    if [ -n "$log_lock" ]; then
-        $engine > "$work/finished" {log_lock}>&- &
-    else
-        $engine > "$work/finished" &
-    fi
-    group=$!
-    set +m
-    while read -r number; do
-        heard[number]=yes
-        take_in "$number"
-    done < "$work/finished"
-    wait "$group" || true
-    group=
+    local number some heard=() both finished
+    # It is opened for both ends first: none waits for the other, which may have been interrupted.
+    exec {both}<> "$work/finished"
+    begin runs run_engine
+    exec {finished}< "$work/finished" {both}>&-
+    while read_ended; do
+        for number in "${some[@]}"; do
+            heard[number]=yes
+        done
+        take_in "${some[@]}"
+    done <&"$finished"
+    exec {finished}<&-
+    finish runs || true
+    some=()
     for ((number = 1; number <= runs; number++)); do
-        [ -n "${heard[number]-}" ] || take_in "$number"
+        [ -n "${heard[number]-}" ] || some+=("$number")
     done
+    [ ${#some[@]} -eq 0 ] || take_in "${some[@]}"
 }
 
-# end_runs: ends all runs. parallel, once told to end, winds up on other machines too.
-end_runs() {
-    local tries
-    kill -TERM -- "-$group" 2>/dev/null || return 0
-    for ((tries = 0; tries < 200; tries++)); do
-        kill -0 -- "-$group" 2>/dev/null || return 0
-        sleep 0.05
+# run_engine: the runs do not hold the log, so that another call can go on from it as soon as this
+# one has ended.
+run_engine() {
+    [ -z "$log_lock" ] || exec {log_lock}>&-
+    "$engine" > "$work/finished" {both}>&-
+}
+
+# read_ended: waits for the end of a run, and sets `some` to its number and those of all that have
+# ended by then.
+read_ended() {
+    local number
+    some=()
+    read -r number || return
+    some+=("$number")
+    while read -rt 0 && read -r number; do
+        some+=("$number")
     done
-    kill -KILL -- "-$group" 2>/dev/null || true
 }
 
 # one_task: its rows are kept as soon as a run of it has ended.
@@ -132,7 +136,8 @@ one_task() {
     for ((number = 1; number <= runs; number++)); do
         (cd "$work" && exec sh -c "$one_run" run "$number" "${commands[number - 1]}") > /dev/null ||
             true
-        read_run "$number" rows
+        read_runs rows "$number"
+        read_verdict "$number" "${verdicts[0]}"
         tell_fault
         if [ "$ended" != whole ]; then
             end_where_stuck

@@ -26,14 +26,22 @@ put_last_lines() {
     put_lines
 }
 
-# read_run N PROGRAMS [WORD..]: sets `ended` and `fault`, and puts the rows of the run into the file
-# `rows`.
-read_run() {
-    local raw=$work/raw.$1 line=${run_lines[$1 - 1]}
-    [ -f "$raw" ] || raw=/dev/null
-    { of_grid "${@:2}" part=run - "$raw" <<<"$line" &&
-        IFS=$'\t' read -r ended fault < "$work/verdict"; } 2>/dev/null || no_room
-    trace=${traces[${line%%$'\t'*} - 1]}
+# read_runs PROGRAMS N..: puts into the file `rows` those of the runs that another run of the same
+# would make again, and sets `verdicts` to a line for each run.
+read_runs() {
+    local number list=
+    for number in "${@:2}"; do
+        list+=$number$'\t'${run_lines[number - 1]}$'\n'
+    done
+    { of_grid "$1" part=run - part=rows "from=$next" "$work/pending" <<<"${list%$'\n'}" &&
+        mapfile -t verdicts < "$work/verdict" && [ ${#verdicts[@]} -eq $(($# - 1)) ]; } \
+        2>/dev/null || no_room
+}
+
+# read_verdict N VERDICT: sets `ended`, `fault` and `trace` to those of the run.
+read_verdict() {
+    ended=${2%%$'\t'*} fault=${2#*$'\t'}
+    trace=${traces[${run_lines[$1 - 1]%%$'\t'*} - 1]}
 }
 
 # tell_fault: that of a run, once.
@@ -45,16 +53,17 @@ tell_fault() {
     fi
 }
 
-# take_in N: a run that has ended. Only what another run would say again is kept in the log.
+# take_in N..: runs that have ended. Only what another run would say again is kept in the log.
 take_in() {
-    read_run "$1" 'rows table' part=rows "from=$next" "$work/pending"
-    { : > "$work/raw.$1"; } 2>/dev/null || true
-    if [ "$ended" != whole ]; then
-        end_where_full
-    elif [ -n "$log" ]; then
-        keep "$work/rows"
-    fi
-    tell_fault
+    local number i=0
+    read_runs 'rows table' "$@"
+    [ -z "$log" ] || [ ! -s "$work/rows" ] || keep "$work/rows"
+    for number; do
+        { : > "$work/raw.$number"; } 2>/dev/null || true
+        read_verdict "$number" "${verdicts[i++]}"
+        [ "$ended" = whole ] || end_where_full
+        tell_fault
+    done
     put_lines
 }
 

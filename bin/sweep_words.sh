@@ -110,7 +110,7 @@ is_number() {
 # them, a line for each: its name, and its default if it has one.
 find_options() {
     local help line name option='^ +--([a-z0-9-]+) <[^>]*>  +[^ ]' default='\[default: ([^]]*)\]$'
-    help=$("$program" --help)
+    { finish help && help=$(< "$work/help"); } 2>/dev/null || help=$("$program" --help)
     while IFS= read -r line; do
         [[ $line =~ $option ]] || continue
         name=${BASH_REMATCH[1]}
