@@ -94,7 +94,8 @@ module _ {R : Type 0} (remaining : R → Option (List ℕ)) (failures : R → �
     (going : (start : Source R) (past : List DinRecord)
     → HasRead remaining failures start old past
     → HasRead remaining failures start now (past ++ batch))
-    (result : Result (Option DinRecord) TraceFault) (reads : Answers remaining failures now next result)
+    (result : Result (Option DinRecord) TraceFault)
+    (reads : Answers remaining failures now next result)
     (settled : IsSettled now → next ≡ now)
     (start : Source R) (past : List DinRecord)
     (was : HasRead remaining failures start old past) where

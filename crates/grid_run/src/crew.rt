@@ -1,6 +1,6 @@
 //! The lanes of a grid, which take records in batches.
 
-ghost use Rattle.std.specs.Prelude.{◌≡◌, ◌<◌, ◌+◌, ◌≤◌, ◌++◌, ◌∷◌, [], List, IfOk, OnOk, false};
+ghost use Rattle.std.specs.Prelude.{◌≡◌, ◌<◌, ◌+◌, ◌≤◌, ◌++◌, [], List, IfOk, OnOk, false};
 ghost use Rattle.std.specs.Prelude.{length, map};
 ghost use Rattle.std.specs.List.{All};
 ghost use Rattle.din_trace.specs.declared.record.DinRecord.{DinRecord as Event};

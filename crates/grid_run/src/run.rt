@@ -1,6 +1,7 @@
 //! One reading of a trace, in which the caches of all rows are served.
 
-ghost use Rattle.std.specs.Prelude.{◌≡◌, ◌≢◌, ◌+◌, ◌≤◌, ◌++◌, [], List, ℕ, IfErr, OnOk, length, map};
+ghost use Rattle.std.specs.Prelude.{◌≡◌, ◌≢◌, ◌+◌, ◌≤◌, ◌++◌, [], List, ℕ, IfErr, OnOk};
+ghost use Rattle.std.specs.Prelude.{length, map};
 ghost use Rattle.std.specs.List.{All};
 ghost use Rattle.din_trace.specs.Text.{Remaining};
 ghost use Rattle.din_trace.specs.Remaining.{Script, Fate, Follows};
@@ -51,7 +52,8 @@ fn read_batch<R: ByteReader>(
 }
 
 /// All workers take a batch, and the next one is read: beside that if a thread is to spare, and
-/// else after it. The caches stay in this thread, since their blocks stand in the caches of its core.
+/// else after it. The reader gets the new thread: what the workers have stands in the caches of
+/// this core.
 fn take_and_read<R: ByteReader + Send, T: Threads + Sync>(
     rt: &T,
     crew: &mut Crew,

@@ -1,5 +1,6 @@
 use Rattle.std.proofs.Common.{◌≡◌, ◌<◌, ◌≤◌, ◌^◌, ◌++◌, ◌∷◌, [], List, Option, Ok}
-use Rattle.std.proofs.Common.{cond, ap, refl, sym, subst, ◌∙◌, inl, inr, arith, length, length-append}
+use Rattle.std.proofs.Common.{cond, ap, refl, sym, subst, ◌∙◌, inl, inr, arith, length}
+use Rattle.std.proofs.Common.{length-append}
 use Rattle.din_trace.specs.Source.{room_of}
 use Rattle.din_trace.specs.declared.record.DinRecord.{DinRecord}
 use Rattle.grid_run.specs.Readings.{HasRead, HasStopped}
@@ -30,8 +31,8 @@ records-preserved g c =
     let longer = length-append c.records.batch.items (r ∷ []) in
     record {
       read = λ start past was. subst (λ (b : List DinRecord).
-          HasRead g.R.ByteReader.remaining g.R.ByteReader.failures start c.next.new.self (past ++ b))
-          (sym pushed) (record-read g.R.ByteReader.remaining g.R.ByteReader.failures
+          HasRead g.R.ByteReader.remaining g.R.ByteReader.failures start c.next.new.self
+          (past ++ b)) (sym pushed) (record-read g.R.ByteReader.remaining g.R.ByteReader.failures
           c.args.source.now c.records.source c.next.new.self c.records.batch.items now.read
           c.next.result c.next.ensures.reads c.next.ensures.settled start past was r answered);
       room = omega (arith, ap length pushed, longer, now.room, less);
@@ -53,8 +54,8 @@ returns-then-len-ge-BATCH-clause-read g c =
     let longer = length-append c.records.batch.items (r ∷ []) in
     record {
       more = λ start past was e. subst (λ (b : List DinRecord).
-          HasRead g.R.ByteReader.remaining g.R.ByteReader.failures start c.next.new.self (past ++ b))
-          (sym pushed) (record-read g.R.ByteReader.remaining g.R.ByteReader.failures
+          HasRead g.R.ByteReader.remaining g.R.ByteReader.failures start c.next.new.self
+          (past ++ b)) (sym pushed) (record-read g.R.ByteReader.remaining g.R.ByteReader.failures
           c.args.source.now c.records.source c.next.new.self c.records.batch.items now.read
           c.next.result c.next.ensures.reads c.next.ensures.settled start past was r answered);
       ended = λ start past was e. absurd cc;
