@@ -2,9 +2,7 @@
 use Rattle.std.proofs.Common.{◌≡◌, ℕ, ◌<◌, List, [], ◌∷◌, length, get_or, map, refl, sym}
 use Rattle.std.proofs.Common.{◌∙◌, arith}
 use Rattle.std.proofs.lemmas.List.{get_or-map, length-map, same_lists}
-use Rattle.din_trace.specs.declared.record.DinRecord.{DinRecord}
-use Rattle.std.specs.List.{All}
-use Rattle.grid_run.specs.Workers.{MayHaveTaken, Took, worker_task}
+use Rattle.grid_run.specs.Workers.{worker_task}
 use Rattle.grid_run.specs.declared.worker.Worker.{Worker}
 
 -- if each worker has its task still, the tasks are the same
@@ -21,8 +19,3 @@ same-tasks (x ∷ xs) new len each = same_lists (map worker_task new) (map worke
     let inside' : k < length (x ∷ xs) = omega (arith, inside, len) in
     get_or-map worker_task new k x t inside ∙ each k x inside'
     ∙ sym (get_or-map worker_task (x ∷ xs) k x t inside'))
-
--- workers that have taken records may have taken them
-pub may-have-taken : (past : List DinRecord) (ws : List Worker) → All (Took past) ws
-    → All (MayHaveTaken past) ws
-may-have-taken past ws all = λ k d lt. record { lane = λ working. (all k d lt).lane }
