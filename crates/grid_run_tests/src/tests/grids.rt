@@ -85,7 +85,7 @@ static REFUSED: &str = concat!(
 );
 
 /// The result of a grid over a trace, read from any reader and written to any writer.
-pub(super) fn run<H: Threads + Sync, R: Read + Drop, W: Write + Drop>(
+pub(super) fn run<H: Threads + Sync, R: Read + Drop + Send, W: Write + Drop>(
     rt: &H,
     alloc: Global,
     grid: &Grid,
