@@ -103,11 +103,11 @@ call 'two sizes in threads without a number' 0 "$work/sizes" '' "$trace" "${cach
     --l1-dsize 8,16 --threads=0
 
 # Of a trace of three batches of records, each line counts all.
-{ yes '0 0' | head -n 100000; echo '0 8'; } >"$work/long.din"
+{ yes '0 0' | head -n 160000; echo '0 8'; } >"$work/long.din"
 {
     heads l1-dsize
     for size in 8 16; do
-        columns $size 0 0 0.000000 0 0 0 0 0 0 0 0 100001 2 0.000019 2 0 0 2 2 0 0 0
+        columns $size 0 0 0.000000 0 0 0 0 0 0 0 0 160001 2 0.000012 2 0 0 2 2 0 0 0
         columns 2 2 1.000000 2 0 0 2 2 0 0 0
         echo -
     done
@@ -155,14 +155,14 @@ call 'the table of a lesson' 0 "$lesson.tsv" '' "$lesson.din" "${words[@]}"
 
 # A trace of three batches: the table is the same on any number of threads.
 awk 'BEGIN {
-    for (i = 0; i < 140000; i++) {
+    for (i = 0; i < 200000; i++) {
         n = (n * 1103515245 + 12345) % 2147483648
         print int(n / 65536) % 4, int(n / 262144) % 97
     }
 }' >"$work/long.din"
 several=("${caches[@]}" --l1-dsize 4,8,16,32 --l1-dassoc 1,2 --flushcount 0,1000)
 "$program" "${several[@]}" --threads 1 <"$work/long.din" >"$work/long"
-call 'a faulty line behind two batches' 1 "$nothing" 'dinero_grid: line 140001: label
+call 'a faulty line behind two batches' 1 "$nothing" 'dinero_grid: line 200001: label
 ' <(cat "$work/long.din" && echo 5 0) "${several[@]}"
 for threads in {0..8}; do
     call "a table on $threads threads" 5 "$work/long" '' "$work/long.din" "${several[@]}" \

@@ -26,8 +26,8 @@ use Rattle.grid_core.specs.Ways.{IsStacked}
 use Rattle.grid_core.specs.Histograms.{level_at}
 use Rattle.grid_core.specs.Standing.{IsCountedIn, IsEmptyStack, StandsFor}
 use Rattle.grid_core.specs.Recent.{IsRecent, after_use, none_recent}
-use Rattle.grid_core.specs.Shadows.{HoldsOrder, far_in, is_known, levels_in, recent_in}
-use Rattle.grid_core.specs.Shadows.{shadow_sizes}
+use Rattle.grid_core.specs.Shadows.{AreNumbered, HoldsOrder, far_in, is_known, levels_in}
+use Rattle.grid_core.specs.Shadows.{recent_in, shadow_sizes}
 use Rattle.grid_core.specs.Cells.{KnowsPrior, dirty_bytes_of, shape_rules}
 use Rattle.grid_core.specs.State.{IsAfter, IsRanked, base_rules}
 use Rattle.grid_core.specs.Totals.{total}
@@ -127,14 +127,15 @@ module _ (g : Geometry) (h : History) (x : Access) where
       → All (IsCountedIn (shadow_sizes shadows) (access x ∷ h)) stacks'
       → ((zs : List ℕ) → HoldsOrder shadows zs → HoldsOrder shadows' (brought_front b zs))
       → ((c : ℕ) → is_known shadows' c ≡ (b == c || is_known shadows c))
-      → recent_in shadows' ≡ after_use b (is_write x) (recent_in shadows)
+      → AreNumbered shadows' → recent_in shadows' ≡ after_use b (is_write x) (recent_in shadows)
       → ((k : ℕ) → far_in shadows' k ≡ with_one x (ltb k p.level) (far_in shadows k))
       → shadow_sizes shadows' ≡ shadow_sizes shadows
       → IsAfter g stacks' shadows' shapes (access x ∷ h)
-  after-access stacks rows' shadows shadows' shapes p st prior rows counted order adds at far sizes
-      = record {
+  after-access stacks rows' shadows shadows' shapes p st prior rows counted order adds low at far
+      sizes = record {
         rows = rows;
         order = subst (HoldsOrder shadows') (sym (front-brought r refl h x)) (order ys st.order);
+        numbered = low;
         known = λ c. adds c ∙ ap (λ t. b == c || t) (st.known c) ∙ referenced-next c;
         counted = subst (λ (z : List ℕ). All (IsCountedIn z (access x ∷ h)) rows') (sym sizes)
             counted;
@@ -162,15 +163,16 @@ module _ (g : Geometry) (h : History) where
       (shapes : List Shape) → IsAfter g stacks shadows shapes h
       → All (λ s. StandsFor s (flush ∷ h)) stacks'
       → All (IsCountedIn (shadow_sizes shadows) (flush ∷ h)) stacks' → HoldsOrder shadows' []
-      → ((c : ℕ) → is_known shadows' c ≡ is_known shadows c)
+      → ((c : ℕ) → is_known shadows' c ≡ is_known shadows c) → AreNumbered shadows'
       → recent_in shadows' ≡ none_recent → levels_in shadows' ≡ levels_in shadows
       → shadow_sizes shadows' ≡ shadow_sizes shadows
       → IsAfter g stacks' shadows' shapes (flush ∷ h)
-  after-flush stacks rows' shadows shadows' shapes st rows counted order same none levels sizes
+  after-flush stacks rows' shadows shadows' shapes st rows counted order same low none levels sizes
       = record {
         rows = rows;
         order = subst (HoldsOrder shadows')
             (sym (ap distinct (renewals-flush (shadow_of (base_rules g)) h))) order;
+        numbered = low;
         known = λ c. same c ∙ st.known c ∙ referenced-flush c;
         counted = subst (λ (z : List ℕ). All (IsCountedIn z (flush ∷ h)) rows') (sym sizes)
             counted;
@@ -190,13 +192,14 @@ far-start s = refl
 -- before the first event
 pub after-start : (g : Geometry) (stacks : List Stack) (shadows : Shadows) (shapes : List Shape)
     (levels : ℕ) → All (IsEmptyStack levels) stacks → HoldsOrder shadows []
-    → ((c : ℕ) → is_known shadows c ≡ false) → recent_in shadows ≡ none_recent
+    → ((c : ℕ) → is_known shadows c ≡ false) → AreNumbered shadows → recent_in shadows ≡ none_recent
     → ((k : ℕ) → far_in shadows k ≡ none_by_class) → IsAfter g stacks shadows shapes []
 unfolding renewals referenced_blocks
-after-start g stacks shadows shapes levels empty order known none far = record {
+after-start g stacks shadows shapes levels empty order known low none far = record {
   rows = λ k d lt. (empty k d lt).stands;
   order = order;
   known = known;
+  numbered = low;
   counted = λ k d lt. (empty k d lt).counted (shadow_sizes shadows);
   far = λ k d lt.
       let s = get_or shapes k d in

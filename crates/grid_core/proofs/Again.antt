@@ -197,6 +197,7 @@ after-again g h x sizes stacks shadows shapes same ranked again st =
       rows = λ k d lt. stands-again n h x last written (get_or stacks k d)
           (size-at n stacks same k d lt) (st.rows k d lt);
       order = subst (HoldsOrder shadows) order st.order;
+      numbered = st.numbered;
       known = λ c. st.known c ∙ known-again n b r h refl last c ∙ referenced-next g h x c;
       counted = λ k d lt.
           let s = get_or stacks k d in

@@ -20,6 +20,8 @@ pub mod WriteBacks
 pub mod DirtySlots
 pub mod Numbering
 pub mod Numbers
+pub mod Renumbered
+pub mod MoreNumbers
 pub mod Geometries
 pub mod Sizes
 pub mod Served

@@ -56,6 +56,15 @@ changed_more {R = R} {f = f} {first = first} {now = now} {k = k} was d x lt same
       get_or-set_other now k j x e ne ∙ was.left j e (omega arith);
 }
 
+-- what follows from how the items have changed
+pub changed_so : {X V : Type 0} {R S : X → X → Type 0} {f : X → V} {first now : List X} {k : ℕ}
+    → HasChanged R f first k now → ((x y : X) → R x y → S x y) → HasChanged S f first k now
+changed_so {first = first} {now = now} was so = record {
+  told = was.told;
+  changed = λ j d below. so (get_or first j d) (get_or now j d) (was.changed j d below);
+  left = was.left;
+}
+
 -- the loop goes over the items of a vector, which were ys
 module _ {X V : Type 0} {R : X → X → Type 0} {f : X → V} {first now ys : List X} {k : ℕ}
     (was : HasChanged R f first k now) (lent : first ≡ ys) where

@@ -1,14 +1,15 @@
 -- Blocks are numbered by their places in a list.
 use Rattle.std.proofs.Common.{◌≡◌, ℕ, suc, ◌+◌, ◌<◌, ◌≤◌, Bool, true, false, cond, not, eqb, ltb}
-use Rattle.std.proofs.Common.{List, [], ◌∷◌, length, get_or, Option, Some, None, is_some, unwrap_or}
-use Rattle.std.proofs.Common.{refl, sym, ap, ◌∙◌, arith}
+use Rattle.std.proofs.Common.{List, [], ◌∷◌, ◌++◌, length, get_or, Some, None, is_some}
+use Rattle.std.proofs.Common.{length-append, unwrap_or}
+use Rattle.std.proofs.Common.{refl, sym, ap, subst, ◌∙◌, arith}
 use Rattle.std.specs.List.{list_any, position_or_len}
 use Rattle.std.proofs.lemmas.Bool.{eqb-true, lt-ltb, ltb-true}
 use Rattle.std.proofs.lemmas.Bool.Decides.{nat_tests}
 use Rattle.cache_core.proofs.Cases.{by_cases}
 use Rattle.grid_core.specs.declared.at_hand.Entry.{Entry}
 use Rattle.grid_core.specs.AtHand.{AreRight}
-use Rattle.grid_core.specs.Numbers.{number_at}
+use Rattle.grid_core.specs.Numbers.{GoesOn, number_at}
 
 -- the place of b, or the length of the list
 abbrev place : ℕ → List ℕ → ℕ
@@ -80,16 +81,56 @@ pub twice : (t : Bool) → not (not t) ≡ t
 twice true = refl
 twice false = refl
 
--- what is kept of the numbers stays right when block b has its number
-pub right-grows : (m new : ℕ → Option ℕ) (b n next : ℕ) (es : List Entry)
-    → n ≡ unwrap_or (m b) next → ((q : ℕ) → new q ≡ cond (eqb b q) (Some n) (m q))
-    → AreRight m es → AreRight new es
-right-grows m new b n next es is adds all k d lt =
+-- a block of the first list has the same number in a list that goes on
+pub number-kept : (xs ys : List ℕ) (b n : ℕ) → number_at xs b ≡ Some n
+    → number_at (xs ++ ys) b ≡ Some n
+number-kept xs ys b n e =
+    let is = found (ltb (place b xs) (length xs)) (place b xs) n e in
+    let lt = ltb-true (place b xs) (length xs) is.0 in
+    let same = place-kept xs ys b lt in
+    let longer = length-append xs ys in
+    ap (λ p. cond (ltb p (length (xs ++ ys))) (Some p) None) same
+    ∙ ap (λ t. cond t (Some (place b xs)) None)
+    (lt-ltb (place b xs) (length (xs ++ ys)) (omega arith))
+    ∙ ap Some is.1
+  where
+    place-kept : (xs ys : List ℕ) (b : ℕ) → place b xs < length xs
+        → place b (xs ++ ys) ≡ place b xs
+    place-kept [] ys b lt = absurd (omega arith)
+    place-kept (x ∷ xs) ys b lt = (elim (eqb b x) as (λ t.
+        cond (not t) (1 + place b xs) 0 < suc (length xs)
+        → cond (not t) (1 + place b (xs ++ ys)) 0 ≡ cond (not t) (1 + place b xs) 0) [
+          | true ↦ λ below. refl
+          | false ↦ λ below. ap (λ n. 1 + n) (place-kept xs ys b (omega arith))
+        ]) lt
+
+-- a low number in a list that goes on is one in the first list
+pub number-low-kept : (xs ys : List ℕ) (b n : ℕ) → number_at (xs ++ ys) b ≡ Some n
+    → n < length xs → number_at xs b ≡ Some n
+number-low-kept xs ys b n e low =
+    let is = found (ltb (place b (xs ++ ys)) (length (xs ++ ys))) (place b (xs ++ ys)) n e in
+    let same = place-low xs ys b (let p = is.1 in omega arith) in
+    let p = is.1 in
+    ap (λ t. cond t (Some (place b xs)) None)
+    (lt-ltb (place b xs) (length xs) (omega arith))
+    ∙ ap Some (sym same ∙ is.1)
+  where
+    place-low : (xs ys : List ℕ) (b : ℕ) → place b (xs ++ ys) < length xs
+        → place b (xs ++ ys) ≡ place b xs
+    place-low [] ys b lt = absurd (omega arith)
+    place-low (x ∷ xs) ys b lt = (elim (eqb b x) as (λ t.
+        cond (not t) (1 + place b (xs ++ ys)) 0 < suc (length xs)
+        → cond (not t) (1 + place b (xs ++ ys)) 0 ≡ cond (not t) (1 + place b xs) 0) [
+          | true ↦ λ below. refl
+          | false ↦ λ below. ap (λ n. 1 + n) (place-low xs ys b (omega arith))
+        ]) lt
+
+-- what is kept of the numbers stays right in a list that goes on
+pub right-kept : (xs ys : List ℕ) (es : List Entry) → GoesOn xs ys
+    → AreRight (number_at xs) es → AreRight (number_at ys) es
+right-kept xs ys es on all k d lt =
     let e = get_or es k d in
     record {
-      number = λ some. let before = (all k d lt).number some in by_cases (eqb b e.block)
-          (λ t. adds e.block ∙ ap (λ u. cond u (Some n) (m e.block)) t
-          ∙ ap Some (is ∙ ap (λ q. unwrap_or (m q) next) (eqb-true b e.block t)
-          ∙ ap (λ o. unwrap_or o next) before))
-          (λ f. adds e.block ∙ ap (λ u. cond u (Some n) (m e.block)) f ∙ before);
+      number = λ some. subst (λ l. number_at l e.block ≡ Some e.number) (sym on.1)
+          (number-kept xs on.0 e.block e.number ((all k d lt).number some));
     }

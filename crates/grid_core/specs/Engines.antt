@@ -6,7 +6,9 @@ use Rattle.cache_core.specs.declared.counts.PerClass.{PerClass}
 use Rattle.cache_core.specs.History.{History, Rules}
 use Rattle.cache_core.specs.Standing.{rules_from}
 use Rattle.grid_core.specs.declared.engine.Engine.{Engine}
-use Rattle.grid_core.specs.Caches.{CachesStandFor, HaveAnswered, counts_in, misses_in}
+use Rattle.grid_core.specs.Numbers.{GoesOn}
+use Rattle.grid_core.specs.Caches.{CachesStandBy, HaveAnswered, caches_numbered}
+use Rattle.grid_core.specs.Caches.{counts_in, misses_in}
 
 -- the rules of the caches
 unfoldable pub rules_in : Engine → List Rules
@@ -24,12 +26,26 @@ kept_in e = map (λ s. (counts_in e.caches s.cell, misses_in e.caches s.shade)) 
 unfoldable pub has_failed : Engine → Bool
 has_failed e = e.failed
 
--- the engine stands for the history: it has not failed, and its state is what the history gives
-pub record EngineStandsFor (e : Engine) (h : History) : Type 0 where
+-- the blocks that have numbers: the number of each is its place
+abbrev pub numbered_in : Engine → List ℕ
+numbered_in e = caches_numbered e.caches
+
+-- the engine stands for the history by the numbers that the places of a list of blocks are: it has
+-- not failed, and its state is what the history gives
+pub record EngineStandsBy (blocks : List ℕ) (e : Engine) (h : History) : Type 0 where
   pub working : has_failed e ≡ false
   pub served : served_in e ≡ length h
-  pub caches : CachesStandFor h e.caches
+  pub caches : CachesStandBy blocks h e.caches
+
+-- the engine stands for the history by its own numbers
+abbrev pub EngineStandsFor : Engine → History → Type 0
+EngineStandsFor e = EngineStandsBy (numbered_in e) e
 
 -- the last access was x, after the history h
 pub record HasAnswered (e : Engine) (h : History) (x : Access) : Type 0 where
   pub answers : HaveAnswered h x e.caches
+
+-- an engine that stands for a history by some numbers does so by more of them
+abbrev pub MoreNumbersServe : Type 0
+MoreNumbersServe = (blocks more : List ℕ) (e : Engine) (h : History) → GoesOn blocks more →
+    EngineStandsBy blocks e h → EngineStandsBy more e h

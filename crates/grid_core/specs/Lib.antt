@@ -9,6 +9,7 @@ pub mod Histograms
 pub mod Standing
 pub mod Recent
 pub mod Numbers
+pub mod Numbered
 pub mod Shadows
 pub mod Shapes
 pub mod Cells

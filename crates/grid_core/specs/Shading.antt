@@ -1,5 +1,5 @@
 -- Where the shadow of a cache of its own is.
-use Rattle.std.specs.Prelude.{◌≡◌, ◌<◌, Bool, List, length}
+use Rattle.std.specs.Prelude.{◌≡◌, ◌<◌, ℕ, Bool, List, length}
 use Rattle.cache_core.specs.declared.access.Access.{Access}
 use Rattle.cache_core.specs.History.{History, Rules}
 use Rattle.cache_core.specs.Kinds.{shadow_of}
@@ -7,12 +7,18 @@ use Rattle.cache_core.specs.Residents.{hits, renewals}
 use Rattle.grid_core.specs.declared.places.Place.{Place}
 use Rattle.grid_core.specs.declared.stacked.Stacked.{Stacked}
 use Rattle.grid_core.specs.Places.{IsPlace, shadow_placed}
-use Rattle.grid_core.specs.StackedCells.{StackedStandsFor, StackedHasAnswered, stacked_rules}
+use Rattle.grid_core.specs.StackedCells.{StackedHasAnswered, StackedStandsBy}
+use Rattle.grid_core.specs.StackedCells.{stacked_numbered, stacked_rules}
 use Rattle.grid_core.specs.Written.{rules_at}
 
--- caches that are served together stand for the history, if there are any; else none is served
+-- caches that are served together stand for the history by the numbers that the places of a list
+-- of blocks are, if there are any caches; else none is served
+abbrev pub FollowsStackedBy : List ℕ → History → Stacked → Type 0
+FollowsStackedBy blocks h s = 0 < length (stacked_rules s) → StackedStandsBy blocks s h
+
+-- the same by their own numbers
 abbrev pub FollowsStacked : History → Stacked → Type 0
-FollowsStacked h s = 0 < length (stacked_rules s) → StackedStandsFor s h
+FollowsStacked h s = FollowsStackedBy (stacked_numbered s) h s
 
 -- their last access was x, after the history h
 abbrev pub StackedFollowed : History → Access → Stacked → Type 0

@@ -1,21 +1,44 @@
 -- What a contract sees of the blocks that were accessed, and of their order.
-use Rattle.std.specs.Prelude.{◌≡◌, ℕ, ◌==◌, Bool, true, is_some, unwrap_or, List, map}
-use Rattle.std.specs.Prelude.{suc, drop}
+use Rattle.std.specs.Prelude.{◌≡◌, ℕ, ◌==◌, ◌<◌, length, Bool, true, false, List, map, suc, drop}
+use Rattle.std.specs.Prelude.{Option, Some, None, unwrap_or}
 use Rattle.std.specs.List.{list_any}
 use Rattle.cache_core.specs.declared.counts.PerClass.{PerClass}
-use Rattle.marked_list.specs.Marked.{order_of, marked_sizes}
+use Rattle.marked_list.specs.declared.marked.Marked.{Marked}
+use Rattle.marked_list.specs.Marked.{order_of, marked_sizes, was_used}
 use Rattle.grid_core.specs.declared.recent.Recent.{Recent}
 use Rattle.grid_core.specs.declared.shadows.Shadows.{Shadows}
+use Rattle.grid_core.specs.Numbered.{blocks_in}
 use Rattle.grid_core.specs.Numbers.{number_at}
 use Rattle.grid_core.specs.Totals.{total}
 
+-- the blocks that have numbers: the number of each is its place
+abbrev pub numbered : Shadows → List ℕ
+numbered s = blocks_in s.numbers
+
+-- whether the block of this number was used, if there is such a number
+abbrev pub is_used : Marked → Option ℕ → Bool
+is_used m None = false
+is_used m (Some n) = was_used m n
+
+-- whether a block was accessed, if each block of a list has its place there as its number
+abbrev pub is_known_by : List ℕ → Shadows → ℕ → Bool
+is_known_by blocks s b = is_used s.order (number_at blocks b)
+
 -- whether a block was accessed
 abbrev pub is_known : Shadows → ℕ → Bool
-is_known s b = is_some (number_at s.numbers.keys b)
+is_known s = is_known_by (numbered s) s
+
+-- no more blocks were used than have numbers
+abbrev pub AreNumberedBy : List ℕ → Shadows → Type 0
+AreNumberedBy blocks s = (n : ℕ) → was_used s.order n ≡ true → n < length blocks
+
+-- the same by the numbers that the shadows have
+abbrev pub AreNumbered : Shadows → Type 0
+AreNumbered s = AreNumberedBy (numbered s) s
 
 -- the number of a block that was accessed
-abbrev pub number_in : Shadows → ℕ → ℕ
-number_in s b = unwrap_or (number_at s.numbers.keys b) 0
+abbrev pub number_by : List ℕ → ℕ → ℕ
+number_by blocks b = unwrap_or (number_at blocks b) 0
 
 -- what is known of the block that was used last
 abbrev pub recent_in : Shadows → Recent
@@ -33,7 +56,12 @@ levels_in s = s.levels.items
 abbrev pub far_in : Shadows → ℕ → PerClass
 far_in s k = total (drop (suc k) (levels_in s))
 
--- the blocks of the list, each of which was accessed, are in the order of the shadows
-pub record HoldsOrder (s : Shadows) (ys : List ℕ) : Type 0 where
-  pub order : order_of s.order ≡ map (number_in s) ys
-  pub known : (y : ℕ) → list_any (λ m. m == y) ys ≡ true → is_known s y ≡ true
+-- by these numbers, the blocks of the list ys, each of which was accessed, are in the order of the
+-- shadows
+pub record HoldsOrderBy (blocks : List ℕ) (s : Shadows) (ys : List ℕ) : Type 0 where
+  pub order : order_of s.order ≡ map (number_by blocks) ys
+  pub known : (y : ℕ) → list_any (λ m. m == y) ys ≡ true → is_known_by blocks s y ≡ true
+
+-- the same by the numbers that the shadows have
+abbrev pub HoldsOrder : Shadows → List ℕ → Type 0
+HoldsOrder s = HoldsOrderBy (numbered s) s

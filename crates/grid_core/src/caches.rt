@@ -5,12 +5,15 @@ ghost use Rattle.std.specs.Prelude.{IfOk, OnOk, OnErr};
 ghost use Rattle.cache_core.specs.History.{History, access as accessed, flush as flushed};
 ghost use Rattle.grid_core.specs.Cells.{items_of};
 ghost use Rattle.std.specs.List.{All};
+ghost use Rattle.grid_core.specs.Numbers.{GoesOn};
 ghost use Rattle.grid_core.specs.Shades.{shade_rules};
 ghost use Rattle.grid_core.specs.Shading.{FollowsStacked, StackedFollowed, IsShaded};
 ghost use Rattle.grid_core.specs.Singles.{single_shading};
-ghost use Rattle.grid_core.specs.StackedCells.{stacked_rules, stacked_served, stacked_kept};
+ghost use Rattle.grid_core.specs.StackedCells.{stacked_kept, stacked_numbered, stacked_rules};
+ghost use Rattle.grid_core.specs.StackedCells.{stacked_served};
 ghost use Rattle.grid_core.specs.Written.{written_by};
 
+use crate::block_numbers::BlockNumbers;
 use crate::places::{Place, Seat, lists_of};
 use crate::shade::Shade;
 use crate::shades::{clear_shades, serve_shades, settle_shades};
@@ -40,6 +43,7 @@ fn serve_stacked(stacked: &mut Stacked, access: Access) -> Result<(), AllocError
     ensures answers { OnOk result ((h : History) → FollowsStacked h stacked.old →
         StackedFollowed h access stacked.new) }
     ensures served { OnOk result (stacked_served stacked.new ≤ stacked_served stacked.old + 1) }
+    ensures grows { GoesOn (stacked_numbered stacked.old) (stacked_numbered stacked.new) }
     ensures keeps { OnErr result (stacked_kept stacked.new ≡ stacked_kept stacked.old) }
     ensures rules { stacked_rules stacked.new ≡ stacked_rules stacked.old }
 {
@@ -65,6 +69,7 @@ fn flush_stacked(stacked: &mut Stacked)
     ensures stands { (h : History) → FollowsStacked h stacked.old →
         FollowsStacked (flushed ∷ h) stacked.new }
     ensures served { stacked_served stacked.new ≤ stacked_served stacked.old + 1 }
+    ensures numbers { stacked_numbered stacked.new ≡ stacked_numbered stacked.old }
     ensures rules { stacked_rules stacked.new ≡ stacked_rules stacked.old }
 {
     if stacked.cells() == 0 {
@@ -74,16 +79,19 @@ fn flush_stacked(stacked: &mut Stacked)
 }
 
 impl Caches {
-    ghost use Rattle.std.specs.Prelude.{◌≡◌, ◌<◌, ◌+◌, ◌^◌, ◌∷◌, ℕ, true, map};
+    ghost use Rattle.std.specs.Prelude.{◌≡◌, ◌<◌, ◌+◌, ◌^◌, ◌∷◌, List, ℕ, true, map};
     ghost use Rattle.std.specs.Prelude.{IfOk, OnOk, OnErr};
     ghost use Rattle.std.specs.List.{All};
     ghost use Rattle.cache_core.specs.History.{History, access as accessed, flush as flushed};
     ghost use Rattle.cache_core.specs.Counts.{counts_of};
     ghost use Rattle.cache_core.specs.Parts.{outcome_of};
     ghost use Rattle.grid_core.specs.Cells.{items_of};
-    ghost use Rattle.grid_core.specs.Caches.{CachesStandFor, HaveAnswered, AreInStep, HasPlace};
+    ghost use Rattle.grid_core.specs.Caches.{AreInStep, CachesStandBy, CachesStandFor, HasPlace};
+    ghost use Rattle.grid_core.specs.Caches.{HaveAnswered, caches_numbered};
     ghost use Rattle.grid_core.specs.Caches.{HaveSameRules, HaveSameCounts, counts_in, misses_in};
     ghost use Rattle.grid_core.specs.Caches.{HasShade, together_rules, apart_rules, shades_rules};
+    ghost use Rattle.grid_core.specs.Numbered.{blocks_in};
+    ghost use Rattle.grid_core.specs.Numbers.{GoesOn};
     ghost use Rattle.grid_core.specs.Places.{rules_placed, shadow_placed};
     ghost use Rattle.grid_core.specs.Written.{written_by, SendsNothing};
 
@@ -99,6 +107,7 @@ impl Caches {
             HaveAnswered h access self.new) }
         ensures step { OnOk result ((n : ℕ) → AreInStep n self.old →
             AreInStep (n + 1) self.new) }
+        ensures grows { GoesOn (caches_numbered self.old) (caches_numbered self.new) }
         ensures keeps { OnErr result (HaveSameCounts self.new self.old) }
         ensures rules { HaveSameRules self.new self.old }
     {
@@ -119,6 +128,7 @@ impl Caches {
             HaveAnswered h access self.new) }
         ensures step { OnOk result ((n : ℕ) → AreInStep n self.old →
             AreInStep (n + 1) self.new) }
+        ensures grows { GoesOn (caches_numbered self.old) (caches_numbered self.new) }
         ensures keeps { OnErr result (HaveSameCounts self.new self.old) }
         ensures rules { HaveSameRules self.new self.old }
     {
@@ -142,6 +152,7 @@ impl Caches {
         ensures step { result ≡ true → (n : ℕ) → AreInStep n self.old →
             AreInStep (n + 1) self.new }
         ensures leaves { result ≡ false → self.new ≡ self.old }
+        ensures numbers { caches_numbered self.new ≡ caches_numbered self.old }
         ensures rules { HaveSameRules self.new self.old }
     {
         if !self.shades.is_empty() || !self.singles.is_empty() || self.stacked.cells() == 0 {
@@ -162,6 +173,7 @@ impl Caches {
             CachesStandFor (flushed ∷ h) self.new) }
         ensures step { OnOk result ((n : ℕ) → AreInStep n self.old →
             AreInStep (n + 1) self.new) }
+        ensures numbers { caches_numbered self.new ≡ caches_numbered self.old }
         ensures keeps { OnErr result (HaveSameCounts self.new self.old) }
         ensures rules { HaveSameRules self.new self.old }
     {
@@ -174,11 +186,24 @@ impl Caches {
         Ok(lists)
     }
 
+    /// Exchanges the numbers of the blocks.
+    pub fn swap_numbers(&mut self, numbers: &mut BlockNumbers)
+        ensures stands { (blocks : List ℕ) (h : History) → CachesStandBy blocks h self.old →
+            CachesStandBy blocks h self.new }
+        ensures taken { caches_numbered self.new ≡ blocks_in numbers.old }
+        ensures given { blocks_in numbers.new ≡ caches_numbered self.old }
+        ensures step { (n : ℕ) → AreInStep n self.old → AreInStep n self.new }
+        ensures same { HaveSameCounts self.new self.old }
+        ensures rules { HaveSameRules self.new self.old }
+    {
+        self.stacked.swap_numbers(numbers);
+    }
+
     /// The counts at a place.
     pub fn counts(&self, place: Place) -> Counts
         requires { HasPlace self.now place }
         ensures kept { result ≡ counts_in self.now place }
-        ensures counted { (h : History) → CachesStandFor h self.now →
+        ensures counted { (blocks : List ℕ) (h : History) → CachesStandBy blocks h self.now →
             result ≡ counts_of (rules_placed (together_rules self.now) (apart_rules self.now)
             place) h }
     {
@@ -192,7 +217,7 @@ impl Caches {
     pub fn shadow_misses(&self, place: Place) -> PerClass
         requires { HasShade self.now place }
         ensures kept { result ≡ misses_in self.now place }
-        ensures counted { (h : History) → CachesStandFor h self.now →
+        ensures counted { (blocks : List ℕ) (h : History) → CachesStandBy blocks h self.now →
             result ≡ (counts_of (shadow_placed (together_rules self.now) (shades_rules self.now)
             place) h).misses }
     {

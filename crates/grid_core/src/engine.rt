@@ -5,6 +5,7 @@ ghost use Rattle.std.specs.List.{All};
 ghost use Rattle.grid_core.specs.Caches.{AreInStep, together_rules, apart_rules, shades_rules};
 ghost use Rattle.grid_core.specs.Places.{IsSeated};
 
+use crate::block_numbers::BlockNumbers;
 use crate::caches::Caches;
 use crate::places::Seat;
 use crate::plan::plan_for;
@@ -30,7 +31,7 @@ pub struct Engine {
 
 #[tactic(auto, unfolding(crate::specs::Engines::rules_in, crate::specs::Engines::served_in, crate::specs::Engines::kept_in, crate::specs::Engines::has_failed))]
 impl Engine {
-    ghost use Rattle.std.specs.Prelude.{◌≡◌, ◌<◌, ◌+◌, ◌^◌, ◌∷◌, [], map, true, false};
+    ghost use Rattle.std.specs.Prelude.{◌≡◌, ◌<◌, ◌+◌, ◌^◌, ◌∷◌, [], List, map, true, false};
     ghost use Rattle.std.specs.Prelude.{OnOk, OnErr, IfOk, IsErr, get_or, length, ℕ};
     ghost use Rattle.std.specs.List.{All};
     ghost use Rattle.cache_core.specs.Geometry.{bsize_of};
@@ -40,8 +41,11 @@ impl Engine {
     ghost use Rattle.cache_core.specs.Standing.{rules_from};
     ghost use Rattle.grid_core.specs.FullyAssociative.{shadow_misses};
     ghost use Rattle.grid_core.specs.Cells.{items_of};
-    ghost use Rattle.grid_core.specs.Engines.{EngineStandsFor, HasAnswered, rules_in};
-    ghost use Rattle.grid_core.specs.Engines.{served_in, kept_in, has_failed};
+    ghost use Rattle.grid_core.specs.Engines.{EngineStandsBy, EngineStandsFor, HasAnswered};
+    ghost use Rattle.grid_core.specs.Engines.{has_failed, kept_in, numbered_in, rules_in};
+    ghost use Rattle.grid_core.specs.Engines.{served_in};
+    ghost use Rattle.grid_core.specs.Numbered.{blocks_in};
+    ghost use Rattle.grid_core.specs.Numbers.{GoesOn};
     ghost use Rattle.grid_core.specs.Written.{rules_at, written_by, none_kept, SendsNothing};
 
     /// Empty caches of these geometries, which have the block size of `first`, and of this policy.
@@ -57,6 +61,7 @@ impl Engine {
             rules_in engine ≡ map (λ g. rules_from g policy) geometries.now) }
         ensures served { IfOk result (λ engine. served_in engine ≡ 0) }
         ensures works { IfOk result (λ engine. has_failed engine ≡ false) }
+        ensures numbers { IfOk result (λ engine. numbered_in engine ≡ []) }
     {
         let Ok(plan) = plan_for(alloc, geometries, first, policy) else {
             return Err(NoMemory);
@@ -92,6 +97,7 @@ impl Engine {
         ensures keeps { OnErr result ((kept_in self.new ≡ kept_in self.old)
             × (served_in self.new ≡ served_in self.old)) }
         ensures failed { has_failed self.old ≡ true → IsErr result }
+        ensures numbers { GoesOn (numbered_in self.old) (numbered_in self.new) }
         ensures rules { rules_in self.new ≡ rules_in self.old }
     {
         if self.failed {
@@ -121,6 +127,7 @@ impl Engine {
         ensures served { result ≡ true → served_in self.new ≡ served_in self.old + 1 }
         ensures works { result ≡ true → has_failed self.new ≡ false }
         ensures leaves { result ≡ false → self.new ≡ self.old }
+        ensures numbers { numbered_in self.new ≡ numbered_in self.old }
         ensures rules { rules_in self.new ≡ rules_in self.old }
     {
         if self.failed || !self.caches.again(access) {
@@ -145,6 +152,7 @@ impl Engine {
         ensures keeps { OnErr result ((kept_in self.new ≡ kept_in self.old)
             × (served_in self.new ≡ served_in self.old)) }
         ensures failed { has_failed self.old ≡ true → IsErr result }
+        ensures numbers { numbered_in self.new ≡ numbered_in self.old }
         ensures rules { rules_in self.new ≡ rules_in self.old }
     {
         if self.failed {
@@ -156,6 +164,22 @@ impl Engine {
         };
         self.served += 1;
         Ok(lists)
+    }
+
+    /// Exchanges the numbers of the blocks. An engine needs all numbers that it was served with
+    /// to serve more accesses; there may be more of them. Its counts and what it has answered need
+    /// none. So engines that are served in turn can share their numbers.
+    pub fn swap_numbers(&mut self, numbers: &mut BlockNumbers)
+        ensures stands { (blocks : List ℕ) (h : History) → EngineStandsBy blocks self.old h →
+            EngineStandsBy blocks self.new h }
+        ensures taken { numbered_in self.new ≡ blocks_in numbers.old }
+        ensures given { blocks_in numbers.new ≡ numbered_in self.old }
+        ensures served { served_in self.new ≡ served_in self.old }
+        ensures works { has_failed self.new ≡ has_failed self.old }
+        ensures kept { kept_in self.new ≡ kept_in self.old }
+        ensures rules { rules_in self.new ≡ rules_in self.old }
+    {
+        self.caches.swap_numbers(numbers);
     }
 
     /// How many caches there are.
@@ -183,7 +207,7 @@ impl Engine {
     pub fn counts(&self, index: usize) -> Counts
         requires { index < length (rules_in self.now) }
         ensures kept { result ≡ (get_or (kept_in self.now) index none_kept).0 }
-        ensures counted { (h : History) → EngineStandsFor self.now h →
+        ensures counted { (blocks : List ℕ) (h : History) → EngineStandsBy blocks self.now h →
             result ≡ counts_of (rules_at (rules_in self.now) index) h }
     {
         self.caches.counts(self.seats[index].cell)
@@ -193,7 +217,7 @@ impl Engine {
     pub fn shadow_misses(&self, index: usize) -> PerClass
         requires { index < length (rules_in self.now) }
         ensures kept { result ≡ (get_or (kept_in self.now) index none_kept).1 }
-        ensures counted { (h : History) → EngineStandsFor self.now h →
+        ensures counted { (blocks : List ℕ) (h : History) → EngineStandsBy blocks self.now h →
             result ≡ shadow_misses (rules_at (rules_in self.now) index) h }
     {
         self.caches.shadow_misses(self.seats[index].shade)

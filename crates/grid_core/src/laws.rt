@@ -2,6 +2,7 @@
 
 ghost use Rattle.grid_core.specs.Ways.{WiderWaysHoldMore, StackDistancesAreHits, MoreSetsHoldMore};
 ghost use Rattle.grid_core.specs.Levels.{DirtyLevelsAreDirtyBlocks};
+ghost use Rattle.grid_core.specs.Engines.{MoreNumbersServe};
 ghost use Rattle.grid_core.specs.WriteBacks.{WriteBacksAreFirstWrites};
 
 /// Inclusion (Mattson and others): of two LRU caches of as many sets that allocate at writes, the
@@ -33,4 +34,9 @@ pub fn more_sets_hold_more()
 /// that were written back and those that are dirty are together as many as these writes.
 pub fn write_backs_are_first_writes()
     ensures { WriteBacksAreFirstWrites }
+{}
+
+/// An engine that was served with some numbers of blocks can go on with more of them.
+pub fn more_numbers_serve()
+    ensures { MoreNumbersServe }
 {}

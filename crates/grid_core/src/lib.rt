@@ -20,6 +20,7 @@
 #![tactic(auto)]
 
 mod at_hand;
+mod block_numbers;
 mod caches;
 mod cells;
 mod counting;
@@ -45,9 +46,10 @@ mod stack;
 mod stacked;
 mod stacks;
 
+pub use block_numbers::BlockNumbers;
 pub use engine::Engine;
 pub use laws::{
-    dirty_levels_are_dirty_blocks, more_sets_hold_more, stack_distances_are_hits,
-    wider_ways_hold_more, write_backs_are_first_writes,
+    dirty_levels_are_dirty_blocks, more_numbers_serve, more_sets_hold_more,
+    stack_distances_are_hits, wider_ways_hold_more, write_backs_are_first_writes,
 };
 pub use shapes::share_block_size;

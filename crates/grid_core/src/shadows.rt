@@ -1,20 +1,17 @@
 //! What all caches of one block size share: the blocks that were ever accessed, the shadows of all
 //! sizes, and the block that was used last.
 
-ghost use Rattle.std.specs.Prelude.{◌≡◌, ◌==◌, ◌+◌, ℕ, Some, is_some, unwrap_or, length, true};
-ghost use Rattle.std.specs.Prelude.{if◌then◌else◌, IfOk, OnErr};
+ghost use Rattle.std.specs.Prelude.{◌≡◌, ◌+◌, length, true};
 ghost use Rattle.marked_list.specs.Marked.{marked_sizes};
-ghost use Rattle.grid_core.specs.AtHand.{AreRight};
-ghost use Rattle.grid_core.specs.Numbers.{number_at};
 
-use crate::at_hand::{Entry, at_hand, keep_at_hand, none_at_hand};
+use crate::block_numbers::BlockNumbers;
 use crate::misses::{count_at, sum_from, zeros};
 use crate::recent::{Recent, is_again, nothing_recent, used_now};
 use crate::stack::writes;
 use cache_core::{Access, PerClass};
-use indexmap::IndexSet;
 use marked_list::Marked;
 use std::alloc::{AllocError, Global};
+use std::mem::swap;
 
 /// What is known of a block before an access: whether it was ever accessed, and its level, the
 /// index of the smallest size whose shadow has it, or the number of sizes.
@@ -34,72 +31,16 @@ pub(crate) fn prior_of_last() -> Prior
     }
 }
 
-/// A block's number, and whether it had one before.
-#[derive(Clone, Copy, Debug, PartialEq, Eq)]
-struct Numbered {
-    known: bool,
-    number: usize,
-}
-
-/// The blocks that were ever accessed, numbered from 0 as they came, and one list of these numbers
-/// by last use, with a mark at each size.
+/// Numbers for the blocks, and one list of the numbers of those that were ever accessed, by last
+/// use, with a mark at each size.
 #[derive(Drop)]
 pub(crate) struct Shadows {
-    numbers: IndexSet<u64>,
-    /// Some of these numbers, where they are found at once.
-    entries: Vec<Entry>,
+    numbers: BlockNumbers,
     order: Marked,
     /// The accesses by class, for each level that their blocks had before.
     levels: Vec<PerClass>,
     recent: Recent,
-    ghost right: { AreRight (number_at numbers.keys) entries.items },
     ghost leveled: { length levels.items ≡ length (marked_sizes order) + 1 },
-}
-
-/// The number of a block. A block that has none gets the next one.
-fn number_block(numbers: &mut IndexSet<u64>, block: u64) -> Result<Numbered, AllocError>
-    ensures known { IfOk result (λ found.
-        found.known ≡ is_some (number_at numbers.old.keys block)) }
-    ensures number { IfOk result (λ found. found.number
-        ≡ unwrap_or (number_at numbers.old.keys block) (length numbers.old.keys)) }
-    ensures adds { IfOk result (λ found. (q : ℕ) → number_at numbers.new.keys q
-        ≡ (if block == q then Some found.number else number_at numbers.old.keys q)) }
-    ensures keeps { OnErr result (numbers.new.keys ≡ numbers.old.keys) }
-{
-    let Ok((place, added)) = numbers.insert_full(block) else {
-        return Err(AllocError);
-    };
-    Ok(Numbered {
-        known: !added,
-        number: place,
-    })
-}
-
-/// The same, from the entries if the block is among them. Else it is kept there.
-fn find_number(
-    entries: &mut Vec<Entry>,
-    numbers: &mut IndexSet<u64>,
-    block: u64,
-) -> Result<Numbered, AllocError>
-    requires right { AreRight (number_at numbers.old.keys) entries.old.items }
-    ensures known { IfOk result (λ found.
-        found.known ≡ is_some (number_at numbers.old.keys block)) }
-    ensures number { IfOk result (λ found. found.number
-        ≡ unwrap_or (number_at numbers.old.keys block) (length numbers.old.keys)) }
-    ensures adds { IfOk result (λ found. (q : ℕ) → number_at numbers.new.keys q
-        ≡ (if block == q then Some found.number else number_at numbers.old.keys q)) }
-    ensures right { AreRight (number_at numbers.new.keys) entries.new.items }
-    ensures keeps { OnErr result (numbers.new.keys ≡ numbers.old.keys) }
-{
-    if let Some(number) = at_hand(entries, block) {
-        return Ok(Numbered {
-            known: true,
-            number,
-        });
-    }
-    let found = number_block(numbers, block)?;
-    keep_at_hand(entries, block, found.number);
-    Ok(found)
 }
 
 impl Shadows {
@@ -107,9 +48,10 @@ impl Shadows {
     ghost use Rattle.std.specs.Prelude.{true, false, ◌^◌, length, nat_lt};
     ghost use Rattle.std.specs.List.{All};
     ghost use Rattle.marked_list.specs.Recency.{level_of, brought_front};
+    ghost use Rattle.grid_core.specs.Numbers.{GoesOn};
     ghost use Rattle.grid_core.specs.Recent.{IsAgain, after_use, none_recent};
-    ghost use Rattle.grid_core.specs.Shadows.{HoldsOrder, is_known, recent_in, shadow_sizes};
-    ghost use Rattle.grid_core.specs.Shadows.{levels_in, far_in};
+    ghost use Rattle.grid_core.specs.Shadows.{AreNumbered, HoldsOrder, is_known, numbered};
+    ghost use Rattle.grid_core.specs.Shadows.{far_in, levels_in, recent_in, shadow_sizes};
     ghost use Rattle.grid_core.specs.Totals.{total};
     ghost use Rattle.cache_core.specs.Counts.{none_by_class};
     ghost use Rattle.cache_core.specs.Counting.{IsWithin, with_one};
@@ -119,17 +61,21 @@ impl Shadows {
     pub fn new(alloc: Global, sizes: &[usize]) -> Result<Shadows, AllocError>
         requires { All (λ size. 0 < size) sizes.now }
         ensures order { IfOk result (λ shadows. HoldsOrder shadows []) }
+        ensures numbers { IfOk result AreNumbered }
+        ensures none { IfOk result (λ shadows. numbered shadows ≡ []) }
         ensures known { IfOk result (λ shadows. (q : ℕ) → is_known shadows q ≡ false) }
         ensures sizes { IfOk result (λ shadows. shadow_sizes shadows ≡ sizes.now) }
         ensures recent { IfOk result (λ shadows. recent_in shadows ≡ none_recent) }
         ensures levels { IfOk result (λ shadows. total (levels_in shadows) ≡ none_by_class) }
         ensures far { IfOk result (λ shadows. (k : ℕ) → far_in shadows k ≡ none_by_class) }
     {
+        let Ok(numbers) = BlockNumbers::new(alloc) else {
+            return Err(AllocError);
+        };
         let order = Marked::new(alloc, sizes)?;
         let levels = zeros(alloc, sizes.len() + 1)?;
         Ok(Shadows {
-            numbers: IndexSet::new(alloc),
-            entries: none_at_hand(alloc)?,
+            numbers,
             order,
             levels,
             recent: nothing_recent(),
@@ -139,14 +85,17 @@ impl Shadows {
     /// Serves an access to a block in all shadows, and answers what was known of the block before.
     pub fn touch(&mut self, block: u64, access: Access) -> Result<Prior, AllocError>
         requires { IsWithin (total (levels_in self.old)) (2 ^ 46) }
-        ensures known { IfOk result (λ prior. prior.known ≡ is_known self.old block) }
+        ensures known { IfOk result (λ prior. AreNumbered self.old →
+            prior.known ≡ is_known self.old block) }
         ensures level { IfOk result (λ prior. (ys : List ℕ) → HoldsOrder self.old ys →
-            prior.level ≡ level_of (shadow_sizes self.old) ys block) }
+            AreNumbered self.old → prior.level ≡ level_of (shadow_sizes self.old) ys block) }
         ensures low { IfOk result (λ prior. prior.level ≤ length (shadow_sizes self.old)) }
         ensures order { OnOk result ((ys : List ℕ) → HoldsOrder self.old ys →
-            HoldsOrder self.new (brought_front block ys)) }
-        ensures adds { OnOk result ((q : ℕ) →
+            AreNumbered self.old → HoldsOrder self.new (brought_front block ys)) }
+        ensures adds { OnOk result (AreNumbered self.old → (q : ℕ) →
             is_known self.new q ≡ (block == q || is_known self.old q)) }
+        ensures numbers { OnOk result (AreNumbered self.old → AreNumbered self.new) }
+        ensures grows { GoesOn (numbered self.old) (numbered self.new) }
         ensures recent { OnOk result (
             recent_in self.new ≡ after_use block (is_write access) (recent_in self.old)) }
         ensures levels { OnOk result (
@@ -156,21 +105,16 @@ impl Shadows {
         ensures keeps { OnErr result (levels_in self.new ≡ levels_in self.old) }
         ensures sizes { shadow_sizes self.new ≡ shadow_sizes self.old }
     {
-        if self.numbers.len() == usize::MAX {
-            return Err(AllocError);
-        }
-        let Ok(found) = find_number(&mut self.entries, &mut self.numbers, block) else {
+        let Ok(number) = self.numbers.number(block) else {
             return Err(AllocError);
         };
-        let Ok(level) = self.order.touch(found.number) else {
+        let known = self.order.knows(number);
+        let Ok(level) = self.order.touch(number) else {
             return Err(AllocError);
         };
         count_at(&mut self.levels, level, access);
         self.recent = used_now(self.recent, block, writes(access));
-        Ok(Prior {
-            known: found.known,
-            level,
-        })
+        Ok(Prior { known, level })
     }
 
     /// How often the shadow of the size of this rank missed, by class.
@@ -191,10 +135,23 @@ impl Shadows {
         is_again(self.recent, block, write)
     }
 
+    /// Exchanges the numbers of the blocks.
+    pub fn swap_numbers(&mut self, numbers: &mut BlockNumbers)
+        ensures order { self.new.order ≡ self.old.order }
+        ensures levels { self.new.levels ≡ self.old.levels }
+        ensures recent { self.new.recent ≡ self.old.recent }
+        ensures taken { self.new.numbers ≡ numbers.old }
+        ensures given { numbers.new ≡ self.old.numbers }
+    {
+        swap(&mut self.numbers, numbers);
+    }
+
     /// Empties all shadows. Known blocks stay known.
     pub fn clear(&mut self)
         ensures order { HoldsOrder self.new [] }
         ensures known { (q : ℕ) → is_known self.new q ≡ is_known self.old q }
+        ensures numbers { AreNumbered self.old → AreNumbered self.new }
+        ensures same { numbered self.new ≡ numbered self.old }
         ensures recent { recent_in self.new ≡ none_recent }
         ensures levels { levels_in self.new ≡ levels_in self.old }
         ensures sizes { shadow_sizes self.new ≡ shadow_sizes self.old }

@@ -12,15 +12,18 @@ ghost use Rattle.grid_core.specs.Standing.{HaveLived, IsWithinStack, rules_of, t
 ghost use Rattle.grid_core.specs.Cells.{IsPlacedAmong};
 ghost use Rattle.grid_core.specs.State.{IsRanked, IsWithinAlike};
 
-use crate::cells::{Alike, Shape, all_have_hit, answer_in, counts_in, dirty_lists, none_alike};
+mod last;
+
+use crate::block_numbers::BlockNumbers;
+use crate::cells::{Alike, Shape, counts_in, dirty_lists, none_alike};
 use crate::counting::count;
-use crate::outcome::{hit_outcome, sends_on};
+use crate::outcome::sends_on;
 use crate::parts::parts_for;
 use crate::shadows::{Prior, Shadows, prior_of_last};
 use crate::shapes::rising_sizes;
 use crate::stack::{Stack, writes};
 use crate::stacks::{clear_rows, serve_rows};
-use cache_core::{Access, Counts, Geometry, Outcome, PerClass};
+use cache_core::{Access, Counts, Geometry, PerClass};
 use std::alloc::{AllocError, Global};
 
 /// LRU caches of one block size that allocate at writes: rows for each number of sets, which count
@@ -57,16 +60,14 @@ pub(crate) struct Stacked {
     ghost lived: { HaveLived stacks.items },
 }
 
-#[tactic(auto, unfolding(crate::specs::StackedCells::stacked_rules, crate::specs::StackedCells::stacked_served, crate::specs::StackedCells::stacked_kept))]
+#[tactic(auto, unfolding(crate::specs::StackedCells::stacked_rules, crate::specs::StackedCells::stacked_served, crate::specs::StackedCells::stacked_kept, crate::specs::Numbered::blocks_in))]
 impl Stacked {
-    ghost use Rattle.std.specs.Prelude.{◌≡◌, ◌==◌, ◌<◌, ◌≤◌, ◌+◌, ◌/◌, ◌^◌, ◌∷◌, [], map, true};
-    ghost use Rattle.std.specs.Prelude.{false, OnOk, OnErr, IfOk, get_or, length, ℕ};
-    ghost use Rattle.std.specs.List.{All, list_any};
+    ghost use Rattle.std.specs.Prelude.{◌≡◌, ◌<◌, ◌≤◌, ◌+◌, ◌/◌, ◌^◌, ◌∷◌, [], map, true};
+    ghost use Rattle.std.specs.Prelude.{false, OnOk, OnErr, IfOk, get_or, length, ℕ, List};
+    ghost use Rattle.std.specs.List.{All};
     ghost use Rattle.cache_core.specs.Geometry.{bsize_of};
     ghost use Rattle.cache_core.specs.History.{History, access as accessed, flush as flushed};
-    ghost use Rattle.cache_core.specs.History.{block_of, is_write};
-    ghost use Rattle.cache_core.specs.Kinds.{referenced_blocks, shadow_of};
-    ghost use Rattle.cache_core.specs.Residents.{hits, renewals};
+    ghost use Rattle.cache_core.specs.History.{is_write};
     ghost use Rattle.cache_core.specs.Parts.{outcome_of};
     ghost use Rattle.cache_core.specs.Counts.{counts_of};
     ghost use Rattle.grid_core.specs.Recent.{IsAgain};
@@ -74,9 +75,11 @@ impl Stacked {
     ghost use Rattle.grid_core.specs.FullyAssociative.{shadow_misses};
     ghost use Rattle.grid_core.specs.Cells.{items_of};
     ghost use Rattle.grid_core.specs.Standing.{stack_rules};
-    ghost use Rattle.grid_core.specs.StackedCells.{StackedStandsFor, StackedHasAnswered};
-    ghost use Rattle.grid_core.specs.StackedCells.{stacked_rules, stacked_served};
-    ghost use Rattle.grid_core.specs.StackedCells.{stacked_kept, is_silent};
+    ghost use Rattle.grid_core.specs.Numbered.{blocks_in};
+    ghost use Rattle.grid_core.specs.Numbers.{GoesOn};
+    ghost use Rattle.grid_core.specs.StackedCells.{StackedHasAnswered, StackedStandsBy};
+    ghost use Rattle.grid_core.specs.StackedCells.{StackedStandsFor, stacked_kept};
+    ghost use Rattle.grid_core.specs.StackedCells.{stacked_numbered, stacked_rules, stacked_served};
     ghost use Rattle.grid_core.specs.Written.{rules_at, written_by, none_kept, SendsNothing};
 
     /// Empty caches of these geometries, which have the block size of `first`.
@@ -91,6 +94,7 @@ impl Stacked {
         ensures rules { IfOk result (λ stacked.
             stacked_rules stacked ≡ map (λ g. stack_rules g wback) geometries.now) }
         ensures served { IfOk result (λ stacked. stacked_served stacked ≡ 0) }
+        ensures numbers { IfOk result (λ stacked. stacked_numbered stacked ≡ []) }
     {
         let sizes = rising_sizes(alloc, geometries)?;
         let shadows = Shadows::new(alloc, &sizes)?;
@@ -126,6 +130,7 @@ impl Stacked {
         ensures again { self.new.again ≡ true }
         ensures write { self.new.write ≡ is_write access }
         ensures policy { self.new.wback ≡ self.old.wback }
+        ensures numbers { stacked_numbered self.new ≡ stacked_numbered self.old }
     {
         count(&mut self.alike.fetches, access, true);
         self.write = writes(access);
@@ -143,6 +148,7 @@ impl Stacked {
         ensures answers { OnOk result ((h : History) → StackedStandsFor self.old h →
             StackedHasAnswered self.new h access) }
         ensures served { OnOk result (stacked_served self.new ≡ stacked_served self.old + 1) }
+        ensures grows { GoesOn (stacked_numbered self.old) (stacked_numbered self.new) }
         ensures keeps { OnErr result ((stacked_kept self.new ≡ stacked_kept self.old)
             × (stacked_served self.new ≡ stacked_served self.old)) }
         ensures rules { stacked_rules self.new ≡ stacked_rules self.old }
@@ -178,6 +184,7 @@ impl Stacked {
         ensures served { result ≡ true →
             stacked_served self.new ≡ stacked_served self.old + 1 }
         ensures leaves { result ≡ false → self.new ≡ self.old }
+        ensures numbers { stacked_numbered self.new ≡ stacked_numbered self.old }
         ensures rules { stacked_rules self.new ≡ stacked_rules self.old }
     {
         let write = writes(access);
@@ -200,6 +207,7 @@ impl Stacked {
         ensures answers { OnOk result ((h : History) → StackedStandsFor self.old h →
             StackedHasAnswered self.new h access) }
         ensures served { OnOk result (stacked_served self.new ≡ stacked_served self.old + 1) }
+        ensures grows { GoesOn (stacked_numbered self.old) (stacked_numbered self.new) }
         ensures keeps { OnErr result ((stacked_kept self.new ≡ stacked_kept self.old)
             × (stacked_served self.new ≡ stacked_served self.old)) }
         ensures rules { stacked_rules self.new ≡ stacked_rules self.old }
@@ -229,12 +237,26 @@ impl Stacked {
         ensures stands { (h : History) → StackedStandsFor self.old h →
             StackedStandsFor self.new (flushed ∷ h) }
         ensures served { stacked_served self.new ≡ stacked_served self.old + 1 }
+        ensures numbers { stacked_numbered self.new ≡ stacked_numbered self.old }
         ensures rules { stacked_rules self.new ≡ stacked_rules self.old }
     {
         clear_rows(&mut self.stacks);
         self.shadows.clear();
         self.alike.flushes += 1;
         self.served += 1;
+    }
+
+    /// Exchanges the numbers of the blocks.
+    pub fn swap_numbers(&mut self, numbers: &mut BlockNumbers)
+        ensures stands { (blocks : List ℕ) (h : History) → StackedStandsBy blocks self.old h →
+            StackedStandsBy blocks self.new h }
+        ensures taken { stacked_numbered self.new ≡ blocks_in numbers.old }
+        ensures given { blocks_in numbers.new ≡ stacked_numbered self.old }
+        ensures kept { stacked_kept self.new ≡ stacked_kept self.old }
+        ensures served { stacked_served self.new ≡ stacked_served self.old }
+        ensures rules { stacked_rules self.new ≡ stacked_rules self.old }
+    {
+        self.shadows.swap_numbers(numbers);
     }
 
     /// How many caches there are.
@@ -248,7 +270,7 @@ impl Stacked {
     pub fn counts(&self, index: usize) -> Counts
         requires { index < length (stacked_rules self.now) }
         ensures kept { result ≡ (get_or (stacked_kept self.now) index none_kept).0 }
-        ensures counted { (h : History) → StackedStandsFor self.now h →
+        ensures counted { (blocks : List ℕ) (h : History) → StackedStandsBy blocks self.now h →
             result ≡ counts_of (rules_at (stacked_rules self.now) index) h }
     {
         let shape = self.shapes[index];
@@ -259,56 +281,9 @@ impl Stacked {
     pub fn shadow_misses(&self, index: usize) -> PerClass
         requires { index < length (stacked_rules self.now) }
         ensures kept { result ≡ (get_or (stacked_kept self.now) index none_kept).1 }
-        ensures counted { (h : History) → StackedStandsFor self.now h →
+        ensures counted { (blocks : List ℕ) (h : History) → StackedStandsBy blocks self.now h →
             result ≡ shadow_misses (rules_at (stacked_rules self.now) index) h }
     {
         self.shadows.misses(self.shapes[index].rank)
-    }
-
-    /// Whether the block of the last access was accessed before.
-    pub fn knew(&self) -> bool
-        requires { 0 < length (stacked_rules self.now) }
-        ensures { (h : History) (x : Access) → StackedHasAnswered self.now h x →
-            result ≡ list_any (λ b. b == block_of (rules_at (stacked_rules self.now) 0) x)
-            (referenced_blocks (rules_at (stacked_rules self.now) 0) h) }
-    {
-        self.prior.known
-    }
-
-    /// Whether the shadow of one cache had it.
-    pub fn shadow_had(&self, index: usize) -> bool
-        requires { index < length (stacked_rules self.now) }
-        ensures { (h : History) (x : Access) → StackedHasAnswered self.now h x →
-            result ≡ hits (shadow_of (rules_at (stacked_rules self.now) index))
-            (renewals (shadow_of (rules_at (stacked_rules self.now) index)) h) x }
-    {
-        !(self.shapes[index].rank < self.prior.level)
-    }
-
-    /// Whether the last access sent nothing to the next level in any cache.
-    pub fn sent_nothing(&self) -> bool
-        ensures is { result ≡ is_silent self.now }
-        ensures told { result ≡ true → (h : History) (x : Access) →
-            StackedHasAnswered self.now h x →
-            (index : ℕ) → index < length (stacked_rules self.now) →
-            SendsNothing (outcome_of (rules_at (stacked_rules self.now) index) h x) }
-    {
-        if sends_on(self.write, self.wback) {
-            return false;
-        }
-        self.again || all_have_hit(&self.shapes, &self.stacks)
-    }
-
-    /// What the last access did in one cache.
-    pub fn answer(&self, index: usize) -> Outcome
-        requires { index < length (stacked_rules self.now) }
-        ensures { (h : History) (x : Access) → StackedHasAnswered self.now h x →
-            result ≡ outcome_of (rules_at (stacked_rules self.now) index) h x }
-    {
-        let shape = self.shapes[index];
-        if self.again {
-            return hit_outcome(sends_on(self.write, shape.wback));
-        }
-        answer_in(shape, &self.stacks, self.write, self.prior)
     }
 }

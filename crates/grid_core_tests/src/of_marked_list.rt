@@ -70,6 +70,16 @@ fn levels_are_those_worked_out_by_hand(rt: HostRuntime) {
 }
 
 #[test]
+fn a_used_block_is_known_even_after_a_clear(rt: HostRuntime) {
+    let mut marked = Marked::new(rt.alloc(), &[1, 2]).expect(&rt, "memory");
+    assert!(&rt; !marked.knows(70));
+    same(&rt, &touch(&rt, &mut marked, 70), &Ok(2), 0, 70);
+    assert!(&rt; marked.knows(70) && !marked.knows(6) && !marked.knows(71));
+    clear(&mut marked);
+    assert!(&rt; marked.knows(70) && !marked.knows(6) && !marked.knows(71));
+}
+
+#[test]
 fn a_size_of_one_has_the_latest_block(rt: HostRuntime) {
     static USES: Parts = &[&[(0, 1), (0, 0), (1, 1), (0, 1), (0, 0)]];
     expect_new(&rt, rt.alloc(), &[1], USES);

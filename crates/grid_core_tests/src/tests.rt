@@ -8,6 +8,7 @@ use std::test::Fail;
 
 mod memory;
 mod narrow;
+mod numbers;
 mod sent;
 
 /// The next pseudo-random number, by a linear congruence with Knuth's constants.

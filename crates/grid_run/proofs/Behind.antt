@@ -73,24 +73,24 @@ unfolding back_task
 task-kept b u same = ap (task_of b.i b.d) same
 
 -- second levels that were asked for some requests were asked for others that are the same
-pub asked-same : (before after : RequestsFor) (bs : List Back)
+pub asked-same : (blocks : List ℕ) (before after : RequestsFor) (bs : List Back)
     → ((k : ℕ) (b : Back) → k < length bs
     → before (back_task (get_or bs k b)) ≡ after (back_task (get_or bs k b)))
-    → All (WereAsked before) bs → All (WereAsked after) bs
-asked-same before after bs same all k b lt =
+    → All (WereAsked blocks before) bs → All (WereAsked blocks after) bs
+asked-same blocks before after bs same all k b lt =
     record {
-      second = subst (λ (ws : List What). SecondAsked (get_or bs k b).second ws) (same k b lt)
-          (all k b lt).second;
+      second = subst (λ (ws : List What). SecondAsked blocks (get_or bs k b).second ws)
+          (same k b lt) (all k b lt).second;
     }
 
 -- silent caches of a side ask for nothing
 pub nothing-asked : (fs : List Front) (old : Table) → map front_rules fs ≡ old → (s : Side)
     (bs : List Back) → All (IsPlacedOn s old) (map back_task bs) → All IsSilent fs
     → (h : History) (q : Request) → All (HasSent h q) fs
-    → (before : RequestsFor) → All (WereAsked before) bs
-    → All (WereAsked (followed_by before (sent_for s old h (event_of q)))) bs
-nothing-asked fs old rules s bs placed silent h q sent before =
-    asked-same before (followed_by before (sent_for s old h (event_of q))) bs
+    → (blocks : List ℕ) (before : RequestsFor) → All (WereAsked blocks before) bs
+    → All (WereAsked blocks (followed_by before (sent_for s old h (event_of q)))) bs
+nothing-asked fs old rules s bs placed silent h q sent blocks before =
+    asked-same blocks before (followed_by before (sent_for s old h (event_of q))) bs
     (λ k b lt.
     let t = back_task (get_or bs k b) in
     let on = told-at back_task (IsPlacedOn s old) bs placed k b lt in

@@ -6,6 +6,7 @@ pub mod Events
 pub mod Sent
 pub mod Behind
 pub mod Placed
+pub mod Numbered
 pub mod Readings
 pub mod Crews
 pub mod Growing

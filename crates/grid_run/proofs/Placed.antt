@@ -1,5 +1,5 @@
 -- Where the caches of a configuration are in a lane.
-use Rattle.std.proofs.Common.{◌≡◌, ◌<◌, ◌++◌, ◌∷◌, [], List, length, get_or, map, ap, sym, subst}
+use Rattle.std.proofs.Common.{◌≡◌, ◌<◌, ◌++◌, ◌∷◌, [], ℕ, List, length, get_or, map, ap, sym, subst}
 use Rattle.std.proofs.Common.{◌∙◌, append_assoc, arith}
 use Rattle.std.proofs.Common.{Result, Ok, Err, OnOk}
 use Rattle.std.specs.List.{All}
@@ -59,12 +59,12 @@ placed-same {i' = i'} {d = d} ts on_i on_d all =
     subst (λ (t : Table). All (IsPlacedIn t d) ts) (sym on_i)
     (subst (λ (t : Table). All (IsPlacedIn i' t) ts) (sym on_d) all)
 
-pub served-same : {i i' d d' : Table} (es : List DinRecord) (bs : List Back) → i ≡ i'
-    → d ≡ d' → All (WereAsked (sent_behind i' d' es)) bs
-    → All (WereAsked (sent_behind i d es)) bs
-served-same {i' = i'} {d = d} es bs on_i on_d all =
-    subst (λ (t : Table). All (WereAsked (sent_behind t d es)) bs) (sym on_i)
-    (subst (λ (t : Table). All (WereAsked (sent_behind i' t es)) bs) (sym on_d) all)
+pub served-same : {i i' d d' : Table} (blocks : List ℕ) (es : List DinRecord) (bs : List Back)
+    → i ≡ i' → d ≡ d' → All (WereAsked blocks (sent_behind i' d' es)) bs
+    → All (WereAsked blocks (sent_behind i d es)) bs
+served-same {i' = i'} {d = d} blocks es bs on_i on_d all =
+    subst (λ (t : Table). All (WereAsked blocks (sent_behind t d es)) bs) (sym on_i)
+    (subst (λ (t : Table). All (WereAsked blocks (sent_behind i' t es)) bs) (sym on_d) all)
 
 module _ (l : Lane) (c : Hierarchy) (s : Selection) (p : Place)
     (place : IsPlaceIn (lane_task l) c s p) (b : Back)

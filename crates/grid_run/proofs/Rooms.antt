@@ -9,7 +9,7 @@ use Rattle.stage_core.specs.SecondLevel.{back, read_as, second_history}
 use Rattle.stage_core.specs.declared.message.What.{What}
 use Rattle.stage_core.proofs.Stands.{second_history-more}
 use Rattle.stage_core.proofs.Worked.{length-second_history}
-use Rattle.grid_run.specs.Levels.{CanServe, LevelStandsFor}
+use Rattle.grid_run.specs.Levels.{CanServe, LevelStandsBy, LevelStandsFor}
 use Rattle.grid_run.specs.Sending.{HasRoom, HasSettled, SecondAsked, SecondServed}
 use Rattle.grid_run.specs.declared.level.Level.{Level}
 use Rattle.grid_run.specs.declared.second.Second.{Second}
@@ -44,22 +44,24 @@ served-one old new w longer ws st =
     (longer (second_history ws) st)
 
 -- nothing more was asked for
-pub asked-none : (u : Second) (ws : List What) → SecondAsked u ws → SecondAsked u (ws ++ [])
-asked-none u ws asked = subst (λ (l : List What). SecondAsked u l) (sym (append-nil ws)) asked
+pub asked-none : (blocks : List ℕ) (u : Second) (ws : List What) → SecondAsked blocks u ws
+    → SecondAsked blocks u (ws ++ [])
+asked-none blocks u ws asked =
+    subst (λ (l : List What). SecondAsked blocks u l) (sym (append-nil ws)) asked
 
 -- three lists asked for one after another
-pub asked-three : (u : Second) (ws a b c : List What) → SecondAsked u (((ws ++ a) ++ b) ++ c)
-    → SecondAsked u (ws ++ ((a ++ b) ++ c))
-asked-three u ws a b c asked =
-    subst (λ (l : List What). SecondAsked u l)
+pub asked-three : (blocks : List ℕ) (u : Second) (ws a b c : List What)
+    → SecondAsked blocks u (((ws ++ a) ++ b) ++ c) → SecondAsked blocks u (ws ++ ((a ++ b) ++ c))
+asked-three blocks u ws a b c asked =
+    subst (λ (l : List What). SecondAsked blocks u l)
     (append_assoc (ws ++ a) b c ∙ append_assoc ws a (b ++ c)
     ∙ ap (λ l. ws ++ l) (sym (append_assoc a b c))) asked
 
 -- where nothing waits, all that was asked for is served
-pub settled-served : (u : Second) (ws : List What) → SecondAsked u ws → HasSettled u
-    → SecondServed u.level ws
-settled-served u ws asked settled =
-    subst (λ (l : List What). SecondServed u.level l)
+pub settled-served : (blocks : List ℕ) (u : Second) (ws : List What) → SecondAsked blocks u ws
+    → HasSettled u → LevelStandsBy blocks u.level (second_history ws)
+settled-served blocks u ws asked settled =
+    subst (λ (l : List What). LevelStandsBy blocks u.level (second_history l))
     (sym (asked.all ∙ ap (λ l. asked.served ++ l) settled.none ∙ append-nil asked.served))
     asked.stands
 

@@ -80,9 +80,10 @@ sent_on_side s fronts es e t = sent_up (parts_of (rules_of_seat fronts (seat_on 
 abbrev pub sent_behind : Table → Table → List DinRecord → RequestsFor
 sent_behind i d es t = second_level_requests (parts_in (hierarchy_behind i d t 0)) es
 
--- the second levels were asked for the requests of their task
-pub record WereAsked (requests : RequestsFor) (b : Back) : Type 0 where
-  pub second : SecondAsked b.second (requests (back_task b))
+-- the second levels were asked for the requests of their task, and have served some by the numbers
+-- that the places of a list of blocks are
+pub record WereAsked (blocks : List ℕ) (requests : RequestsFor) (b : Back) : Type 0 where
+  pub second : SecondAsked blocks b.second (requests (back_task b))
 
 -- a second level can serve so many
 pub record AreFew (requests : RequestsFor) : Type 0 where

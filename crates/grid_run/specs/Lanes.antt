@@ -2,6 +2,7 @@
 use Rattle.std.specs.Prelude.{List, map}
 use Rattle.std.specs.List.{All}
 use Rattle.din_trace.specs.declared.record.DinRecord.{DinRecord}
+use Rattle.grid_core.specs.Numbered.{blocks_in}
 use Rattle.stage_core.specs.Events.{events, history}
 use Rattle.stage_core.specs.Standing.{WasOffered}
 use Rattle.stage_core.specs.declared.message.Side.TheVariants as side
@@ -48,8 +49,8 @@ pub record HasServed (l : Lane) (es : List DinRecord) : Type 0 where
   pub i : All (FrontAt (history side.I es)) l.i.items
   pub d : All (FrontAt (history side.D es)) l.d.items
   pub backs :
-      All (WereAsked (sent_behind (map front_rules l.i.items) (map front_rules l.d.items) es))
-      l.backs.items
+      All (WereAsked (blocks_in l.numbers)
+      (sent_behind (map front_rules l.i.items) (map front_rules l.d.items) es)) l.backs.items
 
 -- a lane was given these records: its caches were given what it selects of them
 pub record WasGiven (l : Lane) (records : List DinRecord) : Type 0 where

@@ -1,17 +1,26 @@
 -- Caches that are served together.
-use Rattle.std.specs.Prelude.{◌<◌, ◌^◌, List, length}
+use Rattle.std.specs.Prelude.{◌<◌, ◌^◌, ℕ, List, length}
 use Rattle.cache_core.specs.History.{History, Rules}
 use Rattle.cache_core.specs.declared.access.Access.{Access}
-use Rattle.grid_core.specs.Engines.{EngineStandsFor, HasAnswered, rules_in as rules_served}
+use Rattle.grid_core.specs.Engines.{EngineStandsBy, HasAnswered, numbered_in}
+use Rattle.grid_core.specs.Engines.{rules_in as rules_served}
 use Rattle.grid_run.specs.declared.level.Level.{Level}
 
 -- the rules of the caches
 unfoldable pub rules_in : Level → List Rules
 rules_in l = rules_served l.engine
 
--- the caches have served this history
-pub record LevelStandsFor (l : Level) (h : History) : Type 0 where
-  pub engine : EngineStandsFor l.engine h
+-- the caches have served this history, by the numbers that the places of a list of blocks are
+pub record LevelStandsBy (blocks : List ℕ) (l : Level) (h : History) : Type 0 where
+  pub engine : EngineStandsBy blocks l.engine h
+
+-- the blocks for which the caches have numbers
+abbrev pub numbered_on : Level → List ℕ
+numbered_on l = numbered_in l.engine
+
+-- the caches have served this history, by their own numbers
+abbrev pub LevelStandsFor : Level → History → Type 0
+LevelStandsFor l = LevelStandsBy (numbered_on l) l
 
 -- the last access of the caches was x, after the history h
 pub record HasServedLast (l : Level) (h : History) (x : Access) : Type 0 where

@@ -1,9 +1,9 @@
 -- Requests to a first-level cache, and what a second level was asked for.
-use Rattle.std.specs.Prelude.{◌≡◌, ◌+◌, ◌≤◌, ◌^◌, List, [], ◌++◌, length}
+use Rattle.std.specs.Prelude.{◌≡◌, ℕ, ◌+◌, ◌≤◌, ◌^◌, List, [], ◌++◌, length}
 use Rattle.cache_core.specs.History.{Event, access, flush}
 use Rattle.stage_core.specs.SecondLevel.{second_history}
 use Rattle.stage_core.specs.declared.message.What.{What}
-use Rattle.grid_run.specs.Levels.{LevelStandsFor}
+use Rattle.grid_run.specs.Levels.{LevelStandsBy, LevelStandsFor}
 use Rattle.grid_run.specs.declared.level.Level.{Level}
 use Rattle.grid_run.specs.declared.requests.Request.{Request}
 use Rattle.grid_run.specs.declared.requests.Request.TheVariants as request
@@ -24,10 +24,11 @@ pub record HasRoom (u : Level) (ws : List What) : Type 0 where
   pub stands : SecondServed u past
   pub short : length past + length ws ≤ 2 ^ 44
 
--- a second level was asked for these requests: it has served the first of them, the others wait
-pub record SecondAsked (u : Second) (ws : List What) : Type 0 where
+-- a second level was asked for these requests: it has served the first of them, by the numbers that
+-- the places of a list of blocks are, and the others wait
+pub record SecondAsked (blocks : List ℕ) (u : Second) (ws : List What) : Type 0 where
   pub served : List What
-  pub stands : SecondServed u.level served
+  pub stands : LevelStandsBy blocks u.level (second_history served)
   pub all : ws ≡ served ++ u.waiting.items
 
 -- no request waits

@@ -17,6 +17,10 @@ use std::alloc::Global;
 use std::thread;
 use std::thread::Threads;
 
+/// At most so many records are taken together. Threads start and end with each batch, and wait for
+/// the slowest of them; so a batch should give them tens of milliseconds of work.
+const BATCH: usize = 393_216;
+
 /// The workers of all lanes.
 #[derive(Drop)]
 pub(crate) struct Crew {
@@ -120,8 +124,18 @@ impl Crew {
         Ok(())
     }
 
-    /// Whether a thread is to spare while all workers take records.
-    pub fn has_thread_to_spare(&self) -> bool {
-        self.workers.len() < self.threads
+    /// How many records the batch after one of this size has. A worker that is alone waits for no
+    /// other, and is fastest while what was read stays in the processor's caches. For several, each
+    /// batch is twice as long as the one before it: so a short trace is read beside the work, too.
+    pub fn size_after(&self, size: usize) -> usize {
+        if self.workers.len() < 2 {
+            return size;
+        }
+        size.saturating_mul(2).min(BATCH)
+    }
+
+    /// Whether threads may be started.
+    pub fn may_start_threads(&self) -> bool {
+        self.threads > 1
     }
 }

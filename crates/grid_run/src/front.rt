@@ -44,7 +44,7 @@ fn last_of(access: Access, sent_nothing: bool) -> Last
 }
 
 impl Front {
-    ghost use Rattle.std.specs.Prelude.{◌≡◌, ◌<◌, ◌^◌, ◌++◌, ◌∷◌, [], List, IfOk, OnOk};
+    ghost use Rattle.std.specs.Prelude.{◌≡◌, ◌<◌, ◌^◌, ◌++◌, ◌∷◌, [], List, ℕ, IfOk, OnOk};
     ghost use Rattle.std.specs.Prelude.{true, false, length};
     ghost use Rattle.cache_core.specs.History.{History, access as accessed, flush as flushed};
     ghost use Rattle.grid_core.specs.Written.{rules_at};
@@ -141,8 +141,9 @@ impl Front {
     pub fn send(&self, cell: usize, side: Side, u: &mut Second) -> Result<(), NoMemory>
         requires inside { cell < length (front_rules self.now) }
         requires last { (h : History) × (q : Asked) × HasSent h q self.now }
-        ensures sends { OnOk result ((h : History) (q : Asked) (ws : List Sent) →
-            HasSent h q self.now → SecondAsked u.old ws → SecondAsked u.new
+        ensures sends { OnOk result ((blocks : List ℕ) (h : History) (q : Asked)
+            (ws : List Sent) → HasSent h q self.now → SecondAsked blocks u.old ws →
+            SecondAsked blocks u.new
             (ws ++ parts_of (rules_at (front_rules self.now) cell) side h (event_of q))) }
         ensures level { u.new.level ≡ u.old.level }
     {

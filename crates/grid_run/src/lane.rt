@@ -1,7 +1,7 @@
 //! The caches of all rows of one selection.
 
-ghost use Rattle.std.specs.Prelude.{◌≡◌, ◌<◌, ◌≤◌, ◌+◌, ◌*◌, ◌^◌, ◌++◌, ◌∷◌, [], List, IfOk, OnOk};
-ghost use Rattle.std.specs.Prelude.{length, map, option_to_list};
+ghost use Rattle.std.specs.Prelude.{◌≡◌, ◌<◌, ◌≤◌, ◌+◌, ◌*◌, ◌^◌, ◌++◌, ◌∷◌, [], List, ℕ, IfOk};
+ghost use Rattle.std.specs.Prelude.{OnOk, length, map, option_to_list};
 ghost use Rattle.std.specs.List.{All};
 ghost use Rattle.cache_core.specs.History.{History};
 ghost use Rattle.din_trace.specs.declared.record.DinRecord.{DinRecord as Event};
@@ -26,6 +26,7 @@ use crate::plan::{LanePlan, Place};
 use crate::requests::{Request, asked_of};
 use cache_core::NoMemory;
 use din_trace::{DinRecord, Label, MAX_LIMIT};
+use grid_core::BlockNumbers;
 use stage_core::{
     Selector, Side, Totals, second_level_sees_at_most_two, selections_make_at_most_two,
 };
@@ -44,6 +45,8 @@ pub(crate) struct Lane {
     i: Vec<Front>,
     d: Vec<Front>,
     backs: Vec<Back>,
+    /// The numbers of the blocks of all second levels.
+    numbers: BlockNumbers,
 }
 
 /// Serves a request in all caches of a side. What these send waits for the second levels. Not
@@ -60,10 +63,11 @@ fn serve_request(
     requires room { (h : History) × All (FrontAt h) fronts.old.items × (length h < 2 ^ 44) }
     ensures stands { OnOk result ((h : History) → All (FrontAt h) fronts.old.items →
         All (FrontAt (event_of request ∷ h)) fronts.new.items) }
-    ensures asked { OnOk result ((h : History) (before : RequestsFor) →
-        All (FrontAt h) fronts.old.items → All (WereAsked before) backs.old.items →
-        All (WereAsked (followed_by before (sent_for side (map front_rules fronts.old.items) h
-        (event_of request)))) backs.new.items) }
+    ensures asked { OnOk result ((blocks : List ℕ) (h : History) (before : RequestsFor) →
+        All (FrontAt h) fronts.old.items → All (WereAsked blocks before) backs.old.items →
+        All (WereAsked blocks (followed_by before
+        (sent_for side (map front_rules fronts.old.items) h (event_of request))))
+        backs.new.items) }
     ensures rules { map front_rules fronts.new.items ≡ map front_rules fronts.old.items }
     ensures tasks { map back_task backs.new.items ≡ map back_task backs.old.items }
 {
@@ -91,9 +95,9 @@ fn serve_side(
     ensures stands { OnOk result ((es : List Event) →
         All (FrontAt (history side es)) fronts.old.items →
         All (FrontAt (history side (es ++ event ∷ []))) fronts.new.items) }
-    ensures asked { OnOk result ((es : List Event) (before : RequestsFor) →
+    ensures asked { OnOk result ((blocks : List ℕ) (es : List Event) (before : RequestsFor) →
         All (FrontAt (history side es)) fronts.old.items →
-        All (WereAsked before) backs.old.items → All (WereAsked (followed_by before
+        All (WereAsked blocks before) backs.old.items → All (WereAsked blocks (followed_by before
         (sent_on_side side (map front_rules fronts.old.items) es event))) backs.new.items) }
     ensures rules { map front_rules fronts.new.items ≡ map front_rules fronts.old.items }
     ensures tasks { map back_task backs.new.items ≡ map back_task backs.old.items }
@@ -116,11 +120,15 @@ impl Lane {
         ensures taken { IfOk result (λ lane. HasTaken lane []) }
         ensures task { IfOk result (λ lane. lane_task lane ≡ task_of_plan plan.now) }
     {
+        let Ok(numbers) = BlockNumbers::new(alloc) else {
+            return Err(NoMemory);
+        };
         Ok(Lane {
             selector: Selector::new(plan.selection),
             i: fronts_for(alloc, &plan.i)?,
             d: fronts_for(alloc, &plan.d)?,
             backs: backs_for(alloc, &plan.backs)?,
+            numbers,
         })
     }
 
@@ -185,7 +193,7 @@ impl Lane {
         }
         selections_make_at_most_two();
         second_level_sees_at_most_two();
-        settle_backs(&mut self.backs)
+        settle_backs(&mut self.backs, &mut self.numbers)
     }
 
     /// What the caches of a row have counted.

@@ -8,7 +8,7 @@ ghost use Rattle.grid_core.specs.Engines.{rules_in as rules_served};
 
 use crate::shelf::Shelf;
 use cache_core::{Access, Class, Counts, Geometry, NoMemory, Outcome, PerClass};
-use grid_core::Engine;
+use grid_core::{BlockNumbers, Engine};
 use stage_core::What;
 use std::alloc::Global;
 
@@ -22,22 +22,26 @@ pub(crate) struct Level {
 
 #[tactic(auto, unfolding(crate::specs::Levels::rules_in))]
 impl Level {
-    ghost use Rattle.std.specs.Prelude.{◌≡◌, ◌<◌, ◌*◌, ◌/◌, ◌∷◌, [], ℕ, IfOk, OnOk, length, map};
-    ghost use Rattle.std.specs.Prelude.{true, false};
+    ghost use Rattle.std.specs.Prelude.{◌≡◌, ◌<◌, ◌*◌, ◌/◌, ◌∷◌, [], List, ℕ, IfOk, OnOk};
+    ghost use Rattle.std.specs.Prelude.{length, map, true, false};
     ghost use Rattle.cache_core.specs.History.{History, access as accessed, flush as flushed};
     ghost use Rattle.cache_core.specs.Parts.{outcome_of};
     ghost use Rattle.cache_core.specs.declared.access.Access.{Access as Asked};
     ghost use Rattle.cache_core.specs.Counts.{counts_of};
     ghost use Rattle.grid_core.specs.Cells.{items_of};
     ghost use Rattle.grid_core.specs.FullyAssociative.{shadow_misses};
+    ghost use Rattle.grid_core.specs.Numbered.{blocks_in};
+    ghost use Rattle.grid_core.specs.Numbers.{GoesOn};
     ghost use Rattle.grid_core.specs.Written.{SendsNothing, rules_at, written_by};
     ghost use Rattle.stage_core.specs.SecondLevel.{read_as};
-    ghost use Rattle.grid_run.specs.Levels.{CanServe, HasServedLast, LevelStandsFor, rules_in};
+    ghost use Rattle.grid_run.specs.Levels.{CanServe, HasServedLast, LevelStandsBy};
+    ghost use Rattle.grid_run.specs.Levels.{LevelStandsFor, numbered_on, rules_in};
     ghost use Rattle.grid_run.specs.Seats.{rules_on};
 
     /// The empty caches of a shelf.
     pub fn new(alloc: Global, shelf: &Shelf) -> Result<Level, NoMemory>
         ensures stands { IfOk result (λ level. LevelStandsFor level []) }
+        ensures numbers { IfOk result (λ level. numbered_on level ≡ []) }
         ensures rules { IfOk result (λ level. rules_in level ≡ rules_on shelf.now) }
     {
         let first = shelf.first();
@@ -61,6 +65,7 @@ impl Level {
             HasServedLast self.new h access) }
         ensures stands { OnOk result ((h : History) → LevelStandsFor self.old h →
             LevelStandsFor self.new (accessed access ∷ h)) }
+        ensures numbers { GoesOn (numbered_on self.old) (numbered_on self.new) }
         ensures rules { rules_in self.new ≡ rules_in self.old }
     {
         self.engine.access(access)
@@ -92,6 +97,7 @@ impl Level {
             map items_of lists.items ≡ map (written_by h) (rules_in self.old)) }
         ensures stands { OnOk result ((h : History) → LevelStandsFor self.old h →
             LevelStandsFor self.new (flushed ∷ h)) }
+        ensures numbers { numbered_on self.new ≡ numbered_on self.old }
         ensures rules { rules_in self.new ≡ rules_in self.old }
     {
         self.engine.flush()
@@ -102,6 +108,7 @@ impl Level {
         requires room { CanServe self.old }
         ensures stands { OnOk result ((h : History) → LevelStandsFor self.old h →
             LevelStandsFor self.new (read_as what ∷ h)) }
+        ensures numbers { GoesOn (numbered_on self.old) (numbered_on self.new) }
         ensures rules { rules_in self.new ≡ rules_in self.old }
     {
         match what {
@@ -115,6 +122,17 @@ impl Level {
                 Ok(())
             }
         }
+    }
+
+    /// Exchanges the numbers of the blocks.
+    pub fn swap_numbers(&mut self, numbers: &mut BlockNumbers)
+        ensures stands { (blocks : List ℕ) (h : History) → LevelStandsBy blocks self.old h →
+            LevelStandsBy blocks self.new h }
+        ensures taken { numbered_on self.new ≡ blocks_in numbers.old }
+        ensures given { blocks_in numbers.new ≡ numbered_on self.old }
+        ensures rules { rules_in self.new ≡ rules_in self.old }
+    {
+        self.engine.swap_numbers(numbers);
     }
 
     /// What the last access did in one cache.
@@ -138,7 +156,7 @@ impl Level {
     /// The counts of one cache.
     pub fn counts(&self, cell: usize) -> Counts
         requires { cell < length (rules_in self.now) }
-        ensures { (h : History) → LevelStandsFor self.now h →
+        ensures { (blocks : List ℕ) (h : History) → LevelStandsBy blocks self.now h →
             result ≡ counts_of (rules_at (rules_in self.now) cell) h }
     {
         self.engine.counts(cell)
@@ -147,7 +165,7 @@ impl Level {
     /// How often the shadow of one cache missed.
     pub fn shadow_misses(&self, cell: usize) -> PerClass
         requires { cell < length (rules_in self.now) }
-        ensures { (h : History) → LevelStandsFor self.now h →
+        ensures { (blocks : List ℕ) (h : History) → LevelStandsBy blocks self.now h →
             result ≡ shadow_misses (rules_at (rules_in self.now) cell) h }
     {
         self.engine.shadow_misses(cell)

@@ -1,6 +1,6 @@
 //! What the first level sends, asked of the second.
 
-ghost use Rattle.std.specs.Prelude.{◌≡◌, ◌++◌, List, OnOk, map, option_to_list};
+ghost use Rattle.std.specs.Prelude.{◌≡◌, ◌++◌, List, ℕ, OnOk, map, option_to_list};
 ghost use Rattle.stage_core.specs.SecondLevel.{back};
 ghost use Rattle.stage_core.specs.declared.message.What.{What as Sent};
 ghost use Rattle.grid_run.specs.Sending.{SecondAsked};
@@ -11,8 +11,8 @@ use stage_core::What;
 
 /// Asks for a request at the second level, if there is one.
 fn ask_part(u: &mut Second, part: Option<What>) -> Result<(), NoMemory>
-    ensures asked { OnOk result ((ws : List Sent) → SecondAsked u.old ws →
-        SecondAsked u.new (ws ++ option_to_list part)) }
+    ensures asked { OnOk result ((blocks : List ℕ) (ws : List Sent) → SecondAsked blocks u.old ws →
+        SecondAsked blocks u.new (ws ++ option_to_list part)) }
     ensures level { u.new.level ≡ u.old.level }
 {
     match part {
@@ -28,8 +28,9 @@ pub(crate) fn ask_parts(
     fetch: Option<What>,
     through: Option<What>,
 ) -> Result<(), NoMemory>
-    ensures asked { OnOk result ((ws : List Sent) → SecondAsked u.old ws → SecondAsked u.new
-        (ws ++ (option_to_list back ++ option_to_list fetch ++ option_to_list through))) }
+    ensures asked { OnOk result ((blocks : List ℕ) (ws : List Sent) →
+        SecondAsked blocks u.old ws → SecondAsked blocks u.new (ws ++
+        (option_to_list back ++ option_to_list fetch ++ option_to_list through))) }
     ensures level { u.new.level ≡ u.old.level }
 {
     ask_part(u, back)?;
@@ -39,8 +40,8 @@ pub(crate) fn ask_parts(
 
 /// Asks for write-backs at the second level, and then for a flush, if there is one.
 pub(crate) fn ask_backs(u: &mut Second, addrs: &[u64], flush: Option<What>) -> Result<(), NoMemory>
-    ensures asked { OnOk result ((ws : List Sent) → SecondAsked u.old ws →
-        SecondAsked u.new (ws ++ (map back addrs.now ++ option_to_list flush))) }
+    ensures asked { OnOk result ((blocks : List ℕ) (ws : List Sent) → SecondAsked blocks u.old ws →
+        SecondAsked blocks u.new (ws ++ (map back addrs.now ++ option_to_list flush))) }
     ensures level { u.new.level ≡ u.old.level }
 {
     for addr in addrs {

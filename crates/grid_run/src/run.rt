@@ -13,21 +13,18 @@ ghost use Rattle.grid_run.specs.Workers.{MayHaveTaken, worker_task};
 
 use crate::crew::Crew;
 use crate::fault::{GridFault, fault_of_source};
+use crate::worker::PART;
 use din_trace::{ByteReader, DinRecord, MAX_LIMIT, Source, TraceFault};
 use std::alloc::Global;
 use std::mem::swap;
 use std::thread::{Threads, join_mut};
 
-/// How many records are taken together. A thread takes some tens of microseconds to start; a batch
-/// gives it milliseconds of work. More of them are served a little faster, since each second level
-/// finds its own in the processor's caches for longer; but what waits for it takes more memory.
-const BATCH: usize = 49_152;
-
-/// Reads records into an empty batch until it is full, or to the end of the trace. Answers whether
-/// there may be more. Stops at a fault of the trace; the rest is then not read.
+/// Reads so many records into an empty batch, or up to the end of the trace. Answers whether there
+/// may be more. Stops at a fault of the trace; the rest is then not read.
 fn read_batch<R: ByteReader>(
     source: &mut Source<R>,
     batch: &mut Vec<DinRecord>,
+    size: usize,
 ) -> Result<bool, GridFault>
     ensures read { HasReadBatch R.remaining R.failures source.old source.new batch.new.items
         result }
@@ -41,7 +38,7 @@ fn read_batch<R: ByteReader>(
                 if batch.push(next).is_err() {
                     return Err(GridFault::Memory);
                 }
-                if batch.len() >= BATCH {
+                if batch.len() >= size {
                     return Ok(true);
                 }
             }
@@ -51,15 +48,16 @@ fn read_batch<R: ByteReader>(
     }
 }
 
-/// All workers take a batch, and the next one is read: beside that if a thread is to spare, and
-/// else after it. The reader gets the new thread: what the workers have stands in the caches of
-/// this core.
+/// All workers take a batch, and the next one, of so many records, is read: beside that if threads
+/// may be started, and else after it. The reader gets the new thread: what the workers have stands
+/// in the caches of this core.
 fn take_and_read<R: ByteReader + Send, T: Threads + Sync>(
     rt: &T,
     crew: &mut Crew,
     batch: &Vec<DinRecord>,
     source: &mut Source<R>,
     next: &mut Vec<DinRecord>,
+    size: usize,
 ) -> Result<bool, GridFault>
     requires room { (past : List Event) × All (MayHaveTaken past) crew.old.workers.items
         × (length past + length batch.now.items ≤ MAX_LIMIT) }
@@ -73,15 +71,15 @@ fn take_and_read<R: ByteReader + Send, T: Threads + Sync>(
     ensures unwritten { IfErr result (λ why. why ≢ GridFault.Write) }
     ensures memory { result ≢ Err (GridFault.Trace TraceFault.Memory) }
 {
-    if !crew.has_thread_to_spare() {
+    if !crew.may_start_threads() {
         if crew.take(rt, batch).is_err() {
             return Err(GridFault::Memory);
         }
-        return read_batch(source, next);
+        return read_batch(source, next, size);
     }
     let (read, taken) = join_mut(
         rt,
-        &mut || read_batch(source, next),
+        &mut || read_batch(source, next, size),
         &mut ||
             requires { (past : List Event) × All (MayHaveTaken past) crew.now.workers.items
                 × (length past + length batch.now.items ≤ MAX_LIMIT) }
@@ -115,9 +113,11 @@ pub(crate) fn serve_trace<R: ByteReader + Send, T: Threads + Sync>(
 {
     let mut batch = Vec::new(alloc);
     let mut next = Vec::new(alloc);
-    let mut more = read_batch(source, &mut batch)?;
+    let mut size = PART;
+    let mut more = read_batch(source, &mut batch, size)?;
     'batches: while more {
-        more = take_and_read(rt, crew, &batch, source, &mut next)?;
+        size = crew.size_after(size);
+        more = take_and_read(rt, crew, &batch, source, &mut next, size)?;
         swap(&mut batch, &mut next);
     }
     if crew.take(rt, &batch).is_err() {

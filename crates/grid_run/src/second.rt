@@ -2,12 +2,14 @@
 
 ghost use Rattle.std.specs.Prelude.{◌≡◌, ◌++◌, List, OnOk};
 ghost use Rattle.stage_core.specs.declared.message.What.{What as Sent};
-ghost use Rattle.grid_run.specs.Levels.{rules_in};
+ghost use Rattle.grid_core.specs.Numbers.{GoesOn};
+ghost use Rattle.grid_run.specs.Levels.{numbered_on, rules_in};
 ghost use Rattle.grid_run.specs.Sending.{HasRoom, SecondServed};
 
 use crate::level::Level;
 use crate::shelf::Shelf;
 use cache_core::NoMemory;
+use grid_core::BlockNumbers;
 use stage_core::What;
 use std::alloc::Global;
 
@@ -24,6 +26,7 @@ fn serve_each(level: &mut Level, requests: &[What]) -> Result<(), NoMemory>
     requires room { HasRoom level.old requests.now }
     ensures served { OnOk result ((ws : List Sent) → SecondServed level.old ws →
         SecondServed level.new (ws ++ requests.now)) }
+    ensures numbers { GoesOn (numbered_on level.old) (numbered_on level.new) }
     ensures rules { rules_in level.new ≡ rules_in level.old }
 {
     for what in requests {
@@ -33,15 +36,17 @@ fn serve_each(level: &mut Level, requests: &[What]) -> Result<(), NoMemory>
 }
 
 impl Second {
-    ghost use Rattle.std.specs.Prelude.{◌≡◌, ◌≤◌, ◌^◌, ◌++◌, ◌∷◌, [], List, IfOk, OnOk, length};
+    ghost use Rattle.std.specs.Prelude.{◌≡◌, ◌≤◌, ◌^◌, ◌++◌, ◌∷◌, [], List, ℕ, IfOk, OnOk, length};
     ghost use Rattle.stage_core.specs.declared.message.What.{What as Sent};
+    ghost use Rattle.grid_core.specs.Numbered.{blocks_in};
+    ghost use Rattle.grid_core.specs.Numbers.{GoesOn};
     ghost use Rattle.grid_run.specs.Levels.{rules_in};
     ghost use Rattle.grid_run.specs.Seats.{rules_on};
     ghost use Rattle.grid_run.specs.Sending.{HasSettled, SecondAsked};
 
     /// The empty caches of a shelf, for which nothing waits.
     pub fn new(alloc: Global, shelf: &Shelf) -> Result<Second, NoMemory>
-        ensures asked { IfOk result (λ second. SecondAsked second []) }
+        ensures asked { IfOk result (λ second. (blocks : List ℕ) → SecondAsked blocks second []) }
         ensures settled { IfOk result HasSettled }
         ensures rules { IfOk result (λ second. rules_in second.level ≡ rules_on shelf.now) }
     {
@@ -53,8 +58,8 @@ impl Second {
 
     /// Takes a request, which waits.
     pub fn ask(&mut self, what: What) -> Result<(), NoMemory>
-        ensures asked { OnOk result ((ws : List Sent) → SecondAsked self.old ws →
-            SecondAsked self.new (ws ++ what ∷ [])) }
+        ensures asked { OnOk result ((blocks : List ℕ) (ws : List Sent) →
+            SecondAsked blocks self.old ws → SecondAsked blocks self.new (ws ++ what ∷ [])) }
         ensures level { self.new.level ≡ self.old.level }
     {
         if self.waiting.push(what).is_err() {
@@ -63,15 +68,21 @@ impl Second {
         Ok(())
     }
 
-    /// Serves all requests that wait.
-    pub fn settle(&mut self) -> Result<(), NoMemory>
-        requires room { (ws : List Sent) × SecondAsked self.old ws × (length ws ≤ 2 ^ 44) }
-        ensures asked { OnOk result ((ws : List Sent) → SecondAsked self.old ws →
-            SecondAsked self.new ws) }
+    /// Serves all requests that wait, by these numbers of blocks, of which there may be more then.
+    pub fn settle(&mut self, numbers: &mut BlockNumbers) -> Result<(), NoMemory>
+        requires room { (ws : List Sent) × SecondAsked (blocks_in numbers.old) self.old ws
+            × (length ws ≤ 2 ^ 44) }
+        ensures asked { OnOk result ((ws : List Sent) →
+            SecondAsked (blocks_in numbers.old) self.old ws →
+            SecondAsked (blocks_in numbers.new) self.new ws) }
+        ensures grows { GoesOn (blocks_in numbers.old) (blocks_in numbers.new) }
         ensures settled { OnOk result (HasSettled self.new) }
         ensures rules { rules_in self.new.level ≡ rules_in self.old.level }
     {
-        serve_each(&mut self.level, &self.waiting)?;
+        self.level.swap_numbers(numbers);
+        let served = serve_each(&mut self.level, &self.waiting);
+        self.level.swap_numbers(numbers);
+        served?;
         self.waiting.clear();
         Ok(())
     }

@@ -7,6 +7,11 @@ use cache_core::NoMemory;
 use din_trace::{DinRecord, MAX_LIMIT};
 use std::alloc::Global;
 
+/// The first levels serve so many records before each second level serves what waits for it. More
+/// of them are served a little faster, since each second level finds its own in the processor's
+/// caches for longer; but what waits for it takes more memory.
+pub(crate) const PART: usize = 49_152;
+
 /// A lane, and whether it was refused memory. If it was, it takes no more records.
 #[derive(Drop)]
 pub(crate) struct Worker {
@@ -38,7 +43,20 @@ impl Worker {
         })
     }
 
-    /// Takes records in their order.
+    /// Takes some records in their order.
+    fn take_part(&mut self, part: &[DinRecord])
+        requires room { (past : List Event) × MayHaveTaken past self.old
+            × (length past + length part.now ≤ MAX_LIMIT) }
+        ensures taken { (past : List Event) → MayHaveTaken past self.old
+            → MayHaveTaken (past ++ part.now) self.new }
+        ensures task { worker_task self.new ≡ worker_task self.old }
+    {
+        if !self.failed {
+            self.failed = self.lane.take_batch(part).is_err();
+        }
+    }
+
+    /// Takes records in their order, part by part.
     pub fn take(&mut self, batch: &[DinRecord])
         requires room { (past : List Event) × MayHaveTaken past self.old
             × (length past + length batch.now ≤ MAX_LIMIT) }
@@ -46,9 +64,12 @@ impl Worker {
             → MayHaveTaken (past ++ batch.now) self.new }
         ensures task { worker_task self.new ≡ worker_task self.old }
     {
-        if !self.failed {
-            self.failed = self.lane.take_batch(batch).is_err();
+        let mut taken = 0;
+        'parts: while batch.len() - taken > PART {
+            self.take_part(&batch[taken..taken + PART]);
+            taken += PART;
         }
+        self.take_part(&batch[taken..]);
     }
 
     /// Whether it was refused memory.

@@ -1,7 +1,8 @@
 -- What a contract sees of a `Marked`.
-use Rattle.std.specs.Prelude.{ℕ, List, map}
+use Rattle.std.specs.Prelude.{ℕ, Bool, ◌==◌, List, map}
 use Rattle.cache_core.specs.Residents.{distinct}
 use Rattle.marked_list.specs.declared.marked.Marked.{Marked}
+use Rattle.marked_list.specs.Bits.{bit_of}
 use Rattle.marked_list.specs.Log.{uses_of}
 use Rattle.marked_list.specs.Marks.{size_of}
 
@@ -12,3 +13,7 @@ order_of m = distinct (uses_of m.uses)
 -- the sizes
 unfoldable pub marked_sizes : Marked → List ℕ
 marked_sizes m = map size_of m.marks.items
+
+-- whether a block was ever used
+unfoldable pub was_used : Marked → ℕ → Bool
+was_used m b = bit_of m.seen.items b == 1

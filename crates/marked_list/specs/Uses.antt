@@ -44,3 +44,7 @@ AreDead ms words = (i : ℕ) → bit_of words i
 -- each block that was used has room for a stamp
 abbrev pub HaveRoom : List ℕ → List ℕ → Type 0
 HaveRoom ms stamps = (b : ℕ) → list_any (λ m. m == b) ms ≡ true → b < length stamps
+
+-- each block that was used has a bit
+abbrev pub AreNoted : List ℕ → List ℕ → Type 0
+AreNoted ms words = (b : ℕ) → list_any (λ m. m == b) ms ≡ true → bit_of words b ≡ 1

@@ -1,10 +1,13 @@
 //! One list of blocks in order of last use, for all sizes.
 
-ghost use Rattle.std.specs.Prelude.{◌≡◌, ◌<◌, length, map, true};
+ghost use Rattle.std.specs.Prelude.{◌≡◌, ◌≢◌, ◌<◌, ◌/◌, ℕ, length, map, true};
 ghost use Rattle.cache_core.specs.Residents.{distinct};
+ghost use Rattle.marked_list.specs.Bits.{bit_of};
 ghost use Rattle.marked_list.specs.Log.{uses_of};
+ghost use Rattle.marked_list.specs.Uses.{AreNoted};
 ghost use Rattle.marked_list.specs.Marks.{AreMarks, IsStepwise, counted_with, size_of};
 
+use crate::bits::{bit, make_room, set_bit};
 use crate::marks::{Mark, is_rising, move_each, new_marks, restart_each, settle_each};
 use crate::uses::Uses;
 use std::alloc::{AllocError, Global};
@@ -19,8 +22,11 @@ pub struct Marked {
     used: usize,
     /// Whether each size is larger than those before it.
     rising: bool,
+    /// A bit for each number: whether its block was ever used.
+    seen: Vec<u64>,
     ghost marked: { AreMarks (uses_of uses) marks.items },
     ghost counted: { used ≡ length (distinct (uses_of uses)) },
+    ghost kept: { AreNoted (uses_of uses) seen.items },
     ghost rises: { rising ≡ true → IsStepwise (map size_of marks.items) },
 }
 
@@ -35,17 +41,28 @@ fn counted(used: usize, last: Option<usize>) -> usize
     }
 }
 
-#[tactic(auto, unfolding(crate::specs::Marked::order_of, crate::specs::Marked::marked_sizes))]
+/// Sets the bit of a number.
+fn note(seen: &mut Vec<u64>, number: usize)
+    requires { number / 64 < length seen.old.items }
+    ensures set { bit_of seen.new.items number ≡ 1 }
+    ensures others { (q : ℕ) → q ≢ number →
+        bit_of seen.new.items q ≡ bit_of seen.old.items q }
+{
+    set_bit(seen, number);
+}
+
+#[tactic(auto, unfolding(crate::specs::Marked::order_of, crate::specs::Marked::marked_sizes, crate::specs::Marked::was_used))]
 impl Marked {
-    ghost use Rattle.std.specs.Prelude.{◌≡◌, ◌<◌, [], IfOk, OnOk, OnErr};
+    ghost use Rattle.std.specs.Prelude.{◌≡◌, ◌<◌, ◌==◌, ◌||◌, ℕ, [], false, IfOk, OnOk, OnErr};
     ghost use Rattle.std.specs.List.{All};
     ghost use Rattle.marked_list.specs.Recency.{level_of, brought_front};
-    ghost use Rattle.marked_list.specs.Marked.{order_of, marked_sizes};
+    ghost use Rattle.marked_list.specs.Marked.{order_of, marked_sizes, was_used};
 
     /// A list for these sizes, with no block.
     pub fn new(alloc: Global, sizes: &[usize]) -> Result<Marked, AllocError>
         requires { All (λ size. 0 < size) sizes.now }
         ensures order { IfOk result (λ marked. order_of marked ≡ []) }
+        ensures used { IfOk result (λ marked. (q : ℕ) → was_used marked q ≡ false) }
         ensures sizes { IfOk result (λ marked. marked_sizes marked ≡ sizes.now) }
     {
         let marks = new_marks(alloc, sizes)?;
@@ -54,12 +71,14 @@ impl Marked {
             marks,
             used: 0,
             rising: is_rising(sizes),
+            seen: Vec::new(alloc),
         })
     }
 
     /// Forgets all uses but the last ones.
     fn shorten(&mut self)
         ensures order { order_of self.new ≡ order_of self.old }
+        ensures used { (q : ℕ) → was_used self.new q ≡ was_used self.old q }
         ensures sizes { marked_sizes self.new ≡ marked_sizes self.old }
     {
         self.uses.shorten();
@@ -72,15 +91,29 @@ impl Marked {
             level ≡ level_of (marked_sizes self.old) (order_of self.old) number) }
         ensures order { OnOk result (order_of self.new ≡ brought_front number (order_of self.old)) }
         ensures unchanged { OnErr result (order_of self.new ≡ order_of self.old) }
+        ensures used { OnOk result ((q : ℕ) →
+            was_used self.new q ≡ (number == q || was_used self.old q)) }
+        ensures unused { OnErr result ((q : ℕ) → was_used self.new q ≡ was_used self.old q) }
         ensures sizes { marked_sizes self.new ≡ marked_sizes self.old }
     {
+        let Ok(()) = make_room(&mut self.seen, number) else {
+            return Err(AllocError);
+        };
         let last = self.uses.last_use(number);
         let Ok(()) = self.uses.add(number, last) else {
             return Err(AllocError);
         };
+        note(&mut self.seen, number);
         let level = move_each(&mut self.marks, &self.uses, last, self.used, self.rising);
         self.used = counted(self.used, last);
         Ok(level)
+    }
+
+    /// Whether a block was ever used.
+    pub fn knows(&self, number: usize) -> bool
+        ensures { result ≡ was_used self.now number }
+    {
+        bit(&self.seen, number) == 1
     }
 
     /// Uses a block, and answers its level before: the index of the first size for which it was
@@ -92,6 +125,9 @@ impl Marked {
             level ≡ level_of (marked_sizes self.old) (order_of self.old) number) }
         ensures order { OnOk result (order_of self.new ≡ brought_front number (order_of self.old)) }
         ensures unchanged { OnErr result (order_of self.new ≡ order_of self.old) }
+        ensures used { OnOk result ((q : ℕ) →
+            was_used self.new q ≡ (number == q || was_used self.old q)) }
+        ensures unused { OnErr result ((q : ℕ) → was_used self.new q ≡ was_used self.old q) }
         ensures sizes { marked_sizes self.new ≡ marked_sizes self.old }
     {
         if self.uses.is_latest(number) {
@@ -106,6 +142,7 @@ impl Marked {
     /// Forgets all blocks.
     pub fn clear(&mut self)
         ensures order { order_of self.new ≡ [] }
+        ensures used { (q : ℕ) → was_used self.new q ≡ was_used self.old q }
         ensures sizes { marked_sizes self.new ≡ marked_sizes self.old }
     {
         self.uses.clear();

@@ -23,7 +23,7 @@ returns-in_err-ask-clause-tasks c =
     c.back-item.result c.ask.new.self c.ask.ensures.task
 
 pub returns-clause-asked : goal.returns-clause-asked
-returns-clause-asked c = λ h q before sent were j d lt.
+returns-clause-asked c = λ blocks h q before sent were j d lt.
     let all = all_changed c.loop-back.invariant c.deref_mut-back-items.ensures.value
     c.args.backs.now.ok.0 (omega arith) in
-    (all.changed j d lt).asked h q before sent (were j d (all.inside j lt))
+    (all.changed j d lt).asked blocks h q before sent (were j d (all.inside j lt))

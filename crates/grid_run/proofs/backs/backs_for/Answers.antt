@@ -8,7 +8,7 @@ loop-plan-preserved c =
     (c.in_ok-one.ensures.asked, c.in_ok-one.ensures.settled)
 
 pub returns-clause-asked : goal.returns-clause-asked
-returns-clause-asked c = λ k d lt. (c.loop-plan.invariant.fresh k d lt).0
+returns-clause-asked c = λ blocks k d lt. (c.loop-plan.invariant.fresh k d lt).0 blocks
 
 pub returns-clause-settled : goal.returns-clause-settled
 returns-clause-settled c = λ k d lt. (c.loop-plan.invariant.fresh k d lt).1

@@ -1,3 +1,4 @@
+use Rattle.std.proofs.Common.{ℕ, List}
 use Rattle.grid_run.specs.Backs.{NothingWaits, WereAsked, back_task, no_requests, task_of_shelf}
 use Rattle.grid_run.proofs.Each.{AreMade}
 use Rattle.grid_run.proofs.backs.backs_for.Given as goal
@@ -5,5 +6,6 @@ use Rattle.grid_run.proofs.backs.backs_for.Given as goal
 -- there are the second levels of each shelf that was passed
 abbrev pub invariant-loop-plan : goal.invariant-loop-plan
 invariant-loop-plan l =
-    AreMade back_task task_of_shelf (λ b. WereAsked no_requests b × NothingWaits b) l.shelves
+    AreMade back_task task_of_shelf
+    (λ b. ((blocks : List ℕ) → WereAsked blocks no_requests b) × NothingWaits b) l.shelves
     l.plan-index l.made.items

@@ -1,9 +1,15 @@
+use Rattle.grid_core.specs.Numbered.{blocks_in}
+use Rattle.grid_core.specs.Numbers.{GoesOn}
 use Rattle.grid_core.proofs.ListLoops.{HasChanged}
 use Rattle.grid_run.specs.Backs.{back_task}
 use Rattle.grid_run.proofs.LoopTurns.{Settles}
 use Rattle.grid_run.proofs.backs.settle_backs.Given as goal
 
--- the second levels that were passed have settled, and the others are as they were
+-- the second levels that were passed have settled, and the others are as they were; there may be
+-- more numbers of blocks
 abbrev pub invariant-loop-back : goal.invariant-loop-back
-invariant-loop-back l =
-    HasChanged Settles back_task l.initial.back-items l.back-index l.back-items
+invariant-loop-back l = record {
+  changed : HasChanged (Settles (blocks_in l.initial.numbers) (blocks_in l.numbers)) back_task
+      l.initial.back-items l.back-index l.back-items;
+  grows : GoesOn (blocks_in l.initial.numbers) (blocks_in l.numbers);
+}

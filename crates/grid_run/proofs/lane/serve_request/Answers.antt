@@ -10,14 +10,14 @@ use Rattle.grid_run.proofs.Behind.{nothing-asked}
 use Rattle.grid_run.proofs.lane.serve_request.Goals as goal
 
 pub returns-then-are_silent-clause-asked : goal.returns-then-are_silent-clause-asked
-returns-then-are_silent-clause-asked c = λ h before all was.
+returns-then-are_silent-clause-asked c = λ blocks h before all was.
     let q = c.args.request in
     let bs = c.args.backs.now.items in
     let old : Table = map front_rules c.args.fronts.now.items in
     let silent = subst (λ (l : List Front). All IsSilent l) c.deref.ensures.value
     (c.if-are_silent.ensures refl) in
     nothing-asked c.serve_fronts.new.fronts.items old c.serve_fronts.ensures.rules c.args.side bs
-    c.requires.placed silent h q (c.in_ok-serve_fronts.ensures.sent h all) before was
+    c.requires.placed silent h q (c.in_ok-serve_fronts.ensures.sent h all) blocks before was
 
 pub ask_backs-requires-clause-sent : goal.ask_backs-requires-clause-sent
 ask_backs-requires-clause-sent c =
@@ -38,8 +38,9 @@ returns-clause-asked c =
     let now : Table = map front_rules c.deref-2.result.now in
     let same : now ≡ old = ap (map front_rules) c.deref-2.ensures.value
     ∙ c.serve_fronts.ensures.rules in
-    on_ok_weaker c.ask_backs.result (λ asked h before all was.
+    on_ok_weaker c.ask_backs.result (λ asked blocks h before all was.
     let sent = subst (λ (l : List Front). All (HasSent h q) l) (sym c.deref-2.ensures.value)
     (c.in_ok-serve_fronts.ensures.sent h all) in
-    subst (λ (fs : Table). All (WereAsked (followed_by before (sent_for s fs h (event_of q)))) bs)
-    same (asked h q before sent was)) c.ask_backs.ensures.asked
+    subst (λ (fs : Table). All (WereAsked blocks (followed_by before (sent_for s fs h
+    (event_of q)))) bs)
+    same (asked blocks h q before sent was)) c.ask_backs.ensures.asked

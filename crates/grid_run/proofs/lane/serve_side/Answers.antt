@@ -20,13 +20,13 @@ returns-then-serve_again-clause-stands c = λ es all.
     (c.if-serve_again.ensures.stands refl (history c.args.side es) all)
 
 pub returns-then-serve_again-clause-asked : goal.returns-then-serve_again-clause-asked
-returns-then-serve_again-clause-asked c = λ es before all was.
+returns-then-serve_again-clause-asked c = λ blocks es before all was.
     let s = c.args.side in
     let q = c.in-Some.request in
     let bs = c.args.backs.now.items in
     let fronts : Table = map front_rules c.args.fronts.now.items in
     let again = c.if-serve_again.ensures in
-    asked-same (followed_by before (sent_for s fronts (history s es) (event_of q)))
+    asked-same blocks (followed_by before (sent_for s fronts (history s es) (event_of q)))
     (followed_by before (sent_on_side s fronts es c.args.event)) bs
     (λ k b lt.
     let t = back_task (get_or bs k b) in
@@ -34,7 +34,7 @@ returns-then-serve_again-clause-asked c = λ es before all was.
     (sent-one s es c.args.event (rules_of_seat fronts (seat_on s t)) q c.in-Some.ensures))
     (nothing-asked c.serve_again.new.fronts.items fronts c.serve_again.ensures.rules s bs
     c.requires.placed (again.silent refl) (history s es) q (again.sent refl (history s es) all)
-    before was)
+    blocks before was)
 
 pub serve_again-requires : goal.serve_again-requires
 serve_again-requires c =

@@ -13,10 +13,10 @@ loop-addr-preserved c =
     let xs = c.args.addrs.now in
     let i = c.loop-addr.addr-index in
     record {
-      asked = λ ws asked. subst (λ (l : List What). SecondAsked c.ask.new.self l)
+      asked = λ blocks ws asked. subst (λ (l : List What). SecondAsked blocks c.ask.new.self l)
           (backs-to ws xs i c.loop-addr-test.true)
-          (c.in_ok-ask.ensures.asked (ws ++ map back (take i xs))
-          (c.loop-addr.invariant.asked ws asked));
+          (c.in_ok-ask.ensures.asked blocks (ws ++ map back (take i xs))
+          (c.loop-addr.invariant.asked blocks ws asked));
       level = c.ask.ensures.level ∙ c.loop-addr.invariant.level;
     }
 
@@ -25,9 +25,9 @@ returns-clause-asked c =
     let xs = c.args.addrs.now in
     let i = c.loop-addr.addr-index in
     let more = option_to_list c.args.flush in
-    on_ok_weaker c.ask_part.result (λ last ws asked.
-    subst (λ (l : List What). SecondAsked c.ask_part.new.u l)
+    on_ok_weaker c.ask_part.result (λ last blocks ws asked.
+    subst (λ (l : List What). SecondAsked blocks c.ask_part.new.u l)
     (append_assoc ws (map back (take i xs)) more
     ∙ ap (λ l. ws ++ (map back l ++ more)) (take_all i xs c.loop-addr-test.false))
-    (last (ws ++ map back (take i xs)) (c.loop-addr.invariant.asked ws asked)))
+    (last blocks (ws ++ map back (take i xs)) (c.loop-addr.invariant.asked blocks ws asked)))
     c.ask_part.ensures.asked

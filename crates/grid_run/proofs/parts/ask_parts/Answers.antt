@@ -9,6 +9,7 @@ returns-clause-asked c =
     let b = option_to_list c.args.fetch in
     let first = c.in_ok-ask_part.ensures.asked in
     let second = c.in_ok-ask_part-2.ensures.asked in
-    on_ok_weaker c.ask_part-3.result (λ third ws asked.
-    asked-three c.ask_part-3.new.u ws a b (option_to_list c.args.through)
-    (third ((ws ++ a) ++ b) (second (ws ++ a) (first ws asked)))) c.ask_part-3.ensures.asked
+    on_ok_weaker c.ask_part-3.result (λ third blocks ws asked.
+    asked-three blocks c.ask_part-3.new.u ws a b (option_to_list c.args.through)
+    (third blocks ((ws ++ a) ++ b) (second blocks (ws ++ a) (first blocks ws asked))))
+    c.ask_part-3.ensures.asked

@@ -39,9 +39,9 @@ records-preserved g c =
       bounded = inr (few g c₁);
     }
 
-pub returns-then-len-ge-BATCH-clause-read : goal.returns-then-len-ge-BATCH-clause-read
-returns-then-len-ge-BATCH-clause-read g c =
-    let c₁ = (goal.at.returns-then-len-ge-BATCH-clause-read g c).After-next in
+pub returns-then-len-size-clause-read : goal.returns-then-len-size-clause-read
+returns-then-len-size-clause-read g c =
+    let c₁ = (goal.at.returns-then-len-size-clause-read g c).After-next in
     let now = c.records.invariant in
     let r = c.in-Ok-Some.next in
     let answered = c.in-Ok-Some.is ∙ ap (λ (found : Option DinRecord). Ok found)

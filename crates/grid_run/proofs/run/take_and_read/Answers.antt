@@ -7,9 +7,9 @@ returns-then-is_err-clause-read g c =
     wanting-before g.R.ByteReader.remaining g.R.ByteReader.failures c.args.source.now
     c.args.next.now.items
 
-pub returns-then-not-has_thread_to_spare-clause-taken :
-    goal.returns-then-not-has_thread_to_spare-clause-taken
-returns-then-not-has_thread_to_spare-clause-taken g c =
+pub returns-then-not-may_start_threads-clause-taken :
+    goal.returns-then-not-may_start_threads-clause-taken
+returns-then-not-may_start_threads-clause-taken g c =
     on-any c.read_batch.result
     (when-ok c.take.result c.if-is_err.ensures.negation c.take.ensures.goes_on)
 

@@ -1,6 +1,7 @@
 use Rattle.std.proofs.Common.{◌+◌, ◌∷◌, ◌++◌, [], List, get_or, drop, take}
 use Rattle.std.proofs.Common.{subst, ◌∙◌}
 use Rattle.std.proofs.lemmas.List.{take_all}
+use Rattle.grid_core.proofs.MoreNumbers.{on-further}
 use Rattle.stage_core.specs.declared.message.What.{What}
 use Rattle.stage_core.specs.declared.message.What.TheVariants as what
 use Rattle.grid_run.specs.Sending.{HasRoom, SecondServed}
@@ -31,6 +32,7 @@ loop-what-preserved c =
           (one (ws ++ take i xs) (c.loop-what.invariant.served ws st));
       room = room-next old c.serve.new.self (_ ∷ []) (drop (i + 1) xs)
           (subst (HasRoom old) (requests-from xs i _ lt) c.loop-what.invariant.room) one;
+      numbers = on-further _ _ _ c.loop-what.invariant.numbers c.serve.ensures.numbers;
       rules = c.serve.ensures.rules ∙ c.loop-what.invariant.rules;
     }
 

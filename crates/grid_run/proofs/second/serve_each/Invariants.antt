@@ -1,6 +1,7 @@
 use Rattle.std.proofs.Common.{◌≡◌, ◌++◌, List, drop, take}
 use Rattle.stage_core.specs.declared.message.What.{What}
-use Rattle.grid_run.specs.Levels.{rules_in}
+use Rattle.grid_core.specs.Numbers.{GoesOn}
+use Rattle.grid_run.specs.Levels.{numbered_on, rules_in}
 use Rattle.grid_run.specs.Sending.{HasRoom, SecondServed}
 use Rattle.grid_run.proofs.second.serve_each.Given as goal
 
@@ -10,5 +11,6 @@ invariant-loop-what l = record {
   served : (ws : List What) → SecondServed l.initial.level ws →
       SecondServed l.level (ws ++ take l.what-index l.requests);
   room : HasRoom l.level (drop l.what-index l.requests);
+  numbers : GoesOn (numbered_on l.initial.level) (numbered_on l.level);
   rules : rules_in l.level ≡ rules_in l.initial.level;
 }

@@ -13,7 +13,7 @@ use Rattle.grid_core.proofs.engine.Engine.shadow_misses.Goals as goal
 
 pub returns-clause-counted : goal.returns-clause-counted
 unfolding rules_in shadow_misses
-returns-clause-counted c = λ h e.
+returns-clause-counted c = λ blocks h e.
     let old = c.args.self.now in
     let i = c.args.index in
     let v = c.index.result.now in
@@ -22,7 +22,7 @@ returns-clause-counted c = λ h e.
     let rs = together_rules old.caches in
     let ss = shades_rules old.caches in
     let lt : i < length xs = let all = c.requires in omega (arith, length-map xs f) in
-    c.shadow_misses.ensures.counted h e.caches
+    c.shadow_misses.ensures.counted blocks h e.caches
     ∙ ap (λ (s : Seat). (counts_of (shadow_placed rs ss s.shade) h).misses) c.index.ensures
     ∙ ap (λ r. (counts_of r h).misses) ((old.seated i v lt).shade
     ∙ ap shadow_of (sym (get_or-map f xs i v no_rules lt)))

@@ -5,10 +5,12 @@ use Rattle.grid_core.specs.Totals.{total}
 use Rattle.grid_core.proofs.Totals.{total-none, drop-none}
 use Rattle.grid_core.proofs.shadows.Shadows.new.Goals as goal
 
-pub invariant_of-result-clause-leveled : goal.invariant_of-result-clause-leveled
-invariant_of-result-clause-leveled c = ap length c.in_ok-levels.ensures
-    ∙ length-replicate (length c.args.sizes.now + 1) none_by_class
-    ∙ ap (λ l. length l + 1) (sym c.in_ok-order.ensures.sizes)
+pub invariant_of-result : goal.invariant_of-result
+invariant_of-result c = record {
+  leveled = ap length c.in_ok-levels.ensures
+      ∙ length-replicate (length c.args.sizes.now + 1) none_by_class
+      ∙ ap (λ l. length l + 1) (sym c.in_ok-order.ensures.sizes);
+}
 
 pub returns-clause-levels : goal.returns-clause-levels
 returns-clause-levels c = ap total c.in_ok-levels.ensures

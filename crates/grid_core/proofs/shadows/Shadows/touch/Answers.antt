@@ -1,43 +1,34 @@
-use Rattle.std.proofs.Common.{◌≡◌, ℕ, suc, drop, Some, false, true, eqb, cond, is_some, length}
-use Rattle.std.proofs.Common.{◌||◌, unwrap_or, List}
-use Rattle.std.proofs.Common.{refl, ap, ◌∙◌, Bool, Option, arith}
-use Rattle.std.proofs.lemmas.Bool.{eq-eqb}
-use Rattle.std.proofs.lemmas.Bool.Decides.{nat_tests}
+use Rattle.std.proofs.Common.{◌≡◌, ℕ, suc, drop, Some, true, eqb, length}
+use Rattle.std.proofs.Common.{◌||◌, is_some, unwrap_or, List}
+use Rattle.std.proofs.Common.{refl, sym, ap, ◌∙◌, arith}
 use Rattle.cache_core.proofs.Reuse.{has}
 use Rattle.marked_list.specs.Recency.{level_of, brought_front}
-use Rattle.grid_core.specs.declared.shadows.Shadows.{Shadows}
-use Rattle.grid_core.specs.Shadows.{HoldsOrder, is_known, number_in, shadow_sizes}
-use Rattle.grid_core.specs.Numbers.{number_at}
-use Rattle.grid_core.proofs.Numbering.{tells, level-map, front-map, known-front}
-use Rattle.grid_core.proofs.Numbers.{number-apart, number-low, number-next}
 use Rattle.marked_list.specs.Marked.{marked_sizes, order_of}
+use Rattle.grid_core.specs.Numbered.{blocks_in}
+use Rattle.grid_core.specs.Numbers.{number_at}
+use Rattle.grid_core.specs.Shadows.{is_known_by, is_used, number_by, numbered, shadow_sizes}
 use Rattle.grid_core.specs.Totals.{total}
+use Rattle.grid_core.proofs.Numbering.{tells, level-map, front-map, known-front}
+use Rattle.grid_core.proofs.Numbers.{number-apart, number-low}
+use Rattle.grid_core.proofs.Renumbered.{low-after, low-same, order-same, used-after, used-same}
+use Rattle.grid_core.proofs.Renumbered.{used-some}
 use Rattle.grid_core.proofs.Totals.{level-le, total-set, total-behind}
 use Rattle.grid_core.proofs.shadows.Shadows.touch.Goals as goal
 
--- among the blocks of the list, a block has the number of b just if it is b
-number-tells : (s : Shadows) (b n : ℕ) (ys : List ℕ)
-    → n ≡ unwrap_or (number_at s.numbers.keys b) (length s.numbers.keys) → HoldsOrder s ys
-    → (y : ℕ) → has ys y ≡ true → eqb (number_in s y) n ≡ eqb y b
-number-tells s b n ys is held y h = ap (eqb (number_in s y)) is
-    ∙ tells (number_at s.numbers.keys) (length s.numbers.keys) (number-low s.numbers.keys)
-    (number-apart s.numbers.keys) b y (held.known y h)
-
-pub touch-requires : goal.touch-requires
-touch-requires c =
-    let keys = c.args.self.now.numbers.keys in
-    let is = c.in-Ok.ensures.number in
-    let le = number-next keys c.args.block in
-    let low = c.len.ensures in
-    let fits = c.len.type_inv in
-    let less = c.if-len-eq18446744073709551615.false in
-    omega arith
+-- among blocks that were used, a block has the number of b just if it is b
+number-tells : (blocks : List ℕ) (b n : ℕ) (ys : List ℕ) → number_at blocks b ≡ Some n
+    → ((y : ℕ) → has ys y ≡ true → number_at blocks y ≡ Some (number_by blocks y))
+    → (y : ℕ) → has ys y ≡ true → eqb (number_by blocks y) n ≡ eqb y b
+number-tells blocks b n ys is all y h =
+    ap (eqb (number_by blocks y)) (sym (ap (λ o. unwrap_or o (length blocks)) is))
+    ∙ tells (number_at blocks) (length blocks) (number-low blocks) (number-apart blocks) b y
+    (ap (λ o. is_some o) (all y h))
 
 pub count_at-requires-clause-inside : goal.count_at-requires-clause-inside
 count_at-requires-clause-inside c =
     let s = c.args.self.now in
     let is = c.in-Ok-touch.ensures.level in
-    let le = level-le (marked_sizes s.order) (order_of s.order) c.in-Ok.found.number in
+    let le = level-le (marked_sizes s.order) (order_of s.order) c.in-Ok.number in
     let long = s.leveled in
     omega arith
 
@@ -45,14 +36,14 @@ pub returns-clause-low : goal.returns-clause-low
 returns-clause-low c =
     let s = c.args.self.now in
     let is = c.in-Ok-touch.ensures.level in
-    let le = level-le (marked_sizes s.order) (order_of s.order) c.in-Ok.found.number in
+    let le = level-le (marked_sizes s.order) (order_of s.order) c.in-Ok.number in
     omega arith
 
 pub returns-clause-levels : goal.returns-clause-levels
 returns-clause-levels c =
     let s = c.args.self.now in
     let is = c.in-Ok-touch.ensures.level in
-    let le = level-le (marked_sizes s.order) (order_of s.order) c.in-Ok.found.number in
+    let le = level-le (marked_sizes s.order) (order_of s.order) c.in-Ok.number in
     let long = s.leveled in
     ap total c.count_at.ensures
     ∙ total-set c.args.access s.levels.items c.in-Ok-touch.level (omega arith)
@@ -61,43 +52,67 @@ pub returns-clause-far : goal.returns-clause-far
 returns-clause-far c = λ k.
     let s = c.args.self.now in
     let is = c.in-Ok-touch.ensures.level in
-    let le = level-le (marked_sizes s.order) (order_of s.order) c.in-Ok.found.number in
+    let le = level-le (marked_sizes s.order) (order_of s.order) c.in-Ok.number in
     let long = s.leveled in
     ap (λ l. total (drop (suc k) l)) c.count_at.ensures
     ∙ total-behind c.args.access s.levels.items c.in-Ok-touch.level k (omega arith)
 
+pub returns-clause-known : goal.returns-clause-known
+returns-clause-known c = λ low.
+    let s = c.args.self.now in
+    c.knows-known.ensures
+    ∙ sym (ap (is_used s.order) c.in-Ok.ensures.number)
+    ∙ used-same s.order (numbered s) _ c.number.ensures.grows low c.args.block
+
 pub returns-clause-level : goal.returns-clause-level
-returns-clause-level c = λ ys held.
+returns-clause-level c = λ ys held low.
     let s = c.args.self.now in
     let b = c.args.block in
-    let n = c.in-Ok.found.number in
-    let agree = number-tells s b n ys c.in-Ok.ensures.number held in
+    let n = c.in-Ok.number in
+    let blocks = blocks_in c.number.new.self in
+    let on = c.number.ensures.grows in
+    let some = λ (y : ℕ) (h : has ys y ≡ true). used-some s.order (number_at blocks y)
+    (used-same s.order (numbered s) blocks on low y ∙ held.known y h) in
     c.in-Ok-touch.ensures.level
-    ∙ ap (λ l. level_of (shadow_sizes s) l n) held.order
-    ∙ level-map (number_in s) n b (shadow_sizes s) ys agree
+    ∙ ap (λ l. level_of (shadow_sizes s) l n)
+    (held.order ∙ order-same s.order (numbered s) blocks on low ys held.known)
+    ∙ level-map (number_by blocks) n b (shadow_sizes s) ys
+    (number-tells blocks b n ys c.in-Ok.ensures.number some)
 
 pub returns-clause-order : goal.returns-clause-order
-returns-clause-order c = λ ys held.
+returns-clause-order c = λ ys held low.
     let s = c.args.self.now in
     let b = c.args.block in
-    let n = c.in-Ok.found.number in
-    let agree = number-tells s b n ys c.in-Ok.ensures.number held in
-    let next = λ (y : ℕ). unwrap_or (number_at c.find_number.new.numbers.keys y) 0 in
-    let here : next b ≡ n = ap (λ o. unwrap_or o 0) (c.in-Ok.ensures.adds b
-    ∙ ap (λ t. cond t (Some n) (number_at s.numbers.keys b)) (eq-eqb b b refl)) in
-    let others = λ (y : ℕ) (e : eqb y b ≡ false). ap (λ o. unwrap_or o 0) (c.in-Ok.ensures.adds y
-    ∙ ap (λ t. cond t (Some n) (number_at s.numbers.keys y)) (eqb-sym b y ∙ e)) in
+    let n = c.in-Ok.number in
+    let blocks = blocks_in c.number.new.self in
+    let on = c.number.ensures.grows in
+    let is = c.in-Ok.ensures.number in
+    let some = λ (y : ℕ) (h : has ys y ≡ true). used-some s.order (number_at blocks y)
+    (used-same s.order (numbered s) blocks on low y ∙ held.known y h) in
     record {
-      order = c.in-Ok-touch.ensures.order ∙ ap (brought_front n) held.order
-          ∙ front-map (number_in s) n b next here others ys agree;
-      known = λ y h. ap is_some (c.in-Ok.ensures.adds y)
-          ∙ some-or n (eqb b y) (number_at s.numbers.keys y)
-          ∙ known-front (is_known s) b ys held.known y h;
+      order = c.in-Ok-touch.ensures.order
+          ∙ ap (brought_front n)
+          (held.order ∙ order-same s.order (numbered s) blocks on low ys held.known)
+          ∙ front-map (number_by blocks) n b (number_by blocks) (ap (λ o. unwrap_or o 0) is)
+          (λ y e. refl) ys (number-tells blocks b n ys is some);
+      known = λ y h. used-after s.order _ blocks b n is c.in-Ok-touch.ensures.used y
+          ∙ known-front (is_known_by blocks s) b ys
+          (λ z inside. used-same s.order (numbered s) blocks on low z ∙ held.known z inside) y h;
     }
-  where
-    eqb-sym : (a b : ℕ) → eqb a b ≡ eqb b a
-    eqb-sym a b = grind (arith, nat_tests)
 
-    some-or : (n : ℕ) (t : Bool) (o : Option ℕ) → is_some (cond t (Some n) o) ≡ (t || is_some o)
-    some-or n true o = refl
-    some-or n false o = refl
+pub returns-clause-adds : goal.returns-clause-adds
+returns-clause-adds c = λ low q.
+    let s = c.args.self.now in
+    let b = c.args.block in
+    let blocks = blocks_in c.number.new.self in
+    used-after s.order _ blocks b c.in-Ok.number c.in-Ok.ensures.number
+    c.in-Ok-touch.ensures.used q
+    ∙ ap (λ t. eqb b q || t) (used-same s.order (numbered s) blocks c.number.ensures.grows low q)
+
+pub returns-clause-numbers : goal.returns-clause-numbers
+returns-clause-numbers c = λ low.
+    let s = c.args.self.now in
+    let blocks = blocks_in c.number.new.self in
+    low-after s.order _ blocks c.args.block c.in-Ok.number c.in-Ok.ensures.number
+    c.in-Ok-touch.ensures.used
+    (low-same s.order (numbered s) blocks c.number.ensures.grows low)

@@ -102,7 +102,7 @@ returns-clause-kept c =
 
 pub returns-clause-counted : goal.returns-clause-counted
 unfolding stacked_rules
-returns-clause-counted c = λ h e.
+returns-clause-counted c = λ blocks h e.
     let old = c.args.self.now in
     let v = c.index-shape.result.now in
     let w = c.index.result.now in

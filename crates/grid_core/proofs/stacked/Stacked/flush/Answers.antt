@@ -46,6 +46,7 @@ returns-clause-stands c = λ h e.
       state = after-flush old.geometry h old.stacks.items c.clear_rows.new.stacks.items old.shadows
           c.clear.new.self old.shapes.items e.state (c.clear_rows.ensures.stands h)
           (c.clear_rows.ensures.counted (shadow_sizes old.shadows) h e.state.counted)
-          c.clear.ensures.order c.clear.ensures.known c.clear.ensures.recent
+          c.clear.ensures.order c.clear.ensures.known
+          (c.clear.ensures.numbers e.state.numbered) c.clear.ensures.recent
           c.clear.ensures.levels c.clear.ensures.sizes;
     }

@@ -56,6 +56,7 @@ returns-clause-stands c =
       state = after-start c.args.first c.in_ok-parts.parts.stacks.items shadows
           c.in_ok-parts.parts.shapes.items (length sizes + 1) c.in_ok-parts.ensures.empty
           c.in_ok-shadows.ensures.order c.in_ok-shadows.ensures.known
+          c.in_ok-shadows.ensures.numbers
           c.in_ok-shadows.ensures.recent c.in_ok-shadows.ensures.far;
     }
 

@@ -92,10 +92,11 @@ returns-clause-stands c = λ h e.
     let stacks = old.stacks.items in
     let block = c.requires.block in
     let st = e.state in
-    let known = c.in-Ok.ensures.known ∙ ap (is_known old.shadows) block in
+    let low = st.numbered in
+    let known = c.in-Ok.ensures.known low ∙ ap (is_known old.shadows) block in
     let level : (zs : List ℕ) → HoldsOrder old.shadows zs
     → c.in-Ok.prior.level ≡ level_of sizes zs (x.addr / bsize_of g) =
-    λ zs held. c.in-Ok.ensures.level zs held ∙ ap (level_of sizes zs) block in
+    λ zs held. c.in-Ok.ensures.level zs held low ∙ ap (level_of sizes zs) block in
     let ys = distinct (renewals (shadow_of (base_rules g)) h) in
     record {
       served = (let n = e.served in omega arith);
@@ -112,8 +113,9 @@ returns-clause-stands c = λ h e.
           (size-at (bsize_of g) stacks old.one_size k d lt) c.in-Ok.prior.level
           (level ys st.order)) st.counted)
           (λ zs held. subst (λ b. HoldsOrder c.touch.new.self (brought_front b zs)) block
-          (c.in-Ok.ensures.order zs held))
-          (λ q. c.in-Ok.ensures.adds q ∙ ap (λ b. b == q || is_known old.shadows q) block)
+          (c.in-Ok.ensures.order zs held low))
+          (λ q. c.in-Ok.ensures.adds low q ∙ ap (λ b. b == q || is_known old.shadows q) block)
+          (c.in-Ok.ensures.numbers low)
           (c.in-Ok.ensures.recent
           ∙ ap (λ d. after_use d (is_write x) (recent_in old.shadows)) block)
           c.in-Ok.ensures.far c.in-Ok.ensures.sizes;
@@ -132,7 +134,7 @@ returns-clause-answers c = λ h e.
       moved = λ _. c.serve_rows.ensures.moved (bsize_of g) h old.one_size e.state.rows;
       prior = shapes-prior g h x sizes (rising-is sizes old.rises) old.stacks.items
           old.shadows old.shapes.items c.in-Ok.prior e.state
-          (c.in-Ok.ensures.known ∙ ap (is_known old.shadows) block)
-          (λ zs held. c.in-Ok.ensures.level zs held ∙ ap (level_of sizes zs) block)
+          (c.in-Ok.ensures.known e.state.numbered ∙ ap (is_known old.shadows) block)
+          (λ zs held. c.in-Ok.ensures.level zs held e.state.numbered ∙ ap (level_of sizes zs) block)
           old.shapes.items old.ranked;
     }

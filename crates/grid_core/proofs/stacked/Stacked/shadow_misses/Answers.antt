@@ -36,7 +36,7 @@ returns-clause-kept c =
 
 pub returns-clause-counted : goal.returns-clause-counted
 unfolding stacked_rules
-returns-clause-counted c = λ h e.
+returns-clause-counted c = λ blocks h e.
     let old = c.args.self.now in
     let i = c.args.index in
     let v = c.index.result.now in

@@ -36,13 +36,14 @@ returns-clause-asked c =
     c.requires.placed.seat in
     let there = rules-seated fs seat f c.index-fronts-seat.is on
     ∙ ap (rules_of_seat (map front_rules fs)) c.seat-seat.ensures in
-    on_ok_weaker c.send.result (λ sends h q before sent asked.
+    on_ok_weaker c.send.result (λ sends blocks h q before sent asked.
     let last = at-seat fs seat f c.index-fronts-seat.is on (HasSent h q) sent in
     record {
       second = subst (λ (t : BackTask).
-          SecondAsked u (followed_by before (sent_for s (map front_rules fs) h (event_of q)) t))
+          SecondAsked blocks u
+          (followed_by before (sent_for s (map front_rules fs) h (event_of q)) t))
           (sym (task-kept b u (ap rules_in c.send.ensures.level)))
           (subst (λ (r : Rules).
-          SecondAsked u (before (back_task b) ++ parts_of r s h (event_of q))) there
-          (sends h q (before (back_task b)) last asked.second));
+          SecondAsked blocks u (before (back_task b) ++ parts_of r s h (event_of q))) there
+          (sends blocks h q (before (back_task b)) last asked.second));
     }) c.send.ensures.sends

@@ -13,8 +13,8 @@ use Rattle.grid_run.proofs.Levels.{list-at, list-inside}
 use Rattle.grid_run.proofs.front.Front.send.Goals as goal
 
 pub returns-in-Silence-clause-sends : goal.returns-in-Silence-clause-sends
-returns-in-Silence-clause-sends c = λ h q ws sent asked.
-    subst (λ (l : List What). SecondAsked c.args.u.now l)
+returns-in-Silence-clause-sends c = λ blocks h q ws sent asked.
+    subst (λ (l : List What). SecondAsked blocks c.args.u.now l)
     (sym (ap (λ l. ws ++ l) (sent-by-silent c.args.self.now h c.args.cell c.args.side q
     c.requires.inside c.in-Silence.is sent) ∙ append-nil ws)) asked
 
@@ -23,7 +23,7 @@ returns-in-Access-clause-sends c =
     let level = c.args.self.now.level in
     let r = rules_at (rules_in level) c.args.cell in
     let x = c.in-Access.access in
-    on_ok_weaker c.ask_parts.result (λ served h q ws last st.
+    on_ok_weaker c.ask_parts.result (λ served blocks h q ws last st.
     let lists = c.args.self.now.lists.items in
     let was = subst (λ (w : Last). WasLast level h w lists q) c.in-Access.is last.last in
     let sent = sent-access level h lists r c.args.side x q was in
@@ -31,8 +31,8 @@ returns-in-Access-clause-sends c =
     c.first_byte-block.result _ _ _ (c.outcome-outcome.ensures h x sent.1)
     (c.first_byte-block.ensures c.args.cell c.requires.inside)
     c.back_part.ensures c.fetch_part-fetch.ensures c.through_part-through.ensures in
-    subst (λ (l : List What). SecondAsked c.ask_parts.new.u (ws ++ l)) (parts ∙ sym sent.0)
-    (served ws st)) c.ask_parts.ensures.asked
+    subst (λ (l : List What). SecondAsked blocks c.ask_parts.new.u (ws ++ l)) (parts ∙ sym sent.0)
+    (served blocks ws st)) c.ask_parts.ensures.asked
 
 pub index-requires : goal.index-requires
 index-requires c =
@@ -55,7 +55,7 @@ returns-in-Flush-clause-sends c =
     let level = c.args.self.now.level in
     let r = rules_at (rules_in level) c.args.cell in
     let v = c.args.self.now.lists in
-    on_ok_weaker c.ask_backs.result (λ served h q ws last st.
+    on_ok_weaker c.ask_backs.result (λ served blocks h q ws last st.
     let was = subst (λ (w : Last). WasLast level h w v.items q) c.in-Flush.is last.last in
     let sent = sent-flush level h v.items r c.args.side q was in
     let backs = c.deref.ensures.value
@@ -63,5 +63,5 @@ returns-in-Flush-clause-sends c =
     c.index.ensures in
     let parts = flush-parts r c.args.side h c.deref.result.now
     (option_to_list c.flush_part.result) backs c.flush_part.ensures in
-    subst (λ (l : List What). SecondAsked c.ask_backs.new.u (ws ++ l)) (parts ∙ sym sent.0)
-    (served ws st)) c.ask_backs.ensures.asked
+    subst (λ (l : List What). SecondAsked blocks c.ask_backs.new.u (ws ++ l)) (parts ∙ sym sent.0)
+    (served blocks ws st)) c.ask_backs.ensures.asked

@@ -10,11 +10,12 @@ use Rattle.stage_core.specs.SecondLevel.{parts_in, second_history, second_level_
 use Rattle.stage_core.specs.declared.message.What.{What}
 use Rattle.stage_core.specs.declared.message.Side.TheVariants as side
 use Rattle.stage_core.specs.declared.selection.Selection.{Selection}
+use Rattle.grid_core.specs.Numbered.{blocks_in}
 use Rattle.grid_core.specs.FullyAssociative.{shadow_misses}
 use Rattle.grid_run.specs.Backs.{NothingWaits, WereAsked, back_task, sent_behind}
 use Rattle.grid_run.specs.Fronts.{FrontAt, front_rules}
 use Rattle.grid_run.specs.Lanes.{HasServed, lane_task}
-use Rattle.grid_run.specs.Sending.{SecondServed}
+use Rattle.grid_run.specs.Levels.{LevelStandsBy}
 use Rattle.grid_run.specs.declared.figures.Figures.{Figures}
 use Rattle.grid_run.proofs.Behind.{at-seat, rules-seated}
 use Rattle.grid_run.proofs.Placed.{back-inside, back-there, cell-there, requests-there}
@@ -77,23 +78,25 @@ returns c = λ rules chosen past place taken.
     let there = back-there l rules chosen p place b at in
     let inside = back-inside l rules chosen p place b at in
     let asked = subst
-    (WereAsked (sent_behind (map front_rules l.i.items) (map front_rules l.d.items) es)) (sym at)
+    (WereAsked (blocks_in l.numbers)
+    (sent_behind (map front_rules l.i.items) (map front_rules l.d.items) es)) (sym at)
     (served.backs p.u.level b inside) in
     let settled = subst NothingWaits (sym at) (taken.settled p.u.level b inside) in
-    let st-u = subst (λ (ws : List What). SecondServed b.second.level ws)
+    let st-u = subst (λ (ws : List What). LevelStandsBy (blocks_in l.numbers) b.second.level
+    (second_history ws))
     (requests-there l rules chosen p place b at es)
-    (settled-served b.second _ asked.second settled) in
+    (settled-served _ b.second _ asked.second settled) in
     let h-u = second_history (second_level_requests (parts_in rules) es) in
     let rules-i = rules-seated l.i.items p.i fi c.index.ensures on-i ∙ place.i.rules in
     let rules-d = rules-seated l.d.items p.d fd c.index-2.ensures on-d ∙ place.d.rules in
     let rules-u = there.cell.rules in
-    let i = c.counts.ensures h-i st-i.stands ∙ ap (λ (r : Rules). counts_of r h-i) rules-i in
-    let d = c.counts-2.ensures h-d st-d.stands ∙ ap (λ (r : Rules). counts_of r h-d) rules-d in
-    let u = c.counts-3.ensures h-u st-u ∙ ap (λ (r : Rules). counts_of r h-u) rules-u in
-    let i' = c.shadow_misses.ensures h-i st-i.stands
+    let i = c.counts.ensures _ h-i st-i.stands ∙ ap (λ (r : Rules). counts_of r h-i) rules-i in
+    let d = c.counts-2.ensures _ h-d st-d.stands ∙ ap (λ (r : Rules). counts_of r h-d) rules-d in
+    let u = c.counts-3.ensures _ h-u st-u ∙ ap (λ (r : Rules). counts_of r h-u) rules-u in
+    let i' = c.shadow_misses.ensures _ h-i st-i.stands
     ∙ ap (λ (r : Rules). shadow_misses r h-i) rules-i in
-    let d' = c.shadow_misses-2.ensures h-d st-d.stands
+    let d' = c.shadow_misses-2.ensures _ h-d st-d.stands
     ∙ ap (λ (r : Rules). shadow_misses r h-d) rules-d in
-    let u' = c.shadow_misses-3.ensures h-u st-u
+    let u' = c.shadow_misses-3.ensures _ h-u st-u
     ∙ ap (λ (r : Rules). shadow_misses r h-u) rules-u in
     same-figures i d u i' d' u'

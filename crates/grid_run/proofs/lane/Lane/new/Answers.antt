@@ -22,12 +22,14 @@ returns-clause-taken c =
         placed = subst (λ (ts : List BackTask).
             All (IsPlacedIn (map front_rules is) (map front_rules ds)) ts) (sym backs)
             (placed-same _ i d c.requires.placed);
-        offered = c.new.ensures.none;
+        offered = c.new-2.ensures.none;
         served = record {
           i = c.in_ok-fronts_for.ensures.stands;
           d = c.in_ok-fronts_for-2.ensures.stands;
-          backs = asked-same no_requests (sent_behind (map front_rules is) (map front_rules ds) [])
-              c.in_ok-backs_for.field-0.items (λ k b lt. refl) c.in_ok-backs_for.ensures.asked;
+          backs = asked-same _ no_requests
+              (sent_behind (map front_rules is) (map front_rules ds) [])
+              c.in_ok-backs_for.field-0.items (λ k b lt. refl)
+              (c.in_ok-backs_for.ensures.asked _);
         };
       };
       settled = c.in_ok-backs_for.ensures.settled;

@@ -43,9 +43,10 @@ returns-clause-served c =
     record {
       i = c.in_ok-serve_side.ensures.stands es past.i;
       d = stands es past.d;
-      backs = served-same (es ++ e ∷ []) bs c.serve_side.ensures.rules c.serve_side-2.ensures.rules
-          (asked-same after-d (sent_behind is ds (es ++ e ∷ [])) bs
+      backs = served-same _ (es ++ e ∷ []) bs c.serve_side.ensures.rules
+          c.serve_side-2.ensures.rules
+          (asked-same _ after-d (sent_behind is ds (es ++ e ∷ [])) bs
           (λ k b lt. both-sides is ds es e (back_task (get_or bs k b)))
-          (asked es after-i past.d
-          (c.in_ok-serve_side.ensures.asked es before past.i past.backs)));
+          (asked _ es after-i past.d
+          (c.in_ok-serve_side.ensures.asked _ es before past.i past.backs)));
     }) c.serve_side-2.ensures.stands c.serve_side-2.ensures.asked

@@ -2,7 +2,7 @@ use Rattle.std.proofs.Common.{◌≡◌, ◌∷◌, ◌++◌, [], ap, sym, ◌�
 use Rattle.grid_run.proofs.second.Second.ask.Goals as goal
 
 pub returns-clause-asked : goal.returns-clause-asked
-returns-clause-asked c = λ ws asked.
+returns-clause-asked c = λ blocks ws asked.
     let old = c.args.self.now.waiting.items in
     let is : c.push.new.self.items ≡ old ++ c.args.what ∷ [] =
     rw c.if-is_err.ensures.negation at c.push.ensures.items in

@@ -1,4 +1,6 @@
-use Rattle.std.proofs.Common.{ℕ, List, [], length, map, sym, ap, subst, ◌∙◌}
+use Rattle.std.proofs.Common.{◌≡◌, ◌==◌, true, ℕ, List, [], length, map, sym, ap, subst, ◌∙◌}
+use Rattle.std.specs.List.{list_any}
+use Rattle.std.proofs.lemmas.Bool.{false≢true}
 use Rattle.cache_core.specs.Residents.{distinct}
 use Rattle.marked_list.specs.Log.{uses_of}
 use Rattle.marked_list.specs.Marks.{AreMarks, IsStepwise, size_of}
@@ -15,6 +17,8 @@ invariant_of-self c =
           (subst (AreMarks []) (sym c.restart_each.ensures)
           (restarted-marks (uses_of old.uses) old.marks.items old.marked));
       counted = ap (λ (l : List ℕ). length (distinct l)) none;
+      kept = λ b h. absurd (false≢true (subst (λ l. list_any (λ m. m == b) l ≡ true)
+          c.clear.ensures h));
       rises = λ e. subst IsStepwise (sym (ap (map size_of) c.restart_each.ensures
           ∙ sizes-restarted old.marks.items)) (old.rises e);
     }

@@ -1,4 +1,6 @@
-use Rattle.std.proofs.Common.{ℕ, List, [], length, map, sym, ap, subst, ◌∙◌}
+use Rattle.std.proofs.Common.{◌≡◌, ◌==◌, true, ℕ, List, [], length, map, sym, ap, subst, ◌∙◌}
+use Rattle.std.specs.List.{list_any}
+use Rattle.std.proofs.lemmas.Bool.{false≢true}
 use Rattle.cache_core.specs.Residents.{distinct}
 use Rattle.marked_list.specs.declared.marks.Mark.{Mark}
 use Rattle.marked_list.specs.Marks.{AreMarks, IsStepwise, size_of}
@@ -15,6 +17,8 @@ invariant_of-result c =
       marked = subst (λ l. AreMarks l marks) none
           (subst (AreMarks []) (sym c.in_ok-marks.ensures) (fresh-marks sizes c.requires));
       counted = ap (λ (l : List ℕ). length (distinct l)) none;
+      kept = λ b h. absurd (false≢true (subst (λ l. list_any (λ m. m == b) l ≡ true)
+          c.new.ensures h));
       rises = λ e. subst (λ (l : List Mark). IsStepwise (map size_of l)) (sym c.in_ok-marks.ensures)
           (subst IsStepwise (sym (sizes-fresh sizes)) (c.is_rising.ensures e));
     }

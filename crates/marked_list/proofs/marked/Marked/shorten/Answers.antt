@@ -1,5 +1,6 @@
 use Rattle.std.proofs.Common.{ℕ, List, length, map, sym, ap, subst, ◌∙◌}
 use Rattle.cache_core.specs.Residents.{distinct}
+use Rattle.cache_core.proofs.Reuse.{has, has-distinct}
 use Rattle.marked_list.specs.Log.{uses_of}
 use Rattle.marked_list.specs.Marks.{AreMarks, IsStepwise, settled, size_of}
 use Rattle.marked_list.specs.Marked.{order_of, marked_sizes}
@@ -18,6 +19,7 @@ invariant_of-self c =
           (settled-marks ms old.marks.items old.marked));
       counted = old.counted ∙ ap (λ (l : List ℕ). length l) (sym (distinct-twice ms))
           ∙ sym (ap (λ l. length (distinct l)) last);
+      kept = λ b h. old.kept b (sym (ap (λ l. has l b) last ∙ has-distinct ms b) ∙ h);
       rises = λ e. subst IsStepwise (sym (ap (map size_of) c.settle_each.ensures
           ∙ sizes-settled old.used old.marks.items)) (old.rises e);
     }

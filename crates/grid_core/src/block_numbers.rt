@@ -1,0 +1,70 @@
+//! Numbers for blocks.
+
+ghost use Rattle.std.specs.Prelude.{◌≡◌, ◌≤◌, Some, IfOk, length};
+ghost use Rattle.grid_core.specs.AtHand.{AreRight};
+ghost use Rattle.grid_core.specs.Numbers.{GoesOn, number_at};
+
+use crate::at_hand::{Entry, at_hand, keep_at_hand, none_at_hand};
+use cache_core::NoMemory;
+use indexmap::IndexSet;
+use std::alloc::{AllocError, Global};
+
+/// Blocks that are numbered from 0, in the order in which they were first asked for. Engines of one
+/// block size can do with one of these, if they are served in turn: see
+/// [`Engine::swap_numbers`](crate::Engine::swap_numbers).
+#[derive(Drop)]
+pub struct BlockNumbers {
+    blocks: IndexSet<u64>,
+    /// Some of the numbers, where they are found at once.
+    entries: Vec<Entry>,
+    ghost right: { AreRight (number_at blocks.keys) entries.items },
+}
+
+/// The number of a block. A block that has none gets the next one.
+fn number_block(blocks: &mut IndexSet<u64>, block: u64) -> Result<usize, AllocError>
+    ensures number { IfOk result (λ n. number_at blocks.new.keys block ≡ Some n) }
+    ensures grows { GoesOn blocks.old.keys blocks.new.keys }
+    ensures low { IfOk result (λ n. n ≤ length blocks.old.keys) }
+{
+    let Ok((number, _)) = blocks.insert_full(block) else {
+        return Err(AllocError);
+    };
+    Ok(number)
+}
+
+#[tactic(auto, unfolding(crate::specs::Numbered::blocks_in))]
+impl BlockNumbers {
+    ghost use Rattle.std.specs.Prelude.{◌≡◌, ◌<◌, [], Some, IfOk, length};
+    ghost use Rattle.grid_core.specs.Numbered.{blocks_in};
+    ghost use Rattle.grid_core.specs.Numbers.{GoesOn, number_at};
+
+    /// No block is numbered.
+    pub fn new(alloc: Global) -> Result<BlockNumbers, NoMemory>
+        ensures { IfOk result (λ numbers. blocks_in numbers ≡ []) }
+    {
+        let Ok(entries) = none_at_hand(alloc) else {
+            return Err(NoMemory);
+        };
+        Ok(BlockNumbers {
+            blocks: IndexSet::new(alloc),
+            entries,
+        })
+    }
+
+    /// The number of a block. A block that has none gets the next one.
+    pub(crate) fn number(&mut self, block: u64) -> Result<usize, AllocError>
+        ensures number { IfOk result (λ n. number_at (blocks_in self.new) block ≡ Some n) }
+        ensures grows { GoesOn (blocks_in self.old) (blocks_in self.new) }
+        ensures low { IfOk result (λ n. n < usize.MAX) }
+    {
+        if self.blocks.len() == usize::MAX {
+            return Err(AllocError);
+        }
+        if let Some(number) = at_hand(&self.entries, block) {
+            return Ok(number);
+        }
+        let number = number_block(&mut self.blocks, block)?;
+        keep_at_hand(&mut self.entries, block, number);
+        Ok(number)
+    }
+}
