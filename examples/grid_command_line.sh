@@ -117,6 +117,31 @@ for threads in 1 2 4; do
         --l1-dsize 8,16 --threads $threads
 done
 
+# The same for one configuration, whose second level works beside the first; and for second levels
+# of three block sizes behind one first level, of which the largest has both blocks in one.
+long_data=(0 0 0.000000 0 0 0 0 0 0 0 0 160001 2 0.000012 2 0 0 2 2 0 0 0)
+{
+    heads | sed 's/^\t//'
+    columns "${long_data[@]}" 2 2 1.000000 2 0 0 2 2 0 0 0
+    echo -
+} >"$work/long"
+{
+    heads l2-ubsize
+    for size in 4 8; do
+        columns $size "${long_data[@]}" 2 2 1.000000 2 0 0 2 2 0 0 0
+        echo -
+    done
+    columns 16 "${long_data[@]}" 2 1 0.500000 1 0 0 1 1 0 0 0
+    echo -
+} >"$work/behind"
+first_level=(--l1-isize 16 --l1-ibsize 4 --l1-dsize 16 --l1-dbsize 4 --l2-uassoc 2)
+for threads in 1 2 3 4; do
+    call "one configuration in $threads threads" 0 "$work/long" '' "$work/long.din" \
+        "${caches[@]}" --l1-dsize 16 --threads $threads
+    call "second levels in $threads threads" 0 "$work/behind" '' "$work/long.din" \
+        "${first_level[@]}" --l2-usize 32 --l2-ubsize 4,8,16 --threads $threads
+done
+
 call 'a refused size among others' 5 "$work/some" '' "$trace" "${caches[@]}" --l1-dsize 8,3,16
 call 'a required option is missing' 2 "$nothing" 'dinero_grid: command line refused, try --help
 ' "$trace" "${caches[@]}"
@@ -166,6 +191,12 @@ call 'a faulty line behind two batches' 1 "$nothing" 'dinero_grid: line 200001: 
 ' <(cat "$work/long.din" && echo 5 0) "${several[@]}"
 for threads in {0..8}; do
     call "a table on $threads threads" 5 "$work/long" '' "$work/long.din" "${several[@]}" \
+        --threads "$threads"
+done
+behind=("${first_level[@]}" --l2-usize 64,128 --l2-ubsize 4,8,16,32 --flushcount 1000)
+"$program" "${behind[@]}" --threads 1 <"$work/long.din" >"$work/long"
+for threads in {0..8}; do
+    call "second levels on $threads threads" 0 "$work/long" '' "$work/long.din" "${behind[@]}" \
         --threads "$threads"
 done
 

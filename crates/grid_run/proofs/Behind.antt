@@ -9,14 +9,15 @@ use Rattle.grid_core.proofs.ListLoops.{told-at}
 use Rattle.stage_core.specs.SecondLevel.{parts_of}
 use Rattle.stage_core.specs.declared.message.Side.{Side}
 use Rattle.stage_core.specs.declared.message.What.{What}
-use Rattle.grid_run.specs.Backs.{BackTask, IsPlacedOn, IsSeatIn, RequestsFor, WereAsked, back_task}
-use Rattle.grid_run.specs.Backs.{followed_by, seat_on, sent_for}
+use Rattle.grid_run.specs.Backs.{AreWaiting, BackTask, IsPlacedOn, IsSeatIn, RequestsFor}
+use Rattle.grid_run.specs.Backs.{back_task, followed_by, queue_seats, seat_on, sent_for}
 use Rattle.grid_run.specs.Fronts.{HasSent, IsSilent, front_rules}
 use Rattle.grid_run.specs.Levels.{rules_in}
 use Rattle.grid_run.specs.Seats.{Table, rules_of_seat}
-use Rattle.grid_run.specs.Sending.{SecondAsked, event_of}
+use Rattle.grid_run.specs.Sending.{event_of}
 use Rattle.grid_run.specs.declared.back.Back.{Back}
 use Rattle.grid_run.specs.declared.front.Front.{Front}
+use Rattle.grid_run.specs.declared.queue.Queue.{Queue}
 use Rattle.grid_run.specs.declared.requests.Request.{Request}
 use Rattle.grid_run.specs.declared.seat.Seat.{Seat}
 use Rattle.grid_run.specs.declared.second.Second.{Second}
@@ -70,32 +71,29 @@ silent-at-seat fs seat on silent s h q sent =
 pub task-kept : (b : Back) (u : Second) → rules_in u.level ≡ rules_in b.second.level
     → back_task (record b { second = u }) ≡ back_task b
 unfolding back_task
-task-kept b u same = ap (task_of b.i b.d) same
+task-kept b u same = ap (task_of b.seats.i b.seats.d) same
 
--- second levels that were asked for some requests were asked for others that are the same
-pub asked-same : (blocks : List ℕ) (before after : RequestsFor) (bs : List Back)
-    → ((k : ℕ) (b : Back) → k < length bs
-    → before (back_task (get_or bs k b)) ≡ after (back_task (get_or bs k b)))
-    → All (WereAsked blocks before) bs → All (WereAsked blocks after) bs
-asked-same blocks before after bs same all k b lt =
-    record {
-      second = subst (λ (ws : List What). SecondAsked blocks (get_or bs k b).second ws)
-          (same k b lt) (all k b lt).second;
-    }
+-- what waits of some requests waits of others that are the same
+pub waiting-same : (given before after : RequestsFor) (qs : List Queue)
+    → ((k : ℕ) (q : Queue) → k < length qs
+    → before (queue_seats (get_or qs k q)) ≡ after (queue_seats (get_or qs k q)))
+    → All (AreWaiting given before) qs → All (AreWaiting given after) qs
+waiting-same given before after qs same all k q lt =
+    record { all = sym (same k q lt) ∙ (all k q lt).all }
 
 -- silent caches of a side ask for nothing
 pub nothing-asked : (fs : List Front) (old : Table) → map front_rules fs ≡ old → (s : Side)
-    (bs : List Back) → All (IsPlacedOn s old) (map back_task bs) → All IsSilent fs
+    (qs : List Queue) → All (IsPlacedOn s old) (map queue_seats qs) → All IsSilent fs
     → (h : History) (q : Request) → All (HasSent h q) fs
-    → (blocks : List ℕ) (before : RequestsFor) → All (WereAsked blocks before) bs
-    → All (WereAsked blocks (followed_by before (sent_for s old h (event_of q)))) bs
-nothing-asked fs old rules s bs placed silent h q sent blocks before =
-    asked-same blocks before (followed_by before (sent_for s old h (event_of q))) bs
-    (λ k b lt.
-    let t = back_task (get_or bs k b) in
-    let on = told-at back_task (IsPlacedOn s old) bs placed k b lt in
-    let none : parts_of (rules_of_seat old (seat_on s t)) s h (event_of q) ≡ [] =
-    subst (λ (rs : Table). parts_of (rules_of_seat rs (seat_on s t)) s h (event_of q) ≡ []) rules
-    (silent-at-seat fs (seat_on s t)
-    (subst (λ (rs : Table). IsPlacedOn s rs t) (sym rules) on).seat silent s h q sent) in
-    sym (append-nil (before t)) ∙ ap (λ (ws : List What). before t ++ ws) (sym none))
+    → (given before : RequestsFor) → All (AreWaiting given before) qs
+    → All (AreWaiting given (followed_by before (sent_for s old h (event_of q)))) qs
+nothing-asked fs old rules s qs placed silent h q sent given before =
+    waiting-same given before (followed_by before (sent_for s old h (event_of q))) qs
+    (λ k d lt.
+    let p = queue_seats (get_or qs k d) in
+    let on = told-at queue_seats (IsPlacedOn s old) qs placed k d lt in
+    let none : parts_of (rules_of_seat old (seat_on s p)) s h (event_of q) ≡ [] =
+    subst (λ (rs : Table). parts_of (rules_of_seat rs (seat_on s p)) s h (event_of q) ≡ []) rules
+    (silent-at-seat fs (seat_on s p)
+    (subst (λ (rs : Table). IsPlacedOn s rs p) (sym rules) on).seat silent s h q sent) in
+    sym (append-nil (before p)) ∙ ap (λ (ws : List What). before p ++ ws) (sym none))

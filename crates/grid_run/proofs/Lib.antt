@@ -16,3 +16,5 @@ pub mod RowPlaces
 pub mod Each
 pub mod Slices
 pub mod LoopTurns
+pub mod Cuts
+pub mod Given

@@ -1,14 +1,16 @@
--- What one turn of a loop over all caches of a side, or over all second levels, does.
+-- What one turn of a loop over all caches of a side, all queues, or all second levels, does.
 use Rattle.std.proofs.Common.{◌∷◌, ℕ, List, map}
 use Rattle.std.specs.List.{All}
 use Rattle.cache_core.specs.History.{History}
 use Rattle.stage_core.specs.declared.message.Side.{Side}
-use Rattle.grid_run.specs.Backs.{NothingWaits, RequestsFor, WereAsked, followed_by, sent_for}
+use Rattle.grid_run.specs.Backs.{AreWaiting, NothingWaits, RequestsFor, WereAsked, followed_by}
+use Rattle.grid_run.specs.Backs.{sent_for}
 use Rattle.grid_run.specs.Fronts.{FrontAt, HasSent, front_rules}
 use Rattle.grid_run.specs.Sending.{event_of}
 use Rattle.grid_core.specs.Numbers.{GoesOn}
 use Rattle.grid_run.specs.declared.back.Back.{Back}
 use Rattle.grid_run.specs.declared.front.Front.{Front}
+use Rattle.grid_run.specs.declared.queue.Queue.{Queue}
 use Rattle.grid_run.specs.declared.requests.Request.{Request}
 use Rattle.grid_run.proofs.Numbered.{asked-more}
 
@@ -17,11 +19,15 @@ pub record Serves (q : Request) (old new : Front) : Type 0 where
   pub stands : (h : History) → FrontAt h old → FrontAt (event_of q ∷ h) new
   pub sent : (h : History) → FrontAt h old → HasSent h q new
 
--- second levels were asked for what the first-level caches of a side sent last
-pub record Asks (s : Side) (fronts : List Front) (old new : Back) : Type 0 where
-  pub asked : (blocks : List ℕ) (h : History) (q : Request) (before : RequestsFor)
-      → All (HasSent h q) fronts → WereAsked blocks before old → WereAsked blocks
+-- a queue took what the first-level caches of a side sent last
+pub record Asks (s : Side) (fronts : List Front) (old new : Queue) : Type 0 where
+  pub asked : (given : RequestsFor) (h : History) (q : Request) (before : RequestsFor)
+      → All (HasSent h q) fronts → AreWaiting given before old → AreWaiting given
       (followed_by before (sent_for s (map front_rules fronts) h (event_of q))) new
+
+-- second levels that had served what they were asked for have taken over what waited besides
+pub record TakesOver (served all : RequestsFor) (old new : Back) : Type 0 where
+  pub asked : (blocks : List ℕ) → WereAsked blocks served old → WereAsked blocks all new
 
 -- second levels have served what waited for them; there were some numbers of blocks at the start,
 -- and there are these now

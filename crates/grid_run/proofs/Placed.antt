@@ -1,25 +1,33 @@
 -- Where the caches of a configuration are in a lane.
-use Rattle.std.proofs.Common.{◌≡◌, ◌<◌, ◌++◌, ◌∷◌, [], ℕ, List, length, get_or, map, ap, sym, subst}
+use Rattle.std.proofs.Common.{◌≡◌, ◌<◌, ◌++◌, ◌∷◌, [], List, length, get_or, map, ap, sym, subst}
 use Rattle.std.proofs.Common.{◌∙◌, append_assoc, arith}
 use Rattle.std.proofs.Common.{Result, Ok, Err, OnOk}
 use Rattle.std.specs.List.{All}
 use Rattle.std.proofs.lemmas.List.{get_or-map, length-map}
+use Rattle.std.proofs.lemmas.Simd.{map-map}
 use Rattle.cache_core.specs.History.{Rules}
 use Rattle.din_trace.specs.declared.record.DinRecord.{DinRecord}
 use Rattle.stage_core.specs.SecondLevel.{Hierarchy, parts_in, second_level_requests}
 use Rattle.stage_core.specs.declared.selection.Selection.{Selection}
 use Rattle.stage_core.specs.declared.message.Side.TheVariants as side
 use Rattle.stage_core.proofs.Worked.{second_level_requests-more, the_hierarchy}
-use Rattle.grid_core.specs.Written.{rules_at}
-use Rattle.grid_run.specs.Backs.{BackTask, IsPlacedIn, IsPlacedOn, WereAsked, back_task}
-use Rattle.grid_run.specs.Backs.{followed_by, hierarchy_behind, sent_behind, sent_on_side}
+use Rattle.grid_core.proofs.ListLoops.{part-told}
+use Rattle.grid_run.specs.Backs.{AreSeatsIn, AreWaiting, BackTask, IsPlacedOn}
+use Rattle.grid_run.specs.Backs.{RequestsFor, back_seats, back_task, followed_by, parts_at}
+use Rattle.grid_run.specs.Backs.{queue_seats, seats_of_task, sent_behind, sent_on_side}
+use Rattle.grid_run.specs.Backs.{task_of_shelf}
+use Rattle.grid_run.specs.FirstLevels.{FirstTask, HasServed}
 use Rattle.grid_run.specs.Fronts.{front_rules}
-use Rattle.grid_run.specs.Lanes.{HasServed, lane_task}
+use Rattle.grid_run.specs.Lanes.{LaneTask, lane_task}
 use Rattle.grid_run.specs.Rows.{IsBackOf, IsPlaceIn}
 use Rattle.grid_run.specs.Seats.{Table, rules_of_seat}
 use Rattle.grid_run.specs.declared.back.Back.{Back}
+use Rattle.grid_run.specs.declared.first_levels.FirstLevels.{FirstLevels}
 use Rattle.grid_run.specs.declared.lane.Lane.{Lane}
+use Rattle.grid_run.specs.declared.plan.BackShelf.{BackShelf}
 use Rattle.grid_run.specs.declared.plan.Place.{Place}
+use Rattle.grid_run.specs.declared.queue.Queue.{Queue}
+use Rattle.grid_run.specs.declared.seat.BothSeats.{BothSeats}
 use Rattle.stage_core.specs.declared.selection.Selector.{Selector}
 
 -- what follows from two facts of the answer Ok
@@ -28,43 +36,49 @@ pub on-ok-both : {T E A B C : Type 0} (r : Result T E) → (A → B → C) → O
 on-ok-both (Ok t) f a b = f a b
 on-ok-both (Err e) f a b = tt
 
--- a lane with another selector has served the same
-pub served-by-same : (s : Selector) (l : Lane) (es : List DinRecord) → HasServed l es
-    → HasServed (record l { selector = s }) es
-served-by-same s l es served = record { i = served.i; d = served.d; backs = served.backs }
+-- what follows where the answer is Ok
+pub ok-so : {T E P : Type 0} (r : Result T E) {v : T} → r ≡ Ok v → OnOk r P → P
+ok-so (Ok t) is p = p
+ok-so (Err e) is p = absurd cc
 
--- second levels behind caches of both sides are behind caches of each
-pub placed-on-i : {i d : Table} (ts : List BackTask) → All (IsPlacedIn i d) ts
-    → All (IsPlacedOn side.I i) ts
-placed-on-i ts all k t lt = record { seat = (all k t lt).on_i }
+-- second levels that do the same are behind the same seats
+pub seats-told : (xs ys : List Back) → map back_task xs ≡ map back_task ys
+    → map back_seats xs ≡ map back_seats ys
+unfolding back_task
+seats-told xs ys told = part-told back_task xs ys told seats_of_task
 
-pub placed-on-d : {i d : Table} (ts : List BackTask) → All (IsPlacedIn i d) ts
-    → All (IsPlacedOn side.D d) ts
-placed-on-d ts all k t lt = record { seat = (all k t lt).on_d }
+-- first levels with another selector have served the same
+pub served-by-same : (given : RequestsFor) (s : Selector) (f : FirstLevels) (es : List DinRecord)
+    → HasServed given f es → HasServed given (record f { selector = s }) es
+served-by-same given s f es served =
+    record { i = served.i; d = served.d; queues = served.queues }
+
+-- seats of caches of both sides are seats of caches of each
+pub seated-on-i : {i d : Table} (ps : List BothSeats) → All (AreSeatsIn i d) ps
+    → All (IsPlacedOn side.I i) ps
+seated-on-i ps all k p lt = record { seat = (all k p lt).on_i }
+
+pub seated-on-d : {i d : Table} (ps : List BothSeats) → All (AreSeatsIn i d) ps
+    → All (IsPlacedOn side.D d) ps
+seated-on-d ps all k p lt = record { seat = (all k p lt).on_d }
 
 -- what both sides send for one more event comes after all before
-pub both-sides : (i d : Table) (es : List DinRecord) (e : DinRecord) (t : BackTask)
+pub both-sides : (i d : Table) (es : List DinRecord) (e : DinRecord) (p : BothSeats)
     → followed_by (followed_by (sent_behind i d es) (sent_on_side side.I i es e))
-    (sent_on_side side.D d es e) t
-    ≡ sent_behind i d (es ++ e ∷ []) t
-both-sides i d es e t =
-    append_assoc (sent_behind i d es t) (sent_on_side side.I i es e t)
-    (sent_on_side side.D d es e t)
-    ∙ sym (second_level_requests-more (parts_in (hierarchy_behind i d t 0)) es e)
+    (sent_on_side side.D d es e) p
+    ≡ sent_behind i d (es ++ e ∷ []) p
+both-sides i d es e p =
+    append_assoc (sent_behind i d es p) (sent_on_side side.I i es e p)
+    (sent_on_side side.D d es e p)
+    ∙ sym (second_level_requests-more (parts_at i d p) es e)
 
--- second levels behind caches of the same rules
-pub placed-same : {i i' d d' : Table} (ts : List BackTask) → i ≡ i' → d ≡ d'
-    → All (IsPlacedIn i' d') ts → All (IsPlacedIn i d) ts
-placed-same {i' = i'} {d = d} ts on_i on_d all =
-    subst (λ (t : Table). All (IsPlacedIn t d) ts) (sym on_i)
-    (subst (λ (t : Table). All (IsPlacedIn i' t) ts) (sym on_d) all)
-
-pub served-same : {i i' d d' : Table} (blocks : List ℕ) (es : List DinRecord) (bs : List Back)
-    → i ≡ i' → d ≡ d' → All (WereAsked blocks (sent_behind i' d' es)) bs
-    → All (WereAsked blocks (sent_behind i d es)) bs
-served-same {i' = i'} {d = d} blocks es bs on_i on_d all =
-    subst (λ (t : Table). All (WereAsked blocks (sent_behind t d es)) bs) (sym on_i)
-    (subst (λ (t : Table). All (WereAsked blocks (sent_behind i' t es)) bs) (sym on_d) all)
+-- what waits behind caches of the same rules
+pub served-same : {i i' d d' : Table} (given : RequestsFor) (es : List DinRecord)
+    (qs : List Queue) → i ≡ i' → d ≡ d' → All (AreWaiting given (sent_behind i' d' es)) qs
+    → All (AreWaiting given (sent_behind i d es)) qs
+served-same {i' = i'} {d = d} given es qs on_i on_d all =
+    subst (λ (t : Table). All (AreWaiting given (sent_behind t d es)) qs) (sym on_i)
+    (subst (λ (t : Table). All (AreWaiting given (sent_behind i' t es)) qs) (sym on_d) all)
 
 module _ (l : Lane) (c : Hierarchy) (s : Selection) (p : Place)
     (place : IsPlaceIn (lane_task l) c s p) (b : Back)
@@ -89,16 +103,40 @@ module _ (l : Lane) (c : Hierarchy) (s : Selection) (p : Place)
 
   -- and they get what the first level of the configuration sends
   pub requests-there : (es : List DinRecord) →
-      second_level_requests (parts_in (hierarchy_behind (map front_rules l.i.items)
-      (map front_rules l.d.items) (back_task b) 0)) es
+      sent_behind (map front_rules l.first.i.items) (map front_rules l.first.d.items) es
+      (back_seats b)
       ≡ second_level_requests (parts_in c) es
-  unfolding lane_task
+  unfolding lane_task back_task
   requests-there es =
-      let is = map front_rules l.i.items in
-      let ds = map front_rules l.d.items in
-      let u = rules_at (back_task b).rules 0 in
+      let is = map front_rules l.first.i.items in
+      let ds = map front_rules l.first.d.items in
       ap (λ (r : Rules). second_level_requests
-      (parts_in (the_hierarchy r (rules_of_seat ds (back_task b).d) u)) es)
+      (parts_in (the_hierarchy r (rules_of_seat ds b.seats.d) c.u)) es)
       (ap (rules_of_seat is) back-there.on_i ∙ place.i.rules)
-      ∙ ap (λ (r : Rules). second_level_requests (parts_in (the_hierarchy c.i r u)) es)
+      ∙ ap (λ (r : Rules). second_level_requests (parts_in (the_hierarchy c.i r c.u)) es)
       (ap (rules_of_seat ds) back-there.on_d ∙ place.d.rules)
+
+-- first levels of equal parts
+abbrev first_of : Selection → Table → Table → List BothSeats → FirstTask
+first_of s i d ps = record { selection = s; i = i; d = d; seats = ps }
+
+pub same-first : {s s' : Selection} {i i' d d' : Table} {ps ps' : List BothSeats} → s ≡ s'
+    → i ≡ i' → d ≡ d' → ps ≡ ps' → first_of s i d ps ≡ first_of s' i' d' ps'
+same-first o p q r = cc
+
+-- lanes of equal parts
+abbrev lane_of : Selection → Table → Table → List BackTask → LaneTask
+lane_of s i d bs = record { selection = s; i = i; d = d; backs = bs }
+
+pub same-lane : {s s' : Selection} {i i' d d' : Table} {bs bs' : List BackTask} → s ≡ s' → i ≡ i'
+    → d ≡ d' → bs ≡ bs' → lane_of s i d bs ≡ lane_of s' i' d' bs'
+same-lane o p q r = cc
+
+-- second levels and queues of the same shelves are behind the same seats
+pub matched : (qs : List Queue) (bs : List Back) (shelves : List BackShelf)
+    → map queue_seats qs ≡ map (λ shelf. seats_of_task (task_of_shelf shelf)) shelves
+    → map back_task bs ≡ map task_of_shelf shelves → map queue_seats qs ≡ map back_seats bs
+unfolding back_task
+matched qs bs shelves queues tasks =
+    queues ∙ sym (map-map seats_of_task task_of_shelf shelves)
+    ∙ ap (map seats_of_task) (sym tasks) ∙ map-map seats_of_task back_task bs

@@ -43,20 +43,6 @@ served-one old new w longer ws st =
     subst (λ (h : History). LevelStandsFor new h) (sym (second_history-more ws w))
     (longer (second_history ws) st)
 
--- nothing more was asked for
-pub asked-none : (blocks : List ℕ) (u : Second) (ws : List What) → SecondAsked blocks u ws
-    → SecondAsked blocks u (ws ++ [])
-asked-none blocks u ws asked =
-    subst (λ (l : List What). SecondAsked blocks u l) (sym (append-nil ws)) asked
-
--- three lists asked for one after another
-pub asked-three : (blocks : List ℕ) (u : Second) (ws a b c : List What)
-    → SecondAsked blocks u (((ws ++ a) ++ b) ++ c) → SecondAsked blocks u (ws ++ ((a ++ b) ++ c))
-asked-three blocks u ws a b c asked =
-    subst (λ (l : List What). SecondAsked blocks u l)
-    (append_assoc (ws ++ a) b c ∙ append_assoc ws a (b ++ c)
-    ∙ ap (λ l. ws ++ l) (sym (append_assoc a b c))) asked
-
 -- where nothing waits, all that was asked for is served
 pub settled-served : (blocks : List ℕ) (u : Second) (ws : List What) → SecondAsked blocks u ws
     → HasSettled u → LevelStandsBy blocks u.level (second_history ws)

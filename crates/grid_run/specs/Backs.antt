@@ -1,10 +1,8 @@
 -- Second levels behind one cache of each side.
-use Rattle.std.specs.Prelude.{◌<◌, ◌≤◌, ◌^◌, ◌++◌, ℕ, List, [], length, get_or}
+use Rattle.std.specs.Prelude.{◌≡◌, ◌<◌, ◌≤◌, ◌^◌, ◌++◌, ℕ, List, [], length, get_or}
 use Rattle.cache_core.specs.History.{Event, History, Rules}
 use Rattle.din_trace.specs.declared.record.DinRecord.{DinRecord}
-use Rattle.grid_core.specs.Written.{rules_at}
-use Rattle.stage_core.specs.SecondLevel.{Hierarchy, parts_in, parts_of, second_level_requests}
-use Rattle.stage_core.specs.SecondLevel.{sent_up}
+use Rattle.stage_core.specs.SecondLevel.{Parts, parts_of, second_level_requests, sent_up}
 use Rattle.stage_core.specs.declared.message.Side.{Side}
 use Rattle.stage_core.specs.declared.message.Side.TheVariants as side
 use Rattle.stage_core.specs.declared.message.What.{What}
@@ -13,6 +11,8 @@ use Rattle.grid_run.specs.Seats.{Table, rules_of_seat, rules_on}
 use Rattle.grid_run.specs.Sending.{HasSettled, SecondAsked}
 use Rattle.grid_run.specs.declared.back.Back.{Back}
 use Rattle.grid_run.specs.declared.plan.BackShelf.{BackShelf}
+use Rattle.grid_run.specs.declared.queue.Queue.{Queue}
+use Rattle.grid_run.specs.declared.seat.BothSeats.{BothSeats}
 use Rattle.grid_run.specs.declared.seat.Seat.{Seat}
 
 -- what second levels do: behind which seats they are, and the rules of their caches
@@ -23,11 +23,23 @@ pub record BackTask : Type 0 where
 
 -- what these second levels do
 unfoldable pub back_task : Back → BackTask
-back_task b = record { i = b.i; d = b.d; rules = rules_in b.second.level }
+back_task b = record { i = b.seats.i; d = b.seats.d; rules = rules_in b.second.level }
 
 -- what second levels made for this shelf do
 unfoldable pub task_of_shelf : BackShelf → BackTask
 task_of_shelf s = record { i = s.i; d = s.d; rules = rules_on s.shelf }
+
+-- the seats in front of second levels
+abbrev pub seats_of_task : BackTask → BothSeats
+seats_of_task t = record { i = t.i; d = t.d }
+
+-- the seats in front of these
+abbrev pub back_seats : Back → BothSeats
+back_seats b = b.seats
+
+-- the seats in front of a queue
+abbrev pub queue_seats : Queue → BothSeats
+queue_seats q = q.seats
 
 -- the seat is one of the table
 pub record IsSeatIn (t : Table) (s : Seat) : Type 0 where
@@ -35,59 +47,72 @@ pub record IsSeatIn (t : Table) (s : Seat) : Type 0 where
   pub cell : s.cell < length (get_or t s.level [])
 
 -- the seat on a side
-abbrev pub seat_on : Side → BackTask → Seat
-seat_on side.I t = t.i
-seat_on side.D t = t.d
+abbrev pub seat_on : Side → BothSeats → Seat
+seat_on side.I p = p.i
+seat_on side.D p = p.d
 
 -- the seat on a side is one of the table
-pub record IsPlacedOn (s : Side) (fronts : Table) (t : BackTask) : Type 0 where
-  pub seat : IsSeatIn fronts (seat_on s t)
+pub record IsPlacedOn (s : Side) (fronts : Table) (p : BothSeats) : Type 0 where
+  pub seat : IsSeatIn fronts (seat_on s p)
 
 -- both seats are there
-pub record IsPlacedIn (i d : Table) (t : BackTask) : Type 0 where
-  pub on_i : IsSeatIn i t.i
-  pub on_d : IsSeatIn d t.d
+pub record AreSeatsIn (i d : Table) (p : BothSeats) : Type 0 where
+  pub on_i : IsSeatIn i p.i
+  pub on_d : IsSeatIn d p.d
 
--- the hierarchy to which one of the caches belongs
-abbrev pub hierarchy_behind : Table → Table → BackTask → ℕ → Hierarchy
-hierarchy_behind i d t cell = record {
-  i = rules_of_seat i t.i;
-  d = rules_of_seat d t.d;
-  u = rules_at t.rules cell;
-}
+-- both seats in front of second levels are there
+abbrev pub IsPlacedIn : Table → Table → BackTask → Type 0
+IsPlacedIn i d t = AreSeatsIn i d (seats_of_task t)
 
--- for second levels of each task, some requests
+-- for the seats of each two first-level caches, some requests
 abbrev pub RequestsFor : Type 0
-RequestsFor = BackTask → List What
+RequestsFor = BothSeats → List What
 
 -- none at all
 abbrev pub no_requests : RequestsFor
-no_requests t = []
+no_requests p = []
 
 -- requests, and others after them
 abbrev pub followed_by : RequestsFor → RequestsFor → RequestsFor
-followed_by first then t = first t ++ then t
+followed_by first then p = first p ++ then p
 
 -- what the cache of a side sends for a request to it after a history, by the rules of its caches
 abbrev pub sent_for : Side → Table → History → Event → RequestsFor
-sent_for s fronts h q t = parts_of (rules_of_seat fronts (seat_on s t)) s h q
+sent_for s fronts h q p = parts_of (rules_of_seat fronts (seat_on s p)) s h q
 
 -- what it sends for the event e, which comes after the events es
 abbrev pub sent_on_side : Side → Table → List DinRecord → DinRecord → RequestsFor
-sent_on_side s fronts es e t = sent_up (parts_of (rules_of_seat fronts (seat_on s t))) s es e
+sent_on_side s fronts es e p = sent_up (parts_of (rules_of_seat fronts (seat_on s p))) s es e
+
+-- the rules of the caches of a side
+abbrev pub table_on : Side → Table → Table → Table
+table_on side.I i d = i
+table_on side.D i d = d
+
+-- what the caches at both seats send
+abbrev pub parts_at : Table → Table → BothSeats → Parts
+parts_at i d p s h q = parts_of (rules_of_seat (table_on s i d) (seat_on s p)) s h q
 
 -- all that caches of these rules sent for these events
 abbrev pub sent_behind : Table → Table → List DinRecord → RequestsFor
-sent_behind i d es t = second_level_requests (parts_in (hierarchy_behind i d t 0)) es
+sent_behind i d es p = second_level_requests (parts_at i d p) es
 
--- the second levels were asked for the requests of their task, and have served some by the numbers
+-- all requests for the seats of a queue are those of before, and then those that wait in it
+pub record AreWaiting (before requests : RequestsFor) (q : Queue) : Type 0 where
+  pub all : requests q.seats ≡ before q.seats ++ q.waiting.items
+
+-- no request waits in the queue
+pub record HasNone (q : Queue) : Type 0 where
+  pub none : q.waiting.items ≡ []
+
+-- the second levels were asked for the requests of their seats, and have served some by the numbers
 -- that the places of a list of blocks are
 pub record WereAsked (blocks : List ℕ) (requests : RequestsFor) (b : Back) : Type 0 where
-  pub second : SecondAsked blocks b.second (requests (back_task b))
+  pub second : SecondAsked blocks b.second (requests b.seats)
 
 -- a second level can serve so many
 pub record AreFew (requests : RequestsFor) : Type 0 where
-  pub few : (t : BackTask) → length (requests t) ≤ 2 ^ 44
+  pub few : (p : BothSeats) → length (requests p) ≤ 2 ^ 44
 
 -- no request waits for the second levels
 abbrev pub NothingWaits : Back → Type 0

@@ -1,16 +1,14 @@
 -- The caches of all rows of one selection.
-use Rattle.std.specs.Prelude.{List, map}
+use Rattle.std.specs.Prelude.{◌≡◌, List, map}
 use Rattle.std.specs.List.{All}
 use Rattle.din_trace.specs.declared.record.DinRecord.{DinRecord}
-use Rattle.grid_core.specs.Numbered.{blocks_in}
-use Rattle.stage_core.specs.Events.{events, history}
-use Rattle.stage_core.specs.Standing.{WasOffered}
-use Rattle.stage_core.specs.declared.message.Side.TheVariants as side
 use Rattle.stage_core.specs.declared.selection.Selection.{Selection}
-use Rattle.grid_run.specs.Backs.{BackTask, IsPlacedIn, NothingWaits, WereAsked, back_task}
-use Rattle.grid_run.specs.Backs.{sent_behind, task_of_shelf}
-use Rattle.grid_run.specs.Fronts.{FrontAt, front_rules}
+use Rattle.grid_run.specs.Backs.{BackTask, IsPlacedIn, NothingWaits, back_seats, back_task}
+use Rattle.grid_run.specs.Backs.{queue_seats, task_of_shelf}
+use Rattle.grid_run.specs.FirstLevels.{WasGiven, first_task, sent_by}
+use Rattle.grid_run.specs.Fronts.{front_rules}
 use Rattle.grid_run.specs.Seats.{Table, rules_on}
+use Rattle.grid_run.specs.Settling.{AreAsked}
 use Rattle.grid_run.specs.declared.lane.Lane.{Lane}
 use Rattle.grid_run.specs.declared.plan.LanePlan.{LanePlan}
 
@@ -24,9 +22,9 @@ pub record LaneTask : Type 0 where
 -- what this lane does
 unfoldable pub lane_task : Lane → LaneTask
 lane_task l = record {
-  selection = l.selector.selection;
-  i = map front_rules l.i.items;
-  d = map front_rules l.d.items;
+  selection = l.first.selector.selection;
+  i = map front_rules l.first.i.items;
+  d = map front_rules l.first.d.items;
   backs = map back_task l.backs.items;
 }
 
@@ -43,22 +41,25 @@ task_of_plan p = record {
 abbrev pub IsPlaced : LaneTask → Type 0
 IsPlaced t = All (IsPlacedIn t.i t.d) t.backs
 
--- the first-level caches of a lane have served these events, and its second levels were asked for
--- what was sent for them
-pub record HasServed (l : Lane) (es : List DinRecord) : Type 0 where
-  pub i : All (FrontAt (history side.I es)) l.i.items
-  pub d : All (FrontAt (history side.D es)) l.d.items
-  pub backs :
-      All (WereAsked (blocks_in l.numbers)
-      (sent_behind (map front_rules l.i.items) (map front_rules l.d.items) es)) l.backs.items
+-- each queue is behind the seats of one of the second levels, in their order
+abbrev pub AreMatched : Lane → Type 0
+AreMatched l = map queue_seats l.first.queues.items ≡ map back_seats l.backs.items
 
--- a lane was given these records: its caches were given what it selects of them
-pub record WasGiven (l : Lane) (records : List DinRecord) : Type 0 where
-  pub placed : IsPlaced (lane_task l)
-  pub offered : WasOffered l.selector records
-  pub served : HasServed l (events l.selector.selection records)
+-- the first levels of a lane were given records, of which all that they sent for `past` was served
+pub record HasWorked (past records : List DinRecord) (l : Lane) : Type 0 where
+  pub given : WasGiven (sent_by (first_task l.first) past) l.first records
+  pub asked : AreAsked l.size (sent_by (first_task l.first) past) l.tables.items l.backs.items
+  pub settled : All NothingWaits l.backs.items
+  pub matched : AreMatched l
 
--- a lane has taken these records: all its caches have served what it selects of them
+-- a lane has taken these records: its first levels have served what is selected of them, and its
+-- second levels were given all that these sent
 pub record HasTaken (l : Lane) (records : List DinRecord) : Type 0 where
-  pub given : WasGiven l records
+  pub given : WasGiven (sent_by (first_task l.first) records) l.first records
+  pub asked : AreAsked l.size (sent_by (first_task l.first) records) l.tables.items l.backs.items
+  pub matched : AreMatched l
+
+-- all caches of a lane have served what is selected of these records
+pub record HasSettled (l : Lane) (records : List DinRecord) : Type 0 where
+  pub taken : HasTaken l records
   pub settled : All NothingWaits l.backs.items

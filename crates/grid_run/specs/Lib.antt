@@ -5,6 +5,8 @@ pub mod Sending
 pub mod Fronts
 pub mod Seats
 pub mod Backs
+pub mod Settling
+pub mod FirstLevels
 pub mod Lanes
 pub mod Workers
 pub mod Readings

@@ -1,14 +1,14 @@
 //! The lanes of a grid, which take records in batches.
 
-ghost use Rattle.std.specs.Prelude.{◌≡◌, ◌<◌, ◌+◌, ◌≤◌, ◌++◌, [], List, IfOk, OnOk, false};
+ghost use Rattle.std.specs.Prelude.{◌≡◌, ◌<◌, ◌+◌, ◌≤◌, ◌++◌, [], List, IfOk, OnOk};
 ghost use Rattle.std.specs.Prelude.{length, map};
 ghost use Rattle.std.specs.List.{All};
 ghost use Rattle.din_trace.specs.declared.record.DinRecord.{DinRecord as Event};
 ghost use Rattle.grid_run.specs.Lanes.{task_of_plan};
 ghost use Rattle.grid_run.specs.Rows.{IsSound};
-ghost use Rattle.grid_run.specs.Workers.{MayHaveTaken, Took, worker_task};
+ghost use Rattle.grid_run.specs.Workers.{MayHaveSettled, MayHaveTaken, Took, worker_task};
 
-use crate::lists::made_for_each;
+use crate::lists::add_to;
 use crate::plan::LanePlan;
 use crate::worker::Worker;
 use cache_core::NoMemory;
@@ -27,23 +27,31 @@ pub(crate) struct Crew {
     pub workers: Vec<Worker>,
     /// At most so many threads take a batch; 0 counts as 1.
     threads: usize,
+    /// How many of them each worker has.
+    share: usize,
 }
 
-/// The workers of these plans.
-fn workers_for(alloc: Global, plans: &[LanePlan]) -> Result<Vec<Worker>, NoMemory>
+/// The workers of these plans, of which each has so many threads.
+fn workers_for(alloc: Global, plans: &[LanePlan], share: usize) -> Result<Vec<Worker>, NoMemory>
     requires { All IsSound plans.now }
     ensures tasks { IfOk result (λ workers.
         map worker_task workers.items ≡ map task_of_plan plans.now) }
     ensures taken { IfOk result (λ workers. All (MayHaveTaken []) workers.items) }
 {
-    made_for_each!(alloc, plans, Worker::new)
+    let mut made = Vec::new(alloc);
+    for plan in plans {
+        let one = Worker::new(alloc, plan, share)?;
+        add_to(&mut made, one)?;
+    }
+    Ok(made)
 }
 
-/// Each worker takes the batch, on at most so many threads.
+/// Each worker takes the batch, on so many threads of its own; at most so many work at once.
 fn take_batch<T: Threads + Sync>(
     rt: &T,
     workers: &mut [Worker],
     threads: usize,
+    share: usize,
     batch: &[DinRecord],
 )
     requires threads { 0 < threads }
@@ -53,7 +61,15 @@ fn take_batch<T: Threads + Sync>(
         All (MayHaveTaken (past ++ batch.now)) workers.new }
     ensures tasks { map worker_task workers.new ≡ map worker_task workers.old }
 {
-    thread::for_each_mut(rt, workers, threads, &|_, worker| worker.take(batch));
+    thread::for_each_mut(
+        rt,
+        workers,
+        threads,
+        &|_, worker: &mut Worker|
+            requires { (past : List Event) × MayHaveTaken past worker.now
+                × (length past + length batch.now ≤ MAX_LIMIT) }
+        { worker.take(rt, share, batch) },
+    );
 }
 
 /// The same for the workers of a vector.
@@ -61,6 +77,7 @@ fn take_in<T: Threads + Sync>(
     rt: &T,
     workers: &mut Vec<Worker>,
     threads: usize,
+    share: usize,
     batch: &[DinRecord],
 )
     requires threads { 0 < threads }
@@ -70,20 +87,52 @@ fn take_in<T: Threads + Sync>(
         All (MayHaveTaken (past ++ batch.now)) workers.new.items }
     ensures tasks { map worker_task workers.new.items ≡ map worker_task workers.old.items }
 {
-    take_batch(rt, workers, threads, batch);
+    take_batch(rt, workers, threads, share, batch);
 }
 
-/// Whether some worker was refused memory.
-fn has_failed(workers: &[Worker]) -> bool
-    ensures { result ≡ false → (past : List Event) → All (MayHaveTaken past) workers.now
-        → All (Took past) workers.now }
+/// Each worker serves what waits for its second levels.
+fn settle_each<T: Threads + Sync>(rt: &T, workers: &mut [Worker], threads: usize, share: usize)
+    requires threads { 0 < threads }
+    requires room { (past : List Event) × All (MayHaveTaken past) workers.old
+        × (length past ≤ MAX_LIMIT) }
+    ensures settled { (past : List Event) → All (MayHaveTaken past) workers.old →
+        All (MayHaveSettled past) workers.new }
+    ensures tasks { map worker_task workers.new ≡ map worker_task workers.old }
+{
+    thread::for_each_mut(
+        rt,
+        workers,
+        threads,
+        &|_, worker: &mut Worker|
+            requires { (past : List Event) × MayHaveTaken past worker.now
+                × (length past ≤ MAX_LIMIT) }
+        { worker.settle(rt, share) },
+    );
+}
+
+/// The same for the workers of a vector.
+fn settle_in<T: Threads + Sync>(rt: &T, workers: &mut Vec<Worker>, threads: usize, share: usize)
+    requires threads { 0 < threads }
+    requires room { (past : List Event) × All (MayHaveTaken past) workers.old.items
+        × (length past ≤ MAX_LIMIT) }
+    ensures settled { (past : List Event) → All (MayHaveTaken past) workers.old.items →
+        All (MayHaveSettled past) workers.new.items }
+    ensures tasks { map worker_task workers.new.items ≡ map worker_task workers.old.items }
+{
+    settle_each(rt, workers, threads, share);
+}
+
+/// Answers `NoMemory` if some worker was refused memory.
+fn tell_failure(workers: &[Worker]) -> Result<(), NoMemory>
+    ensures { OnOk result ((past : List Event) → All (MayHaveSettled past) workers.now
+        → All (Took past) workers.now) }
 {
     for worker in workers {
         if worker.has_failed() {
-            return true;
+            return Err(NoMemory);
         }
     }
-    false
+    Ok(())
 }
 
 impl Crew {
@@ -94,13 +143,15 @@ impl Crew {
             map worker_task crew.workers.items ≡ map task_of_plan plans.now) }
         ensures taken { IfOk result (λ crew. All (MayHaveTaken []) crew.workers.items) }
     {
+        let share = (threads / plans.len().max(1)).max(1);
         Ok(Crew {
-            workers: workers_for(alloc, plans)?,
+            workers: workers_for(alloc, plans, share)?,
             threads,
+            share,
         })
     }
 
-    /// All workers take these records.
+    /// All workers take these records. What they ask of the second levels may wait.
     pub fn take<T: Threads + Sync>(
         &mut self,
         rt: &T,
@@ -110,18 +161,32 @@ impl Crew {
             × (length past + length batch.now.items ≤ MAX_LIMIT) }
         ensures taken { OnOk result ((past : List Event) →
             All (MayHaveTaken past) self.old.workers.items →
-            All (Took (past ++ batch.now.items)) self.new.workers.items) }
-        ensures goes_on { OnOk result ((past : List Event) →
-            All (MayHaveTaken past) self.old.workers.items →
             All (MayHaveTaken (past ++ batch.now.items)) self.new.workers.items) }
         ensures tasks { map worker_task self.new.workers.items
             ≡ map worker_task self.old.workers.items }
     {
-        take_in(rt, &mut self.workers, self.threads.max(1), batch);
-        if has_failed(&self.workers) {
-            return Err(NoMemory);
-        }
-        Ok(())
+        take_in(
+            rt,
+            &mut self.workers,
+            self.threads.max(1),
+            self.share,
+            batch,
+        );
+        tell_failure(&self.workers)
+    }
+
+    /// All workers serve what waits for their second levels.
+    pub fn settle<T: Threads + Sync>(&mut self, rt: &T) -> Result<(), NoMemory>
+        requires room { (past : List Event) × All (MayHaveTaken past) self.old.workers.items
+            × (length past ≤ MAX_LIMIT) }
+        ensures settled { OnOk result ((past : List Event) →
+            All (MayHaveTaken past) self.old.workers.items →
+            All (Took past) self.new.workers.items) }
+        ensures tasks { map worker_task self.new.workers.items
+            ≡ map worker_task self.old.workers.items }
+    {
+        settle_in(rt, &mut self.workers, self.threads.max(1), self.share);
+        tell_failure(&self.workers)
     }
 
     /// How many records the batch after one of this size has. A worker that is alone waits for no

@@ -6,10 +6,9 @@ ghost use Rattle.grid_run.specs.declared.front.Last.TheVariants as last;
 use crate::level::Level;
 use crate::parts::{ask_backs, ask_parts};
 use crate::requests::{Request, back_part, fetch_part, flush_part, through_part};
-use crate::second::Second;
 use crate::shelf::Shelf;
 use cache_core::{Access, NoMemory};
-use stage_core::Side;
+use stage_core::{Side, What};
 use std::alloc::Global;
 
 /// What the caches served last.
@@ -44,16 +43,15 @@ fn last_of(access: Access, sent_nothing: bool) -> Last
 }
 
 impl Front {
-    ghost use Rattle.std.specs.Prelude.{◌≡◌, ◌<◌, ◌^◌, ◌++◌, ◌∷◌, [], List, ℕ, IfOk, OnOk};
+    ghost use Rattle.std.specs.Prelude.{◌≡◌, ◌<◌, ◌^◌, ◌++◌, ◌∷◌, [], IfOk, OnOk};
     ghost use Rattle.std.specs.Prelude.{true, false, length};
     ghost use Rattle.cache_core.specs.History.{History, access as accessed, flush as flushed};
     ghost use Rattle.grid_core.specs.Written.{rules_at};
     ghost use Rattle.stage_core.specs.SecondLevel.{parts_of};
-    ghost use Rattle.stage_core.specs.declared.message.What.{What as Sent};
     ghost use Rattle.grid_run.specs.declared.requests.Request.{Request as Asked};
     ghost use Rattle.grid_run.specs.declared.requests.Request.TheVariants as asked;
     ghost use Rattle.grid_run.specs.Fronts.{FrontAt, HasSent, IsSilent, front_rules};
-    ghost use Rattle.grid_run.specs.Sending.{SecondAsked, event_of};
+    ghost use Rattle.grid_run.specs.Sending.{event_of};
     ghost use Rattle.grid_run.specs.Seats.{rules_on};
 
     /// The empty caches of a shelf.
@@ -137,15 +135,13 @@ impl Front {
         matches!(self.last, Last::Silence)
     }
 
-    /// Asks for what one cache sent for the last request at the second level.
-    pub fn send(&self, cell: usize, side: Side, u: &mut Second) -> Result<(), NoMemory>
+    /// Adds what one cache sent for the last request to what waits for the second level.
+    pub fn send(&self, cell: usize, side: Side, waiting: &mut Vec<What>) -> Result<(), NoMemory>
         requires inside { cell < length (front_rules self.now) }
         requires last { (h : History) × (q : Asked) × HasSent h q self.now }
-        ensures sends { OnOk result ((blocks : List ℕ) (h : History) (q : Asked)
-            (ws : List Sent) → HasSent h q self.now → SecondAsked blocks u.old ws →
-            SecondAsked blocks u.new
-            (ws ++ parts_of (rules_at (front_rules self.now) cell) side h (event_of q))) }
-        ensures level { u.new.level ≡ u.old.level }
+        ensures { OnOk result ((h : History) (q : Asked) → HasSent h q self.now →
+            waiting.new.items ≡ waiting.old.items
+            ++ parts_of (rules_at (front_rules self.now) cell) side h (event_of q)) }
     {
         match self.last {
             Last::Silence => Ok(()),
@@ -154,9 +150,9 @@ impl Front {
                 let block = self.level.first_byte(access.addr);
                 let fetch = fetch_part(side, outcome.fetch, block);
                 let through = through_part(outcome.through, access.addr);
-                ask_parts(u, back_part(outcome.back), fetch, through)
+                ask_parts(waiting, back_part(outcome.back), fetch, through)
             }
-            Last::Flush => ask_backs(u, &self.lists[cell], flush_part(side)),
+            Last::Flush => ask_backs(waiting, &self.lists[cell], flush_part(side)),
         }
     }
 }

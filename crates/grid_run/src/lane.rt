@@ -1,210 +1,159 @@
 //! The caches of all rows of one selection.
 
-ghost use Rattle.std.specs.Prelude.{◌≡◌, ◌<◌, ◌≤◌, ◌+◌, ◌*◌, ◌^◌, ◌++◌, ◌∷◌, [], List, ℕ, IfOk};
-ghost use Rattle.std.specs.Prelude.{OnOk, length, map, option_to_list};
-ghost use Rattle.std.specs.List.{All};
-ghost use Rattle.cache_core.specs.History.{History};
-ghost use Rattle.din_trace.specs.declared.record.DinRecord.{DinRecord as Event};
-ghost use Rattle.stage_core.specs.Events.{IsBounded, events, history};
-ghost use Rattle.stage_core.specs.SecondLevel.{Hierarchy};
-ghost use Rattle.stage_core.specs.declared.selection.Selection.{Selection as Chosen};
-ghost use Rattle.grid_run.specs.Backs.{IsPlacedOn, RequestsFor, WereAsked, back_task};
-ghost use Rattle.grid_run.specs.Backs.{followed_by, sent_for, sent_on_side};
-ghost use Rattle.grid_run.specs.Fronts.{FrontAt, front_rules};
-ghost use Rattle.grid_run.specs.Grids.{figures_of};
-ghost use Rattle.grid_run.specs.Lanes.{HasServed, HasTaken, IsPlaced, WasGiven, lane_task};
-ghost use Rattle.grid_run.specs.Lanes.{task_of_plan};
-ghost use Rattle.grid_run.specs.Rows.{IsPlaceIn};
-ghost use Rattle.grid_run.specs.Sending.{event_of};
-
 use crate::back::Back;
-use crate::backs::{ask_backs, backs_for, settle_backs};
+use crate::backs::{backs_for, take_over_all};
+use crate::beside::take_on;
 use crate::figures::{Figures, ShadowMisses};
-use crate::front::Front;
-use crate::fronts::{are_silent, fronts_for, serve_again, serve_fronts};
+use crate::first_levels::FirstLevels;
 use crate::plan::{LanePlan, Place};
-use crate::requests::{Request, asked_of};
+use crate::settling::{settle_on, size_of_part, tables_for};
 use cache_core::NoMemory;
-use din_trace::{DinRecord, Label, MAX_LIMIT};
+use din_trace::{DinRecord, MAX_LIMIT};
 use grid_core::BlockNumbers;
-use stage_core::{
-    Selector, Side, Totals, second_level_sees_at_most_two, selections_make_at_most_two,
-};
+use stage_core::{Totals, second_level_sees_at_most_two, selections_make_at_most_two};
 use std::alloc::Global;
+use std::thread::Threads;
 
-/// The flush that a selection inserts.
-const INSERTED: DinRecord = DinRecord {
-    label: Label::Flush,
-    addr: 0,
-};
-
-/// A selector, and the caches that serve what it selects.
+/// First-level caches, and the second levels behind them.
 #[derive(Drop)]
 pub(crate) struct Lane {
-    selector: Selector,
-    i: Vec<Front>,
-    d: Vec<Front>,
+    first: FirstLevels,
     backs: Vec<Back>,
-    /// The numbers of the blocks of all second levels.
-    numbers: BlockNumbers,
-}
-
-/// Serves a request in all caches of a side. What these send waits for the second levels. Not
-/// inlined, so that what an event does not ask of a side costs next to nothing.
-#[inline(never)]
-fn serve_request(
-    fronts: &mut Vec<Front>,
-    backs: &mut Vec<Back>,
-    side: Side,
-    request: Request,
-) -> Result<(), NoMemory>
-    requires placed { All (IsPlacedOn side (map front_rules fronts.old.items))
-        (map back_task backs.old.items) }
-    requires room { (h : History) × All (FrontAt h) fronts.old.items × (length h < 2 ^ 44) }
-    ensures stands { OnOk result ((h : History) → All (FrontAt h) fronts.old.items →
-        All (FrontAt (event_of request ∷ h)) fronts.new.items) }
-    ensures asked { OnOk result ((blocks : List ℕ) (h : History) (before : RequestsFor) →
-        All (FrontAt h) fronts.old.items → All (WereAsked blocks before) backs.old.items →
-        All (WereAsked blocks (followed_by before
-        (sent_for side (map front_rules fronts.old.items) h (event_of request))))
-        backs.new.items) }
-    ensures rules { map front_rules fronts.new.items ≡ map front_rules fronts.old.items }
-    ensures tasks { map back_task backs.new.items ≡ map back_task backs.old.items }
-{
-    serve_fronts(fronts, request)?;
-    if are_silent(fronts) {
-        return Ok(());
-    }
-    ask_backs(backs, fronts, side)
-}
-
-/// Serves what an event asks of a side, if it does. This is inlined, as are its callers and what
-/// leads to the short way, which is so served within the loop over the records. Not inlined, a
-/// fetch took about 30 instructions more.
-#[inline(always)]
-fn serve_side(
-    fronts: &mut Vec<Front>,
-    backs: &mut Vec<Back>,
-    side: Side,
-    event: DinRecord,
-) -> Result<(), NoMemory>
-    requires placed { All (IsPlacedOn side (map front_rules fronts.old.items))
-        (map back_task backs.old.items) }
-    requires room { (es : List Event) × All (FrontAt (history side es)) fronts.old.items
-        × (length es < 2 * MAX_LIMIT) }
-    ensures stands { OnOk result ((es : List Event) →
-        All (FrontAt (history side es)) fronts.old.items →
-        All (FrontAt (history side (es ++ event ∷ []))) fronts.new.items) }
-    ensures asked { OnOk result ((blocks : List ℕ) (es : List Event) (before : RequestsFor) →
-        All (FrontAt (history side es)) fronts.old.items →
-        All (WereAsked blocks before) backs.old.items → All (WereAsked blocks (followed_by before
-        (sent_on_side side (map front_rules fronts.old.items) es event))) backs.new.items) }
-    ensures rules { map front_rules fronts.new.items ≡ map front_rules fronts.old.items }
-    ensures tasks { map back_task backs.new.items ≡ map back_task backs.old.items }
-{
-    let Some(request) = asked_of(side, event) else {
-        return Ok(());
-    };
-    if serve_again(fronts, request) {
-        return Ok(());
-    }
-    serve_request(fronts, backs, side, request)
+    /// Numbers of blocks: a table for each `size` second levels.
+    tables: Vec<BlockNumbers>,
+    size: usize,
 }
 
 #[tactic(auto, unfolding(crate::specs::Lanes::lane_task, crate::specs::Lanes::task_of_plan))]
 impl Lane {
-    /// The empty caches of a plan.
-    pub fn new(alloc: Global, plan: &LanePlan) -> Result<Lane, NoMemory>
+    ghost use Rattle.std.specs.Prelude.{◌≡◌, ◌+◌, ◌≤◌, ◌++◌, [], List, IfOk, OnOk, length};
+    ghost use Rattle.din_trace.specs.declared.record.DinRecord.{DinRecord as Event};
+    ghost use Rattle.stage_core.specs.Events.{IsBounded, events};
+    ghost use Rattle.stage_core.specs.SecondLevel.{Hierarchy};
+    ghost use Rattle.stage_core.specs.declared.selection.Selection.{Selection as Chosen};
+    ghost use Rattle.grid_run.specs.Grids.{figures_of};
+    ghost use Rattle.grid_run.specs.Lanes.{HasSettled, HasTaken, HasWorked, IsPlaced};
+    ghost use Rattle.grid_run.specs.Lanes.{lane_task, task_of_plan};
+    ghost use Rattle.grid_run.specs.Rows.{IsPlaceIn};
+
+    /// The empty caches of a plan, for so many threads.
+    pub fn new(alloc: Global, plan: &LanePlan, threads: usize) -> Result<Lane, NoMemory>
         requires bounded { IsBounded plan.now.selection }
         requires placed { IsPlaced (task_of_plan plan.now) }
         ensures taken { IfOk result (λ lane. HasTaken lane []) }
         ensures task { IfOk result (λ lane. lane_task lane ≡ task_of_plan plan.now) }
     {
-        let Ok(numbers) = BlockNumbers::new(alloc) else {
-            return Err(NoMemory);
-        };
+        let count = plan.backs.len();
+        let size = size_of_part(count, threads);
         Ok(Lane {
-            selector: Selector::new(plan.selection),
-            i: fronts_for(alloc, &plan.i)?,
-            d: fronts_for(alloc, &plan.d)?,
+            first: FirstLevels::new(alloc, plan)?,
             backs: backs_for(alloc, &plan.backs)?,
-            numbers,
+            tables: tables_for(alloc, count, size)?,
+            size,
         })
     }
 
-    /// Serves an event in all first-level caches. What these send waits for the second levels.
-    #[inline(always)]
-    fn take_event(&mut self, event: DinRecord) -> Result<(), NoMemory>
-        requires placed { IsPlaced (lane_task self.old) }
-        requires room { (es : List Event) × HasServed self.old es
-            × (length es < 2 * MAX_LIMIT) }
-        ensures served { OnOk result ((es : List Event) → HasServed self.old es
-            → HasServed self.new (es ++ event ∷ [])) }
-        ensures task { lane_task self.new ≡ lane_task self.old }
-        ensures selector { self.new.selector ≡ self.old.selector }
-    {
-        serve_side(&mut self.i, &mut self.backs, Side::I, event)?;
-        serve_side(&mut self.d, &mut self.backs, Side::D, event)
-    }
-
-    /// The same for an event, if there is one.
-    #[inline(always)]
-    fn take_some(&mut self, event: Option<DinRecord>) -> Result<(), NoMemory>
-        requires placed { IsPlaced (lane_task self.old) }
-        requires room { (es : List Event) × HasServed self.old es
-            × (length es < 2 * MAX_LIMIT) }
-        ensures served { OnOk result ((es : List Event) → HasServed self.old es
-            → HasServed self.new (es ++ option_to_list event)) }
-        ensures task { lane_task self.new ≡ lane_task self.old }
-        ensures selector { self.new.selector ≡ self.old.selector }
-    {
-        match event {
-            Some(event) => self.take_event(event),
-            None => Ok(()),
-        }
-    }
-
-    /// Takes a record, and serves the events that the selection makes of it in all first-level
-    /// caches. What these send waits for the second levels.
-    fn take(&mut self, next: DinRecord) -> Result<(), NoMemory>
-        requires room { (past : List Event) × WasGiven self.old past
-            × (length past < MAX_LIMIT) }
-        ensures given { OnOk result ((past : List Event) → WasGiven self.old past
-            → WasGiven self.new (past ++ next ∷ [])) }
-        ensures task { lane_task self.new ≡ lane_task self.old }
-    {
-        selections_make_at_most_two();
-        let picked = self.selector.offer(next);
-        self.take_some(picked.event)?;
-        self.take_some(picked.flush.then_some(INSERTED))
-    }
-
-    /// Takes records in their order: first all first-level caches, then each second level what
-    /// waits for it.
-    pub fn take_batch(&mut self, batch: &[DinRecord]) -> Result<(), NoMemory>
+    /// The first levels take records, and beside that the second levels serve what waits for them.
+    fn work<T: Threads + Sync>(
+        &mut self,
+        rt: &T,
+        threads: usize,
+        part: &[DinRecord],
+    ) -> Result<(), NoMemory>
         requires room { (past : List Event) × HasTaken self.old past
-            × (length past + length batch.now ≤ MAX_LIMIT) }
-        ensures taken { OnOk result ((past : List Event) → HasTaken self.old past
-            → HasTaken self.new (past ++ batch.now)) }
+            × (length past + length part.now ≤ MAX_LIMIT) }
+        ensures worked { OnOk result ((past : List Event) → HasTaken self.old past
+            → HasWorked past (past ++ part.now) self.new) }
         ensures task { lane_task self.new ≡ lane_task self.old }
     {
-        for next in batch {
-            self.take(*next)?;
-        }
         selections_make_at_most_two();
         second_level_sees_at_most_two();
-        settle_backs(&mut self.backs, &mut self.numbers)
+        take_on(
+            rt,
+            threads,
+            self.size,
+            &mut self.backs,
+            &mut self.tables,
+            &mut self.first,
+            part,
+        )
+    }
+
+    /// The same, and then the second levels take over what waits in the queues.
+    fn pass_on<T: Threads + Sync>(
+        &mut self,
+        rt: &T,
+        threads: usize,
+        part: &[DinRecord],
+    ) -> Result<(), NoMemory>
+        requires room { (past : List Event) × HasTaken self.old past
+            × (length past + length part.now ≤ MAX_LIMIT) }
+        ensures taken { OnOk result ((past : List Event) → HasTaken self.old past
+            → HasTaken self.new (past ++ part.now)) }
+        ensures task { lane_task self.new ≡ lane_task self.old }
+    {
+        self.work(rt, threads, part)?;
+        take_over_all(&mut self.first.queues, &mut self.backs);
+        Ok(())
+    }
+
+    /// Serves what waits for the second levels, which give back the lists that they took over.
+    fn give_back<T: Threads + Sync>(&mut self, rt: &T) -> Result<(), NoMemory>
+        requires room { (past : List Event) × HasTaken self.old past
+            × (length past ≤ MAX_LIMIT) }
+        ensures taken { OnOk result ((past : List Event) → HasTaken self.old past
+            → HasTaken self.new past) }
+        ensures task { lane_task self.new ≡ lane_task self.old }
+    {
+        self.settle(rt, 1)?;
+        take_over_all(&mut self.first.queues, &mut self.backs);
+        Ok(())
+    }
+
+    /// Takes records in their order. What they ask of the second levels may wait until more records
+    /// are taken, or until it is settled. One thread serves it at once, so that each queue does
+    /// with one list.
+    pub fn take<T: Threads + Sync>(
+        &mut self,
+        rt: &T,
+        threads: usize,
+        part: &[DinRecord],
+    ) -> Result<(), NoMemory>
+        requires room { (past : List Event) × HasTaken self.old past
+            × (length past + length part.now ≤ MAX_LIMIT) }
+        ensures taken { OnOk result ((past : List Event) → HasTaken self.old past
+            → HasTaken self.new (past ++ part.now)) }
+        ensures task { lane_task self.new ≡ lane_task self.old }
+    {
+        self.pass_on(rt, threads, part)?;
+        if threads < 2 {
+            return self.give_back(rt);
+        }
+        Ok(())
+    }
+
+    /// Serves what waits for the second levels.
+    pub fn settle<T: Threads + Sync>(&mut self, rt: &T, threads: usize) -> Result<(), NoMemory>
+        requires room { (past : List Event) × HasTaken self.old past
+            × (length past ≤ MAX_LIMIT) }
+        ensures settled { OnOk result ((past : List Event) → HasTaken self.old past
+            → HasSettled self.new past) }
+        ensures task { lane_task self.new ≡ lane_task self.old }
+    {
+        selections_make_at_most_two();
+        second_level_sees_at_most_two();
+        settle_on(rt, threads, self.size, &mut self.backs, &mut self.tables)
     }
 
     /// What the caches of a row have counted.
     pub fn figures(&self, place: &Place) -> Figures
         requires { (c : Hierarchy) × (s : Chosen) × IsPlaceIn (lane_task self.now) c s place.now }
         ensures { (c : Hierarchy) (s : Chosen) (past : List Event) →
-            IsPlaceIn (lane_task self.now) c s place.now → HasTaken self.now past →
+            IsPlaceIn (lane_task self.now) c s place.now → HasSettled self.now past →
             result ≡ figures_of c (events s past) }
     {
-        let i = &self.i[place.i.level].level;
-        let d = &self.d[place.d.level].level;
+        let i = &self.first.i[place.i.level].level;
+        let d = &self.first.d[place.d.level].level;
         let u = &self.backs[place.u.level].second.level;
         Figures {
             totals: Totals {

@@ -6,14 +6,16 @@
 //!
 //! What rows have in common is done once. All rows of one selection share a `lane`. In it, the
 //! first-level caches of a side that have one block size and one policy are served together by an
-//! engine of grid_core (`level`, `front`, `fronts`), and each pair of first-level caches has its
-//! second levels behind it (`back`, `backs`, `parts`). `requests` has what an event asks of each
-//! cache, and what the first level asks of the second.
+//! engine of grid_core (`level`, `front`, `fronts`), and what each pair of them sends waits in a
+//! queue (`queue`, `queues`, `parts`): these are the `first_levels`. Behind each queue are second
+//! levels (`second`, `back`, `backs`), which take it over and serve what waits (`settling`).
+//! `beside` does both at once. `requests` has what an event asks of each cache, and what the first
+//! level asks of the second.
 //!
 //! `plan` finds the place of each row: its lane, and a `seat` among the caches of each kind, which
-//! a `shelf` lists. A lane is the work of one thread (`worker`); `crew` gives records to all
-//! workers in batches, on as many threads as are asked for. `run` reads the trace, and `simulation`
-//! is the whole run. `numbers` and `table` write, and `lists` adds to a list.
+//! a `shelf` lists. A lane is the work of a `worker`; `crew` gives records to all workers in
+//! batches, on as many threads as are asked for. `run` reads the trace, and `simulation` is the
+//! whole run. `numbers` and `table` write, and `lists` adds to a list.
 //!
 //! Proved for every reader whose bytes are known: if a run succeeds, the text has no fault, and the
 //! bytes written are exactly the table whose every line is what the definitions give for its
@@ -26,9 +28,11 @@
 
 mod back;
 mod backs;
+mod beside;
 mod crew;
 mod fault;
 mod figures;
+mod first_levels;
 mod front;
 mod fronts;
 mod grid;
@@ -38,10 +42,13 @@ mod lists;
 mod numbers;
 mod parts;
 mod plan;
+mod queue;
+mod queues;
 mod requests;
 mod run;
 mod seat;
 mod second;
+mod settling;
 mod sharing;
 mod shelf;
 mod simulation;

@@ -123,5 +123,8 @@ pub(crate) fn serve_trace<R: ByteReader + Send, T: Threads + Sync>(
     if crew.take(rt, &batch).is_err() {
         return Err(GridFault::Memory);
     }
+    if crew.settle(rt).is_err() {
+        return Err(GridFault::Memory);
+    }
     Ok(())
 }

@@ -17,6 +17,13 @@ pub(crate) struct Seat {
     pub cell: usize,
 }
 
+/// The seats of the two first-level caches in front of second levels.
+#[derive(Clone, Copy, Debug)]
+pub(crate) struct BothSeats {
+    pub i: Seat,
+    pub d: Seat,
+}
+
 /// The index of a shelf for this block size and policy, if there is one.
 fn find_shelf(shelves: &Vec<Shelf>, geometry: Geometry, policy: Policy) -> Option<usize>
     ensures { IfSome result (IsShelfFor geometry policy shelves.now.items) }

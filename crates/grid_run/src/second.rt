@@ -12,6 +12,7 @@ use cache_core::NoMemory;
 use grid_core::BlockNumbers;
 use stage_core::What;
 use std::alloc::Global;
+use std::mem::swap;
 
 /// Second-level caches of one block size and one policy. Requests wait until `settle` serves them
 /// in one go: while it does, what these caches need stays in the processor's own caches.
@@ -36,7 +37,7 @@ fn serve_each(level: &mut Level, requests: &[What]) -> Result<(), NoMemory>
 }
 
 impl Second {
-    ghost use Rattle.std.specs.Prelude.{◌≡◌, ◌≤◌, ◌^◌, ◌++◌, ◌∷◌, [], List, ℕ, IfOk, OnOk, length};
+    ghost use Rattle.std.specs.Prelude.{◌≡◌, ◌≤◌, ◌^◌, ◌++◌, [], List, ℕ, IfOk, OnOk, length};
     ghost use Rattle.stage_core.specs.declared.message.What.{What as Sent};
     ghost use Rattle.grid_core.specs.Numbered.{blocks_in};
     ghost use Rattle.grid_core.specs.Numbers.{GoesOn};
@@ -56,16 +57,22 @@ impl Second {
         })
     }
 
-    /// Takes a request, which waits.
-    pub fn ask(&mut self, what: What) -> Result<(), NoMemory>
-        ensures asked { OnOk result ((blocks : List ℕ) (ws : List Sent) →
-            SecondAsked blocks self.old ws → SecondAsked blocks self.new (ws ++ what ∷ [])) }
+    /// Exchanges the requests that wait, of which there are none here, for others.
+    pub fn swap_waiting(&mut self, waiting: &mut Vec<What>)
+        requires settled { HasSettled self.old }
+        ensures asked { (blocks : List ℕ) (ws : List Sent) → SecondAsked blocks self.old ws →
+            SecondAsked blocks self.new (ws ++ waiting.old.items) }
+        ensures none { waiting.new.items ≡ [] }
         ensures level { self.new.level ≡ self.old.level }
     {
-        if self.waiting.push(what).is_err() {
-            return Err(NoMemory);
-        }
-        Ok(())
+        swap(&mut self.waiting, waiting);
+    }
+
+    /// How many requests wait.
+    pub fn waiting(&self) -> usize
+        ensures { result ≡ length self.now.waiting.items }
+    {
+        self.waiting.len()
     }
 
     /// Serves all requests that wait, by these numbers of blocks, of which there may be more then.

@@ -112,8 +112,8 @@ fn write_table<W: ByteWriter>(
 /// of that row, writes the table and flushes the writer. Of the trace, memory holds a buffer of
 /// bytes, two batches of records, and what the caches know of its blocks. Each number of a
 /// selection is at most 2^40. The rings of the configurations are not used. At most `threads`
-/// threads work at once, this one among them; 0 counts as 1. The table does not depend on how many
-/// there are.
+/// threads simulate at once, this one among them; 0 counts as 1. Unless there is only one, another
+/// one reads. The table does not depend on how many there are.
 pub fn simulate_grid<T: Threads + Sync, R: ByteReader + Drop + Send, W: ByteWriter>(
     rt: &T,
     alloc: Global,

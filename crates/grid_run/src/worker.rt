@@ -1,4 +1,4 @@
-//! A lane as what one thread works on.
+//! A lane as what a worker does.
 
 use crate::figures::Figures;
 use crate::lane::Lane;
@@ -6,10 +6,11 @@ use crate::plan::{LanePlan, Place};
 use cache_core::NoMemory;
 use din_trace::{DinRecord, MAX_LIMIT};
 use std::alloc::Global;
+use std::thread::Threads;
 
-/// The first levels serve so many records before each second level serves what waits for it. More
-/// of them are served a little faster, since each second level finds its own in the processor's
-/// caches for longer; but what waits for it takes more memory.
+/// The first levels take so many records while the second levels serve what they sent for so many
+/// before. More of them are served a little faster, since each second level finds its own in the
+/// processor's caches for longer; but what waits for it takes more memory.
 pub(crate) const PART: usize = 49_152;
 
 /// A lane, and whether it was refused memory. If it was, it takes no more records.
@@ -21,7 +22,7 @@ pub(crate) struct Worker {
 
 #[tactic(auto, unfolding(crate::specs::Workers::worker_task))]
 impl Worker {
-    ghost use Rattle.std.specs.Prelude.{◌≡◌, ◌+◌, ◌≤◌, ◌++◌, [], List, IfOk, false, length};
+    ghost use Rattle.std.specs.Prelude.{◌≡◌, ◌+◌, ◌≤◌, ◌++◌, [], List, IfOk, length};
     ghost use Rattle.din_trace.specs.declared.record.DinRecord.{DinRecord as Event};
     ghost use Rattle.stage_core.specs.Events.{events};
     ghost use Rattle.stage_core.specs.SecondLevel.{Hierarchy};
@@ -29,22 +30,22 @@ impl Worker {
     ghost use Rattle.grid_run.specs.Grids.{figures_of};
     ghost use Rattle.grid_run.specs.Lanes.{task_of_plan};
     ghost use Rattle.grid_run.specs.Rows.{IsPlaceIn, IsSound};
-    ghost use Rattle.grid_run.specs.Workers.{MayHaveTaken, Took, worker_task};
+    ghost use Rattle.grid_run.specs.Workers.{MayHaveSettled, MayHaveTaken, Took, worker_task};
 
-    /// The empty lane of a plan.
-    pub fn new(alloc: Global, plan: &LanePlan) -> Result<Worker, NoMemory>
+    /// The empty lane of a plan, for so many threads.
+    pub fn new(alloc: Global, plan: &LanePlan, threads: usize) -> Result<Worker, NoMemory>
         requires { IsSound plan.now }
         ensures taken { IfOk result (MayHaveTaken []) }
         ensures task { IfOk result (λ worker. worker_task worker ≡ task_of_plan plan.now) }
     {
         Ok(Worker {
-            lane: Lane::new(alloc, plan)?,
+            lane: Lane::new(alloc, plan, threads)?,
             failed: false,
         })
     }
 
     /// Takes some records in their order.
-    fn take_part(&mut self, part: &[DinRecord])
+    fn take_part<T: Threads + Sync>(&mut self, rt: &T, threads: usize, part: &[DinRecord])
         requires room { (past : List Event) × MayHaveTaken past self.old
             × (length past + length part.now ≤ MAX_LIMIT) }
         ensures taken { (past : List Event) → MayHaveTaken past self.old
@@ -52,12 +53,12 @@ impl Worker {
         ensures task { worker_task self.new ≡ worker_task self.old }
     {
         if !self.failed {
-            self.failed = self.lane.take_batch(part).is_err();
+            self.failed = self.lane.take(rt, threads, part).is_err();
         }
     }
 
     /// Takes records in their order, part by part.
-    pub fn take(&mut self, batch: &[DinRecord])
+    pub fn take<T: Threads + Sync>(&mut self, rt: &T, threads: usize, batch: &[DinRecord])
         requires room { (past : List Event) × MayHaveTaken past self.old
             × (length past + length batch.now ≤ MAX_LIMIT) }
         ensures taken { (past : List Event) → MayHaveTaken past self.old
@@ -66,16 +67,28 @@ impl Worker {
     {
         let mut taken = 0;
         'parts: while batch.len() - taken > PART {
-            self.take_part(&batch[taken..taken + PART]);
+            self.take_part(rt, threads, &batch[taken..taken + PART]);
             taken += PART;
         }
-        self.take_part(&batch[taken..]);
+        self.take_part(rt, threads, &batch[taken..]);
+    }
+
+    /// Serves what waits for the second levels.
+    pub fn settle<T: Threads + Sync>(&mut self, rt: &T, threads: usize)
+        requires room { (past : List Event) × MayHaveTaken past self.old
+            × (length past ≤ MAX_LIMIT) }
+        ensures settled { (past : List Event) → MayHaveTaken past self.old
+            → MayHaveSettled past self.new }
+        ensures task { worker_task self.new ≡ worker_task self.old }
+    {
+        if !self.failed {
+            self.failed = self.lane.settle(rt, threads).is_err();
+        }
     }
 
     /// Whether it was refused memory.
     pub fn has_failed(&self) -> bool
-        ensures { result ≡ false → (past : List Event) → MayHaveTaken past self.now
-            → Took past self.now }
+        ensures { result ≡ self.now.failed }
     {
         self.failed
     }

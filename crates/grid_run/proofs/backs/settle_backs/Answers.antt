@@ -1,17 +1,20 @@
-use Rattle.std.proofs.Common.{arith}
+use Rattle.std.proofs.Common.{arith, refl, ◌∙◌}
+use Rattle.std.proofs.Math.Seq.{map-set_same}
 use Rattle.grid_core.specs.Numbered.{blocks_in}
-use Rattle.grid_core.proofs.ListLoops.{all_changed, changed_more, changed_so, still, told_failed}
+use Rattle.grid_core.proofs.ListLoops.{changed_more, changed_so, still}
 use Rattle.grid_core.proofs.MoreNumbers.{on-further}
-use Rattle.grid_run.specs.Backs.{WereAsked}
+use Rattle.grid_run.specs.Backs.{WereAsked, back_task}
 use Rattle.grid_run.proofs.LoopTurns.{settled-more}
 use Rattle.grid_run.proofs.Numbered.{asked-more}
+use Rattle.grid_run.proofs.Slices.{all-turned}
 use Rattle.grid_run.proofs.backs.settle_backs.Goals as goal
 
 pub settle-requires : goal.settle-requires
 settle-requires c =
     let room = c.requires.room in
-    let were = still c.loop-back.invariant.changed c.deref_mut-back-items.ensures.value
-    (WereAsked (blocks_in c.args.numbers.now) room.0) (omega arith) room.1 c.back-item.result in
+    let were = still c.loop-back.invariant.changed refl
+    (WereAsked (blocks_in c.args.numbers.now) room.0) c.loop-back-test.true room.1
+    c.back-item.result in
     record {
       room = (
         room.0,
@@ -38,8 +41,9 @@ loop-back-preserved c =
 
 pub returns-in_err-settle-clause-tasks : goal.returns-in_err-settle-clause-tasks
 returns-in_err-settle-clause-tasks c =
-    told_failed c.loop-back.invariant.changed c.deref_mut-back-items.ensures.value
-    c.args.backs.now.ok.0 c.back-item.result c.settle.new.self c.settle.ensures.task
+    map-set_same back_task c.loop-back.backs c.loop-back.back-index c.settle.new.self
+    c.back-item.result c.settle.ensures.task
+    ∙ c.loop-back.invariant.changed.told
 
 pub returns-in_err-settle-clause-grows : goal.returns-in_err-settle-clause-grows
 returns-in_err-settle-clause-grows c =
@@ -47,8 +51,7 @@ returns-in_err-settle-clause-grows c =
 
 pub returns : goal.returns
 returns c =
-    let all = all_changed c.loop-back.invariant.changed c.deref_mut-back-items.ensures.value
-    c.args.backs.now.ok.0 (omega arith) in
+    let all = all-turned c.loop-back.invariant.changed (omega arith) in
     record {
       asked = λ them were j d lt. (all.changed j d lt).asked them (were j d (all.inside j lt));
       settled = λ j d lt. (all.changed j d lt).settled;

@@ -10,6 +10,6 @@ use Rattle.grid_run.proofs.backs.settle_backs.Given as goal
 abbrev pub invariant-loop-back : goal.invariant-loop-back
 invariant-loop-back l = record {
   changed : HasChanged (Settles (blocks_in l.initial.numbers) (blocks_in l.numbers)) back_task
-      l.initial.back-items l.back-index l.back-items;
+      l.initial.backs l.back-index l.backs;
   grows : GoesOn (blocks_in l.initial.numbers) (blocks_in l.numbers);
 }

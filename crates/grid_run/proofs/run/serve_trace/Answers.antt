@@ -1,5 +1,5 @@
 use Rattle.std.proofs.Common.{◌≡◌, ◌++◌, [], List, Bool, Ok, Err, rules, ap, sym, subst, arith}
-use Rattle.std.proofs.Common.{refl}
+use Rattle.std.proofs.Common.{refl, length-append}
 use Rattle.std.specs.List.{All}
 use Rattle.din_trace.specs.declared.record.DinRecord.{DinRecord}
 use Rattle.grid_run.specs.Rows.{ServedAll}
@@ -53,19 +53,34 @@ returns-then-is_err-clause-reads g c =
     let ended = c.batches.invariant.ended c.batches-test.false in
     (ended.given, ended.fate, ended.went, λ first last l is left. tt)
 
+pub settle-requires-clause-room : goal.settle-requires-clause-room
+settle-requires-clause-room g c κs within =
+    let now = c.batches.invariant in (
+      now.past ++ c.batches.batch.items,
+      when-ok c.take.result c.if-is_err.ensures.negation c.take.ensures.taken now.past now.taken,
+      omega (arith, now.room, length-append now.past c.batches.batch.items),
+    )
+
+pub returns-then-is_err-2-clause-reads : goal.returns-then-is_err-2-clause-reads
+returns-then-is_err-2-clause-reads g c =
+    let ended = c.batches.invariant.ended c.batches-test.false in
+    (ended.given, ended.fate, ended.went, λ first last l is left. tt)
+
 pub returns-clause-reads : goal.returns-clause-reads
 returns-clause-reads g c =
     let now = c.batches.invariant in
     let ended = now.ended c.batches-test.false in
-    let took = when-ok c.take.result c.if-is_err.ensures.negation c.take.ensures.taken now.past
-    now.taken in (
+    let taken = when-ok c.take.result c.if-is_err.ensures.negation c.take.ensures.taken now.past
+    now.taken in
+    let took = when-ok c.settle.result c.if-is_err-2.ensures.negation c.settle.ensures.settled
+    (now.past ++ c.batches.batch.items) taken in (
       ended.given,
       ended.fate,
       ended.went,
       λ first last l is left.
           let all = ended.all first last l is left in (
             all.0,
-            subst (λ (rs : List DinRecord). All (Took rs) c.take.new.self.workers.items)
+            subst (λ (rs : List DinRecord). All (Took rs) c.settle.new.self.workers.items)
                 (sym all.1) took,
           ),
     )

@@ -11,7 +11,7 @@ pub returns-then-not-may_start_threads-clause-taken :
     goal.returns-then-not-may_start_threads-clause-taken
 returns-then-not-may_start_threads-clause-taken g c =
     on-any c.read_batch.result
-    (when-ok c.take.result c.if-is_err.ensures.negation c.take.ensures.goes_on)
+    (when-ok c.take.result c.if-is_err.ensures.negation c.take.ensures.taken)
 
 pub returns-then-is_err-2-clause-read : goal.returns-then-is_err-2-clause-read
 returns-then-is_err-2-clause-read g c =

@@ -1,29 +1,28 @@
-use Rattle.std.proofs.Common.{◌++◌, List, ap, option_to_list, subst, sym, ◌∙◌}
+use Rattle.std.proofs.Common.{◌++◌, ap, option_to_list, subst, sym, ◌∙◌}
 use Rattle.std.proofs.Common.{append-nil, arith}
 use Rattle.std.proofs.lemmas.Result.{on_ok_weaker}
 use Rattle.grid_core.specs.Written.{rules_at}
-use Rattle.stage_core.specs.declared.message.What.{What}
 use Rattle.grid_run.specs.Fronts.{WasLast}
 use Rattle.grid_run.specs.Levels.{rules_in}
-use Rattle.grid_run.specs.Sending.{SecondAsked}
 use Rattle.grid_run.specs.declared.front.Last.{Last}
 use Rattle.grid_run.proofs.Events.{access-parts, flush-parts}
 use Rattle.grid_run.proofs.Sent.{sent-access, sent-by-silent, sent-flush}
 use Rattle.grid_run.proofs.Levels.{list-at, list-inside}
 use Rattle.grid_run.proofs.front.Front.send.Goals as goal
 
-pub returns-in-Silence-clause-sends : goal.returns-in-Silence-clause-sends
-returns-in-Silence-clause-sends c = λ blocks h q ws sent asked.
-    subst (λ (l : List What). SecondAsked blocks c.args.u.now l)
-    (sym (ap (λ l. ws ++ l) (sent-by-silent c.args.self.now h c.args.cell c.args.side q
-    c.requires.inside c.in-Silence.is sent) ∙ append-nil ws)) asked
+pub returns-in-Silence : goal.returns-in-Silence
+returns-in-Silence c = λ h q sent.
+    let ws = c.args.waiting.now.items in
+    sym (ap (λ l. ws ++ l) (sent-by-silent c.args.self.now h c.args.cell c.args.side q
+    c.requires.inside c.in-Silence.is sent) ∙ append-nil ws)
 
-pub returns-in-Access-clause-sends : goal.returns-in-Access-clause-sends
-returns-in-Access-clause-sends c =
+pub returns-in-Access : goal.returns-in-Access
+returns-in-Access c =
     let level = c.args.self.now.level in
     let r = rules_at (rules_in level) c.args.cell in
     let x = c.in-Access.access in
-    on_ok_weaker c.ask_parts.result (λ served blocks h q ws last st.
+    let ws = c.args.waiting.now.items in
+    on_ok_weaker c.ask_parts.result (λ longer h q last.
     let lists = c.args.self.now.lists.items in
     let was = subst (λ (w : Last). WasLast level h w lists q) c.in-Access.is last.last in
     let sent = sent-access level h lists r c.args.side x q was in
@@ -31,8 +30,7 @@ returns-in-Access-clause-sends c =
     c.first_byte-block.result _ _ _ (c.outcome-outcome.ensures h x sent.1)
     (c.first_byte-block.ensures c.args.cell c.requires.inside)
     c.back_part.ensures c.fetch_part-fetch.ensures c.through_part-through.ensures in
-    subst (λ (l : List What). SecondAsked blocks c.ask_parts.new.u (ws ++ l)) (parts ∙ sym sent.0)
-    (served blocks ws st)) c.ask_parts.ensures.asked
+    longer ∙ ap (λ l. ws ++ l) (parts ∙ sym sent.0)) c.ask_parts.ensures
 
 pub index-requires : goal.index-requires
 index-requires c =
@@ -50,12 +48,13 @@ index-requires c =
       v.ok.0,
     )
 
-pub returns-in-Flush-clause-sends : goal.returns-in-Flush-clause-sends
-returns-in-Flush-clause-sends c =
+pub returns-in-Flush : goal.returns-in-Flush
+returns-in-Flush c =
     let level = c.args.self.now.level in
     let r = rules_at (rules_in level) c.args.cell in
     let v = c.args.self.now.lists in
-    on_ok_weaker c.ask_backs.result (λ served blocks h q ws last st.
+    let ws = c.args.waiting.now.items in
+    on_ok_weaker c.ask_backs.result (λ longer h q last.
     let was = subst (λ (w : Last). WasLast level h w v.items q) c.in-Flush.is last.last in
     let sent = sent-flush level h v.items r c.args.side q was in
     let backs = c.deref.ensures.value
@@ -63,5 +62,4 @@ returns-in-Flush-clause-sends c =
     c.index.ensures in
     let parts = flush-parts r c.args.side h c.deref.result.now
     (option_to_list c.flush_part.result) backs c.flush_part.ensures in
-    subst (λ (l : List What). SecondAsked blocks c.ask_backs.new.u (ws ++ l)) (parts ∙ sym sent.0)
-    (served blocks ws st)) c.ask_backs.ensures.asked
+    longer ∙ ap (λ l. ws ++ l) (parts ∙ sym sent.0)) c.ask_backs.ensures

@@ -1,4 +1,4 @@
-use Rattle.std.proofs.Common.{◌≡◌, List, map, ap, sym, subst, ◌∙◌, arith}
+use Rattle.std.proofs.Common.{◌≡◌, List, get_or, map, ap, sym, subst, ◌∙◌, arith}
 use Rattle.std.proofs.lemmas.List.{length-map}
 use Rattle.cache_core.specs.Counts.{counts_of}
 use Rattle.cache_core.specs.History.{Rules}
@@ -10,14 +10,15 @@ use Rattle.stage_core.specs.SecondLevel.{parts_in, second_history, second_level_
 use Rattle.stage_core.specs.declared.message.What.{What}
 use Rattle.stage_core.specs.declared.message.Side.TheVariants as side
 use Rattle.stage_core.specs.declared.selection.Selection.{Selection}
-use Rattle.grid_core.specs.Numbered.{blocks_in}
 use Rattle.grid_core.specs.FullyAssociative.{shadow_misses}
 use Rattle.grid_run.specs.Backs.{NothingWaits, WereAsked, back_task, sent_behind}
+use Rattle.grid_run.specs.FirstLevels.{HasServed, first_task}
 use Rattle.grid_run.specs.Fronts.{FrontAt, front_rules}
-use Rattle.grid_run.specs.Lanes.{HasServed, lane_task}
+use Rattle.grid_run.specs.Lanes.{lane_task}
 use Rattle.grid_run.specs.Levels.{LevelStandsBy}
 use Rattle.grid_run.specs.declared.figures.Figures.{Figures}
 use Rattle.grid_run.proofs.Behind.{at-seat, rules-seated}
+use Rattle.grid_run.proofs.Cuts.{back-asked}
 use Rattle.grid_run.proofs.Placed.{back-inside, back-there, cell-there, requests-there}
 use Rattle.grid_run.proofs.Shelves.{seat-there}
 use Rattle.grid_run.proofs.Rooms.{settled-served}
@@ -57,38 +58,42 @@ shadow_misses-requires-3 c =
     c.index-3.result.now c.index-3.ensures
 
 pub returns : goal.returns
-unfolding lane_task back_task
+unfolding lane_task back_task first_task
 returns c = λ rules chosen past place taken.
     let l = c.args.self.now in
     let p = c.args.place.now in
     let fi = c.index.result.now in
     let fd = c.index-2.result.now in
     let b = c.index-3.result.now in
-    let sel : events l.selector.selection past ≡ events chosen past =
+    let sel : events l.first.selector.selection past ≡ events chosen past =
     ap (λ (s : Selection). events s past) place.selection in
     let es : List DinRecord = events chosen past in
-    let served = subst (HasServed l) sel taken.given.served in
+    let f = l.first in
+    let served = subst (HasServed _ f) sel taken.taken.given.served in
     let on-i = seat-there place.i in
     let on-d = seat-there place.d in
     let h-i = history side.I es in
     let h-d = history side.D es in
-    let st-i = at-seat l.i.items p.i fi c.index.ensures on-i (FrontAt h-i) served.i in
-    let st-d = at-seat l.d.items p.d fd c.index-2.ensures on-d (FrontAt h-d) served.d in
+    let st-i = at-seat f.i.items p.i fi c.index.ensures on-i (FrontAt h-i) served.i in
+    let st-d = at-seat f.d.items p.d fd c.index-2.ensures on-d (FrontAt h-d) served.d in
     let at = c.index-3.ensures in
     let there = back-there l rules chosen p place b at in
     let inside = back-inside l rules chosen p place b at in
+    let were = back-asked taken.taken.asked p.u.level b inside in
     let asked = subst
-    (WereAsked (blocks_in l.numbers)
-    (sent_behind (map front_rules l.i.items) (map front_rules l.d.items) es)) (sym at)
-    (served.backs p.u.level b inside) in
+    (WereAsked were.0 (sent_behind (map front_rules f.i.items) (map front_rules f.d.items) es))
+    (sym at)
+    (subst (λ (rs : List DinRecord). WereAsked were.0
+    (sent_behind (map front_rules f.i.items) (map front_rules f.d.items) rs)
+    (get_or l.backs.items p.u.level b)) sel were.1) in
     let settled = subst NothingWaits (sym at) (taken.settled p.u.level b inside) in
-    let st-u = subst (λ (ws : List What). LevelStandsBy (blocks_in l.numbers) b.second.level
+    let st-u = subst (λ (ws : List What). LevelStandsBy were.0 b.second.level
     (second_history ws))
     (requests-there l rules chosen p place b at es)
     (settled-served _ b.second _ asked.second settled) in
     let h-u = second_history (second_level_requests (parts_in rules) es) in
-    let rules-i = rules-seated l.i.items p.i fi c.index.ensures on-i ∙ place.i.rules in
-    let rules-d = rules-seated l.d.items p.d fd c.index-2.ensures on-d ∙ place.d.rules in
+    let rules-i = rules-seated f.i.items p.i fi c.index.ensures on-i ∙ place.i.rules in
+    let rules-d = rules-seated f.d.items p.d fd c.index-2.ensures on-d ∙ place.d.rules in
     let rules-u = there.cell.rules in
     let i = c.counts.ensures _ h-i st-i.stands ∙ ap (λ (r : Rules). counts_of r h-i) rules-i in
     let d = c.counts-2.ensures _ h-d st-d.stands ∙ ap (λ (r : Rules). counts_of r h-d) rules-d in

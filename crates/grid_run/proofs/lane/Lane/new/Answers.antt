@@ -1,36 +1,47 @@
-use Rattle.std.proofs.Common.{[], List, map, ap, sym, refl, subst, ◌∙◌}
-use Rattle.std.specs.List.{All}
-use Rattle.grid_run.specs.Backs.{BackTask, IsPlacedIn, no_requests, sent_behind, task_of_shelf}
-use Rattle.grid_run.specs.Fronts.{front_rules}
+use Rattle.std.proofs.Common.{length, map, ap, ◌∙◌, arith}
+use Rattle.std.proofs.lemmas.List.{length-map}
+use Rattle.grid_core.specs.Numbered.{blocks_in}
+use Rattle.grid_run.specs.Backs.{back_task}
+use Rattle.grid_run.specs.Backs.{task_of_shelf}
+use Rattle.grid_run.specs.FirstLevels.{FirstTask, first_of_plan, first_task}
 use Rattle.grid_run.specs.Lanes.{lane_task, task_of_plan}
-use Rattle.grid_run.specs.Seats.{rules_on}
-use Rattle.grid_run.proofs.Behind.{asked-same}
-use Rattle.grid_run.proofs.Placed.{placed-same}
+use Rattle.grid_run.proofs.Given.{seated}
+use Rattle.grid_run.proofs.Placed.{matched, same-lane}
 use Rattle.grid_run.proofs.lane.Lane.new.Goals as goal
 
-pub returns-clause-taken : goal.returns-clause-taken
-unfolding lane_task task_of_plan
-returns-clause-taken c =
-    let is = c.in_ok-fronts_for.field-0.items in
-    let ds = c.in_ok-fronts_for-2.field-0.items in
-    let i = c.in_ok-fronts_for.ensures.rules ∙ ap (map rules_on) c.deref.ensures.value in
-    let d = c.in_ok-fronts_for-2.ensures.rules ∙ ap (map rules_on) c.deref-2.ensures.value in
-    let backs = c.in_ok-backs_for.ensures.tasks
-    ∙ ap (map task_of_shelf) c.deref-3.ensures.value in
+pub new-requires : goal.new-requires
+unfolding task_of_plan first_of_plan
+new-requires c = record {
+  bounded = c.requires.bounded;
+  seated = seated _ _ _ c.requires.placed;
+}
+
+pub returns : goal.returns
+unfolding lane_task task_of_plan first_task first_of_plan
+returns c =
+    let f = c.in_ok-new.field-0 in
+    let bs = c.in_ok-backs_for.field-0.items in
+    let shelves = c.args.plan.now.backs.items in
+    let task = c.in_ok-new.ensures.task in
+    let tasks = c.in_ok-backs_for.ensures.tasks
+    ∙ ap (map task_of_shelf) c.deref.ensures.value in
     record {
-      given = record {
-        placed = subst (λ (ts : List BackTask).
-            All (IsPlacedIn (map front_rules is) (map front_rules ds)) ts) (sym backs)
-            (placed-same _ i d c.requires.placed);
-        offered = c.new-2.ensures.none;
-        served = record {
-          i = c.in_ok-fronts_for.ensures.stands;
-          d = c.in_ok-fronts_for-2.ensures.stands;
-          backs = asked-same _ no_requests
-              (sent_behind (map front_rules is) (map front_rules ds) [])
-              c.in_ok-backs_for.field-0.items (λ k b lt. refl)
-              (c.in_ok-backs_for.ensures.asked _);
+      taken = record {
+        given = c.in_ok-new.ensures.given;
+        asked = record {
+          sized = c.size_of_part-size.ensures;
+          covered = omega (
+            arith,
+            c.in_ok-tables_for.ensures,
+            ap length tasks,
+            length-map bs back_task,
+            length-map shelves task_of_shelf,
+            c.args.plan.now.backs.ok.0,
+          );
+          asked = λ k n b lt. c.in_ok-backs_for.ensures.asked (blocks_in _) k b lt;
         };
+        matched = matched f.queues.items bs shelves (ap (λ (t : FirstTask). t.seats) task) tasks;
       };
-      settled = c.in_ok-backs_for.ensures.settled;
+      task = same-lane (ap (λ (t : FirstTask). t.selection) task)
+          (ap (λ (t : FirstTask). t.i) task) (ap (λ (t : FirstTask). t.d) task) tasks;
     }

@@ -6,13 +6,13 @@ use Rattle.grid_run.specs.Workers.{MayHaveTaken}
 use Rattle.grid_run.proofs.worker.Worker.take.Goals as goal
 
 pub parts-smaller : goal.parts-smaller
-parts-smaller c =
+parts-smaller g c =
     let lt = c.parts-test.true in
     let within = c.parts.invariant.within in
     omega arith
 
 pub parts-preserved : goal.parts-preserved
-parts-preserved c =
+parts-preserved g c =
     let xs = c.args.batch.now in
     let k = c.parts.taken in
     let lt = c.parts-test.true in

@@ -5,7 +5,7 @@ use Rattle.grid_run.proofs.worker.Worker.take.Given as goal
 
 -- the records of the parts that were passed were taken
 abbrev pub invariant-parts : goal.invariant-parts
-invariant-parts l = record {
+invariant-parts g l = record {
   taken : (past : List DinRecord) → MayHaveTaken past l.initial.self →
       MayHaveTaken (past ++ take l.taken l.batch) l.self;
   within : l.taken ≤ length l.batch;
@@ -14,4 +14,4 @@ invariant-parts l = record {
 
 -- each turn leaves fewer records
 abbrev pub decreases-parts : goal.decreases-parts
-decreases-parts l = length l.batch - l.taken
+decreases-parts g l = length l.batch - l.taken

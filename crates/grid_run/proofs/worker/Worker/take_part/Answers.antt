@@ -1,6 +1,6 @@
 use Rattle.grid_run.proofs.worker.Worker.take_part.Goals as goal
 
-pub take_batch-requires : goal.take_batch-requires
-take_batch-requires c =
+pub take-requires-clause-room : goal.take-requires-clause-room
+take-requires-clause-room g c κs within =
     let room = c.requires.room in
-    record { room = (room.0, room.1.lane c.if-not-self.true, room.2) }
+    (room.0, room.1.lane c.if-not-self.true, room.2)

@@ -1,0 +1,73 @@
+-- What first levels sent for the records that they were given.
+use Rattle.std.proofs.Common.{◌≡◌, ◌≤◌, ◌*◌, ◌^◌, ◌++◌, List, length, get_or, map, ap, sym, subst}
+use Rattle.std.proofs.Common.{◌∙◌, append-nil, arith}
+use Rattle.std.specs.Global.{Vec}
+use Rattle.std.specs.List.{All}
+use Rattle.std.proofs.lemmas.List.Elements.{All-map}
+use Rattle.din_trace.specs.declared.record.DinRecord.{DinRecord}
+use Rattle.grid_core.proofs.ListLoops.{told-at}
+use Rattle.stage_core.specs.Events.{events}
+use Rattle.stage_core.specs.Laws.{SecondLevelSeesAtMostTwo, SelectionsMakeAtMostTwo}
+use Rattle.stage_core.specs.SecondLevel.{second_history}
+use Rattle.stage_core.proofs.Worked.{length-second_history, the_hierarchy}
+use Rattle.grid_run.specs.Backs.{AreFew, AreSeatsIn, HasNone, IsPlacedIn, RequestsFor}
+use Rattle.grid_run.specs.Backs.{queue_seats, seats_of_task, sent_behind, task_of_shelf}
+use Rattle.grid_run.specs.FirstLevels.{FirstTask, WasGiven, first_task, sent_by}
+use Rattle.grid_run.specs.Fronts.{front_rules}
+use Rattle.grid_run.specs.Seats.{Table, rules_of_seat}
+use Rattle.grid_run.specs.declared.first_levels.FirstLevels.{FirstLevels}
+use Rattle.grid_run.specs.declared.plan.BackShelf.{BackShelf}
+use Rattle.grid_run.specs.declared.queue.Queue.{Queue}
+use Rattle.grid_run.specs.declared.seat.BothSeats.{BothSeats}
+
+-- for few records they sent few requests
+pub few-sent : SecondLevelSeesAtMostTwo → SelectionsMakeAtMostTwo → (t : FirstTask)
+    (records : List DinRecord) → length records ≤ 2 ^ 40 → AreFew (sent_by t records)
+few-sent sees makes t records few = record {
+  few = λ p.
+      let es = events t.selection records in
+      let i = rules_of_seat t.i p.i in
+      let d = rules_of_seat t.d p.d in
+      let seen : length (second_history (sent_by t records p)) ≤ 2 * length es =
+      sees (the_hierarchy i d d) es in
+      omega (
+        arith,
+        seen,
+        length-second_history (sent_by t records p),
+        makes t.selection records,
+        few,
+      );
+}
+
+-- where second levels are behind seats of a lane, so are their queues
+pub seated : (i d : Table) (shelves : List BackShelf)
+    → All (IsPlacedIn i d) (map task_of_shelf shelves)
+    → All (AreSeatsIn i d) (map (λ shelf. seats_of_task (task_of_shelf shelf)) shelves)
+seated i d shelves placed =
+    All-map (AreSeatsIn i d) (λ shelf. seats_of_task (task_of_shelf shelf)) shelves
+    (told-at task_of_shelf (IsPlacedIn i d) shelves placed)
+
+-- first levels whose queues are empty have given all that they sent to the second levels
+pub emptied : (f : FirstLevels) (qs : Vec Queue) (records : List DinRecord)
+    (before : RequestsFor) → map queue_seats qs.items ≡ map queue_seats f.queues.items
+    → All HasNone qs.items → WasGiven before f records
+    → WasGiven (sent_by (first_task (record f { queues = qs })) records)
+    (record f { queues = qs }) records
+unfolding first_task
+emptied f qs records before seats none given =
+    let is = map front_rules f.i.items in
+    let ds = map front_rules f.d.items in
+    let sent = sent_behind is ds (events f.selector.selection records) in
+    record {
+      seated = subst (λ (ps : List BothSeats). All (AreSeatsIn is ds) ps) (sym seats) given.seated;
+      offered = given.offered;
+      served = record {
+        i = given.served.i;
+        d = given.served.d;
+        queues = λ k q lt.
+            let p = queue_seats (get_or qs.items k q) in
+            record {
+              all = sym (ap (λ ws. sent p ++ ws) (none k q lt).none ∙ append-nil (sent p));
+            };
+      };
+    }

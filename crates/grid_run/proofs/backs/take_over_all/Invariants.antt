@@ -1,0 +1,18 @@
+use Rattle.std.specs.Prelude.{⊤}
+use Rattle.std.specs.List.{All}
+use Rattle.grid_core.proofs.ListLoops.{HasChanged}
+use Rattle.grid_run.specs.Backs.{AreWaiting, HasNone, RequestsFor, back_task, queue_seats}
+use Rattle.grid_run.specs.declared.back.Back.{Back}
+use Rattle.grid_run.specs.declared.queue.Queue.{Queue}
+use Rattle.grid_run.proofs.LoopTurns.{TakesOver}
+use Rattle.grid_run.proofs.backs.take_over_all.Given as goal
+
+-- the second levels that were passed have taken over their queues, and the others are as they were
+abbrev pub invariant-loop-index : goal.invariant-loop-index
+invariant-loop-index l = record {
+  queues : HasChanged (λ (old new : Queue). HasNone new) queue_seats l.initial.queues.items l.index
+      l.queues.items;
+  backs : HasChanged (λ (old new : Back). ⊤) back_task l.initial.back-items l.index l.back-items;
+  asked : (served all : RequestsFor) → All (AreWaiting served all) l.initial.queues.items →
+      HasChanged (TakesOver served all) back_task l.initial.back-items l.index l.back-items;
+}

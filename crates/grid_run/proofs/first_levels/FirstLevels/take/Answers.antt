@@ -1,0 +1,108 @@
+use Rattle.std.proofs.Common.{◌≡◌, ◌++◌, ◌∷◌, [], Bool, true, false, List, count_by}
+use Rattle.std.proofs.Common.{option_to_list, refl, ap, sym, subst, ◌∙◌, append_assoc, arith}
+use Rattle.std.proofs.Common.{length-append}
+use Rattle.std.specs.Bool.{then_some}
+use Rattle.std.proofs.lemmas.Result.{on_ok_weaker}
+use Rattle.din_trace.specs.declared.record.DinRecord.{DinRecord}
+use Rattle.stage_core.specs.Events.{events, events_at, inserted_flush, is_reference, picked}
+use Rattle.stage_core.specs.Events.{picked_events}
+use Rattle.stage_core.specs.Places.{list_if}
+use Rattle.stage_core.specs.declared.selection.Picked.{Picked}
+use Rattle.stage_core.specs.Standing.{WasOffered}
+use Rattle.stage_core.specs.declared.selection.Selection.{Selection}
+use Rattle.stage_core.specs.declared.selection.Selector.{Selector}
+use Rattle.stage_core.proofs.Place.{flat_map_with_past-more}
+use Rattle.grid_run.specs.FirstLevels.{AreSeated, HasServed, first_task}
+use Rattle.grid_run.proofs.Events.{few-option}
+use Rattle.grid_run.proofs.Placed.{served-by-same}
+use Rattle.grid_run.proofs.first_levels.FirstLevels.take.Goals as goal
+
+-- the flush that a selection inserts, if it does
+one-flush : (b : Bool) (x : DinRecord) → option_to_list (then_some b x) ≡ list_if b x
+one-flush true x = refl
+one-flush false x = refl
+
+pub offer-picked-requires : goal.offer-picked-requires
+offer-picked-requires c =
+    let room = c.requires.room in
+    let count = room.2.offered.count in
+    omega (arith, count, room.3)
+
+pub take_some-requires : goal.take_some-requires
+unfolding first_task
+take_some-requires c =
+    let room = c.requires.room in
+    let sel = c.args.self.now.selector.selection in
+    let few = c.selections_make_at_most_two.ensures sel room.1 in
+    record {
+      seated = room.2.seated;
+      room = (
+        room.0,
+        events sel room.1,
+        served-by-same room.0 c.offer-picked.new.self c.args.self.now (events sel room.1)
+            room.2.served,
+        omega (arith, few, room.3),
+      );
+    }
+
+pub take_some-requires-2 : goal.take_some-requires-2
+unfolding first_task
+take_some-requires-2 c =
+    let room = c.requires.room in
+    let sel = c.args.self.now.selector.selection in
+    let es : List DinRecord = events sel room.1 in
+    let event = option_to_list c.offer-picked.result.event in
+    let few = c.selections_make_at_most_two.ensures sel room.1 in
+    let picking = served-by-same room.0 c.offer-picked.new.self c.args.self.now es room.2.served in
+    record {
+      seated = subst AreSeated (sym c.take_some.ensures.task) room.2.seated;
+      room = (
+        room.0,
+        es ++ event,
+        c.in_ok-take_some.ensures.served room.0 es picking,
+        omega (
+          arith,
+          few,
+          room.3,
+          length-append es event,
+          few-option c.offer-picked.result.event,
+        ),
+      );
+    }
+
+pub returns-clause-given : goal.returns-clause-given
+unfolding first_task
+returns-clause-given c =
+    let old = c.args.self.now in
+    let new = c.take_some-2.new.self in
+    let sel = old.selector.selection in
+    let next = c.args.next in
+    let event = option_to_list c.offer-picked.result.event in
+    let last = option_to_list c.then_some.result in
+    let flushes = ap option_to_list c.then_some.ensures
+    ∙ one-flush c.offer-picked.result.flush inserted_flush in
+    let selector = c.take_some-2.ensures.selector ∙ c.take_some.ensures.selector in
+    let selection = ap (λ (s : Selector). s.selection) selector
+    ∙ c.offer-picked.ensures.selection in
+    on_ok_weaker c.take_some-2.result (λ second given past was.
+    let es : List DinRecord = events sel past in
+    let picks : c.offer-picked.result
+    ≡ picked sel (count_by is_reference (past ++ next ∷ [])) next =
+    c.offer-picked.ensures.picked past was.offered in
+    let longer : (es ++ event) ++ last ≡ events sel (past ++ next ∷ []) =
+    append_assoc es event last
+    ∙ ap (λ l. es ++ (event ++ l)) flushes
+    ∙ ap (λ (p : Picked). es ++ picked_events p) picks
+    ∙ sym (flat_map_with_past-more (events_at sel) past next) in
+    let picking = served-by-same given c.offer-picked.new.self old es was.served in
+    record {
+      seated = subst AreSeated (sym (c.take_some-2.ensures.task ∙ c.take_some.ensures.task))
+          was.seated;
+      offered = subst (λ (s : Selector). WasOffered s (past ++ next ∷ [])) (sym selector)
+          (c.offer-picked.ensures.stands past was.offered);
+      served = subst (λ (s : Selection). HasServed given new (events s (past ++ next ∷ [])))
+          (sym selection)
+          (subst (λ (l : List DinRecord). HasServed given new l) longer
+          (second given (es ++ event) (c.in_ok-take_some.ensures.served given es picking)));
+    })
+    c.take_some-2.ensures.served

@@ -1,0 +1,46 @@
+use Rattle.std.proofs.Common.{◌≡◌, List, map, ap, sym, refl, subst, ◌∙◌}
+use Rattle.std.specs.List.{All}
+use Rattle.std.proofs.lemmas.Result.{on_ok_weaker}
+use Rattle.grid_run.specs.Backs.{AreWaiting, followed_by, sent_for}
+use Rattle.grid_run.specs.Fronts.{HasSent, IsSilent, front_rules}
+use Rattle.grid_run.specs.Seats.{Table}
+use Rattle.grid_run.specs.Sending.{event_of}
+use Rattle.grid_run.specs.declared.front.Front.{Front}
+use Rattle.grid_run.proofs.Behind.{nothing-asked}
+use Rattle.grid_run.proofs.first_levels.serve_request.Goals as goal
+
+pub returns-then-are_silent-clause-asked : goal.returns-then-are_silent-clause-asked
+returns-then-are_silent-clause-asked c = λ given h before all was.
+    let q = c.args.request in
+    let bs = c.args.queues.now.items in
+    let old : Table = map front_rules c.args.fronts.now.items in
+    let silent = subst (λ (l : List Front). All IsSilent l) c.deref.ensures.value
+    (c.if-are_silent.ensures refl) in
+    nothing-asked c.serve_fronts.new.fronts.items old c.serve_fronts.ensures.rules c.args.side bs
+    c.requires.placed silent h q (c.in_ok-serve_fronts.ensures.sent h all) given before was
+
+pub ask_queues-requires-clause-sent : goal.ask_queues-requires-clause-sent
+ask_queues-requires-clause-sent c =
+    let room = c.requires.room in
+    let q = c.args.request in (
+      room.0,
+      q,
+      subst (λ (l : List Front). All (HasSent room.0 q) l) (sym c.deref-2.ensures.value)
+          (c.in_ok-serve_fronts.ensures.sent room.0 room.1),
+    )
+
+pub returns-clause-asked : goal.returns-clause-asked
+returns-clause-asked c =
+    let s = c.args.side in
+    let q = c.args.request in
+    let bs = c.ask_queues.new.queues.items in
+    let old : Table = map front_rules c.args.fronts.now.items in
+    let now : Table = map front_rules c.deref-2.result.now in
+    let same : now ≡ old = ap (map front_rules) c.deref-2.ensures.value
+    ∙ c.serve_fronts.ensures.rules in
+    on_ok_weaker c.ask_queues.result (λ asked given h before all was.
+    let sent = subst (λ (l : List Front). All (HasSent h q) l) (sym c.deref-2.ensures.value)
+    (c.in_ok-serve_fronts.ensures.sent h all) in
+    subst (λ (fs : Table). All (AreWaiting given (followed_by before (sent_for s fs h
+    (event_of q)))) bs)
+    same (asked given h q before sent was)) c.ask_queues.ensures.asked

@@ -1,0 +1,10 @@
+use Rattle.grid_core.proofs.ListLoops.{HasChanged}
+use Rattle.grid_run.specs.Backs.{queue_seats}
+use Rattle.grid_run.proofs.LoopTurns.{Asks}
+use Rattle.grid_run.proofs.queues.ask_queues.Given as goal
+
+-- the queues that were passed took what was sent, and the others are as they were
+abbrev pub invariant-loop-queue : goal.invariant-loop-queue
+invariant-loop-queue l =
+    HasChanged (Asks l.fn.side l.fronts) queue_seats l.initial.queue-items l.queue-index
+    l.queue-items

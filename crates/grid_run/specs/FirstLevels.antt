@@ -1,0 +1,70 @@
+-- The first-level caches of all rows of one selection, and what they send.
+use Rattle.std.specs.Prelude.{◌++◌, List, map}
+use Rattle.std.specs.List.{All}
+use Rattle.din_trace.specs.declared.record.DinRecord.{DinRecord}
+use Rattle.stage_core.specs.Events.{events, history}
+use Rattle.stage_core.specs.Standing.{WasOffered}
+use Rattle.stage_core.specs.declared.message.Side.TheVariants as side
+use Rattle.stage_core.specs.declared.selection.Selection.{Selection}
+use Rattle.grid_run.specs.Backs.{AreSeatsIn, AreWaiting, RequestsFor, queue_seats}
+use Rattle.grid_run.specs.Backs.{seats_of_task, sent_behind, task_of_shelf}
+use Rattle.grid_run.specs.Fronts.{FrontAt, front_rules}
+use Rattle.grid_run.specs.Seats.{Table, rules_on}
+use Rattle.grid_run.specs.declared.first_levels.FirstLevels.{FirstLevels}
+use Rattle.grid_run.specs.declared.plan.LanePlan.{LanePlan}
+use Rattle.grid_run.specs.declared.seat.BothSeats.{BothSeats}
+
+-- what first-level caches do: their selection, the rules of the caches of both sides, and the
+-- seats to which second levels listen
+pub record FirstTask : Type 0 where
+  pub selection : Selection
+  pub i : Table
+  pub d : Table
+  pub seats : List BothSeats
+
+-- what these do
+unfoldable pub first_task : FirstLevels → FirstTask
+first_task f = record {
+  selection = f.selector.selection;
+  i = map front_rules f.i.items;
+  d = map front_rules f.d.items;
+  seats = map queue_seats f.queues.items;
+}
+
+-- what those of this plan do
+unfoldable pub first_of_plan : LanePlan → FirstTask
+first_of_plan p = record {
+  selection = p.selection;
+  i = map rules_on p.i.items;
+  d = map rules_on p.d.items;
+  seats = map (λ shelf. seats_of_task (task_of_shelf shelf)) p.backs.items;
+}
+
+-- all queues are behind caches of these first levels
+abbrev pub AreSeated : FirstTask → Type 0
+AreSeated t = All (AreSeatsIn t.i t.d) t.seats
+
+-- all that such caches send for what is selected of these records
+abbrev pub sent_by : FirstTask → List DinRecord → RequestsFor
+sent_by t records = sent_behind t.i t.d (events t.selection records)
+
+-- the caches have served these events; what they sent for them is what the second levels were
+-- given before, and then what waits
+pub record HasServed (given : RequestsFor) (f : FirstLevels) (es : List DinRecord) : Type 0 where
+  pub i : All (FrontAt (history side.I es)) f.i.items
+  pub d : All (FrontAt (history side.D es)) f.d.items
+  pub queues :
+      All (AreWaiting given
+      (sent_behind (map front_rules f.i.items) (map front_rules f.d.items) es)) f.queues.items
+
+-- the caches were given these records: they have served what is selected of them
+pub record WasGiven (given : RequestsFor) (f : FirstLevels) (records : List DinRecord)
+    : Type 0 where
+  pub seated : AreSeated (first_task f)
+  pub offered : WasOffered f.selector records
+  pub served : HasServed given f (events f.selector.selection records)
+
+-- caches were given these records behind all that they had been given
+pub record HaveTaken (records : List DinRecord) (old new : FirstLevels) : Type 0 where
+  pub given : (given : RequestsFor) (past : List DinRecord) → WasGiven given old past
+      → WasGiven given new (past ++ records)

@@ -1,0 +1,181 @@
+//! The first-level caches of all rows of one selection.
+
+ghost use Rattle.std.specs.Prelude.{◌≡◌, ◌<◌, ◌≤◌, ◌+◌, ◌*◌, ◌^◌, ◌++◌, ◌∷◌, [], List, IfOk};
+ghost use Rattle.std.specs.Prelude.{OnOk, length, map, option_to_list};
+ghost use Rattle.std.specs.List.{All};
+ghost use Rattle.cache_core.specs.History.{History};
+ghost use Rattle.din_trace.specs.declared.record.DinRecord.{DinRecord as Event};
+ghost use Rattle.stage_core.specs.Events.{IsBounded, history};
+ghost use Rattle.grid_run.specs.Backs.{AreWaiting, IsPlacedOn, RequestsFor, followed_by};
+ghost use Rattle.grid_run.specs.Backs.{no_requests, queue_seats, sent_for, sent_on_side};
+ghost use Rattle.grid_run.specs.FirstLevels.{AreSeated, HasServed, WasGiven, first_of_plan};
+ghost use Rattle.grid_run.specs.FirstLevels.{first_task};
+ghost use Rattle.grid_run.specs.Fronts.{FrontAt, front_rules};
+ghost use Rattle.grid_run.specs.Sending.{event_of};
+
+use crate::front::Front;
+use crate::fronts::{are_silent, fronts_for, serve_again, serve_fronts};
+use crate::plan::LanePlan;
+use crate::queue::Queue;
+use crate::queues::{ask_queues, queues_for};
+use crate::requests::{Request, asked_of};
+use cache_core::NoMemory;
+use din_trace::{DinRecord, Label, MAX_LIMIT};
+use stage_core::{Selector, Side, selections_make_at_most_two};
+use std::alloc::Global;
+
+/// The flush that a selection inserts.
+const INSERTED: DinRecord = DinRecord {
+    label: Label::Flush,
+    addr: 0,
+};
+
+/// A selector, the first-level caches that serve what it selects, and the queues of what these
+/// send.
+#[derive(Drop)]
+pub(crate) struct FirstLevels {
+    selector: Selector,
+    pub i: Vec<Front>,
+    pub d: Vec<Front>,
+    pub queues: Vec<Queue>,
+}
+
+/// Serves a request in all caches of a side. What these send waits for the second levels. Not
+/// inlined, so that what an event does not ask of a side costs next to nothing.
+#[inline(never)]
+fn serve_request(
+    fronts: &mut Vec<Front>,
+    queues: &mut Vec<Queue>,
+    side: Side,
+    request: Request,
+) -> Result<(), NoMemory>
+    requires placed { All (IsPlacedOn side (map front_rules fronts.old.items))
+        (map queue_seats queues.old.items) }
+    requires room { (h : History) × All (FrontAt h) fronts.old.items × (length h < 2 ^ 44) }
+    ensures stands { OnOk result ((h : History) → All (FrontAt h) fronts.old.items →
+        All (FrontAt (event_of request ∷ h)) fronts.new.items) }
+    ensures asked { OnOk result ((served : RequestsFor) (h : History) (before : RequestsFor) →
+        All (FrontAt h) fronts.old.items → All (AreWaiting served before) queues.old.items →
+        All (AreWaiting served (followed_by before
+        (sent_for side (map front_rules fronts.old.items) h (event_of request))))
+        queues.new.items) }
+    ensures rules { map front_rules fronts.new.items ≡ map front_rules fronts.old.items }
+    ensures seats { map queue_seats queues.new.items ≡ map queue_seats queues.old.items }
+{
+    serve_fronts(fronts, request)?;
+    if are_silent(fronts) {
+        return Ok(());
+    }
+    ask_queues(queues, fronts, side)
+}
+
+/// Serves what an event asks of a side, if it does. This is inlined, as are its callers and what
+/// leads to the short way, which is so served within the loop over the records. Not inlined, a
+/// fetch took about 30 instructions more.
+#[inline(always)]
+fn serve_side(
+    fronts: &mut Vec<Front>,
+    queues: &mut Vec<Queue>,
+    side: Side,
+    event: DinRecord,
+) -> Result<(), NoMemory>
+    requires placed { All (IsPlacedOn side (map front_rules fronts.old.items))
+        (map queue_seats queues.old.items) }
+    requires room { (es : List Event) × All (FrontAt (history side es)) fronts.old.items
+        × (length es < 2 * MAX_LIMIT) }
+    ensures stands { OnOk result ((es : List Event) →
+        All (FrontAt (history side es)) fronts.old.items →
+        All (FrontAt (history side (es ++ event ∷ []))) fronts.new.items) }
+    ensures asked { OnOk result ((served : RequestsFor) (es : List Event) (before : RequestsFor) →
+        All (FrontAt (history side es)) fronts.old.items →
+        All (AreWaiting served before) queues.old.items → All (AreWaiting served (followed_by before
+        (sent_on_side side (map front_rules fronts.old.items) es event))) queues.new.items) }
+    ensures rules { map front_rules fronts.new.items ≡ map front_rules fronts.old.items }
+    ensures seats { map queue_seats queues.new.items ≡ map queue_seats queues.old.items }
+{
+    let Some(request) = asked_of(side, event) else {
+        return Ok(());
+    };
+    if serve_again(fronts, request) {
+        return Ok(());
+    }
+    serve_request(fronts, queues, side, request)
+}
+
+#[tactic(auto, unfolding(crate::specs::FirstLevels::first_task, crate::specs::FirstLevels::first_of_plan))]
+impl FirstLevels {
+    /// The empty caches of a plan.
+    pub fn new(alloc: Global, plan: &LanePlan) -> Result<FirstLevels, NoMemory>
+        requires bounded { IsBounded plan.now.selection }
+        requires seated { AreSeated (first_of_plan plan.now) }
+        ensures given { IfOk result (λ first. WasGiven no_requests first []) }
+        ensures task { IfOk result (λ first. first_task first ≡ first_of_plan plan.now) }
+    {
+        Ok(FirstLevels {
+            selector: Selector::new(plan.selection),
+            i: fronts_for(alloc, &plan.i)?,
+            d: fronts_for(alloc, &plan.d)?,
+            queues: queues_for(alloc, &plan.backs)?,
+        })
+    }
+
+    /// Serves an event in all caches. What these send waits for the second levels.
+    #[inline(always)]
+    fn take_event(&mut self, event: DinRecord) -> Result<(), NoMemory>
+        requires seated { AreSeated (first_task self.old) }
+        requires room { (served : RequestsFor) × (es : List Event) × HasServed served self.old es
+            × (length es < 2 * MAX_LIMIT) }
+        ensures served { OnOk result ((served : RequestsFor) (es : List Event) →
+            HasServed served self.old es → HasServed served self.new (es ++ event ∷ [])) }
+        ensures task { first_task self.new ≡ first_task self.old }
+        ensures selector { self.new.selector ≡ self.old.selector }
+    {
+        serve_side(&mut self.i, &mut self.queues, Side::I, event)?;
+        serve_side(&mut self.d, &mut self.queues, Side::D, event)
+    }
+
+    /// The same for an event, if there is one.
+    #[inline(always)]
+    fn take_some(&mut self, event: Option<DinRecord>) -> Result<(), NoMemory>
+        requires seated { AreSeated (first_task self.old) }
+        requires room { (served : RequestsFor) × (es : List Event) × HasServed served self.old es
+            × (length es < 2 * MAX_LIMIT) }
+        ensures served { OnOk result ((served : RequestsFor) (es : List Event) →
+            HasServed served self.old es → HasServed served self.new (es ++ option_to_list event)) }
+        ensures task { first_task self.new ≡ first_task self.old }
+        ensures selector { self.new.selector ≡ self.old.selector }
+    {
+        match event {
+            Some(event) => self.take_event(event),
+            None => Ok(()),
+        }
+    }
+
+    /// Takes a record, and serves the events that the selection makes of it.
+    fn take(&mut self, next: DinRecord) -> Result<(), NoMemory>
+        requires room { (served : RequestsFor) × (past : List Event)
+            × WasGiven served self.old past × (length past < MAX_LIMIT) }
+        ensures given { OnOk result ((served : RequestsFor) (past : List Event) →
+            WasGiven served self.old past → WasGiven served self.new (past ++ next ∷ [])) }
+        ensures task { first_task self.new ≡ first_task self.old }
+    {
+        selections_make_at_most_two();
+        let picked = self.selector.offer(next);
+        self.take_some(picked.event)?;
+        self.take_some(picked.flush.then_some(INSERTED))
+    }
+
+    /// Takes records in their order.
+    pub fn take_part(&mut self, part: &[DinRecord]) -> Result<(), NoMemory>
+        requires room { (served : RequestsFor) × (past : List Event)
+            × WasGiven served self.old past × (length past + length part.now ≤ MAX_LIMIT) }
+        ensures given { OnOk result ((served : RequestsFor) (past : List Event) →
+            WasGiven served self.old past → WasGiven served self.new (past ++ part.now)) }
+        ensures task { first_task self.new ≡ first_task self.old }
+    {
+        for next in part {
+            self.take(*next)?;
+        }
+        Ok(())
+    }
+}
