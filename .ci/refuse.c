@@ -5,12 +5,17 @@
  * A list that is refused the room for all that it expects retries at once with room for one more.
  * The retry counts as the same allocation, and is refused too. A retry comes from the same thread,
  * at the same depth of its stack, with no other allocation or free in between, and asks for no more
- * than was refused. */
+ * than was refused.
+ *
+ * With REFUSE_ONE_BY_ONE, whoever starts a thread stands still until that thread has ended: so all
+ * runs ask for memory in one order. That is for programs whose threads never wait for the one that
+ * started them. */
 #define _GNU_SOURCE
 #include <dlfcn.h>
 #include <errno.h>
 #include <fcntl.h>
 #include <pthread.h>
+#include <semaphore.h>
 #include <stdlib.h>
 #include <string.h>
 #include <unistd.h>
@@ -23,14 +28,16 @@ extern void __libc_free(void *block);
 
 static long refused_at;
 static long grown;
+static int is_one_by_one;
 static __thread int starts_thread;
 /* If this thread's last call was refused: the depth of its stack then, and what it asked for. */
 static __thread const void *refused_depth;
 static __thread size_t refused_size;
 
-__attribute__((constructor)) static void read_number(void) {
+__attribute__((constructor)) static void read_words(void) {
     const char *number = getenv("REFUSE_AT");
     refused_at = number ? atol(number) : 0;
+    is_one_by_one = getenv("REFUSE_ONE_BY_ONE") != NULL;
 }
 
 static void note(void) {
@@ -89,13 +96,44 @@ void free(void *block) {
     __libc_free(block);
 }
 
+typedef int (*creator)(pthread_t *, const pthread_attr_t *, void *(*)(void *), void *);
+
+struct run {
+    void *(*body)(void *);
+    void *argument;
+    sem_t has_ended;
+};
+
+static void *run_and_tell(void *told) {
+    struct run *run = told;
+    void *answer = run->body(run->argument);
+    sem_post(&run->has_ended);
+    return answer;
+}
+
+static int create_and_wait(creator next, pthread_t *thread, const pthread_attr_t *attributes,
+                           struct run run) {
+    sem_init(&run.has_ended, 0, 0);
+    int answer = next(thread, attributes, run_and_tell, &run);
+    starts_thread = 0;
+    while (answer == 0 && sem_wait(&run.has_ended) != 0)
+        ;
+    sem_destroy(&run.has_ended);
+    return answer;
+}
+
 int pthread_create(pthread_t *thread, const pthread_attr_t *attributes, void *(*body)(void *),
                    void *argument) {
-    static int (*next)(pthread_t *, const pthread_attr_t *, void *(*)(void *), void *);
+    static creator next;
+    int answer;
     if (!next)
         *(void **)&next = dlsym(RTLD_NEXT, "pthread_create");
     starts_thread = 1;
-    int answer = next(thread, attributes, body, argument);
+    if (is_one_by_one)
+        answer = create_and_wait(next, thread, attributes,
+                                 (struct run){.body = body, .argument = argument});
+    else
+        answer = next(thread, attributes, body, argument);
     starts_thread = 0;
     return answer;
 }
