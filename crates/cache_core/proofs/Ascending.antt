@@ -104,7 +104,8 @@ swap-left true false c = refl
 swap-left false true c = refl
 swap-left false false c = refl
 
-once-more : (a c : Bool) → (a || c) ≡ (a || (a || c))
+-- the first of two alternatives may be said twice
+pub once-more : (a c : Bool) → (a || c) ≡ (a || (a || c))
 once-more true c = refl
 once-more false c = refl
 

@@ -13,7 +13,8 @@ use Rattle.cache_core.specs.Lawful.{refusal_of}
 use Rattle.cache_core.specs.Geometry.{size_of, bsize_of, assoc_of}
 use Rattle.cache_core.proofs.PowerOfTwo.{power_is, ones_zero}
 
-passed : {F : Type 0} (t : Bool) (fault : F) (rest : Option F) → cond t (Some fault) rest ≡ None
+-- where nothing is refused, the first test did not refuse, nor did the others
+pub passed : {F : Type 0} (t : Bool) (fault : F) (rest : Option F) → cond t (Some fault) rest ≡ None
     → (t ≡ false) × (rest ≡ None)
 passed true fault rest h = cc
 passed false fault rest h = (refl, h)

@@ -74,7 +74,8 @@ pub mid-true : (wb t w : Bool) → t ≡ true → (wb && t && w) ≡ (wb && w)
 mid-true wb t w e = ap (λ z. wb && z && w) e
     ∙ (elim wb as (λ q. (q && true && w) ≡ (q && w)) [ true ↦ refl | false ↦ refl ])
 
-length-filter_le : (p : ℕ → Bool) (ys : List ℕ) → length (filter p ys) ≤ length ys
+-- a filter leaves no more
+pub length-filter_le : (p : ℕ → Bool) (ys : List ℕ) → length (filter p ys) ≤ length ys
 length-filter_le p [] = omega arith
 length-filter_le p (y ∷ ys) = (elim (p y) as (λ t.
     length (cond t (y ∷ filter p ys) (filter p ys)) ≤ length (y ∷ ys)) [

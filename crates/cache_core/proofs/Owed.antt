@@ -32,7 +32,8 @@ take-mono m y l h = let p = and_parts (has l y) (ltb _ m) (sym (has-take m l y) 
     has-take (suc m) l y ∙ and_from (has l y) (ltb _ (suc m)) p.0
     (lt-ltb _ (suc m) (let lt = ltb-true _ m p.1 in omega arith))
 
-find-passes : (p : ℕ → Bool) (xs : List ℕ) (v : ℕ) → find p xs ≡ Some v → p v ≡ true
+-- what a search finds passes
+pub find-passes : (p : ℕ → Bool) (xs : List ℕ) (v : ℕ) → find p xs ≡ Some v → p v ≡ true
 find-passes p [] v e = cc
 find-passes p (x ∷ xs) v e = (elim (p x) as (λ t. p x ≡ t → cond t (Some x) (find p xs) ≡ Some v
     → p v ≡ true) [
@@ -67,9 +68,10 @@ module _ (r : Rules) (h : History) where
   has-dirty y g = (has-filter_both (is_dirty r h) (renewals r h) y
       (sym (has-rising (filter (is_dirty r h) (renewals r h)) y) ∙ g)).1
 
-  once : IsOnce (dirty_blocks r h)
+  -- no dirty block stands twice in their list
+  pub dirty-once : IsOnce (dirty_blocks r h)
   unfolding dirty_blocks
-  once = rises-once _ (rises-rising (filter (is_dirty r h) (renewals r h)))
+  dirty-once = rises-once _ (rises-rising (filter (is_dirty r h) (renewals r h)))
 
 module _ (r : Rules) (h : History) (x : Access) where
   open at_access r h x use {b, s, ms, h', w}
@@ -148,7 +150,7 @@ module _ (r : Rules) (h : History) (x : Access) where
       ≡ length (dirty_blocks r h) + cond t 1 0) [ true ↦ omega arith | false ↦ omega arith ])
 
   kept : length after ≤ length owing
-  kept = as_many after owing (once r h') stays-inside
+  kept = as_many after owing (dirty-once r h') stays-inside
 
   -- the dirty victim is not dirty any more
   victim-gone : (v : ℕ) → victim r h x ≡ Some v → has after v ≡ false
@@ -167,7 +169,7 @@ module _ (r : Rules) (h : History) (x : Access) where
   backs-by None e = let k = kept in omega arith
   backs-by (Some v) e = (elim (is_dirty r h v) as (λ t. is_dirty r h v ≡ t
       → cond (is_some (cond t (Some (v * r.bsize)) None)) 1 0 + length after ≤ length owing) [
-        | true ↦ λ d. let le = as_many (v ∷ after) owing (victim-gone v e, once r h') (λ z g.
+        | true ↦ λ d. let le = as_many (v ∷ after) owing (victim-gone v e, dirty-once r h') (λ z g.
             elim (or_cases (eqb v z) (has after z) g) [
               | inl q ↦ subst (λ k. has owing k ≡ true) (eqb-true v z q) (inside v d)
               | inr q ↦ stays-inside z q
@@ -183,7 +185,8 @@ module _ (r : Rules) (h : History) (x : Access) where
   clean e g v d = false≢true (sym e ∙ (dirty-parts r g v d).0)
 
   none-after : r.wback ≡ false → length after ≤ 0
-  none-after e = as_many after [] (once r h') (λ z g. absurd (clean e h' z (has-dirty r h' z g)))
+  none-after e =
+      as_many after [] (dirty-once r h') (λ z g. absurd (clean e h' z (has-dirty r h' z g)))
 
   none-back : r.wback ≡ false → (o : Option ℕ)
       → ◌≡◌ {A = ℕ} (cond (is_some (dirty_victim r h o)) 1 0) 0

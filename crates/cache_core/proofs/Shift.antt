@@ -63,10 +63,6 @@ module _ {X : Type 0} (f : ℕ → X) (empty : X) (k : ℕ) where
   padded ms = map f ms ++ replicate k empty
 
   module _ (p : X → Bool) (b : ℕ) (at : (y : ℕ) → p (f y) ≡ eqb y b) (none : p empty ≡ false) where
-    any-replicate : (j : ℕ) → list_any p (replicate j empty) ≡ false
-    any-replicate zero = refl
-    any-replicate (suc j) = rw none (any-replicate j)
-
     any-take-replicate : (n j : ℕ) → list_any p (take n (replicate j empty)) ≡ false
     any-take-replicate zero j = refl
     any-take-replicate (suc n) zero = refl
@@ -106,15 +102,6 @@ module _ {X : Type 0} (f : ℕ → X) (empty : X) (k : ℕ) where
         (sym (without-absent ms b (subst (λ z. has ms z ≡ false) (eqb-true m b e) o.0)))))
         (λ e. rw (at m, e) (ap (λ l. c ∷ l)
         (shifted-padded n ms (f m) (omega arith) o.1)))
-
-    pub leaving-hit : (n : ℕ) (ms : List ℕ) (c : X) → has (take n ms) b ≡ true
-        → leaving p c (take n (padded ms)) ≡ f b
-    leaving-hit zero ms c h = cc
-    leaving-hit (suc n) [] c h = cc
-    leaving-hit (suc n) (m ∷ ms) c h =
-        by_cases (eqb m b)
-        (λ e. rw (at m, e) (ap f (eqb-true m b e)))
-        (λ e. rw (at m, e) (leaving-hit n ms (f m) (sym (rw e refl) ∙ h)))
 
     module _ (f' : ℕ → X) (agree : (y : ℕ) → eqb y b ≡ false → f' y ≡ f y) where
       abbrev padded' : List ℕ → List X

@@ -1,11 +1,9 @@
 -- Which bytes a line reader has read after one more byte.
-use Rattle.std.proofs.Common.{◌≡◌, ◌≢◌, ℕ, ◌+◌, List, [], ◌∷◌, ◌++◌, Option, None, Ok, Err, refl}
+use Rattle.std.proofs.Common.{◌≡◌, ◌≢◌, ℕ, ◌+◌, List, [], ◌∷◌, ◌++◌, Option, None, Ok, refl}
 use Rattle.std.proofs.Common.{sym, ap, ◌∙◌, append_assoc, length-append, arith}
 use Rattle.std.proofs.lemmas.Bool.{ne_eqb}
 use Rattle.std.proofs.lemmas.List.{append-nil}
 use Rattle.din_trace.specs.declared.record.DinRecord.{DinRecord}
-use Rattle.din_trace.specs.declared.fault.Why.{Why}
-use Rattle.din_trace.specs.declared.fault.TraceFault.TheVariants.{Bad}
 use Rattle.din_trace.specs.declared.line_reader.LineReader.{LineReader}
 use Rattle.din_trace.specs.declared.line.LineSoFar.TheVariants as so_far
 use Rattle.din_trace.specs.Line.{Form, Blank, Din, Faulty, form}
@@ -36,12 +34,6 @@ pub answered : (f : Form) (number : ℕ) (found : Option DinRecord) → form_ans
 answered Blank number found e = (cc, tt)
 answered (Din r) number found e = (cc, tt)
 answered (Faulty why) number found e = absurd cc
-
-pub refused : (f : Form) (number : ℕ) (why : Why) → form_answer f ≡ Err why
-    → form_result number f ≡ Err (Bad number why)
-refused Blank number why e = absurd cc
-refused (Din r) number why e = absurd cc
-refused (Faulty w) number why e = cc
 
 -- the form of the line so far is the one that the reader gives it if it ends here
 pub stands-form : (r : LineReader) (text : List ℕ) → Stands r text

@@ -24,10 +24,6 @@ pub by_place : {A : Type 0} (texts : Opt → Text) (a : A)
 unfolding if_readable is_readable
 by_place texts a = refl
 
-pub settings_by_place : (texts : Opt → Text) → settings_at (text_at (map texts options))
-    ≡ settings_at texts
-settings_by_place texts = refl
-
 module _ {A : Type 0} (texts : Opt → Text) (a : A) where
   -- the first option that cannot be read is refused
   pub refused_first : (x : Opt) → Some x ≡ first_unreadable texts options

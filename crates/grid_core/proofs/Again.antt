@@ -1,5 +1,5 @@
 -- The state of the caches after one more use of the block that was used last: it is as before.
-use Rattle.std.proofs.Common.{◌≡◌, ℕ, ◌%◌, ◌/◌, ◌<◌, Bool, true, false, not, ◌||◌, ◌==◌, ltb}
+use Rattle.std.proofs.Common.{◌≡◌, ℕ, ◌%◌, ◌/◌, ◌<◌, Bool, true, not, ◌||◌, ◌==◌, ltb}
 use Rattle.std.proofs.Common.{List, [], ◌∷◌, get_or, map, refl, sym, ap, subst, ◌∙◌, arith}
 use Rattle.std.specs.List.{All, list_any}
 use Rattle.std.proofs.Math.Nat.{mod-lt}
@@ -13,6 +13,7 @@ use Rattle.cache_core.specs.History.{History, Rules, access, flush, block_of, is
 use Rattle.cache_core.specs.Kinds.{referenced_blocks, shadow_of}
 use Rattle.cache_core.specs.Parts.{outcome_of}
 use Rattle.cache_core.specs.Residents.{distinct, hits, renewals}
+use Rattle.cache_core.proofs.Ascending.{once-more}
 use Rattle.cache_core.proofs.Lawful.{sane_of}
 use Rattle.cache_core.proofs.Steps.{counts-step}
 use Rattle.marked_list.specs.Recency.{brought_front}
@@ -60,12 +61,8 @@ known-again n b r [] same e c = absurd (false≢true e)
 known-again n b r (flush ∷ h) same e c = absurd (false≢true e)
 known-again n b r (access y ∷ h) same e c =
     let is : block_of r y ≡ b = ap (λ m. y.addr / m) same ∙ eqb-true (y.addr / n) b e in
-    twice (block_of r y == c) (list_any (λ t. t == c) (referenced_blocks r h))
+    once-more (block_of r y == c) (list_any (λ t. t == c) (referenced_blocks r h))
     ∙ ap (λ d. d == c || (block_of r y == c || list_any (λ t. t == c) (referenced_blocks r h))) is
-  where
-    twice : (s t : Bool) → (s || t) ≡ (s || (s || t))
-    twice true t = refl
-    twice false t = refl
 
 -- the block size of the rows at an index
 pub size-at : (n : ℕ) (stacks : List Stack) → HaveBsize n stacks

@@ -17,7 +17,7 @@ use Rattle.cache_core.proofs.Shift.{IsOnce, IsOnce-filter, IsOnce-take}
 use Rattle.cache_core.proofs.Turns.{absent, IsOnce-ranked}
 use Rattle.cache_core.proofs.Members.{has-append}
 use Rattle.cache_core.proofs.Flushed.{has-filter_both, filter-has}
-use Rattle.cache_core.proofs.Owed.{dirty-has, has-dirty}
+use Rattle.cache_core.proofs.Owed.{dirty-has, dirty-once, has-dirty}
 use Rattle.grid_core.specs.declared.slots.Slot.{Slot}
 use Rattle.grid_core.specs.declared.stack.Stack.{Stack}
 use Rattle.grid_core.specs.Ways.{with_ways, IsStacked}
@@ -26,7 +26,7 @@ use Rattle.grid_core.specs.Slots.{no_slot, dirty_bytes, dirty_in_rows}
 use Rattle.grid_core.specs.Standing.{slot_at, slots_of, rules_of, StandsFor}
 use Rattle.grid_core.proofs.Distances.{resident-take}
 use Rattle.grid_core.proofs.Levels.{written-level}
-use Rattle.grid_core.proofs.Onces.{dirty-once, once-length}
+use Rattle.grid_core.proofs.Onces.{once-length}
 use Rattle.grid_core.proofs.StackRules.{stacked, some-sets}
 
 -- two lists without repetitions, one after the other, that share no number

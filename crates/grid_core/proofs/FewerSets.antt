@@ -9,6 +9,7 @@ use Rattle.cache_core.specs.History.{Rules, History, block_of}
 use Rattle.cache_core.specs.Order.{ranked}
 use Rattle.cache_core.specs.Residents.{before, distinct, in_set, renewals}
 use Rattle.cache_core.proofs.Cases.{by_cases}
+use Rattle.cache_core.proofs.Members.{length-filter_le}
 use Rattle.cache_core.proofs.Reuse.{has, has-filter, before-filter, has-take}
 use Rattle.grid_core.specs.declared.stack.Stack.{Stack}
 use Rattle.grid_core.specs.declared.stacks.Behind.{Behind}
@@ -17,7 +18,7 @@ use Rattle.grid_core.specs.Ways.{IsStacked, stack_distance}
 use Rattle.grid_core.proofs.After.{renewals-size}
 use Rattle.grid_core.proofs.Distances.{distance-place, place_in}
 use Rattle.grid_core.proofs.Firsts.{sets-divide}
-use Rattle.grid_core.proofs.MoreSets.{length-less, order-part}
+use Rattle.grid_core.proofs.MoreSets.{order-part}
 use Rattle.grid_core.proofs.StackRules.{stacked}
 
 -- a part of a list that has b has it at no later place
@@ -29,7 +30,7 @@ part-before p b passes most m ms = by_cases (has (take most ms) b)
     in
     let less : length (before b (filter p ms)) ≤ length (before b ms) =
     subst (λ l. length l ≤ length (before b ms)) (sym (before-filter p b passes ms))
-    (length-less p (before b ms)) in
+    (length-filter_le p (before b ms)) in
     by_cases (has (take m (filter p ms)) b)
     (λ f. rw (e, f) (omega arith))
     (λ f.

@@ -23,28 +23,6 @@ index-le p (x ∷ xs) = (elim (p x) as (λ t. cond t 0 (suc (index_of p xs)) ≤
   | false ↦ let le = index-le p xs in omega arith
 ])
 
--- the level of the first slot that passes
-pub level-there : (p : Slot → Bool) (xs : List Slot) (d : Slot) (k : ℕ)
-    → index_of p xs < length xs
-    → option_map_or level_of (find p xs) k ≡ (get_or xs (index_of p xs) d).level
-level-there p [] d k lt = absurd (omega arith)
-level-there p (x ∷ xs) d k lt = (elim (p x) as (λ t. cond t 0 (suc (index_of p xs))
-    < suc (length xs) → option_map_or level_of (cond t (Some x) (find p xs)) k
-    ≡ (get_or (x ∷ xs) (cond t 0 (suc (index_of p xs))) d).level) [
-      | true ↦ λ below. refl
-      | false ↦ λ below. level-there p xs d k (omega arith)
-    ]) lt
-
--- where none passes
-pub level-nowhere : (p : Slot → Bool) (xs : List Slot) (k : ℕ) → length xs ≤ index_of p xs
-    → option_map_or level_of (find p xs) k ≡ k
-level-nowhere p [] k le = refl
-level-nowhere p (x ∷ xs) k le = (elim (p x) as (λ t. suc (length xs)
-    ≤ cond t 0 (suc (index_of p xs)) → option_map_or level_of (cond t (Some x) (find p xs)) k ≡ k) [
-      | true ↦ λ above. absurd (omega arith)
-      | false ↦ λ above. level-nowhere p xs k (omega arith)
-    ]) le
-
 shifted-none : {X : Type 0} (p : X → Bool) (ys : List X) (y : X) → length ys ≡ 0
     → shifted p y ys ≡ ys
 shifted-none p [] y e = refl

@@ -1,5 +1,5 @@
 -- A cache of more sets and as many ways holds more.
-use Rattle.std.proofs.Common.{◌≡◌, ℕ, ◌*◌, ◌%◌, ◌≤◌, Bool, true, false, cond, not, ◌&&◌, eqb, ltb}
+use Rattle.std.proofs.Common.{◌≡◌, ℕ, ◌*◌, ◌%◌, Bool, true, false, cond, not, ◌&&◌, eqb, ltb}
 use Rattle.std.proofs.Common.{List, [], ◌∷◌, length, take, filter, refl, sym, ap, subst, ◌∙◌, arith}
 use Rattle.std.proofs.lemmas.Bool.{eqb-true, eq-eqb, cond-false, and_parts, lt-ltb, ltb-true}
 use native.Mathlib.Nat.{mod-mod_of_dvd, dvd-mul_right}
@@ -9,17 +9,9 @@ use Rattle.cache_core.specs.Order.{ranked}
 use Rattle.cache_core.proofs.Reuse.{has, has-take, has-ways_of, has-filter, before-filter}
 use Rattle.cache_core.proofs.Turns.{renewals-yes}
 use Rattle.cache_core.proofs.Cases.{by_cases}
+use Rattle.cache_core.proofs.Members.{length-filter_le}
 use Rattle.grid_core.specs.Ways.{with_sets, IsStacked}
 use Rattle.grid_core.proofs.Distances.{renews-all}
-
--- a filter leaves no more
-pub length-less : (p : ℕ → Bool) (ms : List ℕ) → length (filter p ms) ≤ length ms
-length-less p [] = omega arith
-length-less p (m ∷ ms) = (elim (p m) as (λ t.
-    length (cond t (m ∷ filter p ms) (filter p ms)) ≤ length (m ∷ ms)) [
-      | true ↦ let le = length-less p ms in omega arith
-      | false ↦ let le = length-less p ms in omega arith
-    ])
 
 -- a finer filter may come after a coarser one
 filter-finer : (p q : ℕ → Bool) → ((m : ℕ) → p m ≡ true → q m ≡ true) → (ms : List ℕ)
@@ -115,7 +107,7 @@ module _ (r : Rules) (st : IsStacked r) (k : ℕ) where
         let parts = and_parts (has ranks b) (ltb d r.assoc) (sym (has-take r.assoc ranks b)
         ∙ sym (ap (λ l. has (take r.assoc l) b) order-whole) ∙ has-ways_of r ms b ∙ here) in
         let near = ltb-true d r.assoc parts.1 in
-        let less = length-less in_finer (before b ranks) in
+        let less = length-filter_le in_finer (before b ranks) in
         sym (has-ways_of q (renewals q h) b)
         ∙ ap (λ l. has (take r.assoc (ranked q (b % q.sets) l)) b) (renewals-sets h)
         ∙ ap (λ l. has (take r.assoc l) b) order-among

@@ -1,12 +1,10 @@
 -- Blocks are numbered by their places in a list.
-use Rattle.std.proofs.Common.{◌≡◌, ℕ, suc, ◌+◌, ◌<◌, ◌≤◌, Bool, true, false, cond, not, eqb, ltb}
-use Rattle.std.proofs.Common.{List, [], ◌∷◌, ◌++◌, length, get_or, Some, None, is_some}
+use Rattle.std.proofs.Common.{◌≡◌, ℕ, suc, ◌+◌, ◌<◌, Bool, true, false, cond, not, eqb, ltb}
+use Rattle.std.proofs.Common.{List, [], ◌∷◌, ◌++◌, length, get_or, Some, None}
 use Rattle.std.proofs.Common.{length-append, unwrap_or}
 use Rattle.std.proofs.Common.{refl, sym, ap, subst, ◌∙◌, arith}
-use Rattle.std.specs.List.{list_any, position_or_len}
+use Rattle.std.specs.List.{position_or_len}
 use Rattle.std.proofs.lemmas.Bool.{eqb-true, lt-ltb, ltb-true}
-use Rattle.std.proofs.lemmas.Bool.Decides.{nat_tests}
-use Rattle.cache_core.proofs.Cases.{by_cases}
 use Rattle.grid_core.specs.declared.at_hand.Entry.{Entry}
 use Rattle.grid_core.specs.AtHand.{AreRight}
 use Rattle.grid_core.specs.Numbers.{GoesOn, number_at}
@@ -26,14 +24,6 @@ number-low xs b n e =
     let lt = ltb-true (place b xs) (length xs) is.0 in
     let same = is.1 in
     omega arith
-
--- the next number is the length of the list
-pub number-next : (xs : List ℕ) (b : ℕ) → unwrap_or (number_at xs b) (length xs) ≤ length xs
-number-next xs b = (elim (ltb (place b xs) (length xs)) as (λ t. ltb (place b xs) (length xs) ≡ t
-    → unwrap_or (cond t (Some (place b xs)) None) (length xs) ≤ length xs) [
-      | true ↦ λ e. let lt = ltb-true (place b xs) (length xs) e in omega arith
-      | false ↦ λ e. omega arith
-    ]) refl
 
 same-place : (a b : ℕ) (xs : List ℕ) → place a xs < length xs → place a xs ≡ place b xs → a ≡ b
 same-place a b [] lt e = absurd (omega arith)
@@ -59,27 +49,6 @@ number-apart xs a b n e f =
     let first = found (ltb (place a xs) (length xs)) (place a xs) n e in
     let second = found (ltb (place b xs) (length xs)) (place b xs) n f in
     same-place a b xs (ltb-true (place a xs) (length xs) first.0) (first.1 ∙ sym second.1)
-
--- a block is in the list just if it has a number
-number-any : (xs : List ℕ) (b : ℕ) → ltb (place b xs) (length xs) ≡ list_any (eqb b) xs
-number-any [] b = refl
-number-any (x ∷ xs) b = by_cases (eqb b x)
-    (λ e. rw e (lt-ltb 0 (suc (length xs)) (omega arith)))
-    (λ e. rw e (next (place b xs) (length xs) ∙ number-any xs b))
-  where
-    next : (p n : ℕ) → ltb (1 + p) (suc n) ≡ ltb p n
-    next p n = grind (arith, nat_tests)
-
-some-test : (t : Bool) (p : ℕ) → is_some (cond t (Some p) None) ≡ t
-some-test true p = refl
-some-test false p = refl
-
-pub number-known : (xs : List ℕ) (b : ℕ) → is_some (number_at xs b) ≡ list_any (eqb b) xs
-number-known xs b = some-test (ltb (place b xs) (length xs)) (place b xs) ∙ number-any xs b
-
-pub twice : (t : Bool) → not (not t) ≡ t
-twice true = refl
-twice false = refl
 
 -- a block of the first list has the same number in a list that goes on
 pub number-kept : (xs ys : List ℕ) (b n : ℕ) → number_at xs b ≡ Some n

@@ -14,7 +14,7 @@ use Rattle.cache_core.specs.declared.geometry.Geometry.{Geometry}
 use Rattle.cache_core.specs.Lawful.{refusal_of}
 use Rattle.cache_core.specs.Geometry.{size_of, bsize_of, assoc_of, sets_of, blocks_of, IsMadeOf}
 use Rattle.cache_core.proofs.PowerOfTwo.{ones_zero}
-use Rattle.cache_core.proofs.Lawful.{sane_of, lawful_is}
+use Rattle.cache_core.proofs.Lawful.{lawful_is, passed, sane_of}
 use Rattle.cache_core.proofs.Masks.{zeros, sets_is}
 use Rattle.grid_core.specs.Wholes.{IsWholeOf}
 use Rattle.grid_core.proofs.Geometries.{whole, sets-blocks}
@@ -38,11 +38,6 @@ power-is-power k = eq-eqb (ones (2 ^ k)) 1 (ones-power k)
 
 pub one-is-power : is_power_of_two 1 ≡ true
 one-is-power = power-is-power 0
-
-passed : {F : Type 0} (t : Bool) (fault : F) (rest : Option F) → cond t (Some fault) rest ≡ None
-    → (t ≡ false) × (rest ≡ None)
-passed true fault rest h = cc
-passed false fault rest h = (refl, h)
 
 passes : {F : Type 0} (t : Bool) (fault : F) (rest : Option F) → t ≡ false → rest ≡ None
     → cond t (Some fault) rest ≡ None

@@ -11,6 +11,7 @@ use Rattle.cache_core.specs.Residents.{hits, renewals}
 use Rattle.cache_core.specs.Kinds.{shadow_of, referenced_blocks}
 use Rattle.cache_core.specs.Parts.{outcome_of}
 use Rattle.cache_core.specs.Counting.{with_one}
+use Rattle.cache_core.proofs.MapStep.{suc_pred}
 use Rattle.cache_core.proofs.Steps.{counts-step}
 use Rattle.grid_core.specs.declared.cells.Shape.{Shape}
 use Rattle.grid_core.specs.declared.shadows.Prior.{Prior}
@@ -20,7 +21,6 @@ use Rattle.grid_core.specs.Cells.{IsPlacedOn, KnowsPrior, HitsIn, shape_rules}
 use Rattle.grid_core.specs.Hits.{hit_made}
 use Rattle.grid_core.proofs.Outcomes.{outcome-hit, outcome-kind, outcome-fetch, outcome-through}
 use Rattle.grid_core.proofs.Outcomes.{kind_made, outcome-kept}
-use Rattle.grid_core.proofs.StackStep.{suc-pred}
 
 -- an outcome by its parts
 abbrev pub made : Bool → Option MissKind → Option ℕ → Bool → Bool → Outcome
@@ -93,7 +93,7 @@ hit-is r st s on h x near =
     (outcome-kind r st n on.fits h x
     ∙ ap (λ t. kind_made t (list_any (λ z. z == b) (referenced_blocks q h))
     (hits (shadow_of q) (renewals (shadow_of q) h) x)) near)
-    (outcome-kept r st n on.fits h x (n - 1) (suc-pred n on.some) near)
+    (outcome-kept r st n on.fits h x (n - 1) (suc_pred n on.some) near)
     (outcome-fetch r st n on.fits h x ∙ ap not near)
     (outcome-through r st n on.fits h x)
     ∙ ap (λ (w : Rules). hit_made (is_write x && not w.wback)) on.same

@@ -18,6 +18,7 @@ use Rattle.cache_core.specs.Parts.{outcome_of}
 use Rattle.cache_core.specs.Row.{row}
 use Rattle.cache_core.proofs.Cases.{by_cases}
 use Rattle.cache_core.proofs.Lawful.{sane_of}
+use Rattle.cache_core.proofs.MapStep.{suc_pred}
 use Rattle.grid_core.specs.declared.slots.Slot.{Slot}
 use Rattle.grid_core.specs.declared.stack.Stack.{Stack}
 use Rattle.grid_core.specs.Ways.{with_ways, IsStacked, stack_distance}
@@ -34,17 +35,6 @@ use Rattle.grid_core.proofs.SlotTurns.{after-le, distance-le, index-slots, level
 use Rattle.grid_core.proofs.SlotTurns.{slots-here, slots-other}
 use Rattle.grid_core.proofs.StackRules.{stacked}
 use Rattle.grid_core.proofs.Victims.{back-is}
-
--- the last of the first n slots of a row stands among all slots
-pub last-inside : (t sets ways most n : ℕ) → t < sets → ways ≡ most → 0 < n → n ≤ most
-    → t * ways + (n - 1) < sets * most
-last-inside t sets ways most n below same some fits =
-    let up : t + 1 ≤ sets = omega arith in
-    let le = mul-le-mul_right most up in
-    rw same (omega arith)
-
-pub suc-pred : (n : ℕ) → 0 < n → n ≡ suc (n - 1)
-suc-pred n some = omega arith
 
 module _ (r : Rules) (st : IsStacked r) (h : History) (x : Access) (xs : List Slot)
     (rows : (t : ℕ) → t < r.sets → row r.assoc t xs ≡ slots_of r h t)
@@ -269,8 +259,8 @@ module _ (v : Stack) (h : History) (st : StandsFor v h) (x : Access) {address bl
       (found-at refl) n fits) ∙ miss) in
       let wide = v.width in
       let long = row-whole v set (set-below v block set-is) in
-      back-now (rules_of v) (stacked v) h x xs st.rows below n (n - 1) (suc-pred n some) fits
+      back-now (rules_of v) (stacked v) h x xs st.rows below n (n - 1) (suc_pred n some) fits
       (if ltb n v.ways then get_or ys (set * v.ways + n) no_slot else last)
-      (behind-is v.ways set block write xs ys last n (n - 1) (suc-pred n some) (omega arith) long
+      (behind-is v.ways set block write xs ys last n (n - 1) (suc_pred n some) (omega arith) long
       far now lost ∙ as-ruled (λ b t m. get_or (row m t xs) (n - 1) no_slot))
       miss

@@ -79,14 +79,6 @@ past-step [] p k lt = absurd (omega arith)
 past-step (y ∷ ts) zero k lt = refl
 past-step (y ∷ ts) (suc p) k lt = past-step ts p k (omega arith)
 
--- past the end there is nothing
-pub past-end : (ts : List (List PerClass)) (p k : ℕ) → length ts ≤ p
-    → past p k ts ≡ none_by_class
-past-end [] zero k le = refl
-past-end [] (suc p) k le = refl
-past-end (y ∷ ts) zero k le = absurd (omega arith)
-past-end (y ∷ ts) (suc p) k le = past-end ts p k (omega arith)
-
 -- a bound of a sum is one of its parts
 within-left : (n : ℕ) (p q : PerClass) → IsWithin (added p q) n → IsWithin p n
 within-left n p q all =

@@ -20,9 +20,10 @@ use Rattle.cache_core.proofs.Turns.{renewals-yes, renewals-no, block-fifo, block
 use Rattle.cache_core.proofs.Members.{as_many}
 use Rattle.cache_core.proofs.Cases.{by_cases}
 use Rattle.cache_core.proofs.Victim.{resident-marked, only-one}
-use Rattle.cache_core.proofs.Owed.{dirty-has, has-dirty, flushes_leave_none_dirty}
+use Rattle.cache_core.proofs.Owed.{dirty-has, dirty-once, find-passes, flushes_leave_none_dirty}
+use Rattle.cache_core.proofs.Owed.{has-dirty}
 use Rattle.grid_core.specs.WriteBacks.{is_first_write, WriteBacksAreFirstWrites}
-use Rattle.grid_core.proofs.Onces.{dirty-once, once-length}
+use Rattle.grid_core.proofs.Onces.{once-length}
 
 -- what was used or loaded since a block, if another block is put in front
 longer : (fifo inside : Bool) (b y : ℕ) (apart : eqb b y ≡ false) (ms : List ℕ)
@@ -45,13 +46,6 @@ longer fifo true b y apart ms =
 found-by : (p : ℕ → Bool) (x : ℕ) (xs : List ℕ) (t : Bool) → p x ≡ t
     → find p (x ∷ xs) ≡ cond t (Some x) (find p xs)
 found-by p x xs t q = ap (λ u. cond u (Some x) (find p xs)) q
-
--- what a search finds passes
-find-passes : (p : ℕ → Bool) (xs : List ℕ) (v : ℕ) → find p xs ≡ Some v → p v ≡ true
-find-passes p [] v e = absurd (none-some v e)
-find-passes p (x ∷ xs) v e = by_cases (p x)
-    (λ q. let same : Some x ≡ Some v = sym (found-by p x xs true q) ∙ e in cc)
-    (λ q. find-passes p xs v (sym (found-by p x xs false q) ∙ e))
 
 -- where it finds nothing, no member passes
 find-fails : (p : ℕ → Bool) (xs : List ℕ) (y : ℕ) → find p xs ≡ None → has xs y ≡ true

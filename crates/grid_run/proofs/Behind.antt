@@ -9,18 +9,15 @@ use Rattle.grid_core.proofs.ListLoops.{told-at}
 use Rattle.stage_core.specs.SecondLevel.{parts_of}
 use Rattle.stage_core.specs.declared.message.Side.{Side}
 use Rattle.stage_core.specs.declared.message.What.{What}
-use Rattle.grid_run.specs.Backs.{AreWaiting, BackTask, IsPlacedOn, IsSeatIn, RequestsFor}
-use Rattle.grid_run.specs.Backs.{back_task, followed_by, queue_seats, seat_on, sent_for}
+use Rattle.grid_run.specs.Backs.{AreWaiting, IsPlacedOn, IsSeatIn, RequestsFor}
+use Rattle.grid_run.specs.Backs.{followed_by, queue_seats, seat_on, sent_for}
 use Rattle.grid_run.specs.Fronts.{HasSent, IsSilent, front_rules}
-use Rattle.grid_run.specs.Levels.{rules_in}
 use Rattle.grid_run.specs.Seats.{Table, rules_of_seat}
 use Rattle.grid_run.specs.Sending.{event_of}
-use Rattle.grid_run.specs.declared.back.Back.{Back}
 use Rattle.grid_run.specs.declared.front.Front.{Front}
 use Rattle.grid_run.specs.declared.queue.Queue.{Queue}
 use Rattle.grid_run.specs.declared.requests.Request.{Request}
 use Rattle.grid_run.specs.declared.seat.Seat.{Seat}
-use Rattle.grid_run.specs.declared.second.Second.{Second}
 use Rattle.grid_run.proofs.Sent.{sent-by-silent}
 
 module _ (fs : List Front) (seat : Seat) (f : Front) (at : f ≡ get_or fs seat.level f)
@@ -44,12 +41,8 @@ module _ (fs : List Front) (seat : Seat) (f : Front) (at : f ≡ get_or fs seat.
   pub at-seat : (P : Front → Type 0) → All P fs → P f
   at-seat P all = subst P (sym at) (all seat.level f level-inside)
 
--- what second levels of these rules behind these seats do
-abbrev task_of : Seat → Seat → List Rules → BackTask
-task_of i d rules = record { i = i; d = d; rules = rules }
-
 -- there is a first element where an index is inside
-some-of : {X : Type 0} (xs : List X) (k : ℕ) → k < length xs → X
+pub some-of : {X : Type 0} (xs : List X) (k : ℕ) → k < length xs → X
 some-of (x ∷ xs) k lt = x
 some-of [] k lt = absurd (omega arith)
 
@@ -66,12 +59,6 @@ silent-at-seat fs seat on silent s h q sent =
     ap (λ (r : Rules). parts_of r s h (event_of q)) (sym (rules-seated fs seat f at on))
     ∙ sent-by-silent f h seat.cell s q (cell-inside fs seat f at on)
     (at-seat fs seat f at on IsSilent silent) (at-seat fs seat f at on (HasSent h q) sent)
-
--- with other requests that wait, second levels do what they did
-pub task-kept : (b : Back) (u : Second) → rules_in u.level ≡ rules_in b.second.level
-    → back_task (record b { second = u }) ≡ back_task b
-unfolding back_task
-task-kept b u same = ap (task_of b.seats.i b.seats.d) same
 
 -- what waits of some requests waits of others that are the same
 pub waiting-same : (given before after : RequestsFor) (qs : List Queue)

@@ -1,32 +1,26 @@
 -- Second levels in parts, where a list of them is divided and joined again.
 use Rattle.std.proofs.Common.{◌≡◌, ℕ, ◌<◌, ◌≤◌, ◌+◌, ◌-◌, ◌*◌, ◌/◌, ◌++◌, [], ◌∷◌, List, length}
-use Rattle.std.proofs.Common.{get_or, ap, sym, subst, ◌∙◌, inl, inr, arith, length-append}
+use Rattle.std.proofs.Common.{map, get_or, ap, sym, subst, ◌∙◌, inl, inr, arith, length-append}
 use Rattle.std.proofs.Math.Nat.{add-mul, div-eq_of_lt, div-lt_iff_lt-mul, mul-add-div_right}
 use Rattle.std.specs.List.{All}
 use Rattle.std.proofs.lemmas.Bool.{cases_lt}
 use Rattle.std.proofs.lemmas.List.{get_or-append-add, get_or_append_left}
+use Rattle.std.proofs.lemmas.List.Elements.{All-append}
 use Rattle.grid_core.specs.Numbered.{blocks_in}
 use Rattle.grid_core.specs.declared.block_numbers.BlockNumbers.{BlockNumbers}
-use Rattle.grid_run.specs.Backs.{RequestsFor, WereAsked}
-use Rattle.grid_run.specs.Settling.{AreAsked}
+use Rattle.grid_core.proofs.ListLoops.{as-long}
+use Rattle.grid_run.specs.Backs.{NothingWaits, RequestsFor, WereAsked, back_task}
+use Rattle.grid_run.specs.Settling.{AreAsked, HaveServed}
 use Rattle.grid_run.specs.declared.back.Back.{Back}
+use Rattle.grid_run.proofs.Behind.{some-of}
 
 -- the second list begins where the parts of the first tables end, unless it is empty
 pub record IsCut (size : ℕ) (ts : List BlockNumbers) (bs cs : List Back) : Type 0 where
   pub within : length bs ≤ length ts * size
   pub full : 0 < length cs → length bs ≡ length ts * size
 
--- so it is where the first list has as many as these parts, or else all
-pub is-cut : (size : ℕ) (ts : List BlockNumbers) (bs cs all : List Back) (n : ℕ)
-    → all ≡ bs ++ cs → length bs ≡ n → n ≤ length ts * size
-    → (n < length all → n ≡ length ts * size) → IsCut size ts bs cs
-is-cut size ts bs cs all n joined is low full = record {
-  within = omega (arith, is, low);
-  full = λ some. is ∙ full (omega (arith, some, is, ap length joined, length-append bs cs));
-}
-
 -- lists of the same lengths are cut at the same place
-pub still-cut : {size : ℕ} {ts ts' : List BlockNumbers} {bs bs' cs cs' : List Back}
+still-cut : {size : ℕ} {ts ts' : List BlockNumbers} {bs bs' cs cs' : List Back}
     → IsCut size ts bs cs → length ts' ≡ length ts → length bs' ≡ length bs
     → length cs' ≡ length cs → IsCut size ts' bs' cs'
 still-cut {size = size} cut as-many front behind = record {
@@ -38,7 +32,7 @@ still-cut {size = size} cut as-many front behind = record {
 module _ (size : ℕ) (requests : RequestsFor) (ts us : List BlockNumbers) (bs cs : List Back)
     (cut : IsCut size ts bs cs) where
   -- the second levels before the cut
-  pub asked-front : AreAsked size requests (ts ++ us) (bs ++ cs) → AreAsked size requests ts bs
+  asked-front : AreAsked size requests (ts ++ us) (bs ++ cs) → AreAsked size requests ts bs
   asked-front were = record {
     sized = were.sized;
     covered = cut.within;
@@ -54,7 +48,7 @@ module _ (size : ℕ) (requests : RequestsFor) (ts us : List BlockNumbers) (bs c
   }
 
   -- those behind it
-  pub asked-behind : AreAsked size requests (ts ++ us) (bs ++ cs) → AreAsked size requests us cs
+  asked-behind : AreAsked size requests (ts ++ us) (bs ++ cs) → AreAsked size requests us cs
   asked-behind were = record {
     sized = were.sized;
     covered = fewer;
@@ -83,7 +77,7 @@ module _ (size : ℕ) (requests : RequestsFor) (ts us : List BlockNumbers) (bs c
       ]
 
   -- both together
-  pub asked-joined : AreAsked size requests ts bs → AreAsked size requests us cs
+  asked-joined : AreAsked size requests ts bs → AreAsked size requests us cs
       → AreAsked size requests (ts ++ us) (bs ++ cs)
   asked-joined front behind = record {
     sized = front.sized;
@@ -123,20 +117,63 @@ module _ (size : ℕ) (requests : RequestsFor) (ts us : List BlockNumbers) (bs c
     ];
   }
 
--- the tables and the second levels are these two lists of each, one behind the other
-pub asked-as : (size : ℕ) (requests : RequestsFor) (ts us : List BlockNumbers) (bs cs : List Back)
-    {tables : List BlockNumbers} {backs : List Back} → tables ≡ ts ++ us → backs ≡ bs ++ cs
-    → AreAsked size requests tables backs → AreAsked size requests (ts ++ us) (bs ++ cs)
-asked-as size requests ts us bs cs {tables = tables} joined-tables joined-backs were =
-    subst (λ l. AreAsked size requests l (bs ++ cs)) joined-tables
-    (subst (AreAsked size requests tables) joined-backs were)
-
 -- what holds of lists holds of lists that are the same
 pub asked-of : {size : ℕ} {requests : RequestsFor} {ts us : List BlockNumbers}
     {bs cs : List Back} → ts ≡ us → bs ≡ cs → AreAsked size requests ts bs
     → AreAsked size requests us cs
 asked-of {size = size} {requests = requests} {us = us} {bs = bs} tables backs were =
     subst (AreAsked size requests us) backs (subst (λ l. AreAsked size requests l bs) tables were)
+
+-- tables and second levels are divided at one place
+pub record AreDivided (size : ℕ) (tables : List BlockNumbers) (backs : List Back)
+    (ts us : List BlockNumbers) (bs cs : List Back) : Type 0 where
+  pub tables-joined : tables ≡ ts ++ us
+  pub backs-joined : backs ≡ bs ++ cs
+  pub cut : IsCut size ts bs cs
+
+-- so they are where the first part of the second levels are those of its tables, or else all
+pub divided : (size : ℕ) (ts us : List BlockNumbers) {tables : List BlockNumbers}
+    {backs bs cs : List Back} {n : ℕ} → tables ≡ ts ++ us → backs ≡ bs ++ cs → length bs ≡ n
+    → n ≤ length ts * size → (n < length backs → n ≡ length ts * size)
+    → AreDivided size tables backs ts us bs cs
+divided size ts us {bs = bs} {cs = cs} tables backs is low full = record {
+  tables-joined = tables;
+  backs-joined = backs;
+  cut = record {
+    within = omega (arith, is, low);
+    full = λ some. is ∙ full (omega (arith, some, is, ap length backs, length-append bs cs));
+  };
+}
+
+module _ {size : ℕ} {tables ts us : List BlockNumbers} {backs bs cs : List Back}
+    (parts : AreDivided size tables backs ts us bs cs) (requests : RequestsFor) where
+  -- what all were asked for, both parts were asked for
+  both-asked : AreAsked size requests tables backs → AreAsked size requests (ts ++ us) (bs ++ cs)
+  both-asked = asked-of parts.tables-joined parts.backs-joined
+
+  pub front-asked : AreAsked size requests tables backs → AreAsked size requests ts bs
+  front-asked were = asked-front size requests ts us bs cs parts.cut (both-asked were)
+
+  pub behind-asked : AreAsked size requests tables backs → AreAsked size requests us cs
+  behind-asked were = asked-behind size requests ts us bs cs parts.cut (both-asked were)
+
+-- what both parts have served, all have served
+pub both-served : {size : ℕ} {tables ts us ts' us' : List BlockNumbers}
+    {backs bs cs bs' cs' : List Back} → AreDivided size tables backs ts us bs cs
+    → length ts' ≡ length ts → map back_task bs' ≡ map back_task bs
+    → map back_task cs' ≡ map back_task cs → HaveServed size ts bs ts' bs'
+    → HaveServed size us cs us' cs' → HaveServed size tables backs (ts' ++ us') (bs' ++ cs')
+both-served {size = size} {ts' = ts'} {us' = us'} {bs = bs} {cs = cs} {bs' = bs'} {cs' = cs'} parts
+    many front-tasks behind-tasks front behind =
+    record {
+      asked = λ all were.
+          asked-joined size all ts' us' bs' cs'
+          (still-cut parts.cut many (as-long back_task bs' bs front-tasks)
+          (as-long back_task cs' cs behind-tasks))
+          (front.asked all (front-asked parts all were))
+          (behind.asked all (behind-asked parts all were));
+      settled = All-append NothingWaits bs' cs' front.settled behind.settled;
+    }
 
 -- second levels that took over what waited besides were asked for all
 pub asked-besides : (size : ℕ) (served all : RequestsFor) (ts : List BlockNumbers)
@@ -151,30 +188,35 @@ asked-besides size served all ts old new long took were = record {
       (were.asked k n b (omega (arith, lt, long)));
 }
 
--- one part is served by its table
-pub asked-one : (size : ℕ) (requests : RequestsFor) (t : BlockNumbers) (bs : List Back)
+-- one part was asked by its table
+pub part-asked : (size : ℕ) (requests : RequestsFor) (t : BlockNumbers) (bs : List Back)
     → AreAsked size requests (t ∷ []) bs → All (WereAsked (blocks_in t) requests) bs
-asked-one size requests t bs were k b lt =
+part-asked size requests t bs were k b lt =
     let covered = were.covered in
     subst (λ i. WereAsked (blocks_in (get_or (t ∷ []) i t)) requests (get_or bs k b))
     (div-eq_of_lt {n = k} {m = size} (omega (arith, covered, lt)))
     (were.asked k t b lt)
 
-pub one-asked : (size : ℕ) (requests : RequestsFor) (t : BlockNumbers) (bs : List Back)
-    → 0 < size → length bs ≤ size → All (WereAsked (blocks_in t) requests) bs
-    → AreAsked size requests (t ∷ []) bs
-one-asked size requests t bs some few all = record {
-  sized = some;
-  covered = omega (arith, few);
-  asked = λ k n b lt.
-      subst (λ i. WereAsked (blocks_in (get_or (t ∷ []) i n)) requests (get_or bs k b))
-      (sym (div-eq_of_lt {n = k} {m = size} (omega (arith, few, lt)))) (all k b lt);
+-- what one part has served by its table
+pub part-served : (size : ℕ) (t t' : BlockNumbers) (bs bs' : List Back)
+    → map back_task bs' ≡ map back_task bs
+    → ((requests : RequestsFor) → All (WereAsked (blocks_in t) requests) bs
+    → All (WereAsked (blocks_in t') requests) bs')
+    → All NothingWaits bs' → HaveServed size (t ∷ []) bs (t' ∷ []) bs'
+part-served size t t' bs bs' tasks asked settled = record {
+  asked = λ requests were.
+      let few : length bs' ≤ 1 * size =
+      omega (arith, were.covered, as-long back_task bs' bs tasks) in
+      record {
+        sized = were.sized;
+        covered = few;
+        asked = λ k n b lt.
+            subst (λ i. WereAsked (blocks_in (get_or (t' ∷ []) i n)) requests (get_or bs' k b))
+            (sym (div-eq_of_lt {n = k} {m = size} (omega (arith, few, lt))))
+            (asked requests (part-asked size requests t bs were) k b lt);
+      };
+  settled = settled;
 }
-
--- there is a first element where an index is inside
-some-of : {X : Type 0} (xs : List X) (k : ℕ) → k < length xs → X
-some-of (x ∷ xs) k lt = x
-some-of [] k lt = absurd (omega (arith, lt))
 
 -- each of them was asked, by some numbers
 pub back-asked : {size : ℕ} {requests : RequestsFor} {ts : List BlockNumbers} {bs : List Back}

@@ -1,20 +1,10 @@
 -- Caches that are served together.
-use Rattle.std.proofs.Common.{◌≡◌, ℕ, ◌<◌, ◌^◌, List, length, get_or, map, ap, sym, ◌∙◌, arith}
+use Rattle.std.proofs.Common.{◌≡◌, ℕ, ◌<◌, List, length, get_or, map, ap, sym, ◌∙◌, arith}
 use Rattle.std.specs.Global.{Vec}
 use Rattle.std.proofs.lemmas.List.{get_or-map, length-map}
 use Rattle.cache_core.specs.History.{History, Rules}
 use Rattle.grid_core.specs.Cells.{items_of}
-use Rattle.grid_core.specs.Engines.{served_in}
 use Rattle.grid_core.specs.Written.{no_rules, rules_at, written_by}
-use Rattle.grid_run.specs.Levels.{CanServe}
-use Rattle.grid_run.specs.declared.level.Level.{Level}
-
--- caches that can serve one more request have served few
-pub few-served-by : (l : Level) → CanServe l → served_in l.engine < 2 ^ 44
-few-served-by l room =
-    let served = room.stands.engine.served in
-    let short = room.short in
-    omega (arith, served)
 
 module _ (h : History) (rs : List Rules) (xs : List (Vec ℕ))
     (lists : map items_of xs ≡ map (written_by h) rs) where

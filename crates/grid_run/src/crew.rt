@@ -8,7 +8,7 @@ ghost use Rattle.grid_run.specs.Lanes.{task_of_plan};
 ghost use Rattle.grid_run.specs.Rows.{IsSound};
 ghost use Rattle.grid_run.specs.Workers.{MayHaveSettled, MayHaveTaken, Took, worker_task};
 
-use crate::lists::add_to;
+use crate::lists::made_for_each;
 use crate::plan::LanePlan;
 use crate::worker::Worker;
 use cache_core::NoMemory;
@@ -38,12 +38,7 @@ fn workers_for(alloc: Global, plans: &[LanePlan], share: usize) -> Result<Vec<Wo
         map worker_task workers.items ≡ map task_of_plan plans.now) }
     ensures taken { IfOk result (λ workers. All (MayHaveTaken []) workers.items) }
 {
-    let mut made = Vec::new(alloc);
-    for plan in plans {
-        let one = Worker::new(alloc, plan, share)?;
-        add_to(&mut made, one)?;
-    }
-    Ok(made)
+    made_for_each!(alloc, plans, Worker::new, share)
 }
 
 /// Each worker takes the batch, on so many threads of its own; at most so many work at once.
@@ -175,7 +170,8 @@ impl Crew {
         tell_failure(&self.workers)
     }
 
-    /// All workers serve what waits for their second levels.
+    /// All workers serve what waits for their second levels. With a thread each they let nothing
+    /// wait, and no thread is started.
     pub fn settle<T: Threads + Sync>(&mut self, rt: &T) -> Result<(), NoMemory>
         requires room { (past : List Event) × All (MayHaveTaken past) self.old.workers.items
             × (length past ≤ MAX_LIMIT) }
@@ -185,7 +181,8 @@ impl Crew {
         ensures tasks { map worker_task self.new.workers.items
             ≡ map worker_task self.old.workers.items }
     {
-        settle_in(rt, &mut self.workers, self.threads.max(1), self.share);
+        let threads = if self.share > 1 { self.threads } else { 1 };
+        settle_in(rt, &mut self.workers, threads.max(1), self.share);
         tell_failure(&self.workers)
     }
 

@@ -16,12 +16,13 @@ pub(crate) fn add_to<T: Drop>(list: &mut Vec<T>, next: T) -> Result<usize, NoMem
     Ok(index)
 }
 
-/// What a function makes of each of these plans, in their order; or `NoMemory`, if it answers that.
+/// What a function makes of each of these plans, in their order, with the same further words; or
+/// `NoMemory`, if it answers that.
 macro_rules! made_for_each {
-    ($alloc:expr, $plans:expr, $make:path) => {{
+    ($alloc:expr, $plans:expr, $make:path $(, $word:expr)*) => {{
         let mut made = Vec::new($alloc);
         for plan in $plans {
-            let one = $make($alloc, plan)?;
+            let one = $make($alloc, plan $(, $word)*)?;
             $crate::lists::add_to(&mut made, one)?;
         }
         Ok(made)

@@ -91,12 +91,6 @@ has-there log i lt = let ms = reverse log in
     (sym (get_or-reverse ms i 0 (omega arith)) ∙ ap (λ l. get_or l i 0) (reverse-reverse log))
     (has-get ms (length ms - 1 - i) (omega arith))
 
--- and it has a last use
-pub used-there : (log : List ℕ) (i : ℕ) → i < length log
-    → (p : ℕ) × (last_in (reverse log) (get_or log i 0) ≡ Some p)
-used-there log i lt = has-last (reverse log) (get_or log i 0)
-    (has-there log i lt)
-
 pub none-last : (ms : List ℕ) (b : ℕ) → has ms b ≡ false → last_in ms b ≡ None
 none-last [] b h = refl
 none-last (m ∷ ms) b h = by_cases (eqb m b)

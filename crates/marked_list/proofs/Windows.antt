@@ -5,6 +5,7 @@ use Rattle.std.proofs.Common.{[], ◌∷◌, take, length, map, get_or, refl, sy
 use Rattle.std.proofs.Common.{ap, subst, ◌∙◌, arith}
 use Rattle.std.proofs.lemmas.List.{length-take-le}
 use Rattle.std.proofs.lemmas.List.{take_all, take-take}
+use Rattle.cache_core.proofs.MapStep.{suc_pred}
 use Rattle.cache_core.proofs.Nothing.{take_none}
 use Rattle.cache_core.proofs.Reuse.{has, has-distinct}
 use Rattle.cache_core.proofs.Shift.{without, without-absent, IsOnce-distinct}
@@ -87,16 +88,13 @@ level-marks ms b (k ∷ ks) are =
     ∙ ap (λ n. cond (is_among b (distinct ms) k.size) 0 (suc n)) rest
 
 module _ (ms : List ℕ) (b : ℕ) (k : Mark) (mark : IsMark ms k) where
-  as-suc : (n : ℕ) → 0 < n → n ≡ suc (n - 1)
-  as-suc n lt = omega arith
-
   window-suc : take (suc (k.size - 1)) (distinct ms) ≡ distinct (since k.place ms)
   window-suc = subst (λ n. take n (distinct ms) ≡ distinct (since k.place ms))
-      (as-suc k.size mark.some) mark.window
+      (suc_pred k.size mark.some) mark.window
 
   back : (l : List ℕ) → take (suc (k.size - 1)) (distinct (b ∷ ms)) ≡ l
       → take k.size (distinct (b ∷ ms)) ≡ l
-  back l e = subst (λ n. take n (distinct (b ∷ ms)) ≡ l) (sym (as-suc k.size mark.some)) e
+  back l e = subst (λ n. take n (distinct (b ∷ ms)) ≡ l) (sym (suc_pred k.size mark.some)) e
 
   further : k.place ≤ length (b ∷ ms)
   further = omega (arith, mark.within)

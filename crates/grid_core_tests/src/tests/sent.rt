@@ -59,6 +59,19 @@ fn writes_alike(rt: &impl Abort, engine: &mut Engine, through: bool) {
     expect_sent(rt, engine, Class::Write, 0, true);
 }
 
+/// Both caches have counted so many reads, writes and accesses of other kinds, so many misses, and
+/// so many blocks written back.
+fn expect_counts(rt: &impl Abort, engine: &Engine, fetches: [u64; 3], misses: u128, back: u64) {
+    assert!(rt; 1 < engine.cells());
+    for index in 0..2 {
+        let counts = engine.counts(index);
+        let counted = &counts.fetches;
+        assert_eq!(rt; [counted.read, counted.write, counted.misc], fetches);
+        assert_eq!(rt; counts.misses.total(), misses);
+        assert_eq!(rt; counts.written_back, back);
+    }
+}
+
 #[test]
 fn a_block_that_is_used_again_is_counted(rt: HostRuntime) -> Result<(), Fail> {
     let mut engine = made(&rt, rt.alloc(), Repl::Lru, true);
@@ -73,17 +86,9 @@ fn a_block_that_is_used_again_is_counted(rt: HostRuntime) -> Result<(), Fail> {
         assert_eq!(&rt; list.len(), 1);
     }
     expect_sent(&rt, &mut engine, Class::Write, 0, true);
+    expect_counts(&rt, &engine, [2, 3, 1], 2, 1);
     assert!(&rt; 1 < engine.cells());
     for index in 0..2 {
-        let counts = engine.counts(index);
-        let fetches = [
-            counts.fetches.read,
-            counts.fetches.write,
-            counts.fetches.misc,
-        ];
-        assert_eq!(&rt; fetches, [2, 3, 1]);
-        assert_eq!(&rt; counts.misses.total(), 2);
-        assert_eq!(&rt; counts.written_back, 1);
         assert_eq!(&rt; engine.shadow_misses(index).total(), 2);
     }
     Ok(())
@@ -128,18 +133,7 @@ fn the_block_used_last_goes_the_short_way(rt: HostRuntime) -> Result<(), Fail> {
     let _lists = engine.flush()?;
     assert!(&rt; !goes_short(&rt, &mut engine, Class::Read, 0));
     assert_eq!(&rt; engine.served(), 5);
-    assert!(&rt; 1 < engine.cells());
-    for index in 0..2 {
-        let counts = engine.counts(index);
-        let fetches = [
-            counts.fetches.read,
-            counts.fetches.write,
-            counts.fetches.misc,
-        ];
-        assert_eq!(&rt; fetches, [1, 2, 1]);
-        assert_eq!(&rt; counts.misses.total(), 1);
-        assert_eq!(&rt; counts.written_back, 1);
-    }
+    expect_counts(&rt, &engine, [1, 2, 1], 1, 1);
     Ok(())
 }
 

@@ -3,7 +3,7 @@ use Rattle.cache_core.specs.Residents.{hits, renewals}
 use Rattle.grid_core.specs.Ways.{with_ways}
 use Rattle.grid_core.specs.Standing.{rules_of}
 use Rattle.grid_core.proofs.Distances.{hits-distance}
-use Rattle.grid_core.proofs.StackStep.{suc-pred}
+use Rattle.cache_core.proofs.MapStep.{suc_pred}
 use Rattle.grid_core.proofs.Outcomes.{outcome-kept}
 use Rattle.grid_core.proofs.StackRules.{stacked}
 use Rattle.grid_core.proofs.outcome.back_in.Goals as goal
@@ -13,7 +13,7 @@ returns-then-hit c = λ h x moved is.
     let s = c.args.stack.now in
     let w = c.args.ways in
     outcome-kept (rules_of s) (stacked s) w c.requires.fits h x (w - 1)
-    (suc-pred w c.requires.some)
+    (suc_pred w c.requires.some)
     (ap (λ d. ltb d w) (sym moved.found) ∙ sym is ∙ c.if-hit.true)
 
 pub returns : goal.returns

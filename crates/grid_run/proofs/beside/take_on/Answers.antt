@@ -1,74 +1,44 @@
 use Rattle.std.proofs.Common.{◌*◌, ap, arith}
-use Rattle.std.proofs.lemmas.List.Elements.{All-append}
-use Rattle.grid_core.proofs.ListLoops.{as-long}
-use Rattle.grid_run.specs.Backs.{NothingWaits, back_task}
-use Rattle.grid_run.proofs.Cuts.{asked-as, asked-behind, asked-front, asked-joined, is-cut}
-use Rattle.grid_run.proofs.Cuts.{still-cut}
+use Rattle.grid_run.proofs.Cuts.{behind-asked, both-served, divided, front-asked}
 use Rattle.grid_run.proofs.Placed.{on-ok-both}
 use Rattle.grid_run.proofs.beside.take_on.Goals as goal
 
 pub take_beside-requires-clause-far : goal.take_beside-requires-clause-far
 take_beside-requires-clause-far g c κs within =
-    let room = c.requires.asked in
     let size = c.args.size in
-    let ts = c.split_at_mut-far_tables.result.0.now in
-    let us = c.split_at_mut-far_tables.result.1.now in
-    let bs = c.split_at_mut-far.result.0.now in
-    let cs = c.split_at_mut-far.result.1.now in
+    let room = c.requires.asked in
     let tables = c.split_at_mut-far_tables.ensures in
     let backs = c.split_at_mut-far.ensures in
     let product = ap (λ n. n * size) tables.front_len in
-    let cut = is-cut size ts bs cs c.args.backs.now c.min-end.result backs.value backs.front_len
+    let both = c.split_at_mut-far_tables.result in
+    let cut = divided size both.0.now both.1.now tables.value backs.value backs.front_len
     (omega (arith, product, c.min-end.ensures, c.saturating_mul.ensures))
-    (λ less. omega (arith, less, product, c.min-end.ensures, c.saturating_mul.ensures)) in (
-      room.0,
-      asked-front size room.0 ts us bs cs cut
-          (asked-as size room.0 ts us bs cs tables.value backs.value room.1),
-      room.2,
-    )
+    (λ less. omega (arith, less, product, c.min-end.ensures, c.saturating_mul.ensures)) in
+    (room.0, front-asked cut room.0 room.1, room.2)
 
 pub take_beside-requires-clause-near : goal.take_beside-requires-clause-near
 take_beside-requires-clause-near g c κs within =
-    let room = c.requires.asked in
     let size = c.args.size in
-    let ts = c.split_at_mut-far_tables.result.0.now in
-    let us = c.split_at_mut-far_tables.result.1.now in
-    let bs = c.split_at_mut-far.result.0.now in
-    let cs = c.split_at_mut-far.result.1.now in
+    let room = c.requires.asked in
     let tables = c.split_at_mut-far_tables.ensures in
     let backs = c.split_at_mut-far.ensures in
     let product = ap (λ n. n * size) tables.front_len in
-    let cut = is-cut size ts bs cs c.args.backs.now c.min-end.result backs.value backs.front_len
+    let both = c.split_at_mut-far_tables.result in
+    let cut = divided size both.0.now both.1.now tables.value backs.value backs.front_len
     (omega (arith, product, c.min-end.ensures, c.saturating_mul.ensures))
-    (λ less. omega (arith, less, product, c.min-end.ensures, c.saturating_mul.ensures)) in (
-      room.0,
-      asked-behind size room.0 ts us bs cs cut
-          (asked-as size room.0 ts us bs cs tables.value backs.value room.1),
-      room.2,
-    )
+    (λ less. omega (arith, less, product, c.min-end.ensures, c.saturating_mul.ensures)) in
+    (room.0, behind-asked cut room.0 room.1, room.2)
 
 pub returns-clause-served : goal.returns-clause-served
 returns-clause-served g c =
     let size = c.args.size in
-    let ts = c.split_at_mut-far_tables.result.0.now in
-    let us = c.split_at_mut-far_tables.result.1.now in
-    let bs = c.split_at_mut-far.result.0.now in
-    let cs = c.split_at_mut-far.result.1.now in
     let tables = c.split_at_mut-far_tables.ensures in
     let backs = c.split_at_mut-far.ensures in
     let product = ap (λ n. n * size) tables.front_len in
-    let cut = is-cut size ts bs cs c.args.backs.now c.min-end.result backs.value backs.front_len
+    let both = c.split_at_mut-far_tables.result in
+    let cut = divided size both.0.now both.1.now tables.value backs.value backs.front_len
     (omega (arith, product, c.min-end.ensures, c.saturating_mul.ensures))
     (λ less. omega (arith, less, product, c.min-end.ensures, c.saturating_mul.ensures)) in
-    let new = c.take_beside.new in
     let done = c.take_beside.ensures in
-    let cut' = still-cut cut done.tables.0 (as-long back_task new.far bs done.tasks.0)
-    (as-long back_task new.near cs done.tasks.1) in
-    on-ok-both c.take_beside.result (λ front behind. record {
-      asked = λ all were.
-          let both = asked-as size all ts us bs cs tables.value backs.value were in
-          asked-joined size all new.far_tables new.near_tables new.far new.near cut'
-          (front.asked all (asked-front size all ts us bs cs cut both))
-          (behind.asked all (asked-behind size all ts us bs cs cut both));
-      settled = All-append NothingWaits new.far new.near front.settled behind.settled;
-    }) done.far done.near
+    on-ok-both c.take_beside.result (both-served cut done.tables.0 done.tasks.0 done.tasks.1)
+    done.far done.near

@@ -4,5 +4,4 @@ use Rattle.pipe_rings.proofs.rx.Rx.wait_and_recv.Given as goal
 
 abbrev pub invariant-loop : goal.invariant-loop
 invariant-loop g l =
-    (goal.iterator-loop g).can_next l.iterator' × (goal.iterator-loop g).is_finite l.iterator' ×
     SameRx l.fn.self l.self × (received l.self ≡ received l.fn.self)

@@ -4,5 +4,4 @@ use Rattle.pipe_rings.proofs.tx.Tx.send.Given as goal
 
 abbrev pub invariant-loop : goal.invariant-loop
 invariant-loop g l =
-    (goal.iterator-loop g).can_next l.iterator' × (goal.iterator-loop g).is_finite l.iterator' ×
     SameTx l.fn.self l.self × (sent l.self ≡ sent l.fn.self)
