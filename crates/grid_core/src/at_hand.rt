@@ -1,9 +1,9 @@
 //! The numbers of blocks that were looked up lately.
 
-ghost use Rattle.std.specs.Prelude.{◌≡◌, ℕ, Option, Some, IfOk, IfSome};
+ghost use Rattle.std.specs.Prelude.{◌≡◌, ℕ, Option, Some, IfSome};
 ghost use Rattle.grid_core.specs.AtHand.{AreRight};
 
-use std::alloc::{AllocError, Global};
+use std::alloc::AllocError;
 
 /// The number of a block. `usize::MAX` is no number: then no block is kept here.
 #[derive(Clone, Copy, Debug)]
@@ -14,17 +14,6 @@ pub(crate) struct Entry {
 
 /// How many numbers are kept. The rest of a block's own number by this is its place.
 const PLACES: u64 = 2048;
-
-/// No block is kept.
-pub(crate) fn none_at_hand(alloc: Global) -> Result<Vec<Entry>, AllocError>
-    ensures { IfOk result (λ v. (m : ℕ → Option ℕ) → AreRight m v.items) }
-{
-    let none = Entry {
-        block: 0,
-        number: usize::MAX,
-    };
-    vec![in alloc; none; PLACES as usize]
-}
 
 /// The place of a block.
 fn place_of(block: u64) -> usize {
@@ -47,8 +36,25 @@ pub(crate) fn at_hand(entries: &Vec<Entry>, block: u64) -> Option<usize>
     Some(entry.number)
 }
 
-/// Keeps the number of a block, in place of another one.
-pub(crate) fn keep_at_hand(entries: &mut Vec<Entry>, block: u64, number: usize)
+/// Makes the places, where there are none yet. No block is kept in them.
+fn make_places(entries: &mut Vec<Entry>) -> Result<(), AllocError>
+    ensures { (m : ℕ → Option ℕ) → AreRight m entries.old.items → AreRight m entries.new.items }
+{
+    if !entries.is_empty() {
+        return Ok(());
+    }
+    let none = Entry {
+        block: 0,
+        number: usize::MAX,
+    };
+    let Ok(()) = entries.resize(PLACES as usize, none) else {
+        return Err(AllocError);
+    };
+    Ok(())
+}
+
+/// Puts the number of a block in its place, in place of another one.
+fn put_in_place(entries: &mut Vec<Entry>, block: u64, number: usize)
     ensures { (m : ℕ → Option ℕ) → AreRight m entries.old.items → m block ≡ Some number →
         AreRight m entries.new.items }
 {
@@ -56,4 +62,18 @@ pub(crate) fn keep_at_hand(entries: &mut Vec<Entry>, block: u64, number: usize)
     if place < entries.len() {
         entries[place] = Entry { block, number };
     }
+}
+
+/// Keeps the number of a block.
+pub(crate) fn keep_at_hand(
+    entries: &mut Vec<Entry>,
+    block: u64,
+    number: usize,
+) -> Result<(), AllocError>
+    ensures { (m : ℕ → Option ℕ) → AreRight m entries.old.items → m block ≡ Some number →
+        AreRight m entries.new.items }
+{
+    make_places(entries)?;
+    put_in_place(entries, block, number);
+    Ok(())
 }

@@ -4,8 +4,7 @@ ghost use Rattle.std.specs.Prelude.{◌≡◌, ◌≤◌, Some, IfOk, length};
 ghost use Rattle.grid_core.specs.AtHand.{AreRight};
 ghost use Rattle.grid_core.specs.Numbers.{GoesOn, number_at};
 
-use crate::at_hand::{Entry, at_hand, keep_at_hand, none_at_hand};
-use cache_core::NoMemory;
+use crate::at_hand::{Entry, at_hand, keep_at_hand};
 use indexmap::IndexSet;
 use std::alloc::{AllocError, Global};
 
@@ -38,17 +37,14 @@ impl BlockNumbers {
     ghost use Rattle.grid_core.specs.Numbered.{blocks_in};
     ghost use Rattle.grid_core.specs.Numbers.{GoesOn, number_at};
 
-    /// No block is numbered.
-    pub fn new(alloc: Global) -> Result<BlockNumbers, NoMemory>
-        ensures { IfOk result (λ numbers. blocks_in numbers ≡ []) }
+    /// No block is numbered, and no memory is taken for any.
+    pub fn new(alloc: Global) -> BlockNumbers
+        ensures { blocks_in result ≡ [] }
     {
-        let Ok(entries) = none_at_hand(alloc) else {
-            return Err(NoMemory);
-        };
-        Ok(BlockNumbers {
+        BlockNumbers {
             blocks: IndexSet::new(alloc),
-            entries,
-        })
+            entries: Vec::new(alloc),
+        }
     }
 
     /// The number of a block. A block that has none gets the next one.
@@ -64,7 +60,7 @@ impl BlockNumbers {
             return Ok(number);
         }
         let number = number_block(&mut self.blocks, block)?;
-        keep_at_hand(&mut self.entries, block, number);
+        keep_at_hand(&mut self.entries, block, number)?;
         Ok(number)
     }
 }

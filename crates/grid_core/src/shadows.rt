@@ -69,13 +69,10 @@ impl Shadows {
         ensures levels { IfOk result (λ shadows. total (levels_in shadows) ≡ none_by_class) }
         ensures far { IfOk result (λ shadows. (k : ℕ) → far_in shadows k ≡ none_by_class) }
     {
-        let Ok(numbers) = BlockNumbers::new(alloc) else {
-            return Err(AllocError);
-        };
         let order = Marked::new(alloc, sizes)?;
         let levels = zeros(alloc, sizes.len() + 1)?;
         Ok(Shadows {
-            numbers,
+            numbers: BlockNumbers::new(alloc),
             order,
             levels,
             recent: nothing_recent(),

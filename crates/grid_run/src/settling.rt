@@ -35,7 +35,7 @@ pub(crate) fn tables_for(
     let mut tables = Vec::new(alloc);
     let parts = count.div_ceil(size);
     'tables: while tables.len() < parts {
-        add_to(&mut tables, BlockNumbers::new(alloc)?)?;
+        add_to(&mut tables, BlockNumbers::new(alloc))?;
     }
     Ok(tables)
 }

@@ -58,7 +58,7 @@ fn engines_that_share_numbers_are_single_caches(rt: HostRuntime) -> Result<(), F
         repl: Repl::Fifo,
         ..lru
     };
-    let mut numbers = BlockNumbers::new(alloc).expect(&rt, "memory");
+    let mut numbers = BlockNumbers::new(alloc);
     let mut small = pair_of(&rt, alloc, &[16, 32], lru);
     let mut large = pair_of(&rt, alloc, &[64, 256], lru);
     let mut apart = pair_of(&rt, alloc, &[32, 64], fifo);
@@ -78,7 +78,7 @@ fn blocks_that_another_engine_used_are_first_accesses(rt: HostRuntime) -> Result
         wback: true,
         walloc: true,
     };
-    let mut numbers = BlockNumbers::new(alloc).expect(&rt, "memory");
+    let mut numbers = BlockNumbers::new(alloc);
     let mut one = pair_of(&rt, alloc, &[16], policy);
     let mut other = pair_of(&rt, alloc, &[16], policy);
     serve_some(&rt, alloc, &mut one, &mut numbers, 1);
