@@ -96,8 +96,6 @@ void free(void *block) {
     __libc_free(block);
 }
 
-typedef int (*creator)(pthread_t *, const pthread_attr_t *, void *(*)(void *), void *);
-
 struct run {
     void *(*body)(void *);
     void *argument;
@@ -111,29 +109,21 @@ static void *run_and_tell(void *told) {
     return answer;
 }
 
-static int create_and_wait(creator next, pthread_t *thread, const pthread_attr_t *attributes,
-                           struct run run) {
-    sem_init(&run.has_ended, 0, 0);
-    int answer = next(thread, attributes, run_and_tell, &run);
-    starts_thread = 0;
-    while (answer == 0 && sem_wait(&run.has_ended) != 0)
-        ;
-    sem_destroy(&run.has_ended);
-    return answer;
-}
-
 int pthread_create(pthread_t *thread, const pthread_attr_t *attributes, void *(*body)(void *),
                    void *argument) {
-    static creator next;
-    int answer;
+    static int (*next)(pthread_t *, const pthread_attr_t *, void *(*)(void *), void *);
+    struct run run = {.body = body, .argument = argument};
     if (!next)
         *(void **)&next = dlsym(RTLD_NEXT, "pthread_create");
+    if (is_one_by_one) {
+        sem_init(&run.has_ended, 0, 0);
+        body = run_and_tell;
+        argument = &run;
+    }
     starts_thread = 1;
-    if (is_one_by_one)
-        answer = create_and_wait(next, thread, attributes,
-                                 (struct run){.body = body, .argument = argument});
-    else
-        answer = next(thread, attributes, body, argument);
+    int answer = next(thread, attributes, body, argument);
     starts_thread = 0;
+    while (is_one_by_one && answer == 0 && sem_wait(&run.has_ended) != 0)
+        ;
     return answer;
 }
