@@ -21,7 +21,8 @@ def words_in(lines):
 
 def imports_of(lines):
     """Each name that is imported, with its module before it."""
-    for module, names in (IMPORT.match(it).groups() for it in lines if IMPORT.match(it)):
+    for found in filter(None, map(IMPORT.match, lines)):
+        module, names = found.groups()
         for name in names.split(","):
             yield module, name.split(" as ")[0].strip()
 

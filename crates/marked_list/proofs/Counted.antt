@@ -1,19 +1,20 @@
 -- How many blocks were used, and the marks where each was used once.
-use Rattle.std.proofs.Common.{◌≡◌, ℕ, zero, suc, ◌-◌, ◌<◌, ◌≤◌, true, false}
+use Rattle.std.proofs.Common.{◌≡◌, ◌≢◌, ℕ, zero, suc, ◌-◌, ◌<◌, ◌≤◌, true, false}
 use Rattle.std.proofs.Common.{eqb, ltb, List}
 use Rattle.std.proofs.Common.{[], ◌∷◌, take, length, map, refl, sym}
 use Rattle.std.proofs.Common.{ap, subst, ◌∙◌, arith}
 use Rattle.std.proofs.lemmas.Bool.{eqb-true, ltb-true, ltb-false}
 use Rattle.std.proofs.lemmas.Bool.{false≢true}
 use Rattle.std.proofs.lemmas.List.{take_all}
-use Rattle.cache_core.proofs.Reuse.{has, has-distinct}
-use Rattle.cache_core.proofs.Shift.{IsOnce, without, without-absent, IsOnce-distinct, IsOnce-take}
+use Rattle.cache_core.proofs.Reuse.{has}
+use Rattle.cache_core.proofs.Shift.{IsOnce, without, without-absent}
 use Rattle.cache_core.proofs.Cases.{by_cases}
 use Rattle.cache_core.specs.Residents.{distinct}
 use Rattle.marked_list.specs.declared.marks.Mark.{Mark}
 use Rattle.marked_list.specs.Marks.{IsMark, AreMarks, size_of, settled, counted_with}
-use Rattle.marked_list.specs.Uses.{last_in}
+use Rattle.marked_list.specs.Uses.{dead, last_in, living, used_next}
 use Rattle.marked_list.proofs.LastUse.{has-last, none-last}
+use Rattle.marked_list.proofs.Living.{has-living, living-next, living-take, living-twice, once-is}
 use Rattle.std.proofs.Common.{add-one}
 
 -- how many blocks were used
@@ -29,35 +30,24 @@ pub count-new : (b : ℕ) (ys : List ℕ) → has ys b ≡ false
     → suc (length (without b ys)) ≡ suc (length ys)
 count-new b ys h = ap (λ l. suc (length l)) (without-absent ys b h)
 
-without-le : (b : ℕ) (ys : List ℕ) → length (without b ys) ≤ length ys
-without-le b [] = omega arith
-without-le b (y ∷ ys) = by_cases (eqb y b)
-    (λ e. rw e (omega (arith, without-le b ys)))
-    (λ e. rw e (omega (arith, without-le b ys)))
-
-pub distinct-le : (ms : List ℕ) → length (distinct ms) ≤ length ms
-distinct-le [] = omega arith
-distinct-le (m ∷ ms) = omega (arith, without-le m (distinct ms), distinct-le ms)
+-- there are no more last uses than uses
+pub living-le : (ms : List ℕ) → length (living ms) ≤ length ms
+living-le [] = omega arith
+living-le (m ∷ ms) = by_cases (eqb m dead)
+    (λ e. rw e (omega (arith, living-le ms)))
+    (λ e. rw e (omega (arith, living-le ms)))
 
 -- the number of blocks after a use, by the last use before it
-pub count-next : (ms : List ℕ) (b : ℕ)
-    → length (distinct (b ∷ ms)) ≡ counted_with (last_in ms b) (length (distinct ms))
-count-next ms b = by_cases (has ms b)
+pub count-next : (ms : List ℕ) (b : ℕ) → b ≢ dead → distinct (living ms) ≡ living ms
+    → length (living (used_next b ms)) ≡ counted_with (last_in ms b) (length (living ms))
+count-next ms b low once = ap (λ (l : List ℕ). length l) (living-next b ms low)
+    ∙ by_cases (has ms b)
     (λ e. let u = has-last ms b e in
-    count-again b (distinct ms) (IsOnce-distinct ms) (has-distinct ms b ∙ e)
-    ∙ sym (ap (λ o. counted_with o (length (distinct ms))) u.1))
-    (λ e. count-new b (distinct ms) (has-distinct ms b ∙ e)
-    ∙ sym (ap (λ o. counted_with o (length (distinct ms))) (none-last ms b e)
-    ∙ add-one (length (distinct ms))))
-
--- a list with no repetitions stays as it is
-pub distinct-once : (ys : List ℕ) → IsOnce ys → distinct ys ≡ ys
-distinct-once [] o = refl
-distinct-once (y ∷ ys) o = ap (λ l. y ∷ without y l) (distinct-once ys o.1)
-    ∙ ap (λ l. y ∷ l) (without-absent ys y o.0)
-
-pub distinct-twice : (ms : List ℕ) → distinct (distinct ms) ≡ distinct ms
-distinct-twice ms = distinct-once (distinct ms) (IsOnce-distinct ms)
+    count-again b (living ms) (once-is ms once) (has-living ms b low ∙ e)
+    ∙ sym (ap (λ o. counted_with o (length (living ms))) u.1))
+    (λ e. count-new b (living ms) (has-living ms b low ∙ e)
+    ∙ sym (ap (λ o. counted_with o (length (living ms))) (none-last ms b e)
+    ∙ add-one (length (living ms))))
 
 take-least : (n : ℕ) (ys : List ℕ) → take (length ys - (length ys - n)) ys ≡ take n ys
 take-least n ys = by_cases (ltb (length ys) n)
@@ -68,17 +58,16 @@ take-least n ys = by_cases (ltb (length ys) n)
     ap (λ k. take k ys) (let z : length ys - (length ys - n) ≡ n = omega arith in z))
 
 settled-mark : (ms : List ℕ) (k : Mark) → 0 < k.size
-    → IsMark (distinct ms) (settled (length (distinct ms)) k)
-settled-mark ms k some = let d = distinct ms in record {
+    → IsMark (living ms) (settled (length (living ms)) k)
+settled-mark ms k some = let d = living ms in record {
   some = some;
   within = omega arith;
-  window = ap (take k.size) (distinct-twice ms) ∙ sym (take-least k.size d)
-      ∙ sym (distinct-once (take (length d - (length d - k.size)) d)
-      (IsOnce-take (length d - (length d - k.size)) d (IsOnce-distinct ms)));
+  window = ap (take k.size) (living-twice ms) ∙ sym (take-least k.size d)
+      ∙ sym (living-take (length d - (length d - k.size)) ms);
 }
 
 pub settled-marks : (ms : List ℕ) (ks : List Mark) → AreMarks ms ks
-    → AreMarks (distinct ms) (map (settled (length (distinct ms))) ks)
+    → AreMarks (living ms) (map (settled (length (living ms))) ks)
 settled-marks ms [] a i lt = absurd (omega arith)
 settled-marks ms (k ∷ ks) a zero lt = let first = a 0 (omega arith) in settled-mark ms k first.some
 settled-marks ms (k ∷ ks) a (suc i) lt =

@@ -1,37 +1,49 @@
 -- A use of the block that was used last.
-use Rattle.std.proofs.Common.{◌≡◌, ◌<◌, ◌∷◌, ℕ, zero, suc, true, cond, List, [], length, map}
-use Rattle.std.proofs.Common.{get_or}
+use Rattle.std.proofs.Common.{◌≡◌, ◌≢◌, ◌<◌, ◌∷◌, ℕ, zero, suc, true, cond, not, List, [], length}
+use Rattle.std.proofs.Common.{get_or, map}
 use Rattle.std.proofs.Common.{refl, sym, ap, subst, ◌∙◌, arith}
 use Rattle.std.proofs.lemmas.Bool.{eq-eqb}
 use Rattle.cache_core.specs.Residents.{distinct}
-use Rattle.cache_core.proofs.Shift.{without, without-absent, IsOnce-distinct}
+use Rattle.cache_core.proofs.Shift.{IsOnce, without, without-absent}
 use Rattle.marked_list.specs.declared.marks.Mark.{Mark}
 use Rattle.marked_list.specs.Recency.{is_among, level_of, brought_front}
 use Rattle.marked_list.specs.Marks.{AreMarks, size_of}
+use Rattle.marked_list.specs.Uses.{dead, living}
+use Rattle.marked_list.proofs.Living.{differs, once-is}
 
 without-head : (m : ℕ) (ys : List ℕ) → without m (m ∷ ys) ≡ without m ys
 without-head m ys = rw (eq-eqb m m refl) refl
 
--- the list is as it was
-pub front-stays : (ms : List ℕ) (b : ℕ) → 0 < length ms → get_or ms 0 0 ≡ b
-    → distinct ms ≡ brought_front b (distinct ms)
-front-stays [] b lt e = absurd (omega arith)
-front-stays (m ∷ ms) b lt e = subst (λ z. distinct (m ∷ ms) ≡ brought_front z (distinct (m ∷ ms))) e
-    (let rest = without m (distinct ms) in
-    ap (λ l. m ∷ l) (sym (without-head m rest
-    ∙ without-absent rest m (IsOnce-distinct (m ∷ ms)).0)))
+module _ (b : ℕ) (low : b ≢ dead) where
+  living-first : (ms : List ℕ) → living (b ∷ ms) ≡ b ∷ living ms
+  living-first ms = ap (λ t. cond (not t) (b ∷ living ms) (living ms)) (differs b low)
 
-first-among : (m n : ℕ) (ys : List ℕ) → 0 < n → is_among m (m ∷ ys) n ≡ true
-first-among m zero ys lt = absurd (omega arith)
-first-among m (suc n) ys lt = rw (eq-eqb m m refl) refl
+  -- the list is as it was
+  pub front-stays : (ms : List ℕ) → distinct (living ms) ≡ living ms → 0 < length ms
+      → get_or ms 0 0 ≡ b → living ms ≡ brought_front b (living ms)
+  front-stays [] once lt e = absurd (omega arith)
+  front-stays (m ∷ ms) once lt e = same m e once
+    where
+      same : (n : ℕ) → n ≡ b → distinct (living (n ∷ ms)) ≡ living (n ∷ ms)
+          → living (n ∷ ms) ≡ brought_front b (living (n ∷ ms))
+      same n is o = subst (λ z. distinct (living (z ∷ ms)) ≡ living (z ∷ ms)
+          → living (z ∷ ms) ≡ brought_front b (living (z ∷ ms))) (sym is)
+          (λ whole. living-first ms ∙ ap (λ l. b ∷ l) (sym (without-head b (living ms)
+          ∙ without-absent (living ms) b
+          (subst IsOnce (living-first ms) (once-is (b ∷ ms) whole)).0))
+          ∙ sym (ap (brought_front b) (living-first ms))) o
 
--- and each size has the block
-pub level-front : (ms : List ℕ) (b : ℕ) → 0 < length ms → get_or ms 0 0 ≡ b → (ks : List Mark)
-    → AreMarks ms ks → 0 ≡ level_of (map size_of ks) (distinct ms) b
-level-front [] b lt e ks are = absurd (omega arith)
-level-front (m ∷ ms) b lt e [] are = refl
-level-front (m ∷ ms) b lt e (k ∷ ks) are =
-    let some = (are 0 (omega arith)).some in
-    sym (ap (λ t. cond t 0 (suc (level_of (map size_of ks) (distinct (m ∷ ms)) b)))
-    (subst (λ z. is_among z (distinct (m ∷ ms)) k.size ≡ true) e
-    (first-among m k.size (without m (distinct ms)) some)))
+  first-among : (n : ℕ) (ys : List ℕ) → 0 < n → is_among b (b ∷ ys) n ≡ true
+  first-among zero ys lt = absurd (omega arith)
+  first-among (suc n) ys lt = rw (eq-eqb b b refl) refl
+
+  -- and each size has the block
+  pub level-front : (ms : List ℕ) → 0 < length ms → get_or ms 0 0 ≡ b → (ks : List Mark)
+      → AreMarks ms ks → 0 ≡ level_of (map size_of ks) (living ms) b
+  level-front [] lt e ks are = absurd (omega arith)
+  level-front (m ∷ ms) lt e [] are = refl
+  level-front (m ∷ ms) lt e (k ∷ ks) are =
+      let some = (are 0 (omega arith)).some in
+      sym (ap (λ t. cond t 0 (suc (level_of (map size_of ks) (living (m ∷ ms)) b)))
+      (subst (λ l. is_among b l k.size ≡ true)
+      (sym (ap (λ n. living (n ∷ ms)) e ∙ living-first ms)) (first-among k.size (living ms) some)))

@@ -1,12 +1,10 @@
-pub mod Words
-pub mod Scan
 pub mod LastUse
+pub mod Living
 pub mod Stamps
 pub mod Passing
-pub mod Dead
-pub mod Windows
 pub mod Counted
 pub mod LevelLaws
 pub mod Rising
+pub mod Windows
 pub mod MarkSteps
 pub mod Latest

@@ -1,47 +1,10 @@
--- The blocks used from a place on, when the place moves over one use.
-use Rattle.std.proofs.Common.{◌≡◌, ℕ, ◌-◌, ◌+◌, ◌<◌, ◌≤◌, true, false, cond, eqb, ltb}
-use Rattle.std.proofs.Common.{List}
-use Rattle.std.proofs.Common.{[], ◌∷◌, ◌++◌, take, length, reverse, get_or, Some, refl, sym, ap}
-use Rattle.std.proofs.Common.{◌∙◌, arith}
-use Rattle.std.proofs.lemmas.Bool.{eq-eqb, ltb-false, false≢true, not-true}
-use Rattle.std.proofs.lemmas.List.{append-nil, length-append, length-reverse, reverse-reverse}
-use Rattle.std.proofs.lemmas.List.{get_or-reverse, take_more, take_at}
-use Rattle.cache_core.proofs.Reuse.{has}
-use Rattle.cache_core.proofs.Shift.{without}
-use Rattle.cache_core.proofs.Shadow.{eqb-comm}
-use Rattle.cache_core.proofs.Cases.{by_cases}
-use Rattle.cache_core.specs.Residents.{distinct}
-use Rattle.marked_list.specs.Uses.{last_in, since}
-use Rattle.marked_list.specs.Marks.{covers}
-use Rattle.marked_list.proofs.LastUse.{has-since}
-
-without-push : (m x : ℕ) (ys : List ℕ) → without m (ys ++ x ∷ [])
-    ≡ without m ys ++ cond (eqb x m) [] (x ∷ [])
-without-push m x [] = by_cases (eqb x m) (λ e. rw e refl) (λ e. rw e refl)
-without-push m x (y ∷ ys) = by_cases (eqb y m)
-    (λ e. rw e (without-push m x ys))
-    (λ e. rw e (ap (λ l. y ∷ l) (without-push m x ys)))
-
--- one more at the end of a list is new, or it was there
-push-new : (xs : List ℕ) (x : ℕ) → has xs x ≡ false
-    → distinct (xs ++ x ∷ []) ≡ distinct xs ++ x ∷ []
-push-new [] x h = refl
-push-new (m ∷ xs) x h = by_cases (eqb m x)
-    (λ e. absurd (false≢true (sym h ∙ rw e refl)))
-    (λ e. ap (λ l. m ∷ without m l) (push-new xs x (sym (rw e refl) ∙ h))
-    ∙ ap (λ l. m ∷ l) (without-push m x (distinct xs)
-    ∙ ap (λ t. without m (distinct xs) ++ cond t [] (x ∷ [])) (eqb-comm x m ∙ e)))
-
-push-there : (xs : List ℕ) (x : ℕ) → has xs x ≡ true → distinct (xs ++ x ∷ []) ≡ distinct xs
-push-there [] x h = absurd (false≢true h)
-push-there (m ∷ xs) x h = by_cases (has xs x)
-    (λ f. ap (λ l. m ∷ without m l) (push-there xs x f))
-    (λ f. by_cases (eqb m x)
-    (λ e. ap (λ l. m ∷ without m l) (push-new xs x f)
-    ∙ ap (λ l. m ∷ l) (without-push m x (distinct xs)
-    ∙ ap (λ t. without m (distinct xs) ++ cond t [] (x ∷ [])) (eqb-comm x m ∙ e)
-    ∙ append-nil (without m (distinct xs))))
-    (λ e. absurd (false≢true (sym (rw (e, f) refl) ∙ h))))
+-- The last uses from a place on, when the place moves over one use.
+use Rattle.std.proofs.Common.{◌≡◌, ℕ, ◌-◌, ◌+◌, ◌<◌, Bool, true, false, cond, not, eqb, List, []}
+use Rattle.std.proofs.Common.{◌∷◌, ◌++◌, take, length, reverse, get_or, sym, ap, ◌∙◌, arith}
+use Rattle.std.proofs.lemmas.List.{length-append, length-reverse, reverse-reverse, get_or-reverse}
+use Rattle.std.proofs.lemmas.List.{append-nil, take_at, take_more}
+use Rattle.std.proofs.lemmas.List.Elements.{filter-append}
+use Rattle.marked_list.specs.Uses.{since, dead, living}
 
 module _ (log : List ℕ) (i : ℕ) (lt : i < length log) where
   abbrev ms : List ℕ
@@ -63,30 +26,33 @@ module _ (log : List ℕ) (i : ℕ) (lt : i < length log) where
       ap (λ k. take k ms) j ∙ take_more ms (length ms - (i + 1)) 0 (omega arith)
       ∙ ap (λ z. since (i + 1) ms ++ z ∷ []) (sym stands)
 
-  has-end : (xs : List ℕ) (b : ℕ) → has (xs ++ b ∷ []) b ≡ true
-  has-end [] b = rw (eq-eqb b b refl) refl
-  has-end (y ∷ xs) b = by_cases (eqb y b) (λ e. rw e refl) (λ e. rw e (has-end xs b))
+  passed : (t : Bool) → eqb x dead ≡ t
+      → living (since i ms) ≡ living (since (i + 1) ms) ++ cond (not t) (x ∷ []) []
+  passed t e = ap living since-more
+      ∙ filter-append (λ m. not (eqb m dead)) (since (i + 1) ms) (x ∷ [])
+      ∙ ap (λ u. living (since (i + 1) ms) ++ cond (not u) (x ∷ []) []) e
 
-  -- the last use of what stands at an index is not before it
-  pub not-before : (p : ℕ) → last_in ms x ≡ Some p → i ≤ p
-  not-before p e = ltb-false p i (not-true (ltb p i)
-      (sym (ap (covers i) e) ∙ sym (has-since ms x i (omega (arith, inside)))
-      ∙ ap (λ l. has l x) since-more ∙ has-end (since (i + 1) ms) x))
-
-  -- an index moves over a use whose block was used again
-  pub pass-dead : has (since (i + 1) ms) x ≡ true
-      → distinct (since (i + 1) ms) ≡ distinct (since i ms)
-  pass-dead h = sym (ap distinct since-more ∙ push-there (since (i + 1) ms) x h)
+  -- an index moves over a use that is dead
+  pub pass-dead : eqb x dead ≡ true → living (since i ms) ≡ living (since (i + 1) ms)
+  pass-dead e = passed true e ∙ append-nil (living (since (i + 1) ms))
 
   -- and over one that is the last of its block
-  pub pass-last : has (since (i + 1) ms) x ≡ false
-      → distinct (since i ms) ≡ distinct (since (i + 1) ms) ++ x ∷ []
-  pass-last h = ap distinct since-more ∙ push-new (since (i + 1) ms) x h
+  pub pass-last : eqb x dead ≡ false
+      → living (since i ms) ≡ living (since (i + 1) ms) ++ x ∷ []
+  pass-last e = passed false e
 
-  -- the window loses its last block
-  pub pass-live : has (since (i + 1) ms) x ≡ false → (w : List ℕ) → distinct (since i ms) ≡ w
-      → distinct (since (i + 1) ms) ≡ take (length w - 1) w
-  pass-live h w is = let d = distinct (since (i + 1) ms) in
-      let whole : w ≡ d ++ x ∷ [] = sym is ∙ pass-last h in
+  -- then the window loses its last block
+  pub pass-living : eqb x dead ≡ false → (w : List ℕ) → living (since i ms) ≡ w
+      → living (since (i + 1) ms) ≡ take (length w - 1) w
+  pass-living e w is = let d = living (since (i + 1) ms) in
+      let whole : w ≡ d ++ x ∷ [] = sym is ∙ pass-last e in
       sym (ap (λ l. take (length l - 1) l) whole
       ∙ take_at d (x ∷ []) (length (d ++ x ∷ []) - 1) (omega (arith, length-append d (x ∷ []))))
+
+  -- and if the last use of all is dead, the window was empty
+  pub pass-end : eqb x dead ≡ true → i + 1 ≡ length log → (w : List ℕ) → living (since i ms) ≡ w
+      → living (since (i + 1) ms) ≡ take (length w - 1) w
+  pass-end e end w is = let none : length ms - (i + 1) ≡ 0 = omega (arith, length-reverse log) in
+      let empty : living (since (i + 1) ms) ≡ [] = ap (λ k. living (take k ms)) none in
+      let nothing : w ≡ [] = sym is ∙ pass-dead e ∙ empty in
+      empty ∙ sym (ap (λ l. take (length l - 1) l) nothing)

@@ -1,48 +1,71 @@
 -- The stamps of the blocks: the places of their last uses.
-use Rattle.std.proofs.Common.{◌≡◌, ◌≢◌, ℕ, ◌<◌, true, cond, eqb, ltb, List, [], ◌∷◌}
-use Rattle.std.proofs.Common.{length, reverse}
-use Rattle.std.proofs.Common.{get_or, set, Option, Some, None, refl, sym, ap, ◌∙◌, arith}
-use Rattle.std.proofs.Common.{get_or-set_same, get_or-set_other}
-use Rattle.std.proofs.lemmas.Bool.{eqb-true, eqb-false, ltb-true, ltb-false}
+use Rattle.std.proofs.Common.{◌≡◌, ◌≢◌, ℕ, ◌<◌, ◌≤◌, ◌||◌, true, false, cond, not, eqb, ltb, List}
+use Rattle.std.proofs.Common.{[], ◌∷◌, length, reverse, get_or, set, Some, None, sym, ap, subst}
+use Rattle.std.proofs.Common.{◌∙◌, arith, get_or-set_same, get_or-set_other}
+use Rattle.std.specs.Prelude.{unwrap_or}
+use Rattle.std.proofs.lemmas.Bool.{eqb-true, eqb-false, eq-eqb, lt-ltb, ltb-true, ltb-false}
+use Rattle.std.proofs.lemmas.Bool.{false≢true}
 use Rattle.std.proofs.lemmas.List.{get_or_past}
-use Rattle.cache_core.proofs.Reuse.{has, has-distinct}
 use Rattle.cache_core.proofs.Cases.{by_cases}
-use Rattle.cache_core.specs.Residents.{distinct}
-use Rattle.marked_list.specs.Uses.{last_in, AreStamps, HaveRoom, no_stamp, read_stamp, stamp_of}
-use Rattle.marked_list.specs.Uses.{or_else}
-use Rattle.marked_list.proofs.LastUse.{has-last, has-there, has-other, none-last, last-same}
-use Rattle.marked_list.proofs.LastUse.{last-other}
-
-read-some : (n : ℕ) → n < no_stamp → read_stamp n ≡ Some n
-read-some n lt = by_cases (eqb n no_stamp)
-    (λ e. let same = eqb-true n no_stamp e in absurd (omega arith))
-    (λ e. rw e refl)
+use Rattle.cache_core.proofs.Reuse.{has}
+use Rattle.cache_core.proofs.Shift.{has-filter_not}
+use Rattle.marked_list.specs.Uses.{last_in, dead, living, buried, used_next, never, forgotten}
+use Rattle.marked_list.specs.Uses.{stamp_at, place_of, AreStamps, has_stamp, HaveRoom}
+use Rattle.marked_list.proofs.Counted.{living-le}
+use Rattle.marked_list.proofs.LastUse.{has-last, has-there, last-other, last-same, last-there}
+use Rattle.marked_list.proofs.LastUse.{none-last}
+use Rattle.marked_list.proofs.Living.{has-living, last-buried, length-buried}
 
 set-stamp : (stamps : List ℕ) (b n q : ℕ) → b < length stamps
-    → stamp_of (set stamps b n) q ≡ cond (eqb b q) (read_stamp n) (stamp_of stamps q)
+    → stamp_at (set stamps b n) q ≡ cond (eqb b q) n (stamp_at stamps q)
 set-stamp stamps b n q lt = by_cases (eqb b q)
-    (λ e. ap read_stamp (ap (λ z. get_or (set stamps b n) z no_stamp) (sym (eqb-true b q e))
-    ∙ get_or-set_same stamps b n no_stamp lt)
-    ∙ sym (ap (λ t. cond t (read_stamp n) (stamp_of stamps q)) e))
+    (λ e. ap (λ z. get_or (set stamps b n) z never) (sym (eqb-true b q e))
+    ∙ get_or-set_same stamps b n never lt
+    ∙ sym (ap (λ t. cond t n (stamp_at stamps q)) e))
     (λ e. let ne : q ≢ b = λ g. eqb-false b q e (sym g) in
-    ap read_stamp (get_or-set_other stamps b q n no_stamp ne)
-    ∙ sym (ap (λ t. cond t (read_stamp n) (stamp_of stamps q)) e))
+    get_or-set_other stamps b q n never ne
+    ∙ sym (ap (λ t. cond t n (stamp_at stamps q)) e))
 
--- a block that has a stamp has room for it
-stamp-room : (stamps : List ℕ) (b p : ℕ) → stamp_of stamps b ≡ Some p → b < length stamps
+-- a stamp below the two others says a place, and that its block was used
+place-some : (n : ℕ) → n < forgotten → place_of n ≡ Some n
+place-some n lt = ap (λ t. cond t (Some n) None) (lt-ltb n forgotten lt)
+
+place-used : (n : ℕ) → n < forgotten → not (eqb n never) ≡ true
+place-used n lt = by_cases (eqb n never)
+    (λ e. let same = eqb-true n never e in absurd (omega arith))
+    (λ e. ap not e)
+
+place-below : (n p : ℕ) → place_of n ≡ Some p → n < forgotten
+place-below n p is = by_cases (ltb n forgotten)
+    (λ e. ltb-true n forgotten e)
+    (λ e. absurd (none-some p (sym (ap (λ t. cond t (Some n) None) e) ∙ is)))
+  where
+    none-some : (q : ℕ) → None ≡ Some q → ⊥
+    none-some q e = cc
+
+-- what is among the last uses is not dead
+living-low : (ms : List ℕ) (b : ℕ) → has (living ms) b ≡ true → b ≢ dead
+living-low ms b h e = false≢true (sym (has-filter_not (λ m. not (eqb m dead)) b
+    (ap not (eq-eqb b dead e)) ms) ∙ h)
+
+-- a block that was used has a stamp
+pub used-stamped : (ms stamps : List ℕ) → AreStamps ms stamps → (b : ℕ) → b ≢ dead
+    → has ms b ≡ true → has_stamp stamps b ≡ true
+used-stamped ms stamps st b low h = let u = has-last ms b h in
+    place-used (stamp_at stamps b) (place-below (stamp_at stamps b) u.0 (st b low ∙ u.1))
+
+stamp-room : (stamps : List ℕ) (b p : ℕ) → place_of (stamp_at stamps b) ≡ Some p
+    → b < length stamps
 stamp-room stamps b p is = by_cases (ltb b (length stamps))
     (λ e. ltb-true b (length stamps) e)
-    (λ e. absurd (none-some p (sym (ap read_stamp
-    (get_or_past stamps b no_stamp (ltb-false b (length stamps) e))) ∙ is)))
-  where
-    none-some : (n : ℕ) → read_stamp no_stamp ≡ Some n → ⊥
-    none-some n e = cc
+    (λ e. let none = get_or_past stamps b never (ltb-false b (length stamps) e) in
+    let below : never < forgotten = subst (λ n. n < forgotten) none
+    (place-below (stamp_at stamps b) p is) in absurd (omega arith))
 
-pub stamps-room : (ms stamps : List ℕ) → AreStamps ms stamps → HaveRoom ms stamps
-stamps-room ms stamps st b h = let u = has-last ms b h in stamp-room stamps b u.0 (st b ∙ u.1)
-
-pub room-distinct : (ms stamps : List ℕ) → AreStamps ms stamps → HaveRoom (distinct ms) stamps
-room-distinct ms stamps st b h = stamps-room ms stamps st b (sym (has-distinct ms b) ∙ h)
+pub stamps-room : (ms stamps : List ℕ) → AreStamps ms stamps → HaveRoom (living ms) stamps
+stamps-room ms stamps st b h = let low = living-low ms b h in
+    let u = has-last ms b (sym (has-living ms b low) ∙ h) in
+    stamp-room stamps b u.0 (st b low ∙ u.1)
 
 -- the stamps have a place for each number of the log
 pub room-logged : (log stamps : List ℕ) (i : ℕ) → HaveRoom (reverse log) stamps → i < length log
@@ -50,54 +73,84 @@ pub room-logged : (log stamps : List ℕ) (i : ℕ) → HaveRoom (reverse log) s
 room-logged log stamps i room lt = room (get_or log i 0) (has-there log i lt)
 
 -- the stamps after a use
-pub stamps-next : (ms stamps : List ℕ) (b : ℕ) → AreStamps ms stamps → b < length stamps
-    → length ms < no_stamp → AreStamps (b ∷ ms) (set stamps b (length ms))
-stamps-next ms stamps b st lt small q = set-stamp stamps b (length ms) q lt
-    ∙ by_cases (eqb b q)
-    (λ e. ap (λ t. cond t (read_stamp (length ms)) (stamp_of stamps q)) e
-    ∙ read-some (length ms) small ∙ sym (last-same b q ms e))
-    (λ e. ap (λ t. cond t (read_stamp (length ms)) (stamp_of stamps q)) e
-    ∙ st q ∙ sym (last-other b q ms e))
+module _ (old new : List ℕ) (b n : ℕ) (small : n < forgotten)
+    (is : (q : ℕ) → stamp_at new q ≡ cond (eqb b q) n (stamp_at old q)) where
+  pub stamps-next : (ms : List ℕ) → AreStamps ms old → n ≡ length ms
+      → AreStamps (used_next b ms) new
+  stamps-next ms st long q low = ap place_of (is q) ∙ by_cases (eqb b q)
+      (λ e. ap (λ t. place_of (cond t n (stamp_at old q))) e ∙ place-some n small
+      ∙ ap Some (long ∙ sym (length-buried b ms)) ∙ sym (last-same b q (buried b ms) e))
+      (λ e. ap (λ t. place_of (cond t n (stamp_at old q))) e ∙ st q low
+      ∙ sym (last-buried b q ms e low) ∙ sym (last-other b q (buried b ms) e))
 
--- the same over other stamps
-pub restamped-next : (ms stamps : List ℕ) (b : ℕ) (other : ℕ → Option ℕ)
-    → ((q : ℕ) → stamp_of stamps q ≡ or_else (last_in ms q) (other q)) → b < length stamps
-    → length ms < no_stamp
-    → (q : ℕ) → stamp_of (set stamps b (length ms)) q ≡ or_else (last_in (b ∷ ms) q) (other q)
-restamped-next ms stamps b other st lt small q = set-stamp stamps b (length ms) q lt
+  pub stamped-next : (q : ℕ) → has_stamp new q ≡ (eqb b q || has_stamp old q)
+  stamped-next q = ap (λ m. not (eqb m never)) (is q) ∙ by_cases (eqb b q)
+      (λ e. ap (λ t. not (eqb (cond t n (stamp_at old q)) never)) e ∙ place-used n small
+      ∙ sym (ap (λ t. t || has_stamp old q) e))
+      (λ e. ap (λ t. not (eqb (cond t n (stamp_at old q)) never)) e
+      ∙ sym (ap (λ t. t || has_stamp old q) e))
+
+-- one more block was stamped with its place
+pub restamped-next : (ms stamps : List ℕ) (b : ℕ) (other : ℕ → ℕ)
+    → ((q : ℕ) → stamp_at stamps q ≡ unwrap_or (last_in ms q) (other q)) → b < length stamps
+    → (q : ℕ) → stamp_at (set stamps b (length ms)) q ≡ unwrap_or (last_in (b ∷ ms) q) (other q)
+restamped-next ms stamps b other st lt q = set-stamp stamps b (length ms) q lt
     ∙ by_cases (eqb b q)
-    (λ e. ap (λ t. cond t (read_stamp (length ms)) (stamp_of stamps q)) e
-    ∙ read-some (length ms) small ∙ sym (ap (λ o. or_else o (other q)) (last-same b q ms e)))
-    (λ e. ap (λ t. cond t (read_stamp (length ms)) (stamp_of stamps q)) e
-    ∙ st q ∙ sym (ap (λ o. or_else o (other q)) (last-other b q ms e)))
+    (λ e. ap (λ t. cond t (length ms) (stamp_at stamps q)) e
+    ∙ sym (ap (λ o. unwrap_or o (other q)) (last-same b q ms e)))
+    (λ e. ap (λ t. cond t (length ms) (stamp_at stamps q)) e
+    ∙ st q ∙ sym (ap (λ o. unwrap_or o (other q)) (last-other b q ms e)))
 
 -- the stamps where only the last uses are left
-pub restamped : (ms old new : List ℕ) → AreStamps ms old
-    → ((q : ℕ) → stamp_of new q ≡ or_else (last_in (distinct ms) q) (stamp_of old q))
-    → AreStamps (distinct ms) new
-restamped ms old new st is q = by_cases (has ms q)
-    (λ e. let u = has-last (distinct ms) q (has-distinct ms q ∙ e) in
-    is q ∙ ap (λ o. or_else o (stamp_of old q)) u.1 ∙ sym u.1)
-    (λ e. let none = none-last (distinct ms) q (has-distinct ms q ∙ e) in
-    is q ∙ ap (λ o. or_else o (stamp_of old q)) none ∙ st q ∙ none-last ms q e ∙ sym none)
+module _ (ms old new : List ℕ) (st : AreStamps ms old) (small : length ms ≤ forgotten)
+    (is : (q : ℕ) → stamp_at new q ≡ unwrap_or (last_in (living ms) q) (stamp_at old q)) where
+  there : (q p : ℕ) → last_in (living ms) q ≡ Some p → stamp_at new q ≡ p
+  there q p at = is q ∙ ap (λ o. unwrap_or o (stamp_at old q)) at
 
--- the stamps without those of some uses
-pub unstamped-next : (ms stamps : List ℕ) (b : ℕ) (other : ℕ → Option ℕ)
-    → ((q : ℕ) → stamp_of stamps q ≡ cond (has ms q) None (other q)) → b < length stamps
-    → (q : ℕ) → stamp_of (set stamps b no_stamp) q ≡ cond (has (b ∷ ms) q) None (other q)
-unstamped-next ms stamps b other st lt q = set-stamp stamps b no_stamp q lt
+  below : (q p : ℕ) → last_in (living ms) q ≡ Some p → p < forgotten
+  below q p at = omega (arith, (last-there (living ms) q p at).0, living-le ms, small)
+
+  kept : (q : ℕ) → has (living ms) q ≡ false → stamp_at new q ≡ stamp_at old q
+  kept q e = is q ∙ ap (λ o. unwrap_or o (stamp_at old q)) (none-last (living ms) q e)
+
+  pub restamped : AreStamps (living ms) new
+  restamped q low = by_cases (has (living ms) q)
+      (λ e. let u = has-last (living ms) q e in
+      ap place_of (there q u.0 u.1) ∙ place-some u.0 (below q u.0 u.1) ∙ sym u.1)
+      (λ e. ap place_of (kept q e) ∙ st q low ∙ none-last ms q (sym (has-living ms q low) ∙ e)
+      ∙ sym (none-last (living ms) q e))
+
+  pub restamped-same : (q : ℕ) → has_stamp new q ≡ has_stamp old q
+  restamped-same q = by_cases (has (living ms) q)
+      (λ e. let u = has-last (living ms) q e in
+      let low = living-low ms q e in
+      ap (λ n. not (eqb n never)) (there q u.0 u.1) ∙ place-used u.0 (below q u.0 u.1)
+      ∙ sym (used-stamped ms old st q low (sym (has-living ms q low) ∙ e)))
+      (λ e. ap (λ n. not (eqb n never)) (kept q e))
+
+-- the uses of one more block are forgotten
+pub unstamped-next : (ms stamps : List ℕ) (b : ℕ) (other : ℕ → ℕ)
+    → ((q : ℕ) → stamp_at stamps q ≡ cond (has ms q) forgotten (other q)) → b < length stamps
+    → (q : ℕ) → stamp_at (set stamps b forgotten) q ≡ cond (has (b ∷ ms) q) forgotten (other q)
+unstamped-next ms stamps b other st lt q = set-stamp stamps b forgotten q lt
     ∙ by_cases (eqb b q)
-    (λ e. ap (λ t. cond t (read_stamp no_stamp) (stamp_of stamps q)) e
-    ∙ sym (ap (λ t. cond t None (other q)) (has-same b q ms e)))
-    (λ e. ap (λ t. cond t (read_stamp no_stamp) (stamp_of stamps q)) e
-    ∙ st q ∙ sym (ap (λ t. cond t None (other q)) (has-other b q ms e)))
-  where
-    has-same : (m x : ℕ) (l : List ℕ) → eqb m x ≡ true → has (m ∷ l) x ≡ true
-    has-same m x l e = rw e refl
+    (λ e. ap (λ t. cond t forgotten (stamp_at stamps q)) e
+    ∙ sym (ap (λ t. cond (t || has ms q) forgotten (other q)) e))
+    (λ e. ap (λ t. cond t forgotten (stamp_at stamps q)) e ∙ st q
+    ∙ sym (ap (λ t. cond (t || has ms q) forgotten (other q)) e))
 
--- with no use there is no stamp
-pub unstamped : (ms old new : List ℕ) → AreStamps ms old
-    → ((q : ℕ) → stamp_of new q ≡ cond (has ms q) None (stamp_of old q)) → AreStamps [] new
-unstamped ms old new st is q = is q ∙ by_cases (has ms q)
-    (λ e. ap (λ t. cond t None (stamp_of old q)) e)
-    (λ e. ap (λ t. cond t None (stamp_of old q)) e ∙ st q ∙ none-last ms q e)
+-- the stamps where all uses are forgotten
+module _ (ms old new : List ℕ) (st : AreStamps ms old)
+    (is : (q : ℕ) → stamp_at new q ≡ cond (has (living ms) q) forgotten (stamp_at old q)) where
+  pub unstamped : AreStamps [] new
+  unstamped q low = ap place_of (is q) ∙ by_cases (has (living ms) q)
+      (λ e. ap (λ t. place_of (cond t forgotten (stamp_at old q))) e)
+      (λ e. ap (λ t. place_of (cond t forgotten (stamp_at old q))) e ∙ st q low
+      ∙ none-last ms q (sym (has-living ms q low) ∙ e))
+
+  pub unstamped-same : (q : ℕ) → has_stamp new q ≡ has_stamp old q
+  unstamped-same q = ap (λ n. not (eqb n never)) (is q) ∙ by_cases (has (living ms) q)
+      (λ e. let low = living-low ms q e in
+      ap (λ t. not (eqb (cond t forgotten (stamp_at old q)) never)) e
+      ∙ sym (used-stamped ms old st q low (sym (has-living ms q low) ∙ e)))
+      (λ e. ap (λ t. not (eqb (cond t forgotten (stamp_at old q)) never)) e)

@@ -1,45 +1,52 @@
 -- The windows of the marks when a block is used.
-use Rattle.std.proofs.Common.{◌≡◌, ℕ, zero, suc, ◌-◌, ◌<◌, ◌≤◌, true, false, cond}
+use Rattle.std.proofs.Common.{◌≡◌, ◌≢◌, ℕ, zero, suc, ◌-◌, ◌<◌, ◌≤◌, true, false, cond, eqb}
 use Rattle.std.proofs.Common.{List}
 use Rattle.std.proofs.Common.{[], ◌∷◌, take, length, map, get_or, refl, sym}
 use Rattle.std.proofs.Common.{ap, subst, ◌∙◌, arith}
 use Rattle.std.proofs.lemmas.List.{length-take-le}
-use Rattle.std.proofs.lemmas.List.{take_all, take-take}
+use Rattle.std.proofs.lemmas.List.{take_all, take-take, take-map}
 use Rattle.cache_core.proofs.MapStep.{suc_pred}
 use Rattle.cache_core.proofs.Nothing.{take_none}
-use Rattle.cache_core.proofs.Reuse.{has, has-distinct}
-use Rattle.cache_core.proofs.Shift.{without, without-absent, IsOnce-distinct}
+use Rattle.cache_core.proofs.Reuse.{has}
+use Rattle.cache_core.proofs.Shift.{IsOnce, without, without-absent}
 use Rattle.cache_core.proofs.Shift.{has-take_absent}
 use Rattle.cache_core.proofs.Shadow.{take-without_there, take-without_absent}
-use Rattle.cache_core.specs.Residents.{distinct}
 use Rattle.marked_list.specs.declared.marks.Mark.{Mark}
 use Rattle.marked_list.specs.Marks.{covers, IsMark, AreMarks, size_of, fresh_mark, restarted}
-use Rattle.marked_list.specs.Uses.{last_in, since}
+use Rattle.marked_list.specs.Uses.{last_in, since, dead, living, buried, used_next}
 use Rattle.marked_list.specs.Recency.{is_among, index_of, level_of}
 use Rattle.marked_list.proofs.LastUse.{has-since}
+use Rattle.marked_list.proofs.Living.{has-living, length-buried, living-next}
 use Rattle.std.specs.List.{All}
 use Rattle.std.proofs.lemmas.List.Elements.{All-head, All-tail}
 use Rattle.std.proofs.Common.{set}
 
-module _ (ms : List ℕ) (b m place : ℕ) (within : place ≤ length ms)
-    (window : take (suc m) (distinct ms) ≡ distinct (since place ms)) where
+module _ (ms : List ℕ) (b m place : ℕ) (low : b ≢ dead) (once : IsOnce (living ms))
+    (within : place ≤ length ms) (window : take (suc m) (living ms) ≡ living (since place ms)) where
   abbrev d : List ℕ
-  d = distinct ms
+  d = living ms
 
   among : has (take (suc m) d) b ≡ covers place (last_in ms b)
-  among = ap (λ l. has l b) window ∙ has-distinct (since place ms) b ∙ has-since ms b place within
+  among = ap (λ l. has l b) window ∙ has-living (since place ms) b low ∙ has-since ms b place within
 
-  since-next : since place (b ∷ ms) ≡ b ∷ since place ms
-  since-next = ap (λ k. take k (b ∷ ms))
-      (let z : suc (length ms) - place ≡ suc (length ms - place) = omega arith in z)
+  since-next : since place (used_next b ms) ≡ used_next b (since place ms)
+  since-next = ap (λ k. take k (used_next b ms))
+      (let z : suc (length (buried b ms)) - place ≡ suc (length ms - place) =
+      omega (arith, within, length-buried b ms) in z)
+      ∙ ap (λ l. b ∷ l) (take-map (λ n. cond (eqb n b) dead n) (length ms - place) ms)
 
-  window-next : distinct (since place (b ∷ ms)) ≡ b ∷ without b (take (suc m) d)
-  window-next = ap distinct since-next ∙ ap (λ l. b ∷ without b l) (sym window)
+  living-there : living (used_next b ms) ≡ b ∷ without b d
+  living-there = living-next b ms low
+
+  window-next : living (since place (used_next b ms)) ≡ b ∷ without b (take (suc m) d)
+  window-next = ap living since-next ∙ living-next b (since place ms) low
+      ∙ ap (λ l. b ∷ without b l) (sym window)
 
   -- a use of a block of the window
   pub next-inside : covers place (last_in ms b) ≡ true
-      → take (suc m) (distinct (b ∷ ms)) ≡ distinct (since place (b ∷ ms))
-  next-inside h = ap (λ l. b ∷ l) (sym (take-without_there b m d (IsOnce-distinct ms) (among ∙ h)))
+      → take (suc m) (living (used_next b ms)) ≡ living (since place (used_next b ms))
+  next-inside h = ap (take (suc m)) living-there
+      ∙ ap (λ l. b ∷ l) (sym (take-without_there b m d once (among ∙ h)))
       ∙ sym window-next
 
   module _ (h : covers place (last_in ms b) ≡ false) where
@@ -49,86 +56,90 @@ module _ (ms : List ℕ) (b m place : ℕ) (within : place ≤ length ms)
     shorter : take m (take (suc m) d) ≡ take m d
     shorter = take-take m (suc m) d (omega arith)
 
-    front-next : take (suc m) (distinct (b ∷ ms)) ≡ b ∷ take m d
-    front-next = ap (λ l. b ∷ l) (take-without_absent b m d
+    front-next : take (suc m) (living (used_next b ms)) ≡ b ∷ take m d
+    front-next = ap (take (suc m)) living-there
+        ∙ ap (λ l. b ∷ l) (take-without_absent b m d
         (subst (λ l. has l b ≡ false) shorter (has-take_absent m b (take (suc m) d) absent)))
 
-    window-new : distinct (since place (b ∷ ms)) ≡ b ∷ take (suc m) d
+    window-new : living (since place (used_next b ms)) ≡ b ∷ take (suc m) d
     window-new = window-next ∙ ap (λ l. b ∷ l) (without-absent (take (suc m) d) b absent)
 
     -- a use of another block, where there is room
     pub next-room : length d < suc m
-        → take (suc m) (distinct (b ∷ ms)) ≡ distinct (since place (b ∷ ms))
+        → take (suc m) (living (used_next b ms)) ≡ living (since place (used_next b ms))
     next-room lt = front-next ∙ ap (λ l. b ∷ l) (take_all m d (omega arith)
         ∙ sym (take_all (suc m) d (omega arith))) ∙ sym window-new
 
     -- where there is none, the window loses its last block
-    pub next-full : suc m ≤ length d → (w : List ℕ) → distinct (since place (b ∷ ms)) ≡ w
-        → take (suc m) (distinct (b ∷ ms)) ≡ take (length w - 1) w
+    pub next-full : suc m ≤ length d → (w : List ℕ) → living (since place (used_next b ms)) ≡ w
+        → take (suc m) (living (used_next b ms)) ≡ take (length w - 1) w
     next-full le w is = front-next ∙ ap (λ l. b ∷ l) (sym shorter)
         ∙ ap (λ k. take k (b ∷ take (suc m) d)) (let z : suc m ≡ length (b ∷ take (suc m) d) - 1 =
         omega (arith, length-take-le (suc m) d le) in z)
         ∙ ap (λ l. take (length l - 1) l) (sym window-new ∙ is)
 
 -- a size has the block if its mark has the last use
-pub mark-covers : (ms : List ℕ) (b : ℕ) (k : Mark) → IsMark ms k
-    → covers k.place (last_in ms b) ≡ is_among b (distinct ms) k.size
-mark-covers ms b k mark = sym (ap (λ l. has l b) mark.window
-    ∙ has-distinct (since k.place ms) b ∙ has-since ms b k.place mark.within)
+pub mark-covers : (ms : List ℕ) (b : ℕ) → b ≢ dead → (k : Mark) → IsMark ms k
+    → covers k.place (last_in ms b) ≡ is_among b (living ms) k.size
+mark-covers ms b low k mark = sym (ap (λ l. has l b) mark.window
+    ∙ has-living (since k.place ms) b low ∙ has-since ms b k.place mark.within)
 
 -- the first mark that has the last use gives the level
-pub level-marks : (ms : List ℕ) (b : ℕ) (ks : List Mark) → AreMarks ms ks
-    → index_of (λ k. covers k.place (last_in ms b)) ks ≡ level_of (map size_of ks) (distinct ms) b
-level-marks ms b [] are = refl
-level-marks ms b (k ∷ ks) are =
-    let here = mark-covers ms b k (are 0 (omega arith)) in
-    let rest = level-marks ms b ks (λ i lt. are (suc i) (omega arith)) in
+pub level-marks : (ms : List ℕ) (b : ℕ) → b ≢ dead → (ks : List Mark) → AreMarks ms ks
+    → index_of (λ k. covers k.place (last_in ms b)) ks ≡ level_of (map size_of ks) (living ms) b
+level-marks ms b low [] are = refl
+level-marks ms b low (k ∷ ks) are =
+    let here = mark-covers ms b low k (are 0 (omega arith)) in
+    let rest = level-marks ms b low ks (λ i lt. are (suc i) (omega arith)) in
     let others = index_of (λ (z : Mark). covers z.place (last_in ms b)) ks in
     ap (λ t. cond t 0 (suc others)) here
-    ∙ ap (λ n. cond (is_among b (distinct ms) k.size) 0 (suc n)) rest
+    ∙ ap (λ n. cond (is_among b (living ms) k.size) 0 (suc n)) rest
 
-module _ (ms : List ℕ) (b : ℕ) (k : Mark) (mark : IsMark ms k) where
-  window-suc : take (suc (k.size - 1)) (distinct ms) ≡ distinct (since k.place ms)
-  window-suc = subst (λ n. take n (distinct ms) ≡ distinct (since k.place ms))
+module _ (ms : List ℕ) (b : ℕ) (low : b ≢ dead) (once : IsOnce (living ms)) (k : Mark)
+    (mark : IsMark ms k) where
+  window-suc : take (suc (k.size - 1)) (living ms) ≡ living (since k.place ms)
+  window-suc = subst (λ n. take n (living ms) ≡ living (since k.place ms))
       (suc_pred k.size mark.some) mark.window
 
-  back : (l : List ℕ) → take (suc (k.size - 1)) (distinct (b ∷ ms)) ≡ l
-      → take k.size (distinct (b ∷ ms)) ≡ l
-  back l e = subst (λ n. take n (distinct (b ∷ ms)) ≡ l) (sym (suc_pred k.size mark.some)) e
+  back : (l : List ℕ) → take (suc (k.size - 1)) (living (used_next b ms)) ≡ l
+      → take k.size (living (used_next b ms)) ≡ l
+  back l e = subst (λ n. take n (living (used_next b ms)) ≡ l) (sym (suc_pred k.size mark.some)) e
 
-  further : k.place ≤ length (b ∷ ms)
-  further = omega (arith, mark.within)
+  further : k.place ≤ length (used_next b ms)
+  further = omega (arith, mark.within, length-buried b ms)
 
   -- a mark stays where the block was used behind it
-  pub stays-inside : covers k.place (last_in ms b) ≡ true → IsMark (b ∷ ms) k
+  pub stays-inside : covers k.place (last_in ms b) ≡ true → IsMark (used_next b ms) k
   stays-inside h = record {
     some = mark.some;
     within = further;
-    window = back (distinct (since k.place (b ∷ ms)))
-        (next-inside ms b (k.size - 1) k.place mark.within window-suc h);
+    window = back (living (since k.place (used_next b ms)))
+        (next-inside ms b (k.size - 1) k.place low once mark.within window-suc h);
   }
 
   -- and where it has room
-  pub stays-room : covers k.place (last_in ms b) ≡ false → length (distinct ms) < k.size
-      → IsMark (b ∷ ms) k
+  pub stays-room : covers k.place (last_in ms b) ≡ false → length (living ms) < k.size
+      → IsMark (used_next b ms) k
   stays-room h lt = record {
     some = mark.some;
     within = further;
-    window = back (distinct (since k.place (b ∷ ms)))
-        (next-room ms b (k.size - 1) k.place mark.within window-suc h (omega (arith, mark.some)));
+    window = back (living (since k.place (used_next b ms)))
+        (next-room ms b (k.size - 1) k.place low once mark.within window-suc h
+        (omega (arith, mark.some)));
   }
 
   -- and else it moves
-  pub moves-on : covers k.place (last_in ms b) ≡ false → k.size ≤ length (distinct ms) → (p : ℕ)
-      → p ≤ length (b ∷ ms) → distinct (since p (b ∷ ms))
-      ≡ take (length (distinct (since k.place (b ∷ ms))) - 1) (distinct (since k.place (b ∷ ms)))
-      → IsMark (b ∷ ms) (record { size = k.size; place = p })
+  pub moves-on : covers k.place (last_in ms b) ≡ false → k.size ≤ length (living ms) → (p : ℕ)
+      → p ≤ length (used_next b ms) → living (since p (used_next b ms))
+      ≡ take (length (living (since k.place (used_next b ms))) - 1)
+      (living (since k.place (used_next b ms)))
+      → IsMark (used_next b ms) (record { size = k.size; place = p })
   moves-on h le p within one_less = record {
     some = mark.some;
     within = within;
-    window = back (distinct (since p (b ∷ ms)))
-        (next-full ms b (k.size - 1) k.place mark.within window-suc h (omega (arith, mark.some))
-        (distinct (since k.place (b ∷ ms))) refl ∙ sym one_less);
+    window = back (living (since p (used_next b ms)))
+        (next-full ms b (k.size - 1) k.place low once mark.within window-suc h
+        (omega (arith, mark.some)) (living (since k.place (used_next b ms))) refl ∙ sym one_less);
   }
 
 -- a mark that is put in the place of one of its size leaves the sizes
@@ -142,7 +153,7 @@ none-of : (k : Mark) → k.place ≡ 0 → 0 < k.size → IsMark [] k
 none-of k start some = record {
   some = some;
   within = omega arith;
-  window = take_none k.size ∙ sym (ap distinct (take_none (0 - k.place)));
+  window = take_none k.size ∙ sym (ap living (take_none (0 - k.place)));
 }
 
 pub fresh-marks : (sizes : List ℕ) → All (λ n. 0 < n) sizes → AreMarks [] (map fresh_mark sizes)

@@ -1,5 +1,4 @@
 pub mod Recency
-pub mod Bits
 pub mod Uses
 pub mod Log
 pub mod Marks

@@ -1,14 +1,13 @@
 -- What a contract sees of a `Marked`.
-use Rattle.std.specs.Prelude.{ℕ, Bool, ◌==◌, List, map}
-use Rattle.cache_core.specs.Residents.{distinct}
+use Rattle.std.specs.Prelude.{ℕ, Bool, List, map}
 use Rattle.marked_list.specs.declared.marked.Marked.{Marked}
-use Rattle.marked_list.specs.Bits.{bit_of}
-use Rattle.marked_list.specs.Log.{uses_of}
+use Rattle.marked_list.specs.Log.{uses_of, is_stamped}
 use Rattle.marked_list.specs.Marks.{size_of}
+use Rattle.marked_list.specs.Uses.{living}
 
 -- the blocks in order of last use, the latest first
 unfoldable pub order_of : Marked → List ℕ
-order_of m = distinct (uses_of m.uses)
+order_of m = living (uses_of m.uses)
 
 -- the sizes
 unfoldable pub marked_sizes : Marked → List ℕ
@@ -16,4 +15,4 @@ marked_sizes m = map size_of m.marks.items
 
 -- whether a block was ever used
 unfoldable pub was_used : Marked → ℕ → Bool
-was_used m b = bit_of m.seen.items b == 1
+was_used m b = is_stamped m.uses b

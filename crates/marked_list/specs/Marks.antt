@@ -1,9 +1,9 @@
 -- How a mark for each size relates to the uses of blocks, the latest first.
-use Rattle.std.specs.Prelude.{◌≡◌, ℕ, ◌-◌, ◌+◌, ◌<◌, ◌≤◌, Bool, false, not, nat_lt, List, length}
-use Rattle.std.specs.Prelude.{take, get_or, Option, Some, None}
+use Rattle.std.specs.Prelude.{◌≡◌, ◌≢◌, ℕ, ◌-◌, ◌+◌, ◌<◌, ◌≤◌, Bool, false, not, nat_lt, List}
+use Rattle.std.specs.Prelude.{length, take, get_or, Option, Some, None}
 use Rattle.cache_core.specs.Residents.{distinct}
 use Rattle.marked_list.specs.declared.marks.Mark.{Mark}
-use Rattle.marked_list.specs.Uses.{since}
+use Rattle.marked_list.specs.Uses.{dead, last_in, living, since}
 
 -- the last use is at this place or after it
 abbrev pub covers : ℕ → Option ℕ → Bool
@@ -14,7 +14,15 @@ covers place (Some last) = not (nat_lt last place)
 pub record IsMark (ms : List ℕ) (k : Mark) : Type 0 where
   pub some : 0 < k.size
   pub within : k.place ≤ length ms
-  pub window : take k.size (distinct ms) ≡ distinct (since k.place ms)
+  pub window : take k.size (living ms) ≡ living (since k.place ms)
+
+-- A block is used after the uses ms. Its last use among them is this one, and they are of so many
+-- blocks.
+pub record IsUseAfter (ms : List ℕ) (b : ℕ) (last : Option ℕ) (used : ℕ) : Type 0 where
+  pub low : b ≢ dead
+  pub before : last ≡ last_in ms b
+  pub many : used ≡ length (living ms)
+  pub once : distinct (living ms) ≡ living ms
 
 -- a mark for what lies past the end of a list
 abbrev pub no_mark : Mark

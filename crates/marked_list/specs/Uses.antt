@@ -1,9 +1,8 @@
 -- Uses of blocks, the latest first, and what the code keeps of them.
-use Rattle.std.specs.Prelude.{◌≡◌, ℕ, ◌-◌, ◌+◌, ◌<◌, true, ◌==◌, if◌then◌else◌, List, [], ◌∷◌}
-use Rattle.std.specs.Prelude.{length}
-use Rattle.std.specs.Prelude.{take, get_or, reverse, Option, Some, None}
+use Rattle.std.specs.Prelude.{◌≡◌, ◌≢◌, ℕ, ◌-◌, ◌<◌, Bool, true, not, nat_lt, ◌==◌, if◌then◌else◌}
+use Rattle.std.specs.Prelude.{List, [], ◌∷◌, length, map, filter, take, get_or, set, Option, Some}
+use Rattle.std.specs.Prelude.{None}
 use Rattle.std.specs.List.{list_any}
-use Rattle.marked_list.specs.Bits.{bit_of}
 
 -- The number of uses before the last one of b, if there is one. In the order of time, this is the
 -- place of that use.
@@ -15,36 +14,51 @@ last_in (m ∷ ms) b = if m == b then Some (length ms) else last_in ms b
 abbrev pub since : ℕ → List ℕ → List ℕ
 since place ms = take (length ms - place) ms
 
--- what stands at a number that has no stamp
-abbrev pub no_stamp : ℕ
-no_stamp = 4294967295
+-- what stands at a use whose block was used again
+abbrev pub dead : ℕ
+dead = 4294967295
 
--- what such a value says
-abbrev pub read_stamp : ℕ → Option ℕ
-read_stamp n = if n == no_stamp then None else Some n
+-- the uses that are the last ones of their blocks
+abbrev pub living : List ℕ → List ℕ
+living ms = filter (λ m. not (m == dead)) ms
 
--- the stamp at a number, if there is one
-abbrev pub stamp_of : List ℕ → ℕ → Option ℕ
-stamp_of stamps q = read_stamp (get_or stamps q no_stamp)
+-- the uses once those of a block are dead
+abbrev pub buried : ℕ → List ℕ → List ℕ
+buried b ms = map (λ m. if m == b then dead else m) ms
 
--- the stamp of each block that was used is the place of its last use, and no other has one
+-- a log in which the use at a place is dead, if there is one
+abbrev pub with_dead : List ℕ → Option ℕ → List ℕ
+with_dead log None = log
+with_dead log (Some p) = set log p dead
+
+-- the uses after one more use of a block
+abbrev pub used_next : ℕ → List ℕ → List ℕ
+used_next b ms = b ∷ buried b ms
+
+-- the stamp of a block that was never used
+abbrev pub never : ℕ
+never = 4294967295
+
+-- the stamp of a block whose uses were forgotten
+abbrev pub forgotten : ℕ
+forgotten = 4294967294
+
+-- the stamp at a number
+abbrev pub stamp_at : List ℕ → ℕ → ℕ
+stamp_at stamps q = get_or stamps q never
+
+-- the place that a stamp says, if it says one
+abbrev pub place_of : ℕ → Option ℕ
+place_of n = if nat_lt n forgotten then Some n else None
+
+-- the stamp of each block that was used is the place of its last use, and no other says a place
 abbrev pub AreStamps : List ℕ → List ℕ → Type 0
-AreStamps ms stamps = (q : ℕ) → stamp_of stamps q ≡ last_in ms q
+AreStamps ms stamps = (q : ℕ) → q ≢ dead → place_of (stamp_at stamps q) ≡ last_in ms q
 
--- the first, or the second if there is no first
-abbrev pub or_else : Option ℕ → Option ℕ → Option ℕ
-or_else None o = o
-or_else (Some n) o = Some n
-
--- the bit of a use is 1 if its block was used again after it
-abbrev pub AreDead : List ℕ → List ℕ → Type 0
-AreDead ms words = (i : ℕ) → bit_of words i
-    ≡ (if list_any (λ m. m == get_or (reverse ms) i 0) (since (i + 1) ms) then 1 else 0)
+-- whether the stamp of a block says that it was ever used
+abbrev pub has_stamp : List ℕ → ℕ → Bool
+has_stamp stamps q = not (stamp_at stamps q == never)
 
 -- each block that was used has room for a stamp
 abbrev pub HaveRoom : List ℕ → List ℕ → Type 0
 HaveRoom ms stamps = (b : ℕ) → list_any (λ m. m == b) ms ≡ true → b < length stamps
-
--- each block that was used has a bit
-abbrev pub AreNoted : List ℕ → List ℕ → Type 0
-AreNoted ms words = (b : ℕ) → list_any (λ m. m == b) ms ≡ true → bit_of words b ≡ 1

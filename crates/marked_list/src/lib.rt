@@ -4,7 +4,6 @@
 //! the block.
 #![tactic(auto)]
 
-mod bits;
 mod laws;
 mod marked;
 mod marks;

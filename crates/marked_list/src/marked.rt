@@ -1,13 +1,10 @@
 //! One list of blocks in order of last use, for all sizes.
 
-ghost use Rattle.std.specs.Prelude.{◌≡◌, ◌≢◌, ◌<◌, ◌/◌, ℕ, length, map, true};
-ghost use Rattle.cache_core.specs.Residents.{distinct};
-ghost use Rattle.marked_list.specs.Bits.{bit_of};
+ghost use Rattle.std.specs.Prelude.{◌≡◌, ◌<◌, length, map, true};
 ghost use Rattle.marked_list.specs.Log.{uses_of};
-ghost use Rattle.marked_list.specs.Uses.{AreNoted};
+ghost use Rattle.marked_list.specs.Uses.{living};
 ghost use Rattle.marked_list.specs.Marks.{AreMarks, IsStepwise, counted_with, size_of};
 
-use crate::bits::{bit, make_room, set_bit};
 use crate::marks::{Mark, is_rising, move_each, new_marks, restart_each, settle_each};
 use crate::uses::Uses;
 use std::alloc::{AllocError, Global};
@@ -22,11 +19,8 @@ pub struct Marked {
     used: usize,
     /// Whether each size is larger than those before it.
     rising: bool,
-    /// A bit for each number: whether its block was ever used.
-    seen: Vec<u64>,
     ghost marked: { AreMarks (uses_of uses) marks.items },
-    ghost counted: { used ≡ length (distinct (uses_of uses)) },
-    ghost kept: { AreNoted (uses_of uses) seen.items },
+    ghost counted: { used ≡ length (living (uses_of uses)) },
     ghost rises: { rising ≡ true → IsStepwise (map size_of marks.items) },
 }
 
@@ -39,16 +33,6 @@ fn counted(used: usize, last: Option<usize>) -> usize
         None => used + 1,
         Some(_) => used,
     }
-}
-
-/// Sets the bit of a number.
-fn note(seen: &mut Vec<u64>, number: usize)
-    requires { number / 64 < length seen.old.items }
-    ensures set { bit_of seen.new.items number ≡ 1 }
-    ensures others { (q : ℕ) → q ≢ number →
-        bit_of seen.new.items q ≡ bit_of seen.old.items q }
-{
-    set_bit(seen, number);
 }
 
 #[tactic(auto, unfolding(crate::specs::Marked::order_of, crate::specs::Marked::marked_sizes, crate::specs::Marked::was_used))]
@@ -71,7 +55,6 @@ impl Marked {
             marks,
             used: 0,
             rising: is_rising(sizes),
-            seen: Vec::new(alloc),
         })
     }
 
@@ -87,6 +70,7 @@ impl Marked {
 
     /// Serves a use of a block, as `touch` does.
     fn serve(&mut self, number: usize) -> Result<usize, AllocError>
+        requires { number < u32.MAX }
         ensures level { IfOk result (λ level.
             level ≡ level_of (marked_sizes self.old) (order_of self.old) number) }
         ensures order { OnOk result (order_of self.new ≡ brought_front number (order_of self.old)) }
@@ -96,14 +80,10 @@ impl Marked {
         ensures unused { OnErr result ((q : ℕ) → was_used self.new q ≡ was_used self.old q) }
         ensures sizes { marked_sizes self.new ≡ marked_sizes self.old }
     {
-        let Ok(()) = make_room(&mut self.seen, number) else {
-            return Err(AllocError);
-        };
         let last = self.uses.last_use(number);
         let Ok(()) = self.uses.add(number, last) else {
             return Err(AllocError);
         };
-        note(&mut self.seen, number);
         let level = move_each(&mut self.marks, &self.uses, last, self.used, self.rising);
         self.used = counted(self.used, last);
         Ok(level)
@@ -113,7 +93,7 @@ impl Marked {
     pub fn knows(&self, number: usize) -> bool
         ensures { result ≡ was_used self.now number }
     {
-        bit(&self.seen, number) == 1
+        self.uses.knows(number)
     }
 
     /// Uses a block, and answers its level before: the index of the first size for which it was
@@ -130,6 +110,9 @@ impl Marked {
         ensures unused { OnErr result ((q : ℕ) → was_used self.new q ≡ was_used self.old q) }
         ensures sizes { marked_sizes self.new ≡ marked_sizes self.old }
     {
+        if number >= u32::MAX as usize {
+            return Err(AllocError);
+        }
         if self.uses.is_latest(number) {
             return Ok(0);
         }

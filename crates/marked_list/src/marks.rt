@@ -1,12 +1,11 @@
 //! A mark for each size: where the uses begin that have as many different blocks.
 
-ghost use Rattle.std.specs.Prelude.{◌≡◌, ◌<◌, ◌≤◌, ◌∷◌, ℕ, List, length, map, get_or, true, IfOk};
-ghost use Rattle.cache_core.specs.Residents.{distinct};
+ghost use Rattle.std.specs.Prelude.{◌≡◌, ◌<◌, ◌≤◌, ℕ, List, length, map, get_or, true, IfOk};
 ghost use Rattle.marked_list.specs.Recency.{index_of};
-ghost use Rattle.marked_list.specs.Uses.{last_in};
+ghost use Rattle.marked_list.specs.Uses.{used_next};
 ghost use Rattle.marked_list.specs.Log.{uses_of};
 ghost use Rattle.marked_list.specs.Marks.{covers, IsMark, AreMarks, AreBelow, no_mark, fresh_mark};
-ghost use Rattle.marked_list.specs.Marks.{IsStepwise, restarted, size_of, settled};
+ghost use Rattle.marked_list.specs.Marks.{IsStepwise, IsUseAfter, restarted, size_of, settled};
 
 use crate::uses::Uses;
 use std::alloc::{AllocError, Global};
@@ -58,8 +57,8 @@ fn is_since(place: usize, last: Option<usize>) -> bool
 fn move_mark(mark: &mut Mark, uses: &Uses, last: Option<usize>, used: usize)
     requires { mark.old.place < length (uses_of uses.now) }
     ensures size { mark.new.size ≡ mark.old.size }
-    ensures moves { (b : ℕ) (ms : List ℕ) → uses_of uses.now ≡ b ∷ ms → last ≡ last_in ms b →
-        used ≡ length (distinct ms) → IsMark ms mark.old → IsMark (b ∷ ms) mark.new }
+    ensures moves { (ms : List ℕ) (b : ℕ) → uses_of uses.now ≡ used_next b ms →
+        IsUseAfter ms b last used → IsMark ms mark.old → IsMark (used_next b ms) mark.new }
 {
     if is_since(mark.place, last) {
         return;
@@ -76,9 +75,9 @@ fn move_first(marks: &mut [Mark], uses: &Uses, last: Option<usize>, used: usize)
     requires { AreBelow (length (uses_of uses.now)) marks.old }
     ensures level { result ≡ index_of (λ k. covers k.place last) marks.old }
     ensures sizes { map size_of marks.new ≡ map size_of marks.old }
-    ensures moves { (b : ℕ) (ms : List ℕ) → uses_of uses.now ≡ b ∷ ms → last ≡ last_in ms b →
-        used ≡ length (distinct ms) → AreMarks ms marks.old → (k : ℕ) → k < result →
-        IsMark (b ∷ ms) (get_or marks.new k no_mark) }
+    ensures moves { (ms : List ℕ) (b : ℕ) → uses_of uses.now ≡ used_next b ms →
+        IsUseAfter ms b last used → AreMarks ms marks.old → (k : ℕ) → k < result →
+        IsMark (used_next b ms) (get_or marks.new k no_mark) }
     ensures left { (k : ℕ) → result ≤ k →
         get_or marks.new k no_mark ≡ get_or marks.old k no_mark }
 {
@@ -96,9 +95,10 @@ fn move_rest(marks: &mut [Mark], from: usize, uses: &Uses, last: Option<usize>, 
     requires { (k : ℕ) → from ≤ k → k < length marks.old →
         (get_or marks.old k no_mark).place < length (uses_of uses.now) }
     ensures sizes { map size_of marks.new ≡ map size_of marks.old }
-    ensures moves { (b : ℕ) (ms : List ℕ) → uses_of uses.now ≡ b ∷ ms → last ≡ last_in ms b →
-        used ≡ length (distinct ms) → (k : ℕ) → from ≤ k → k < length marks.old →
-        IsMark ms (get_or marks.old k no_mark) → IsMark (b ∷ ms) (get_or marks.new k no_mark) }
+    ensures moves { (ms : List ℕ) (b : ℕ) → uses_of uses.now ≡ used_next b ms →
+        IsUseAfter ms b last used → (k : ℕ) → from ≤ k → k < length marks.old →
+        IsMark ms (get_or marks.old k no_mark) →
+        IsMark (used_next b ms) (get_or marks.new k no_mark) }
     ensures left { (k : ℕ) → k < from → get_or marks.new k no_mark ≡ get_or marks.old k no_mark }
 {
     for index in from..marks.len() {
@@ -118,9 +118,9 @@ fn move_all(
     requires { AreBelow (length (uses_of uses.now)) marks.old }
     ensures level { result ≡ index_of (λ k. covers k.place last) marks.old }
     ensures sizes { map size_of marks.new ≡ map size_of marks.old }
-    ensures moves { (b : ℕ) (ms : List ℕ) → uses_of uses.now ≡ b ∷ ms → last ≡ last_in ms b →
-        used ≡ length (distinct ms) → (rising ≡ true → IsStepwise (map size_of marks.old)) →
-        AreMarks ms marks.old → AreMarks (b ∷ ms) marks.new }
+    ensures moves { (ms : List ℕ) (b : ℕ) → uses_of uses.now ≡ used_next b ms →
+        IsUseAfter ms b last used → (rising ≡ true → IsStepwise (map size_of marks.old)) →
+        AreMarks ms marks.old → AreMarks (used_next b ms) marks.new }
 {
     let level = move_first(marks, uses, last, used);
     if rising {
@@ -141,9 +141,9 @@ pub(crate) fn move_each(
     requires { AreBelow (length (uses_of uses.now)) marks.old.items }
     ensures level { result ≡ index_of (λ k. covers k.place last) marks.old.items }
     ensures sizes { map size_of marks.new.items ≡ map size_of marks.old.items }
-    ensures moves { (b : ℕ) (ms : List ℕ) → uses_of uses.now ≡ b ∷ ms → last ≡ last_in ms b →
-        used ≡ length (distinct ms) → (rising ≡ true → IsStepwise (map size_of marks.old.items)) →
-        AreMarks ms marks.old.items → AreMarks (b ∷ ms) marks.new.items }
+    ensures moves { (ms : List ℕ) (b : ℕ) → uses_of uses.now ≡ used_next b ms →
+        IsUseAfter ms b last used → (rising ≡ true → IsStepwise (map size_of marks.old.items)) →
+        AreMarks ms marks.old.items → AreMarks (used_next b ms) marks.new.items }
 {
     move_all(marks, uses, last, used, rising)
 }

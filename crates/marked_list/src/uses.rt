@@ -1,57 +1,63 @@
 //! The uses of blocks in the order of time, and which of them are the last ones of their blocks.
 
-ghost use Rattle.std.specs.Prelude.{◌≡◌, ◌≢◌, ◌<◌, ◌+◌, ◌/◌, ◌^◌, ◌∷◌, ℕ, length, take, reverse};
-ghost use Rattle.std.specs.Prelude.{get_or};
-ghost use Rattle.std.specs.Prelude.{if◌then◌else◌, ◌==◌, None, OnOk, OnErr};
+ghost use Rattle.std.specs.Prelude.{◌≡◌, ◌<◌, ◌≤◌, ◌+◌, ◌-◌, ◌^◌, ◌∷◌, ◌++◌, ◌==◌, [], ℕ};
+ghost use Rattle.std.specs.Prelude.{if◌then◌else◌, length, reverse, take, unwrap_or, OnOk, OnErr};
 ghost use Rattle.std.specs.List.{list_any};
 ghost use Rattle.cache_core.specs.Residents.{distinct};
-ghost use Rattle.marked_list.specs.Bits.{bit_of};
-ghost use Rattle.marked_list.specs.Uses.{AreStamps, AreDead, HaveRoom, last_in, stamp_of, or_else};
+ghost use Rattle.marked_list.specs.Uses.{AreStamps, HaveRoom, forgotten, has_stamp, last_in};
+ghost use Rattle.marked_list.specs.Uses.{living, place_of, since, stamp_at, with_dead};
 
-use crate::bits::{bit, first_zero, make_room, set_bit};
 use std::alloc::{AllocError, Global};
+
+/// Stands in the log at a use that is dead: its block was used again.
+const DEAD: u32 = u32::MAX;
+
+/// The stamp of a block that was never used.
+const NEVER: u32 = u32::MAX;
+
+/// The stamp of a block whose uses were forgotten. A place is less.
+const FORGOTTEN: u32 = u32::MAX - 1;
 
 /// The uses of blocks by number. Numbers, and places in the log, have 32 bits.
 #[derive(Drop)]
 pub(crate) struct Uses {
-    /// The numbers of the blocks, in the order of their uses.
+    /// The numbers of the blocks in the order of their uses, and `DEAD` for each use that is not
+    /// the last one of its block.
     log: Vec<u32>,
-    /// By number: the place of the last use in `log`, or `u32::MAX` if there is none.
+    /// By number: the place of the last use in `log`, or `FORGOTTEN`, or `NEVER`.
     stamps: Vec<u32>,
-    /// A bit for each use: whether its block was used again after it.
-    dead: Vec<u64>,
     ghost stamped: { AreStamps (reverse log.items) stamps.items },
-    ghost marked_dead: { AreDead (reverse log.items) dead.items },
-    ghost short: { length log.items < 2 ^ 32 },
+    ghost once: { distinct (living (reverse log.items)) ≡ living (reverse log.items) },
+    ghost short: { length log.items + 1 < 2 ^ 32 },
 }
 
 /// Makes room for a stamp of this number.
 fn grow(stamps: &mut Vec<u32>, number: usize) -> Result<(), AllocError>
     requires { number < u32.MAX }
-    ensures kept { (q : ℕ) → stamp_of stamps.new.items q ≡ stamp_of stamps.old.items q }
+    ensures kept { (q : ℕ) → stamp_at stamps.new.items q ≡ stamp_at stamps.old.items q }
     ensures room { OnOk result (number < length stamps.new.items) }
 {
     if number < stamps.len() {
         return Ok(());
     }
-    let Ok(()) = stamps.resize(number + 1, u32::MAX) else {
+    let Ok(()) = stamps.resize(number + 1, NEVER) else {
         return Err(AllocError);
     };
     Ok(())
 }
 
-/// Notes a use of a block.
+/// Adds a use to the log, and stamps its block with the place.
 fn note(log: &mut Vec<u32>, stamps: &mut Vec<u32>, number: usize) -> Result<(), AllocError>
-    requires number { number < u32.MAX }
-    requires short { length log.old.items + 1 < 2 ^ 32 }
-    requires stamps { AreStamps (reverse log.old.items) stamps.old.items }
-    ensures stamps { AreStamps (reverse log.new.items) stamps.new.items }
-    ensures log { OnOk result (reverse log.new.items ≡ number ∷ reverse log.old.items) }
+    requires number { number < length stamps.old.items }
+    requires low { number < u32.MAX }
+    requires short { length log.old.items < forgotten }
+    ensures log { OnOk result (log.new.items ≡ log.old.items ++ number ∷ []) }
+    ensures stamps { OnOk result ((q : ℕ) → stamp_at stamps.new.items q
+        ≡ (if number == q then length log.old.items else stamp_at stamps.old.items q)) }
     ensures unchanged { OnErr result (log.new.items ≡ log.old.items) }
+    ensures kept { OnErr result ((q : ℕ) →
+        stamp_at stamps.new.items q ≡ stamp_at stamps.old.items q) }
 {
-    let Ok(()) = grow(stamps, number) else {
-        return Err(AllocError);
-    };
     let place = log.len();
     let Ok(()) = log.push(number as u32) else {
         return Err(AllocError);
@@ -60,122 +66,131 @@ fn note(log: &mut Vec<u32>, stamps: &mut Vec<u32>, number: usize) -> Result<(), 
     Ok(())
 }
 
-/// Makes room for the bit of a use, if there is one.
-fn make_room_for(dead: &mut Vec<u64>, last: Option<usize>) -> Result<(), AllocError>
-    ensures room { OnOk result ((p : ℕ) → last ≡ Some p → p / 64 < length dead.new.items) }
-    ensures bits { (i : ℕ) → bit_of dead.new.items i ≡ bit_of dead.old.items i }
-{
-    let Some(place) = last else {
-        return Ok(());
-    };
-    make_room(dead, place)
-}
-
-/// Sets the bit of a use, if there is one.
-fn bury(dead: &mut Vec<u64>, last: Option<usize>)
-    requires { (p : ℕ) → last ≡ Some p → p / 64 < length dead.old.items }
-    ensures dead { (p : ℕ) → last ≡ Some p → bit_of dead.new.items p ≡ 1 }
-    ensures others { (i : ℕ) → last ≢ Some i → bit_of dead.new.items i ≡ bit_of dead.old.items i }
+/// Lets the use at this place be dead, if there is one.
+fn bury(log: &mut Vec<u32>, last: Option<usize>)
+    requires { (p : ℕ) → last ≡ Some p → p < length log.old.items }
+    ensures { log.new.items ≡ with_dead log.old.items last }
 {
     if let Some(place) = last {
-        set_bit(dead, place);
+        log[place] = DEAD;
     }
 }
 
 /// Moves the last uses to the front, in their order, and answers how many there are.
-fn keep_last_uses(log: &mut [u32], dead: &[u64]) -> usize
-    requires { AreDead (reverse log.old) dead.now }
-    ensures { reverse (take result log.new) ≡ distinct (reverse log.old) }
+fn keep_last_uses(log: &mut [u32]) -> usize
+    ensures { reverse (take result log.new) ≡ living (reverse log.old) }
 {
     let mut kept = 0;
     for place in 0..log.len() {
-        log[kept] = log[place];
-        kept += 1 - bit(dead, place);
+        let number = log[place];
+        log[kept] = number;
+        if number != DEAD {
+            kept += 1;
+        }
     }
     kept
+}
+
+/// The same for a vector, and the rest is cut off.
+fn keep_each(log: &mut Vec<u32>)
+    ensures { reverse log.new.items ≡ living (reverse log.old.items) }
+{
+    let kept = keep_last_uses(log);
+    log.truncate(kept);
 }
 
 /// Stamps each block with the place of its last use.
 fn restamp(log: &[u32], stamps: &mut [u32])
     requires short { length log.now < 2 ^ 32 }
     requires room { HaveRoom (reverse log.now) stamps.old }
-    ensures { (q : ℕ) → stamp_of stamps.new q
-        ≡ or_else (last_in (reverse log.now) q) (stamp_of stamps.old q) }
+    ensures { (q : ℕ) → stamp_at stamps.new q
+        ≡ unwrap_or (last_in (reverse log.now) q) (stamp_at stamps.old q) }
 {
     for (place, number) in log.iter().enumerate() {
         stamps[*number as usize] = place as u32;
     }
 }
 
-/// Takes the stamps of the blocks away.
-fn unstamp(log: &[u32], stamps: &mut [u32])
-    requires { HaveRoom (reverse log.now) stamps.old }
-    ensures { (q : ℕ) → stamp_of stamps.new q
-        ≡ (if list_any (λ m. m == q) (reverse log.now) then None else stamp_of stamps.old q) }
-{
-    for number in log.iter() {
-        stamps[*number as usize] = u32::MAX;
-    }
-}
-
-/// The same for vectors, and the rest is cut off.
-fn keep_each(log: &mut Vec<u32>, dead: &Vec<u64>)
-    requires { AreDead (reverse log.old.items) dead.now.items }
-    ensures { reverse log.new.items ≡ distinct (reverse log.old.items) }
-{
-    let kept = keep_last_uses(log, dead);
-    log.truncate(kept);
-}
-
 /// The same for vectors.
 fn restamp_each(log: &Vec<u32>, stamps: &mut Vec<u32>)
     requires short { length log.now.items < 2 ^ 32 }
     requires room { HaveRoom (reverse log.now.items) stamps.old.items }
-    ensures { (q : ℕ) → stamp_of stamps.new.items q
-        ≡ or_else (last_in (reverse log.now.items) q) (stamp_of stamps.old.items q) }
+    ensures { (q : ℕ) → stamp_at stamps.new.items q
+        ≡ unwrap_or (last_in (reverse log.now.items) q) (stamp_at stamps.old.items q) }
 {
     restamp(log, stamps);
+}
+
+/// Stamps each block as one whose uses were forgotten.
+fn unstamp(log: &[u32], stamps: &mut [u32])
+    requires { HaveRoom (reverse log.now) stamps.old }
+    ensures { (q : ℕ) → stamp_at stamps.new q
+        ≡ (if list_any (λ m. m == q) (reverse log.now) then forgotten else stamp_at stamps.old q) }
+{
+    for number in log.iter() {
+        stamps[*number as usize] = FORGOTTEN;
+    }
 }
 
 /// The same for vectors.
 fn unstamp_each(log: &Vec<u32>, stamps: &mut Vec<u32>)
     requires { HaveRoom (reverse log.now.items) stamps.old.items }
-    ensures { (q : ℕ) → stamp_of stamps.new.items q
-        ≡ (if list_any (λ m. m == q) (reverse log.now.items) then None
-        else stamp_of stamps.old.items q) }
+    ensures { (q : ℕ) → stamp_at stamps.new.items q
+        ≡ (if list_any (λ m. m == q) (reverse log.now.items) then forgotten
+        else stamp_at stamps.old.items q) }
 {
     unstamp(log, stamps);
 }
 
-/// The stamp at a number, if there is one.
-fn stamp(stamps: &Vec<u32>, number: usize) -> Option<usize>
-    ensures { result ≡ stamp_of stamps.now.items number }
+/// The place behind the first use from `place` on that is not dead, or behind the last use.
+fn behind_living(log: &[u32], place: usize) -> usize
+    requires { place < length log.now }
+    ensures within { result ≤ length log.now }
+    ensures one_less { let window = living (since place (reverse log.now)) in
+        living (since result (reverse log.now)) ≡ take (length window - 1) window }
+{
+    let mut index = place;
+    while index + 1 < log.len() && log[index] == DEAD {
+        index += 1;
+    }
+    index + 1
+}
+
+/// The place that the stamp at a number says, if it says one.
+fn place_at(stamps: &Vec<u32>, number: usize) -> Option<usize>
+    ensures { result ≡ place_of (stamp_at stamps.now.items number) }
 {
     if number < stamps.len() {
-        let place = stamps[number];
-        if place != u32::MAX {
-            return Some(place as usize);
+        let stamp = stamps[number];
+        if stamp < FORGOTTEN {
+            return Some(stamp as usize);
         }
     }
     None
 }
 
-#[tactic(auto, unfolding(crate::specs::Log::uses_of))]
+/// Whether the stamp at a number says that its block was ever used.
+fn says_used(stamps: &Vec<u32>, number: usize) -> bool
+    ensures { result ≡ has_stamp stamps.now.items number }
+{
+    number < stamps.len() && stamps[number] != NEVER
+}
+
+#[tactic(auto, unfolding(crate::specs::Log::uses_of, crate::specs::Log::is_stamped))]
 impl Uses {
-    ghost use Rattle.std.specs.Prelude.{◌≡◌, ◌<◌, ◌≤◌, ◌-◌, ◌∷◌, [], length, take, get_or, true};
-    ghost use Rattle.std.specs.Prelude.{OnOk, OnErr};
-    ghost use Rattle.cache_core.specs.Residents.{distinct};
-    ghost use Rattle.marked_list.specs.Uses.{last_in, since};
-    ghost use Rattle.marked_list.specs.Log.{uses_of};
+    ghost use Rattle.std.specs.Prelude.{◌≡◌, ◌≢◌, ◌<◌, ◌≤◌, ◌-◌, ◌==◌, ◌||◌, [], ℕ, length, take};
+    ghost use Rattle.std.specs.Prelude.{get_or, true, false, OnOk, OnErr};
+    ghost use Rattle.marked_list.specs.Uses.{dead, last_in, living, since, used_next};
+    ghost use Rattle.marked_list.specs.Log.{uses_of, is_stamped};
 
     /// No uses.
     pub(crate) fn new(alloc: Global) -> Uses
-        ensures { uses_of result ≡ [] }
+        ensures uses { uses_of result ≡ [] }
+        ensures used { (q : ℕ) → is_stamped result q ≡ false }
     {
         Uses {
             log: Vec::new(alloc),
             stamps: Vec::new(alloc),
-            dead: Vec::new(alloc),
         }
     }
 
@@ -197,56 +212,69 @@ impl Uses {
 
     /// The place of the last use of a block, if it has one.
     pub(crate) fn last_use(&self, number: usize) -> Option<usize>
+        requires { number ≢ dead }
         ensures { result ≡ last_in (uses_of self.now) number }
     {
-        stamp(&self.stamps, number)
+        place_at(&self.stamps, number)
+    }
+
+    /// Whether a block was ever used.
+    pub(crate) fn knows(&self, number: usize) -> bool
+        ensures { result ≡ is_stamped self.now number }
+    {
+        says_used(&self.stamps, number)
     }
 
     /// The place from which on there is one block less: behind the next last use of a block.
     pub(crate) fn behind_next(&self, place: usize) -> usize
         requires { place < length (uses_of self.now) }
         ensures within { result ≤ length (uses_of self.now) }
-        ensures one_less { let window = distinct (since place (uses_of self.now)) in
-            distinct (since result (uses_of self.now)) ≡ take (length window - 1) window }
+        ensures one_less { let window = living (since place (uses_of self.now)) in
+            living (since result (uses_of self.now)) ≡ take (length window - 1) window }
     {
-        first_zero(&self.dead, place, self.log.len()) + 1
+        behind_living(&self.log, place)
     }
 
-    /// Adds a use of a block whose last use is known. Numbers of `u32::MAX` and more, and as many
-    /// uses, are refused as if memory were wanting.
+    /// Adds a use of a block whose last use is known. Of as many uses as there are stamps, one more
+    /// is refused as if memory were wanting.
     pub(crate) fn add(&mut self, number: usize, last: Option<usize>) -> Result<(), AllocError>
-        requires { last ≡ last_in (uses_of self.old) number }
-        ensures added { OnOk result (uses_of self.new ≡ number ∷ uses_of self.old) }
+        requires low { number < u32.MAX }
+        requires last { last ≡ last_in (uses_of self.old) number }
+        ensures added { OnOk result (uses_of self.new ≡ used_next number (uses_of self.old)) }
+        ensures used { OnOk result ((q : ℕ) →
+            is_stamped self.new q ≡ (number == q || is_stamped self.old q)) }
         ensures unchanged { OnErr result (uses_of self.new ≡ uses_of self.old) }
+        ensures unused { OnErr result ((q : ℕ) → is_stamped self.new q ≡ is_stamped self.old q) }
     {
-        if number >= u32::MAX as usize || self.log.len() >= u32::MAX as usize {
+        if self.log.len() >= FORGOTTEN as usize {
             return Err(AllocError);
         }
-        let Ok(()) = make_room_for(&mut self.dead, last) else {
+        let Ok(()) = grow(&mut self.stamps, number) else {
             return Err(AllocError);
         };
         let Ok(()) = note(&mut self.log, &mut self.stamps, number) else {
             return Err(AllocError);
         };
-        bury(&mut self.dead, last);
+        bury(&mut self.log, last);
         Ok(())
     }
 
     /// Forgets all uses but the last ones.
     pub(crate) fn shorten(&mut self)
-        ensures { uses_of self.new ≡ distinct (uses_of self.old) }
+        ensures uses { uses_of self.new ≡ living (uses_of self.old) }
+        ensures used { (q : ℕ) → is_stamped self.new q ≡ is_stamped self.old q }
     {
-        keep_each(&mut self.log, &self.dead);
-        self.dead.clear();
+        keep_each(&mut self.log);
         restamp_each(&self.log, &mut self.stamps);
     }
 
     /// Forgets all uses.
     pub(crate) fn clear(&mut self)
-        ensures { uses_of self.new ≡ [] }
+        ensures uses { uses_of self.new ≡ [] }
+        ensures used { (q : ℕ) → is_stamped self.new q ≡ is_stamped self.old q }
     {
+        keep_each(&mut self.log);
         unstamp_each(&self.log, &mut self.stamps);
         self.log.clear();
-        self.dead.clear();
     }
 }

@@ -1,6 +1,7 @@
-use Rattle.std.proofs.Common.{◌≡◌, ◌≢◌, ◌<◌, ◌∷◌, length, get_or, sym, ap, subst, ◌∙◌, arith}
+use Rattle.std.proofs.Common.{◌≡◌, ◌≢◌, ◌<◌, length, get_or, sym, ap, subst, ◌∙◌, arith}
 use Rattle.std.proofs.Common.{get_or-set_other}
 use Rattle.std.proofs.lemmas.List.{set-get_or}
+use Rattle.marked_list.specs.Uses.{used_next}
 use Rattle.marked_list.specs.declared.marks.Mark.{Mark}
 use Rattle.marked_list.specs.Marks.{covers, IsMark, no_mark}
 use Rattle.marked_list.proofs.Windows.{sizes-set}
@@ -23,9 +24,10 @@ loop-index-preserved c =
           c.loop-index.invariant.level;
       sizes = sizes-set xs i c.move_mark.new.mark _ c.move_mark.ensures.size
           ∙ c.loop-index.invariant.sizes;
-      moves = λ b ms log last used are. one-more (IsMark (b ∷ ms)) xs i c.move_mark.new.mark inside
-          (c.loop-index.invariant.moves b ms log last used are)
-          (c.move_mark.ensures.moves b ms log last used
+      moves = λ ms b log after are.
+          one-more (IsMark (used_next b ms)) xs i c.move_mark.new.mark inside
+          (c.loop-index.invariant.moves ms b log after are)
+          (c.move_mark.ensures.moves ms b log after
           (at-any (IsMark ms) xs i no_mark _ inside
           (subst (IsMark ms) same (are i inside'))));
       left = λ k le. let ne : k ≢ i = omega arith in
@@ -45,10 +47,10 @@ returns-then-is_since-clause-level c =
     c.loop-index.invariant.level
 
 pub returns-then-is_since-clause-moves : goal.returns-then-is_since-clause-moves
-returns-then-is_since-clause-moves c = λ b ms log last used are k lt.
-    subst (λ l. IsMark (b ∷ ms) (get_or l k no_mark))
+returns-then-is_since-clause-moves c = λ ms b log after are k lt.
+    subst (λ l. IsMark (used_next b ms) (get_or l k no_mark))
     (sym (set-get_or c.loop-index.marks c.loop-index.index no_mark))
-    (c.loop-index.invariant.moves b ms log last used are k lt)
+    (c.loop-index.invariant.moves ms b log after are k lt)
 
 pub returns-then-is_since-clause-left : goal.returns-then-is_since-clause-left
 returns-then-is_since-clause-left c = λ k le.
@@ -56,6 +58,6 @@ returns-then-is_since-clause-left c = λ k le.
     ∙ c.loop-index.invariant.left k le
 
 pub returns-clause-moves : goal.returns-clause-moves
-returns-clause-moves c = λ b ms log last used are k lt.
+returns-clause-moves c = λ ms b log after are k lt.
     let inside : k < c.loop-index.index = omega arith in
-    c.loop-index.invariant.moves b ms log last used are k inside
+    c.loop-index.invariant.moves ms b log after are k inside

@@ -1,10 +1,10 @@
-use Rattle.std.proofs.Common.{◌≡◌, ◌<◌, ◌≤◌, ◌+◌, ◌∷◌, ℕ, List, length, map, drop, get_or}
-use Rattle.cache_core.specs.Residents.{distinct}
+use Rattle.std.proofs.Common.{◌≡◌, ◌<◌, ◌≤◌, ◌+◌, ℕ, List, map, drop, get_or}
 use Rattle.marked_list.specs.declared.marks.Mark.{Mark}
 use Rattle.marked_list.specs.Recency.{index_of}
-use Rattle.marked_list.specs.Uses.{last_in}
+use Rattle.marked_list.specs.Uses.{used_next}
 use Rattle.marked_list.specs.Log.{uses_of}
-use Rattle.marked_list.specs.Marks.{covers, IsMark, AreMarks, no_mark, size_of}
+use Rattle.marked_list.specs.Marks.{covers, IsMark, IsUseAfter, AreMarks, no_mark}
+use Rattle.marked_list.specs.Marks.{size_of}
 use Rattle.marked_list.proofs.marks.move_first.Given as goal
 
 -- the marks that were passed are moved and do not have the use, and the others are as they were
@@ -13,8 +13,8 @@ invariant-loop-index l = record {
   level : l.index + index_of (λ (k : Mark). covers k.place l.last) (drop l.index l.initial.marks)
       ≡ index_of (λ (k : Mark). covers k.place l.last) l.initial.marks;
   sizes : map size_of l.marks ≡ map size_of l.initial.marks;
-  moves : (b : ℕ) (ms : List ℕ) → uses_of l.uses ≡ b ∷ ms → l.last ≡ last_in ms b →
-      l.used ≡ length (distinct ms) → AreMarks ms l.initial.marks → (k : ℕ) → k < l.index →
-      IsMark (b ∷ ms) (get_or l.marks k no_mark);
+  moves : (ms : List ℕ) (b : ℕ) → uses_of l.uses ≡ used_next b ms →
+      IsUseAfter ms b l.last l.used → AreMarks ms l.initial.marks → (k : ℕ) → k < l.index →
+      IsMark (used_next b ms) (get_or l.marks k no_mark);
   left : (k : ℕ) → l.index ≤ k → get_or l.marks k no_mark ≡ get_or l.initial.marks k no_mark;
 }

@@ -1,5 +1,6 @@
-use Rattle.std.proofs.Common.{◌≡◌, ◌≢◌, ◌<◌, ◌≤◌, ◌∷◌, length, get_or, set, sym, subst, ◌∙◌}
+use Rattle.std.proofs.Common.{◌≡◌, ◌≢◌, ◌<◌, ◌≤◌, length, get_or, set, sym, subst, ◌∙◌}
 use Rattle.std.proofs.Common.{arith, below_more, get_or-set_same, get_or-set_other}
+use Rattle.marked_list.specs.Uses.{used_next}
 use Rattle.marked_list.specs.Marks.{IsMark, no_mark}
 use Rattle.marked_list.proofs.Windows.{sizes-set}
 use Rattle.marked_list.proofs.MarkSteps.{at-any}
@@ -16,14 +17,14 @@ loop-index-preserved c =
     sym (c.loop-index.invariant.left i (omega arith)) in
     record {
       sizes = sizes-set xs i v _ c.move_mark.ensures.size ∙ c.loop-index.invariant.sizes;
-      moves = λ b ms log last used k from lt. below_more
+      moves = λ ms b log after k from lt. below_more
           (λ n. c.args.from ≤ n → IsMark ms (get_or first n no_mark)
-          → IsMark (b ∷ ms) (get_or (set xs i v) n no_mark)) i
+          → IsMark (used_next b ms) (get_or (set xs i v) n no_mark)) i
           (λ n before ge mark. let ne : n ≢ i = omega arith in
-          subst (IsMark (b ∷ ms)) (sym (get_or-set_other xs i n v no_mark ne))
-          (c.loop-index.invariant.moves b ms log last used n ge before mark))
-          (λ ge mark. subst (IsMark (b ∷ ms)) (sym (get_or-set_same xs i v no_mark inside))
-          (c.move_mark.ensures.moves b ms log last used
+          subst (IsMark (used_next b ms)) (sym (get_or-set_other xs i n v no_mark ne))
+          (c.loop-index.invariant.moves ms b log after n ge before mark))
+          (λ ge mark. subst (IsMark (used_next b ms)) (sym (get_or-set_same xs i v no_mark inside))
+          (c.move_mark.ensures.moves ms b log after
           (at-any (IsMark ms) xs i no_mark _ inside (subst (IsMark ms) same mark))))
           k lt from;
       before = λ k lt. let start : c.args.from ≤ i = c.loop-index.auto.index in
@@ -34,6 +35,6 @@ loop-index-preserved c =
     }
 
 pub returns-clause-moves : goal.returns-clause-moves
-returns-clause-moves c = λ b ms log last used k from lt mark.
+returns-clause-moves c = λ ms b log after k from lt mark.
     let inside : k < c.loop-index.index = omega arith in
-    c.loop-index.invariant.moves b ms log last used k from inside mark
+    c.loop-index.invariant.moves ms b log after k from inside mark

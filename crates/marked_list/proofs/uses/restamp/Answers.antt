@@ -1,7 +1,8 @@
 use Rattle.std.proofs.Common.{rules, ◌≡◌, ◌<◌, ◌∷◌, ℕ, List, length, take, reverse, get_or, set}
 use Rattle.std.proofs.Common.{arith, sym, ap, subst, ◌∙◌}
+use Rattle.std.specs.Prelude.{unwrap_or}
 use Rattle.std.proofs.lemmas.List.{length-reverse, length-take-le, take_more, take_all}
-use Rattle.marked_list.specs.Uses.{last_in, no_stamp, stamp_of, or_else}
+use Rattle.marked_list.specs.Uses.{last_in, stamp_at}
 use Rattle.marked_list.proofs.LastUse.{reverse-push}
 use Rattle.marked_list.proofs.Stamps.{room-logged, restamped-next}
 use Rattle.marked_list.proofs.uses.restamp.Goals as goal
@@ -32,16 +33,15 @@ loop-place-preserved c =
     omega (arith, room-logged log c.args.stamps.now i c.requires.room lt) in
     let ms = reverse (take i log) in
     let long : length ms ≡ i = length-reverse (take i log) ∙ length-take-le i log (omega arith) in
-    let small : length ms < no_stamp = omega (arith, c.requires.short) in
-    let other = stamp_of c.args.stamps.now in
-    subst (λ l. (q : ℕ) → stamp_of (set stamps x i) q ≡ or_else (last_in l q) (other q))
+    let other = stamp_at c.args.stamps.now in
+    subst (λ l. (q : ℕ) → stamp_at (set stamps x i) q ≡ unwrap_or (last_in l q) (other q))
     (sym (ap (λ (l : List ℕ). reverse l) (take_more log i 0 lt) ∙ reverse-push (take i log) x))
-    (subst (λ n. (q : ℕ) → stamp_of (set stamps x n) q
-    ≡ or_else (last_in (x ∷ ms) q) (other q)) long
-    (restamped-next ms stamps x other c.loop-place.invariant below small))
+    (subst (λ n. (q : ℕ) → stamp_at (set stamps x n) q
+    ≡ unwrap_or (last_in (x ∷ ms) q) (other q)) long
+    (restamped-next ms stamps x other c.loop-place.invariant below))
 
 pub returns : goal.returns
 returns c =
-    subst (λ l. (q : ℕ) → stamp_of c.loop-place.stamps q
-    ≡ or_else (last_in (reverse l) q) (stamp_of c.args.stamps.now q))
+    subst (λ l. (q : ℕ) → stamp_at c.loop-place.stamps q
+    ≡ unwrap_or (last_in (reverse l) q) (stamp_at c.args.stamps.now q))
     (take_all c.loop-place.place c.args.log.now (omega arith)) c.loop-place.invariant

@@ -1,8 +1,8 @@
 use Rattle.std.proofs.Common.{rules, ◌≡◌, ◌<◌, ℕ, List, length, take, reverse, get_or, set}
-use Rattle.std.proofs.Common.{None, cond, arith, sym, ap, subst, ◌∙◌}
+use Rattle.std.proofs.Common.{cond, arith, sym, ap, subst, ◌∙◌}
 use Rattle.std.proofs.lemmas.List.{take_more, take_all}
 use Rattle.cache_core.proofs.Reuse.{has}
-use Rattle.marked_list.specs.Uses.{no_stamp, stamp_of}
+use Rattle.marked_list.specs.Uses.{forgotten, stamp_at}
 use Rattle.marked_list.proofs.LastUse.{reverse-push}
 use Rattle.marked_list.proofs.Stamps.{room-logged, unstamped-next}
 use Rattle.marked_list.proofs.uses.unstamp.Goals as goal
@@ -32,13 +32,13 @@ loop-number-preserved c =
     let below : x < length stamps =
     omega (arith, room-logged log c.args.stamps.now i c.requires lt) in
     let ms = reverse (take i log) in
-    let other = stamp_of c.args.stamps.now in
-    subst (λ l. (q : ℕ) → stamp_of (set stamps x no_stamp) q ≡ cond (has l q) None (other q))
+    let other = stamp_at c.args.stamps.now in
+    subst (λ l. (q : ℕ) → stamp_at (set stamps x forgotten) q ≡ cond (has l q) forgotten (other q))
     (sym (ap (λ (l : List ℕ). reverse l) (take_more log i 0 lt) ∙ reverse-push (take i log) x))
     (unstamped-next ms stamps x other c.loop-number.invariant below)
 
 pub returns : goal.returns
 returns c =
-    subst (λ l. (q : ℕ) → stamp_of c.loop-number.stamps q
-    ≡ cond (has (reverse l) q) None (stamp_of c.args.stamps.now q))
+    subst (λ l. (q : ℕ) → stamp_at c.loop-number.stamps q
+    ≡ cond (has (reverse l) q) forgotten (stamp_at c.args.stamps.now q))
     (take_all c.loop-number.number-index c.args.log.now (omega arith)) c.loop-number.invariant

@@ -1,24 +1,20 @@
-use Rattle.std.proofs.Common.{◌≡◌, ◌==◌, true, ℕ, List, [], length, map, sym, ap, subst, ◌∙◌}
-use Rattle.std.specs.List.{list_any}
-use Rattle.std.proofs.lemmas.Bool.{false≢true}
-use Rattle.cache_core.specs.Residents.{distinct}
+use Rattle.std.proofs.Common.{ℕ, List, [], length, map, sym, ap, subst, ◌∙◌}
 use Rattle.marked_list.specs.Log.{uses_of}
 use Rattle.marked_list.specs.Marks.{AreMarks, IsStepwise, size_of}
 use Rattle.marked_list.specs.Marked.{marked_sizes}
+use Rattle.marked_list.specs.Uses.{living}
 use Rattle.marked_list.proofs.Windows.{restarted-marks, sizes-restarted}
 use Rattle.marked_list.proofs.marked.Marked.clear.Goals as goal
 
 pub invariant_of-self : goal.invariant_of-self
 invariant_of-self c =
     let old = c.args.self.now in
-    let none = sym c.clear.ensures in
+    let none = sym c.clear.ensures.uses in
     record {
       marked = subst (λ l. AreMarks l c.restart_each.new.marks.items) none
           (subst (AreMarks []) (sym c.restart_each.ensures)
           (restarted-marks (uses_of old.uses) old.marks.items old.marked));
-      counted = ap (λ (l : List ℕ). length (distinct l)) none;
-      kept = λ b h. absurd (false≢true (subst (λ l. list_any (λ m. m == b) l ≡ true)
-          c.clear.ensures h));
+      counted = ap (λ (l : List ℕ). length (living l)) none;
       rises = λ e. subst IsStepwise (sym (ap (map size_of) c.restart_each.ensures
           ∙ sizes-restarted old.marks.items)) (old.rises e);
     }

@@ -1,10 +1,8 @@
-use Rattle.std.proofs.Common.{◌≡◌, ◌==◌, true, ℕ, List, [], length, map, sym, ap, subst, ◌∙◌}
-use Rattle.std.specs.List.{list_any}
-use Rattle.std.proofs.lemmas.Bool.{false≢true}
-use Rattle.cache_core.specs.Residents.{distinct}
+use Rattle.std.proofs.Common.{ℕ, List, [], length, map, sym, ap, subst, ◌∙◌}
 use Rattle.marked_list.specs.declared.marks.Mark.{Mark}
 use Rattle.marked_list.specs.Marks.{AreMarks, IsStepwise, size_of}
 use Rattle.marked_list.specs.Marked.{marked_sizes}
+use Rattle.marked_list.specs.Uses.{living}
 use Rattle.marked_list.proofs.Windows.{fresh-marks, sizes-fresh}
 use Rattle.marked_list.proofs.marked.Marked.new.Goals as goal
 
@@ -12,13 +10,11 @@ pub invariant_of-result : goal.invariant_of-result
 invariant_of-result c =
     let sizes = c.args.sizes.now in
     let marks = c.in_ok-marks.marks.items in
-    let none = sym c.new.ensures in
+    let none = sym c.new.ensures.uses in
     record {
       marked = subst (λ l. AreMarks l marks) none
           (subst (AreMarks []) (sym c.in_ok-marks.ensures) (fresh-marks sizes c.requires));
-      counted = ap (λ (l : List ℕ). length (distinct l)) none;
-      kept = λ b h. absurd (false≢true (subst (λ l. list_any (λ m. m == b) l ≡ true)
-          c.new.ensures h));
+      counted = ap (λ (l : List ℕ). length (living l)) none;
       rises = λ e. subst (λ (l : List Mark). IsStepwise (map size_of l)) (sym c.in_ok-marks.ensures)
           (subst IsStepwise (sym (sizes-fresh sizes)) (c.is_rising.ensures e));
     }

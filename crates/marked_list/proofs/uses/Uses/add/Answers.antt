@@ -1,31 +1,82 @@
-use Rattle.std.proofs.Common.{◌≡◌, ◌<◌, ◌+◌, ◌^◌, ◌∷◌, ℕ, List, length, reverse, arith, sym, ap}
-use Rattle.std.proofs.Common.{subst, ◌∙◌}
-use Rattle.std.proofs.lemmas.List.{length-reverse}
-use Rattle.marked_list.specs.Uses.{AreDead}
-use Rattle.marked_list.specs.Log.{uses_of}
-use Rattle.marked_list.proofs.Dead.{dead-next}
+use Rattle.std.proofs.Common.{◌≡◌, ◌≢◌, ◌<◌, ◌+◌, ◌++◌, ◌∷◌, ◌||◌, [], ℕ, List, length, reverse}
+use Rattle.std.proofs.Common.{not, eqb, Option, arith, sym, ap, subst, ◌∙◌}
+use Rattle.std.proofs.lemmas.List.{length-append, length-reverse}
+use Rattle.cache_core.specs.Residents.{distinct}
+use Rattle.marked_list.specs.Log.{uses_of, is_stamped}
+use Rattle.marked_list.specs.Uses.{AreStamps, dead, forgotten, last_in, living, never, place_of}
+use Rattle.marked_list.specs.Uses.{used_next, with_dead}
+use Rattle.marked_list.proofs.LastUse.{last-there}
+use Rattle.marked_list.proofs.Living.{log-next, length-buried, once-is, once-next}
+use Rattle.marked_list.proofs.Stamps.{stamps-next, stamped-next}
 use Rattle.marked_list.proofs.uses.Uses.add.Goals as goal
 
-one-longer : (old new : List ℕ) (b : ℕ) → reverse new ≡ b ∷ reverse old → length old + 1 < 2 ^ 32
-    → length new < 2 ^ 32
-one-longer old new b e lt = let long = ap (λ (l : List ℕ). length l) e in
-    omega (arith, long, length-reverse new, length-reverse old)
+pub bury-requires : goal.bury-requires
+unfolding uses_of
+bury-requires c = λ p is.
+    let log = c.args.self.now.log.items in
+    let below = (last-there (reverse log) c.args.number p (sym c.requires.last ∙ is)).0 in
+    omega (
+      arith,
+      below,
+      length-reverse log,
+      length-append log (c.args.number ∷ []),
+      ap (λ (l : List ℕ). length l) c.in-Ok-note.ensures.log,
+    )
+
+-- the log after a use is what it is to be
+module _ (old pushed new : List ℕ) (b : ℕ) (last : Option ℕ) (low : b ≢ dead)
+    (once : distinct (living (reverse old)) ≡ living (reverse old))
+    (is : last ≡ last_in (reverse old) b) (push : pushed ≡ old ++ b ∷ [])
+    (bury : new ≡ with_dead pushed last) where
+  next : reverse new ≡ used_next b (reverse old)
+  next = ap (λ (l : List ℕ). reverse l) (bury ∙ ap (λ l. with_dead l last) push)
+      ∙ log-next old b (once-is (reverse old) once) low last (sym is)
+
+  longer : length new ≡ length old + 1
+  longer = sym (length-reverse new) ∙ ap (λ (l : List ℕ). length l) next
+      ∙ (let long = length-buried b (reverse old) in omega (arith, long, length-reverse old))
 
 pub invariant_of-self-2 : goal.invariant_of-self-2
 unfolding uses_of
 invariant_of-self-2 c =
     let old = c.args.self.now in
     let b = c.args.number in
-    let ms = reverse old.log.items in
-    let log = c.in-Ok-note.ensures.log in
-    let room : length old.log.items + 1 < 2 ^ 32 =
-    let below = c.if-len.false in omega (arith, below, c.len.ensures, old.log.ok.0) in
+    let log = old.log.items in
+    let new = c.bury.new.log.items in
+    let stamps = c.note.new.stamps.items in
+    let low : b ≢ dead = omega (arith, c.requires.low) in
+    let small : length log < forgotten =
+    omega (arith, c.if-len.false, c.len.ensures, old.log.ok.0) in
+    let after = next log c.note.new.log.items new b c.args.last low old.once c.requires.last
+    c.in-Ok-note.ensures.log c.bury.ensures in
+    let long = longer log c.note.new.log.items new b c.args.last low old.once c.requires.last
+    c.in-Ok-note.ensures.log c.bury.ensures in
     record {
-      stamped = c.note.ensures.stamps;
-      marked_dead = subst (λ l. AreDead l c.bury.new.dead.items) (sym log)
-          (dead-next ms old.dead.items c.bury.new.dead.items b old.marked_dead
-          (λ p is. c.bury.ensures.dead p (c.requires ∙ is))
-          (λ i ne. c.bury.ensures.others i (λ g. ne (sym c.requires ∙ g))
-          ∙ c.make_room_for.ensures.bits i));
-      short = one-longer old.log.items c.note.new.log.items b log room;
+      stamped = subst (λ l. AreStamps l stamps) (sym after)
+          (stamps-next c.grow.new.stamps.items stamps b (length log) small
+          c.in-Ok-note.ensures.stamps (reverse log)
+          (λ q ne. ap place_of (c.grow.ensures.kept q) ∙ old.stamped q ne)
+          (sym (length-reverse log)));
+      once = subst (λ l. distinct (living l) ≡ living l) (sym after)
+          (once-next b (reverse log) low old.once);
+      short = omega (arith, long, small);
     }
+
+pub returns-clause-added : goal.returns-clause-added
+unfolding uses_of
+returns-clause-added c =
+    let old = c.args.self.now in
+    next old.log.items c.note.new.log.items c.bury.new.log.items c.args.number c.args.last
+    (omega (arith, c.requires.low)) old.once c.requires.last c.in-Ok-note.ensures.log
+    c.bury.ensures
+
+pub returns-clause-used : goal.returns-clause-used
+unfolding is_stamped
+returns-clause-used c = λ q.
+    let old = c.args.self.now in
+    let log = old.log.items in
+    let small : length log < forgotten =
+    omega (arith, c.if-len.false, c.len.ensures, old.log.ok.0) in
+    stamped-next c.grow.new.stamps.items c.note.new.stamps.items c.args.number (length log) small
+    c.in-Ok-note.ensures.stamps q
+    ∙ ap (λ n. eqb c.args.number q || not (eqb n never)) (c.grow.ensures.kept q)
