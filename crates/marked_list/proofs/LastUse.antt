@@ -7,6 +7,7 @@ use Rattle.std.proofs.lemmas.Bool.{eqb-true, lt-ltb, ltb-true, ltb-false}
 use Rattle.std.proofs.lemmas.Bool.{false≢true}
 use Rattle.std.proofs.lemmas.List.{length-reverse, reverse-append, reverse-reverse, get_or_at}
 use Rattle.std.proofs.lemmas.List.{get_or_append_left, get_or-reverse, get_or_default}
+use Rattle.std.proofs.lemmas.Option.{same_Some}
 use Rattle.cache_core.proofs.Ascending.{has-at}
 use Rattle.cache_core.proofs.Nothing.{take_none}
 use Rattle.cache_core.proofs.Reuse.{has}
@@ -20,16 +21,12 @@ reverse-cons m ms = reverse-append (m ∷ []) ms
 pub reverse-push : (xs : List ℕ) (b : ℕ) → reverse (xs ++ b ∷ []) ≡ b ∷ reverse xs
 reverse-push xs b = reverse-append xs (b ∷ [])
 
--- `Some` of a number has that number alone
-pub some-eq : (a b : ℕ) → Some a ≡ Some b → a ≡ b
-some-eq a b e = cc
-
 -- the last use has an index, and the block stands there
 pub last-there : (ms : List ℕ) (b p : ℕ) → last_in ms b ≡ Some p
     → (p < length ms) × (get_or (reverse ms) p 0 ≡ b)
 last-there [] b p e = cc
 last-there (m ∷ ms) b p e = by_cases (eqb m b)
-    (λ f. let at : length ms ≡ p = some-eq (length ms) p (sym (rw f refl) ∙ e) in (
+    (λ f. let at : length ms ≡ p = same_Some (length ms) p (sym (rw f refl) ∙ e) in (
       omega arith,
       ap (λ l. get_or l p 0) (reverse-cons m ms)
           ∙ get_or_at (reverse ms) m [] 0 p (length-reverse ms ∙ at) ∙ eqb-true m b f,

@@ -7,6 +7,7 @@ use Rattle.std.proofs.lemmas.Bool.{eqb-true, eqb-false, eq-eqb, ltb-true, ltb-fa
 use Rattle.std.proofs.lemmas.List.{length-map, length-reverse, length-set, map-append, ext_get_or}
 use Rattle.std.proofs.lemmas.List.{get_or-map, get_or_at, get_or_append_left, reverse-reverse}
 use Rattle.std.proofs.lemmas.List.{set-append_left, take_all}
+use Rattle.std.proofs.lemmas.Option.{none-some, same_Some}
 use Rattle.cache_core.specs.Residents.{distinct}
 use Rattle.cache_core.proofs.Cases.{by_cases}
 use Rattle.cache_core.proofs.Nothing.{take_none}
@@ -15,10 +16,14 @@ use Rattle.cache_core.proofs.Shift.{IsOnce, IsOnce-distinct, IsOnce-filter, has-
 use Rattle.cache_core.proofs.Shift.{without-absent}
 use Rattle.marked_list.specs.Uses.{last_in, dead, living, buried, with_dead, used_next}
 use Rattle.marked_list.proofs.LastUse.{last-there, last-same, last-other, has-last, has-there}
-use Rattle.marked_list.proofs.LastUse.{reverse-cons, reverse-push, some-eq}
+use Rattle.marked_list.proofs.LastUse.{reverse-cons, reverse-push}
 
 pub differs : (b : ℕ) → b ≢ dead → eqb b dead ≡ false
 differs b ne = by_cases (eqb b dead) (λ e. absurd (ne (eqb-true b dead e))) (λ e. e)
+
+-- a use that is not dead is one of the last uses, in front of those before it
+pub living-first : (b : ℕ) (ms : List ℕ) → b ≢ dead → living (b ∷ ms) ≡ b ∷ living ms
+living-first b ms ne = ap (λ t. cond (not t) (b ∷ living ms) (living ms)) (differs b ne)
 
 -- a block was used last somewhere if it was used
 pub has-living : (ms : List ℕ) (b : ℕ) → b ≢ dead → has (living ms) b ≡ has ms b
@@ -41,8 +46,7 @@ living-buried b (m ∷ ms) = by_cases (eqb m b)
 -- and after one more use of it
 pub living-next : (b : ℕ) (ms : List ℕ) → b ≢ dead
     → living (used_next b ms) ≡ b ∷ without b (living ms)
-living-next b ms ne = ap (λ t. cond (not t) (b ∷ living (buried b ms)) (living (buried b ms)))
-    (differs b ne) ∙ ap (λ l. b ∷ l) (living-buried b ms)
+living-next b ms ne = living-first b (buried b ms) ne ∙ ap (λ l. b ∷ l) (living-buried b ms)
 
 -- the last use of another block stays
 pub last-buried : (b q : ℕ) (ms : List ℕ) → eqb b q ≡ false → q ≢ dead
@@ -62,7 +66,7 @@ pub only-there : (ms : List ℕ) → IsOnce (living ms) → (b p i : ℕ) → b 
     → last_in ms b ≡ Some p → i < length ms → get_or (reverse ms) i 0 ≡ b → i ≡ p
 only-there [] once b p i ne last lt is = absurd (omega arith)
 only-there (m ∷ ms) once b p i ne last lt is = by_cases (eqb m b)
-    (λ e. let at : length ms ≡ p = some-eq (length ms) p (sym (last-same m b ms e) ∙ last) in
+    (λ e. let at : length ms ≡ p = same_Some (length ms) p (sym (last-same m b ms e) ∙ last) in
     by_cases (ltb i (length ms))
     (λ f. let below = ltb-true i (length ms) f in
     absurd (false≢true (sym (alone e) ∙ has-living ms b ne
@@ -85,8 +89,7 @@ only-there (m ∷ ms) once b p i ne last lt is = by_cases (eqb m b)
         (has-there (reverse ms) i (omega (arith, below, length-reverse ms)))
 
     unless-dead : m ≢ dead → has (living ms) m ≡ false
-    unless-dead low = (subst IsOnce
-        (ap (λ t. cond (not t) (m ∷ living ms) (living ms)) (differs m low)) once).0
+    unless-dead low = (subst IsOnce (living-first m ms low) once).0
 
     alone : eqb m b ≡ true → has (living ms) b ≡ false
     alone e = subst (λ z. has (living ms) z ≡ false) (eqb-true m b e)
@@ -95,7 +98,7 @@ only-there (m ∷ ms) once b p i ne last lt is = by_cases (eqb m b)
     rest : IsOnce (living ms)
     rest = by_cases (eqb m dead)
         (λ d. subst IsOnce (ap (λ t. cond (not t) (m ∷ living ms) (living ms)) d) once)
-        (λ d. (subst IsOnce (ap (λ t. cond (not t) (m ∷ living ms) (living ms)) d) once).1)
+        (λ d. (subst IsOnce (living-first m ms (λ g. eqb-false m dead d g)) once).1)
 
 buried-absent : (b : ℕ) (ms : List ℕ) → has ms b ≡ false → buried b ms ≡ ms
 buried-absent b [] h = refl
@@ -158,9 +161,6 @@ log-next log b once low None none = reverse-push log b
     unused false h = h
     unused true h = let u = has-last (reverse log) b h in
         absurd (none-some u.0 (sym none ∙ u.1))
-      where
-        none-some : (n : ℕ) → None ≡ Some n → ⊥
-        none-some n e = cc
 log-next log b once low (Some p) is =
     ap (λ (l : List ℕ). reverse l) (set-append_left log (b ∷ []) p dead (inside log once b p low is)
     ∙ ap (λ l. l ++ b ∷ []) (set-buried log once b p low is))

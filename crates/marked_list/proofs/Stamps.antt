@@ -6,6 +6,7 @@ use Rattle.std.specs.Prelude.{unwrap_or}
 use Rattle.std.proofs.lemmas.Bool.{eqb-true, eqb-false, eq-eqb, lt-ltb, ltb-true, ltb-false}
 use Rattle.std.proofs.lemmas.Bool.{false≢true}
 use Rattle.std.proofs.lemmas.List.{get_or_past}
+use Rattle.std.proofs.lemmas.Option.{none-some}
 use Rattle.cache_core.proofs.Cases.{by_cases}
 use Rattle.cache_core.proofs.Reuse.{has}
 use Rattle.cache_core.proofs.Shift.{has-filter_not}
@@ -39,9 +40,6 @@ place-below : (n p : ℕ) → place_of n ≡ Some p → n < forgotten
 place-below n p is = by_cases (ltb n forgotten)
     (λ e. ltb-true n forgotten e)
     (λ e. absurd (none-some p (sym (ap (λ t. cond t (Some n) None) e) ∙ is)))
-  where
-    none-some : (q : ℕ) → None ≡ Some q → ⊥
-    none-some q e = cc
 
 -- what is among the last uses is not dead
 living-low : (ms : List ℕ) (b : ℕ) → has (living ms) b ≡ true → b ≢ dead

@@ -4,8 +4,8 @@ ghost use Rattle.std.specs.Prelude.{◌≡◌, ◌<◌, ◌≤◌, ◌+◌, ◌-
 ghost use Rattle.std.specs.Prelude.{if◌then◌else◌, length, reverse, take, unwrap_or, OnOk, OnErr};
 ghost use Rattle.std.specs.List.{list_any};
 ghost use Rattle.cache_core.specs.Residents.{distinct};
-ghost use Rattle.marked_list.specs.Uses.{AreStamps, HaveRoom, forgotten, has_stamp, last_in};
-ghost use Rattle.marked_list.specs.Uses.{living, place_of, since, stamp_at, with_dead};
+ghost use Rattle.marked_list.specs.Uses.{AreStamps, HaveRoom, forgotten, last_in, living, since};
+ghost use Rattle.marked_list.specs.Uses.{stamp_at, with_dead};
 
 use std::alloc::{AllocError, Global};
 
@@ -156,26 +156,6 @@ fn behind_living(log: &[u32], place: usize) -> usize
     index + 1
 }
 
-/// The place that the stamp at a number says, if it says one.
-fn place_at(stamps: &Vec<u32>, number: usize) -> Option<usize>
-    ensures { result ≡ place_of (stamp_at stamps.now.items number) }
-{
-    if number < stamps.len() {
-        let stamp = stamps[number];
-        if stamp < FORGOTTEN {
-            return Some(stamp as usize);
-        }
-    }
-    None
-}
-
-/// Whether the stamp at a number says that its block was ever used.
-fn says_used(stamps: &Vec<u32>, number: usize) -> bool
-    ensures { result ≡ has_stamp stamps.now.items number }
-{
-    number < stamps.len() && stamps[number] != NEVER
-}
-
 #[tactic(auto, unfolding(crate::specs::Log::uses_of, crate::specs::Log::is_stamped))]
 impl Uses {
     ghost use Rattle.std.specs.Prelude.{◌≡◌, ◌≢◌, ◌<◌, ◌≤◌, ◌-◌, ◌==◌, ◌||◌, [], ℕ, length, take};
@@ -215,14 +195,20 @@ impl Uses {
         requires { number ≢ dead }
         ensures { result ≡ last_in (uses_of self.now) number }
     {
-        place_at(&self.stamps, number)
+        if number < self.stamps.len() {
+            let stamp = self.stamps[number];
+            if stamp < FORGOTTEN {
+                return Some(stamp as usize);
+            }
+        }
+        None
     }
 
     /// Whether a block was ever used.
     pub(crate) fn knows(&self, number: usize) -> bool
         ensures { result ≡ is_stamped self.now number }
     {
-        says_used(&self.stamps, number)
+        number < self.stamps.len() && self.stamps[number] != NEVER
     }
 
     /// The place from which on there is one block less: behind the next last use of a block.
@@ -235,8 +221,8 @@ impl Uses {
         behind_living(&self.log, place)
     }
 
-    /// Adds a use of a block whose last use is known. Of as many uses as there are stamps, one more
-    /// is refused as if memory were wanting.
+    /// Adds a use of a block, whose use before it is told. Where the log has all the places that a
+    /// stamp can say, it is refused as if memory were wanting.
     pub(crate) fn add(&mut self, number: usize, last: Option<usize>) -> Result<(), AllocError>
         requires low { number < u32.MAX }
         requires last { last ≡ last_in (uses_of self.old) number }

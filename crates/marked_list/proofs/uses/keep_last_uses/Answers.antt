@@ -1,12 +1,12 @@
 use Rattle.std.proofs.Common.{◌≡◌, ◌≢◌, ◌<◌, ◌≤◌, ◌+◌, ◌++◌, ◌∷◌, ℕ, List, [], length, take}
-use Rattle.std.proofs.Common.{reverse, get_or, set, eqb, false, arith, sym, ap, ◌∙◌}
+use Rattle.std.proofs.Common.{reverse, get_or, set, arith, sym, ap, ◌∙◌}
 use Rattle.std.proofs.Common.{append_assoc}
 use Rattle.std.proofs.Common.{get_or-set_other}
-use Rattle.std.proofs.lemmas.Bool.{eqb-true, eq-eqb}
+use Rattle.std.proofs.lemmas.Bool.{eq-eqb}
 use Rattle.std.proofs.lemmas.List.{take-set, take_more_set}
-use Rattle.cache_core.proofs.Cases.{by_cases}
 use Rattle.marked_list.specs.Uses.{since, dead, living}
 use Rattle.marked_list.proofs.LastUse.{reverse-push}
+use Rattle.marked_list.proofs.Living.{differs}
 use Rattle.marked_list.proofs.Passing.{pass-dead, pass-last}
 use Rattle.marked_list.proofs.uses.keep_last_uses.Goals as goal
 use Rattle.marked_list.proofs.uses.keep_last_uses.Goals.{then-number, else-number}
@@ -36,16 +36,9 @@ module _ (first log : List ℕ) (kept i : ℕ) (lt : i < length first) (room : k
         ∙ ap (λ l. d ++ l) (reverse-push (take kept log) x)
         ∙ ap (λ z. d ++ (z ∷ reverse (take kept log))) same
         ∙ sym (append_assoc d (get_or first i 0 ∷ []) (reverse (take kept log)))
-        ∙ ap (λ l. l ++ reverse (take kept log)) (sym (pass-last first i lt (lives (ne_first ne))))
+        ∙ ap (λ l. l ++ reverse (take kept log))
+        (sym (pass-last first i lt (differs (get_or first i 0) (λ e. ne (same ∙ e)))))
         ∙ order
-      where
-        ne_first : x ≢ dead → get_or first i 0 ≢ dead
-        ne_first other e = other (same ∙ e)
-
-        lives : get_or first i 0 ≢ dead → eqb (get_or first i 0) dead ≡ false
-        lives other = by_cases (eqb (get_or first i 0) dead)
-            (λ e. absurd (other (eqb-true (get_or first i 0) dead e)))
-            (λ e. e)
 
 pub loop-place-preserved : goal.loop-place-preserved
 loop-place-preserved c =
