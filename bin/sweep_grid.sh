@@ -34,13 +34,6 @@ ask_for_help() {
     exec "$program" --help > "$work/help"
 }
 
-# ask_anew: what a simulator of other sources has said, or none, counts for nothing.
-ask_anew() {
-    end_asides
-    build_where_needed dinero_grid
-    ask
-}
-
 # run_trial OPTION VALUES: becomes the simulator with these values, and the first one of each other
 # option that has several, on a trace without records. Its table, with a line for each value, is in
 # a file that is named for the option. All values of all options at once could be more than the

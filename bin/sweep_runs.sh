@@ -52,11 +52,16 @@ choose_hosts() {
     done
 }
 
+count_cores() {
+    exec nproc > "$work/cores"
+}
+
 # find_slots: sets `slots` to how many runs can be made at once. A machine of the list that does not
 # say how many has as many cores as this one.
 find_slots() {
     local line each
-    slots=${jobs:-$(nproc)}
+    slots=$jobs
+    [ -n "$jobs" ] || { finish cores && read -r slots < "$work/cores"; } 2>/dev/null || no_room
     [ -n "$hosts" ] || return 0
     each=$slots slots=0
     while IFS= read -r line; do
@@ -84,14 +89,19 @@ choose_engine() {
     fi
 }
 
-# make_runs: here or on other machines, and takes in what each has to say, as soon as it has ended;
-# at the end, also those that were not heard of.
-make_runs() {
-    local number some heard=() both finished
+# begin_runs: here or on other machines. Sets `finished` to the end of the pipe that tells of them.
+begin_runs() {
+    local both
     # It is opened for both ends first: none waits for the other, which may have been interrupted.
     exec {both}<> "$work/finished"
     begin runs run_engine
     exec {finished}< "$work/finished" {both}>&-
+}
+
+# take_runs: takes in what each has to say, as soon as it has ended; at the end, also those that
+# were not heard of.
+take_runs() {
+    local number some heard=()
     while read_ended; do
         for number in "${some[@]}"; do
             heard[number]=yes

@@ -109,15 +109,22 @@ is_number() {
 # find_options: sets `options` to those of the simulator's that say what is counted, as its help has
 # them, a line for each: its name, and its default if it has one.
 find_options() {
-    local help line name option='^ +--([a-z0-9-]+) <[^>]*>  +[^ ]' default='\[default: ([^]]*)\]$'
-    { finish help && help=$(< "$work/help"); } 2>/dev/null || help=$("$program" --help)
-    while IFS= read -r line; do
-        [[ $line =~ $option ]] || continue
-        name=${BASH_REMATCH[1]}
+    local lines line name
+    if ! { finish help && mapfile -t lines < "$work/help"; } 2>/dev/null; then
+        be_sure
+        mapfile -t lines < <("$program" --help)
+    fi
+    for line in "${lines[@]}"; do
+        [[ $line == ' '*' --'*' <'*'>  '* ]] || continue
+        name=${line#*--}
+        name=${name%% *}
         [ "$name" != threads ] || continue
-        [[ ! $line =~ $default ]] || name+=" ${BASH_REMATCH[1]}"
+        if [[ $line == *'[default: '*']' ]]; then
+            line=${line##*'[default: '}
+            name+=" ${line%']'}"
+        fi
         options+=${options:+$'\n'}$name
-    done <<<"$help"
+    done
 }
 
 check_words() {

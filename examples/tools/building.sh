@@ -177,6 +177,46 @@ TOP=$fresh launch
 is_report && grep -q 'proved and built' "$err"
 verdict 'the next call builds it again' $?
 
+# A sweep asks the simulator while it finds out what that was built from. A fake one, of other
+# sources, takes any word, or none, or is not there.
+# shellcheck disable=SC2054  # commas between values
+grid=(--vary --l1-dsize 8,16 --l1-isize 16 --l1-ibsize 4 --l1-dbsize 4 --l2-usize 32 --l2-ubsize 8)
+fake_simulator() {
+    mkdir -p "$fresh/crates/dinero_grid/out"
+    printf '#!/bin/sh\n%s\n' "$1" >"$fresh/crates/dinero_grid/out/dinero_grid"
+    chmod +x "$fresh/crates/dinero_grid/out/dinero_grid"
+}
+sweep_there() {
+    run env TOP="$fresh" TOOLCHAIN="$toolchain" PATH="$tools:$PATH" "$fresh/bin/sweep" "$@" -- \
+        "$top/examples/1-kinds/kinds.din"
+}
+run "$bin/sweep" "${grid[@]}" -- "$top/examples/1-kinds/kinds.din"
+cp "$out" "$work/table"
+is_swept() {
+    [ "$status" -eq 0 ] && cmp -s "$out" "$work/table" && [ "$(wc -l <"$err")" -eq "$1" ]
+}
+new_checkout
+sweep_there "${grid[@]}"
+is_swept 1 && grep -q '^sweep: this is the kept program' "$err"
+verdict 'a sweep without a simulator takes the kept one' $?
+sweep_there "${grid[@]}"
+check 'the next sweep says nothing' is_swept 0
+for script in 'exit 2' 'echo "      --l3-usize <SIZE>  One"'; do
+    fake_simulator "$script"
+    sweep_there "${grid[@]}"
+    is_swept 1 && grep -q '^sweep: this is the kept program' "$err"
+    verdict "a sweep believes no simulator of other sources: $script" $?
+done
+fake_simulator 'exit 0'
+sweep_there --l3-usize 4 "${grid[@]}"
+[ "$status" -eq 2 ] && [ ! -s "$out" ] &&
+    [ "$(tail -n 1 "$err")" = 'sweep: unknown option: --l3-usize; try --help' ]
+verdict 'nor does it refuse a word by what that one says' $?
+echo >>"$fresh/crates/grid_run/src/lib.rt"
+sweep_there "${grid[@]}"
+is_swept 10 && grep -q '^sweep: proved and built dinero_grid' "$err"
+verdict 'a sweep of sources that were changed builds the simulator' $?
+
 # as_other COMMAND..: the same by a toolchain of another name.
 as_other() {
     run env TOP="$fresh" TOOLCHAIN='one more' PATH="$tools:$PATH" "$@"
