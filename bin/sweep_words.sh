@@ -109,10 +109,11 @@ is_number() {
 # find_options: sets `options` to those of the simulator's that say what is counted, as its help has
 # them, a line for each: its name, and its default if it has one.
 find_options() {
-    local lines line name
+    local help lines line name
     if ! { finish help && mapfile -t lines < "$work/help"; } 2>/dev/null; then
         be_sure
-        mapfile -t lines < <("$program" --help)
+        help=$("$program" --help)
+        mapfile -t lines <<<"$help"
     fi
     for line in "${lines[@]}"; do
         [[ $line == ' '*' --'*' <'*'>  '* ]] || continue
