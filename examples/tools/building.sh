@@ -177,8 +177,13 @@ TOP=$fresh launch
 is_report && grep -q 'proved and built' "$err"
 verdict 'the next call builds it again' $?
 
-# A sweep asks the simulator while it finds out what that was built from. A fake one, of other
-# sources, takes any word, or none, or is not there.
+# under TOOLCHAIN COMMAND..: with the toolchain in the folder $tools, under this name.
+under() {
+    run env TOP="$fresh" TOOLCHAIN="$1" PATH="$tools:$PATH" "${@:2}"
+}
+
+# A sweep asks the simulator while it finds out what that was built from: here that is missing, or a
+# fake one of other sources, which takes no word, has other options, or takes any word.
 # shellcheck disable=SC2054  # commas between values
 grid=(--vary --l1-dsize 8,16 --l1-isize 16 --l1-ibsize 4 --l1-dbsize 4 --l2-usize 32 --l2-ubsize 8)
 fake_simulator() {
@@ -187,8 +192,7 @@ fake_simulator() {
     chmod +x "$fresh/crates/dinero_grid/out/dinero_grid"
 }
 sweep_there() {
-    run env TOP="$fresh" TOOLCHAIN="$toolchain" PATH="$tools:$PATH" "$fresh/bin/sweep" "$@" -- \
-        "$top/examples/1-kinds/kinds.din"
+    under "$toolchain" "$fresh/bin/sweep" "$@" -- "$top/examples/1-kinds/kinds.din"
 }
 run "$bin/sweep" "${grid[@]}" -- "$top/examples/1-kinds/kinds.din"
 cp "$out" "$work/table"
@@ -217,9 +221,9 @@ sweep_there "${grid[@]}"
 is_swept 10 && grep -q '^sweep: proved and built dinero_grid' "$err"
 verdict 'a sweep of sources that were changed builds the simulator' $?
 
-# as_other COMMAND..: the same by a toolchain of another name.
+# as_other COMMAND..: by a toolchain of another name.
 as_other() {
-    run env TOP="$fresh" TOOLCHAIN='one more' PATH="$tools:$PATH" "$@"
+    under 'one more' "$@"
 }
 new_checkout
 as_other "$fresh/bin/prove"
