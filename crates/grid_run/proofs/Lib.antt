@@ -16,5 +16,6 @@ pub mod RowPlaces
 pub mod Each
 pub mod Slices
 pub mod LoopTurns
-pub mod Cuts
+pub mod BankLemmas
 pub mod Given
+pub mod Handed

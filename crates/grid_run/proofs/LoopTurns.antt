@@ -5,10 +5,12 @@ use Rattle.cache_core.specs.History.{History}
 use Rattle.stage_core.specs.declared.message.Side.{Side}
 use Rattle.grid_run.specs.Backs.{AreWaiting, NothingWaits, RequestsFor, WereAsked, followed_by}
 use Rattle.grid_run.specs.Backs.{sent_for}
+use Rattle.grid_run.specs.Banks.{NothingWaitsIn, WasAsked}
 use Rattle.grid_run.specs.Fronts.{FrontAt, HasSent, front_rules}
 use Rattle.grid_run.specs.Sending.{event_of}
 use Rattle.grid_core.specs.Numbers.{GoesOn}
 use Rattle.grid_run.specs.declared.back.Back.{Back}
+use Rattle.grid_run.specs.declared.bank.Bank.{Bank}
 use Rattle.grid_run.specs.declared.front.Front.{Front}
 use Rattle.grid_run.specs.declared.queue.Queue.{Queue}
 use Rattle.grid_run.specs.declared.requests.Request.{Request}
@@ -42,3 +44,8 @@ settled-more start blocks more on old new done = record {
   asked = λ all were. asked-more blocks more all new on (done.asked all were);
   settled = done.settled;
 }
+
+-- a bank has served all that waited for it
+pub record SettlesBank (old new : Bank) : Type 0 where
+  pub asked : (all : RequestsFor) → WasAsked all old → WasAsked all new
+  pub settled : NothingWaitsIn new

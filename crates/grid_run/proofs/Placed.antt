@@ -1,9 +1,8 @@
 -- Where the caches of a configuration are in a lane.
 use Rattle.std.proofs.Common.{◌≡◌, ◌<◌, ◌++◌, ◌∷◌, [], List, length, get_or, map, ap, sym, subst}
-use Rattle.std.proofs.Common.{◌∙◌, append_assoc, arith}
+use Rattle.std.proofs.Common.{◌∙◌, append_assoc}
 use Rattle.std.proofs.Common.{Result, Ok, Err, OnOk}
 use Rattle.std.specs.List.{All}
-use Rattle.std.proofs.lemmas.List.{get_or-map, length-map}
 use Rattle.std.proofs.lemmas.Simd.{map-map}
 use Rattle.cache_core.specs.History.{Rules}
 use Rattle.din_trace.specs.declared.record.DinRecord.{DinRecord}
@@ -11,11 +10,11 @@ use Rattle.stage_core.specs.SecondLevel.{Hierarchy, parts_in, second_level_reque
 use Rattle.stage_core.specs.declared.selection.Selection.{Selection}
 use Rattle.stage_core.specs.declared.message.Side.TheVariants as side
 use Rattle.stage_core.proofs.Worked.{second_level_requests-more, the_hierarchy}
-use Rattle.grid_core.proofs.ListLoops.{part-told}
 use Rattle.grid_run.specs.Backs.{AreSeatsIn, AreWaiting, BackTask, IsPlacedOn}
 use Rattle.grid_run.specs.Backs.{RequestsFor, back_seats, back_task, followed_by, parts_at}
 use Rattle.grid_run.specs.Backs.{queue_seats, seats_of_task, sent_behind, sent_on_side}
 use Rattle.grid_run.specs.Backs.{task_of_shelf}
+use Rattle.grid_run.specs.Banks.{tasks_of_banks}
 use Rattle.grid_run.specs.FirstLevels.{FirstTask, HasServed}
 use Rattle.grid_run.specs.Fronts.{front_rules}
 use Rattle.grid_run.specs.Lanes.{LaneTask, lane_task}
@@ -40,12 +39,6 @@ on-ok-both (Err e) f a b = tt
 pub ok-so : {T E P : Type 0} (r : Result T E) {v : T} → r ≡ Ok v → OnOk r P → P
 ok-so (Ok t) is p = p
 ok-so (Err e) is p = absurd cc
-
--- second levels that do the same are behind the same seats
-pub seats-told : (xs ys : List Back) → map back_task xs ≡ map back_task ys
-    → map back_seats xs ≡ map back_seats ys
-unfolding back_task
-seats-told xs ys told = part-told back_task xs ys told seats_of_task
 
 -- first levels with another selector have served the same
 pub served-by-same : (given : RequestsFor) (s : Selector) (f : FirstLevels) (es : List DinRecord)
@@ -82,20 +75,12 @@ served-same {i' = i'} {d = d} given es qs on_i on_d all =
 
 module _ (l : Lane) (c : Hierarchy) (s : Selection) (p : Place)
     (place : IsPlaceIn (lane_task l) c s p) (b : Back)
-    (at : b ≡ get_or l.backs.items p.u.level b) where
-  -- there are second levels at the place
-  pub back-inside : p.u.level < length l.backs.items
-  unfolding lane_task
-  back-inside = omega (arith, place.level, length-map l.backs.items back_task)
-
-  -- which are those of the configuration
+    (at : (other : BackTask)
+    → back_task b ≡ get_or (tasks_of_banks l.banks.items) p.u.level other) where
+  -- the second levels at the place are those of the configuration
   pub back-there : IsBackOf (back_task b) c p
   unfolding lane_task
-  back-there =
-      subst (λ t. IsBackOf t c p)
-      (get_or-map back_task l.backs.items p.u.level b (back_task b) back-inside
-      ∙ ap back_task (sym at))
-      (place.back (back_task b))
+  back-there = subst (λ t. IsBackOf t c p) (sym (at (back_task b))) (place.back (back_task b))
 
   -- its cell is one of theirs
   pub cell-there : p.u.cell < length (back_task b).rules
@@ -133,10 +118,9 @@ pub same-lane : {s s' : Selection} {i i' d d' : Table} {bs bs' : List BackTask} 
 same-lane o p q r = cc
 
 -- second levels and queues of the same shelves are behind the same seats
-pub matched : (qs : List Queue) (bs : List Back) (shelves : List BackShelf)
+pub matched : (qs : List Queue) (ts : List BackTask) (shelves : List BackShelf)
     → map queue_seats qs ≡ map (λ shelf. seats_of_task (task_of_shelf shelf)) shelves
-    → map back_task bs ≡ map task_of_shelf shelves → map queue_seats qs ≡ map back_seats bs
-unfolding back_task
-matched qs bs shelves queues tasks =
+    → ts ≡ map task_of_shelf shelves → map queue_seats qs ≡ map seats_of_task ts
+matched qs ts shelves queues tasks =
     queues ∙ sym (map-map seats_of_task task_of_shelf shelves)
-    ∙ ap (map seats_of_task) (sym tasks) ∙ map-map seats_of_task back_task bs
+    ∙ ap (map seats_of_task) (sym tasks)

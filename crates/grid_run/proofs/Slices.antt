@@ -2,10 +2,7 @@
 use Rattle.std.proofs.Common.{◌≡◌, ℕ, ◌≤◌, ◌++◌, List, length, map, take, drop, ap, sym, subst}
 use Rattle.std.proofs.Common.{◌∙◌, arith}
 use Rattle.std.specs.Global.{Vec}
-use Rattle.grid_core.specs.declared.block_numbers.BlockNumbers.{BlockNumbers}
 use Rattle.grid_core.proofs.ListLoops.{AreChanged, HasChanged, as-long, given-back}
-use Rattle.grid_run.specs.Settling.{HaveServed}
-use Rattle.grid_run.specs.declared.back.Back.{Back}
 
 -- if what each element does stays, what holds of the slice before and after the call holds of the
 -- items of the vector
@@ -38,23 +35,3 @@ pub told-items : {X V : Type 0} (task : X → V) (v : Vec X) (slice new : List X
 told-items task v slice new is same =
     ap (map task) (lent-items v new (as-long task new slice same ∙ ap length is))
     ∙ same ∙ ap (map task) is
-
--- what is served of lists is served of lists that are the same
-served-of : {size : ℕ} {us us' ts ts' : List BlockNumbers} {cs cs' bs bs' : List Back} → us ≡ us'
-    → cs ≡ cs' → ts ≡ ts' → bs ≡ bs' → HaveServed size us cs ts bs → HaveServed size us' cs' ts' bs'
-served-of {size = size} {us' = us'} {ts = ts} {ts' = ts'} {cs = cs} {cs' = cs'} {bs = bs} o p q r
-    served =
-    subst (HaveServed size us' cs' ts') r (subst (λ l. HaveServed size us' cs' l bs) q
-    (subst (λ l. HaveServed size us' l ts bs) p
-    (subst (λ l. HaveServed size l cs ts bs) o served)))
-
--- second levels in parts have served what they have served in the slices
-pub served-items : (size : ℕ) (tables : Vec BlockNumbers) (backs : Vec Back)
-    (us ts : List BlockNumbers) (cs bs : List Back) → us ≡ tables.items → cs ≡ backs.items
-    → length ts ≡ length us → length bs ≡ length cs → HaveServed size us cs ts bs
-    → HaveServed size tables.items backs.items
-    (take tables.len (ts ++ drop (length ts) tables.items))
-    (take backs.len (bs ++ drop (length bs) backs.items))
-served-items size tables backs us ts cs bs are-tables are-backs many long =
-    served-of are-tables are-backs (sym (lent-items tables ts (many ∙ ap length are-tables)))
-    (sym (lent-items backs bs (long ∙ ap length are-backs)))

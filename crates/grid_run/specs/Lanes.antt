@@ -3,12 +3,11 @@ use Rattle.std.specs.Prelude.{◌≡◌, List, map}
 use Rattle.std.specs.List.{All}
 use Rattle.din_trace.specs.declared.record.DinRecord.{DinRecord}
 use Rattle.stage_core.specs.declared.selection.Selection.{Selection}
-use Rattle.grid_run.specs.Backs.{BackTask, IsPlacedIn, NothingWaits, back_seats, back_task}
-use Rattle.grid_run.specs.Backs.{queue_seats, task_of_shelf}
+use Rattle.grid_run.specs.Backs.{BackTask, IsPlacedIn, queue_seats, seats_of_task, task_of_shelf}
+use Rattle.grid_run.specs.Banks.{NothingWaitsIn, WasAsked, tasks_of_banks}
 use Rattle.grid_run.specs.FirstLevels.{WasGiven, first_task, sent_by}
 use Rattle.grid_run.specs.Fronts.{front_rules}
 use Rattle.grid_run.specs.Seats.{Table, rules_on}
-use Rattle.grid_run.specs.Settling.{AreAsked}
 use Rattle.grid_run.specs.declared.lane.Lane.{Lane}
 use Rattle.grid_run.specs.declared.plan.LanePlan.{LanePlan}
 
@@ -25,7 +24,7 @@ lane_task l = record {
   selection = l.first.selector.selection;
   i = map front_rules l.first.i.items;
   d = map front_rules l.first.d.items;
-  backs = map back_task l.backs.items;
+  backs = tasks_of_banks l.banks.items;
 }
 
 -- what a lane of this plan does
@@ -43,23 +42,24 @@ IsPlaced t = All (IsPlacedIn t.i t.d) t.backs
 
 -- each queue is behind the seats of one of the second levels, in their order
 abbrev pub AreMatched : Lane → Type 0
-AreMatched l = map queue_seats l.first.queues.items ≡ map back_seats l.backs.items
+AreMatched l = map queue_seats l.first.queues.items
+    ≡ map seats_of_task (tasks_of_banks l.banks.items)
 
 -- the first levels of a lane were given records, of which all that they sent for `past` was served
 pub record HasWorked (past records : List DinRecord) (l : Lane) : Type 0 where
   pub given : WasGiven (sent_by (first_task l.first) past) l.first records
-  pub asked : AreAsked l.size (sent_by (first_task l.first) past) l.tables.items l.backs.items
-  pub settled : All NothingWaits l.backs.items
+  pub asked : All (WasAsked (sent_by (first_task l.first) past)) l.banks.items
+  pub settled : All NothingWaitsIn l.banks.items
   pub matched : AreMatched l
 
 -- a lane has taken these records: its first levels have served what is selected of them, and its
 -- second levels were given all that these sent
 pub record HasTaken (l : Lane) (records : List DinRecord) : Type 0 where
   pub given : WasGiven (sent_by (first_task l.first) records) l.first records
-  pub asked : AreAsked l.size (sent_by (first_task l.first) records) l.tables.items l.backs.items
+  pub asked : All (WasAsked (sent_by (first_task l.first) records)) l.banks.items
   pub matched : AreMatched l
 
 -- all caches of a lane have served what is selected of these records
 pub record HasSettled (l : Lane) (records : List DinRecord) : Type 0 where
   pub taken : HasTaken l records
-  pub settled : All NothingWaits l.backs.items
+  pub settled : All NothingWaitsIn l.banks.items

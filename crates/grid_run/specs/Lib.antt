@@ -5,7 +5,7 @@ pub mod Sending
 pub mod Fronts
 pub mod Seats
 pub mod Backs
-pub mod Settling
+pub mod Banks
 pub mod FirstLevels
 pub mod Lanes
 pub mod Workers

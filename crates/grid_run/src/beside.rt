@@ -1,96 +1,71 @@
 //! First-level caches that take records beside the second levels, which serve what waits for them.
 
 ghost use Rattle.std.specs.Prelude.{◌≡◌, ◌<◌, ◌≤◌, ◌+◌, List, OnOk, length, map};
+ghost use Rattle.std.specs.List.{All};
 ghost use Rattle.din_trace.specs.declared.record.DinRecord.{DinRecord as Event};
-ghost use Rattle.grid_run.specs.Backs.{AreFew, RequestsFor, back_task};
+ghost use Rattle.grid_run.specs.Backs.{AreFew, RequestsFor};
+ghost use Rattle.grid_run.specs.Banks.{HaveServed, WasAsked, bank_task};
 ghost use Rattle.grid_run.specs.FirstLevels.{HaveTaken, WasGiven, first_task};
-ghost use Rattle.grid_run.specs.Settling.{AreAsked, HaveServed};
 
-use crate::back::Back;
+use crate::bank::Bank;
+use crate::banks::{settle_all, settle_on, waiting_for};
 use crate::first_levels::FirstLevels;
-use crate::settling::{settle_on, settle_parts};
 use cache_core::NoMemory;
 use din_trace::{DinRecord, MAX_LIMIT};
-use grid_core::BlockNumbers;
 use std::thread::{Threads, join_mut};
 
-/// Of `tables` parts of second levels, for which `waiting` requests wait, how many the thread of
-/// the first levels serves after `records` records, so that all threads have about as much to do.
-/// By instructions, a record costs the first levels a third of what a request costs a second level,
-/// and a request that they send half of it.
-fn parts_near(records: usize, waiting: usize, tables: usize, threads: usize) -> usize
-    ensures { result ≤ tables }
+/// Of `banks` banks, for which `waiting` requests wait, how many the thread of the first levels
+/// serves before these take `records` records. With two threads, both have about as much to do
+/// then. With more, the first levels are enough for one. By instructions, a record costs the first
+/// levels a third of what a request costs a second level, and a request that they send half of it.
+fn banks_near(records: usize, waiting: usize, banks: usize, threads: usize) -> usize
+    ensures { result ≤ banks }
 {
-    if threads == 0 || waiting == 0 {
+    if threads > 2 || waiting == 0 {
         return 0;
     }
     let first = (records / 3).saturating_add(waiting / 2);
-    let share = first.saturating_add(waiting) / threads;
-    let twice = share
-        .saturating_sub(first)
-        .saturating_mul(tables)
-        .saturating_mul(2)
-        / waiting;
-    (twice.saturating_add(1) / 2).min(tables)
-}
-
-/// How many requests wait for these second levels.
-fn waiting_for(backs: &[Back]) -> usize {
-    let mut sum = 0usize;
-    for back in backs {
-        sum = sum.saturating_add(back.waiting());
-    }
-    sum
+    let twice = waiting.saturating_sub(first).saturating_mul(banks) / waiting;
+    (twice.saturating_add(1) / 2).min(banks)
 }
 
 /// These second levels serve what waits for them, and then first-level caches take records.
 fn settle_and_take(
     first: &mut FirstLevels,
     part: &[DinRecord],
-    size: usize,
-    backs: &mut [Back],
-    tables: &mut [BlockNumbers],
+    banks: &mut [Bank],
 ) -> Result<(), NoMemory>
-    requires near { (all : RequestsFor) × AreAsked size all tables.old backs.old × AreFew all }
+    requires near { (all : RequestsFor) × All (WasAsked all) banks.old × AreFew all }
     requires room { (served : RequestsFor) × (past : List Event) × WasGiven served first.old past
         × (length past + length part.now ≤ MAX_LIMIT) }
-    ensures served { OnOk result
-        (HaveServed size tables.old backs.old tables.new backs.new) }
-    ensures tasks { map back_task backs.new ≡ map back_task backs.old }
-    ensures tables { length tables.new ≡ length tables.old }
+    ensures served { OnOk result (HaveServed banks.old banks.new) }
+    ensures tasks { map bank_task banks.new ≡ map bank_task banks.old }
     ensures taken { OnOk result (HaveTaken part.now first.old first.new) }
     ensures task { first_task first.new ≡ first_task first.old }
 {
-    settle_parts(size, backs, tables)?;
+    settle_all(banks)?;
     first.take_part(part)
 }
 
-/// On this thread the near second levels serve what waits for them, and then first-level caches
-/// take records; on the other threads the far second levels serve.
+/// On this thread the near banks serve what waits for them, and then first-level caches take
+/// records; on the other threads the far banks serve.
 fn take_beside<T: Threads + Sync>(
     rt: &T,
     threads: usize,
-    size: usize,
-    far: &mut [Back],
-    far_tables: &mut [BlockNumbers],
-    near: &mut [Back],
-    near_tables: &mut [BlockNumbers],
+    far: &mut [Bank],
+    near: &mut [Bank],
     first: &mut FirstLevels,
     part: &[DinRecord],
 ) -> Result<(), NoMemory>
     requires two { 1 < threads }
-    requires far { (all : RequestsFor) × AreAsked size all far_tables.old far.old × AreFew all }
-    requires near { (all : RequestsFor) × AreAsked size all near_tables.old near.old × AreFew all }
+    requires far { (all : RequestsFor) × All (WasAsked all) far.old × AreFew all }
+    requires near { (all : RequestsFor) × All (WasAsked all) near.old × AreFew all }
     requires room { (served : RequestsFor) × (past : List Event) × WasGiven served first.old past
         × (length past + length part.now ≤ MAX_LIMIT) }
-    ensures far { OnOk result
-        (HaveServed size far_tables.old far.old far_tables.new far.new) }
-    ensures near { OnOk result
-        (HaveServed size near_tables.old near.old near_tables.new near.new) }
-    ensures tasks { (map back_task far.new ≡ map back_task far.old)
-        × (map back_task near.new ≡ map back_task near.old) }
-    ensures tables { (length far_tables.new ≡ length far_tables.old)
-        × (length near_tables.new ≡ length near_tables.old) }
+    ensures far { OnOk result (HaveServed far.old far.new) }
+    ensures near { OnOk result (HaveServed near.old near.new) }
+    ensures tasks { (map bank_task far.new ≡ map bank_task far.old)
+        × (map bank_task near.new ≡ map bank_task near.old) }
     ensures taken { OnOk result (HaveTaken part.now first.old first.new) }
     ensures task { first_task first.new ≡ first_task first.old }
 {
@@ -98,15 +73,13 @@ fn take_beside<T: Threads + Sync>(
     let (settled, taken) = join_mut(
         rt,
         &mut ||
-            requires { (all : RequestsFor) × AreAsked size all far_tables.now far.now
-                × AreFew all }
-        { settle_on(rt, others, size, far, far_tables) },
+            requires { (all : RequestsFor) × All (WasAsked all) far.now × AreFew all }
+        { settle_on(rt, others, far) },
         &mut ||
-            requires near { (all : RequestsFor) × AreAsked size all near_tables.now near.now
-                × AreFew all }
+            requires near { (all : RequestsFor) × All (WasAsked all) near.now × AreFew all }
             requires room { (served : RequestsFor) × (past : List Event)
                 × WasGiven served first.now past × (length past + length part.now ≤ MAX_LIMIT) }
-        { settle_and_take(first, part, size, near, near_tables) },
+        { settle_and_take(first, part, near) },
     );
     settled?;
     taken
@@ -117,39 +90,22 @@ fn take_beside<T: Threads + Sync>(
 pub(crate) fn take_on<T: Threads + Sync>(
     rt: &T,
     threads: usize,
-    size: usize,
-    backs: &mut [Back],
-    tables: &mut [BlockNumbers],
+    banks: &mut [Bank],
     first: &mut FirstLevels,
     part: &[DinRecord],
 ) -> Result<(), NoMemory>
-    requires asked { (all : RequestsFor) × AreAsked size all tables.old backs.old × AreFew all }
+    requires asked { (all : RequestsFor) × All (WasAsked all) banks.old × AreFew all }
     requires room { (served : RequestsFor) × (past : List Event) × WasGiven served first.old past
         × (length past + length part.now ≤ MAX_LIMIT) }
-    ensures served { OnOk result
-        (HaveServed size tables.old backs.old tables.new backs.new) }
-    ensures tasks { map back_task backs.new ≡ map back_task backs.old }
-    ensures tables { length tables.new ≡ length tables.old }
+    ensures served { OnOk result (HaveServed banks.old banks.new) }
+    ensures tasks { map bank_task banks.new ≡ map bank_task banks.old }
     ensures taken { OnOk result (HaveTaken part.now first.old first.new) }
     ensures task { first_task first.new ≡ first_task first.old }
 {
     if threads < 2 {
-        return settle_and_take(first, part, size, backs, tables);
+        return settle_and_take(first, part, banks);
     }
-    let near = parts_near(part.len(), waiting_for(backs), tables.len(), threads);
-    let cut = tables.len() - near;
-    let end = backs.len().min(cut.saturating_mul(size));
-    let (far_tables, near_tables) = tables.split_at_mut(cut);
-    let (far, near) = backs.split_at_mut(end);
-    take_beside(
-        rt,
-        threads,
-        size,
-        far,
-        far_tables,
-        near,
-        near_tables,
-        first,
-        part,
-    )
+    let near = banks_near(part.len(), waiting_for(banks), banks.len(), threads);
+    let (far, near) = banks.split_at_mut(banks.len() - near);
+    take_beside(rt, threads, far, near, first, part)
 }

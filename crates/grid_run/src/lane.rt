@@ -1,15 +1,13 @@
 //! The caches of all rows of one selection.
 
-use crate::back::Back;
-use crate::backs::{backs_for, take_over_all};
+use crate::bank::Bank;
+use crate::banks::{back_at, banks_for, settle_on, take_over_all};
 use crate::beside::take_on;
 use crate::figures::{Figures, ShadowMisses};
 use crate::first_levels::FirstLevels;
 use crate::plan::{LanePlan, Place};
-use crate::settling::{settle_on, size_of_part, tables_for};
 use cache_core::NoMemory;
 use din_trace::{DinRecord, MAX_LIMIT};
-use grid_core::BlockNumbers;
 use stage_core::{Totals, second_level_sees_at_most_two, selections_make_at_most_two};
 use std::alloc::Global;
 use std::thread::Threads;
@@ -18,10 +16,7 @@ use std::thread::Threads;
 #[derive(Drop)]
 pub(crate) struct Lane {
     first: FirstLevels,
-    backs: Vec<Back>,
-    /// Numbers of blocks: a table for each `size` second levels.
-    tables: Vec<BlockNumbers>,
-    size: usize,
+    banks: Vec<Bank>,
 }
 
 #[tactic(auto, unfolding(crate::specs::Lanes::lane_task, crate::specs::Lanes::task_of_plan))]
@@ -43,13 +38,9 @@ impl Lane {
         ensures taken { IfOk result (λ lane. HasTaken lane []) }
         ensures task { IfOk result (λ lane. lane_task lane ≡ task_of_plan plan.now) }
     {
-        let count = plan.backs.len();
-        let size = size_of_part(count, threads);
         Ok(Lane {
             first: FirstLevels::new(alloc, plan)?,
-            backs: backs_for(alloc, &plan.backs)?,
-            tables: tables_for(alloc, count, size)?,
-            size,
+            banks: banks_for(alloc, &plan.backs, threads)?,
         })
     }
 
@@ -68,15 +59,7 @@ impl Lane {
     {
         selections_make_at_most_two();
         second_level_sees_at_most_two();
-        take_on(
-            rt,
-            threads,
-            self.size,
-            &mut self.backs,
-            &mut self.tables,
-            &mut self.first,
-            part,
-        )
+        take_on(rt, threads, &mut self.banks, &mut self.first, part)
     }
 
     /// The same, and then the second levels take over what waits in the queues.
@@ -93,7 +76,7 @@ impl Lane {
         ensures task { lane_task self.new ≡ lane_task self.old }
     {
         self.work(rt, threads, part)?;
-        take_over_all(&mut self.first.queues, &mut self.backs);
+        take_over_all(&mut self.first.queues, &mut self.banks);
         Ok(())
     }
 
@@ -106,7 +89,7 @@ impl Lane {
         ensures task { lane_task self.new ≡ lane_task self.old }
     {
         self.settle(rt, 1)?;
-        take_over_all(&mut self.first.queues, &mut self.backs);
+        take_over_all(&mut self.first.queues, &mut self.banks);
         Ok(())
     }
 
@@ -142,7 +125,7 @@ impl Lane {
     {
         selections_make_at_most_two();
         second_level_sees_at_most_two();
-        settle_on(rt, threads, self.size, &mut self.backs, &mut self.tables)
+        settle_on(rt, threads, &mut self.banks)
     }
 
     /// What the caches of a row have counted.
@@ -154,7 +137,7 @@ impl Lane {
     {
         let i = &self.first.i[place.i.level].level;
         let d = &self.first.d[place.d.level].level;
-        let u = &self.backs[place.u.level].second.level;
+        let u = &back_at(&self.banks, place.u.level).second.level;
         Figures {
             totals: Totals {
                 i: i.counts(place.i.cell),

@@ -8,9 +8,10 @@
 //! first-level caches of a side that have one block size and one policy are served together by an
 //! engine of grid_core (`level`, `front`, `fronts`), and what each pair of them sends waits in a
 //! queue (`queue`, `queues`, `parts`): these are the `first_levels`. Behind each queue are second
-//! levels (`second`, `back`, `backs`), which take it over and serve what waits (`settling`).
-//! `beside` does both at once. `requests` has what an event asks of each cache, and what the first
-//! level asks of the second.
+//! levels (`second`, `back`), which take it over and serve what waits. Some of them, a `bank`,
+//! share the numbers of blocks, so that different threads can serve the `banks` of a lane. `beside`
+//! does both at once. `requests` has what an event asks of each cache, and what the first level
+//! asks of the second.
 //!
 //! `plan` finds the place of each row: its lane, and a `seat` among the caches of each kind, which
 //! a `shelf` lists. A lane is the work of a `worker`; `crew` gives records to all workers in
@@ -27,7 +28,8 @@
 #![tactic(auto)]
 
 mod back;
-mod backs;
+mod bank;
+mod banks;
 mod beside;
 mod crew;
 mod fault;
@@ -48,7 +50,6 @@ mod requests;
 mod run;
 mod seat;
 mod second;
-mod settling;
 mod sharing;
 mod shelf;
 mod simulation;

@@ -1,25 +1,30 @@
-use Rattle.std.proofs.Common.{◌≡◌, List, get_or, map, ap, sym, subst, ◌∙◌, arith}
-use Rattle.std.proofs.lemmas.List.{length-map}
+use Rattle.std.proofs.Common.{◌≡◌, ◌<◌, ℕ, List, get_or, length, map, ap, sym, subst, ◌∙◌}
+use Rattle.std.specs.List.{All}
 use Rattle.cache_core.specs.Counts.{counts_of}
 use Rattle.cache_core.specs.History.{Rules}
 use Rattle.cache_core.specs.declared.counts.Counts.{Counts}
 use Rattle.cache_core.specs.declared.counts.PerClass.{PerClass}
 use Rattle.din_trace.specs.declared.record.DinRecord.{DinRecord}
 use Rattle.stage_core.specs.Events.{events, history}
-use Rattle.stage_core.specs.SecondLevel.{parts_in, second_history, second_level_requests}
+use Rattle.stage_core.specs.SecondLevel.{Hierarchy, parts_in, second_history, second_level_requests}
 use Rattle.stage_core.specs.declared.message.What.{What}
 use Rattle.stage_core.specs.declared.message.Side.TheVariants as side
 use Rattle.stage_core.specs.declared.selection.Selection.{Selection}
 use Rattle.grid_core.specs.FullyAssociative.{shadow_misses}
-use Rattle.grid_run.specs.Backs.{NothingWaits, WereAsked, back_task, sent_behind}
+use Rattle.grid_run.specs.Backs.{BackTask, WereAsked, back_task, sent_behind}
+use Rattle.grid_run.specs.Banks.{NothingWaitsIn, WasAsked, tasks_of_banks}
 use Rattle.grid_run.specs.FirstLevels.{HasServed, first_task}
 use Rattle.grid_run.specs.Fronts.{FrontAt, front_rules}
 use Rattle.grid_run.specs.Lanes.{lane_task}
 use Rattle.grid_run.specs.Levels.{LevelStandsBy}
+use Rattle.grid_run.specs.Rows.{IsPlaceIn}
+use Rattle.grid_run.specs.declared.back.Back.{Back}
+use Rattle.grid_run.specs.declared.bank.Bank.{Bank}
 use Rattle.grid_run.specs.declared.figures.Figures.{Figures}
+use Rattle.grid_run.specs.declared.lane.Lane.{Lane}
+use Rattle.grid_run.specs.declared.plan.Place.{Place}
 use Rattle.grid_run.proofs.Behind.{at-seat, rules-seated}
-use Rattle.grid_run.proofs.Cuts.{back-asked}
-use Rattle.grid_run.proofs.Placed.{back-inside, back-there, cell-there, requests-there}
+use Rattle.grid_run.proofs.Placed.{back-there, cell-there, requests-there}
 use Rattle.grid_run.proofs.Shelves.{seat-there}
 use Rattle.grid_run.proofs.Rooms.{settled-served}
 use Rattle.grid_run.proofs.lane.Lane.figures.Goals as goal
@@ -35,27 +40,41 @@ same-figures : {i j d e u v : Counts} {i' j' d' e' u' v' : PerClass} → i ≡ j
     → i' ≡ j' → d' ≡ e' → u' ≡ v' → made i d u i' d' u' ≡ made j e v j' e' v'
 same-figures p q r p' q' r' = cc
 
-pub index-requires-3 : goal.index-requires-3
+-- the place is one of the banks of the lane
+place-inside : (l : Lane) (c : Hierarchy) (s : Selection) (p : Place)
+    → IsPlaceIn (lane_task l) c s p → (banks : List Bank) → banks ≡ l.banks.items
+    → p.u.level < length (tasks_of_banks banks)
 unfolding lane_task
-index-requires-3 c =
-    omega (
-      arith,
-      c.requires.2.level,
-      length-map c.args.self.now.backs.items back_task,
-      c.args.self.now.backs.ok.0,
-    )
+place-inside l c s p place banks is = subst (λ (bs : List Bank).
+    p.u.level < length (tasks_of_banks bs)) (sym is) place.level
+
+-- the second levels that were found in them are those of the lane at this index
+told-there : (banks items : List Bank) → banks ≡ items → (b : Back) (k : ℕ)
+    → ((other : BackTask) → back_task b ≡ get_or (tasks_of_banks banks) k other)
+    → (other : BackTask) → back_task b ≡ get_or (tasks_of_banks items) k other
+told-there banks items is b k told other =
+    told other ∙ ap (λ bs. get_or (tasks_of_banks bs) k other) is
+
+pub back_at-requires : goal.back_at-requires
+back_at-requires c =
+    place-inside c.args.self.now c.requires.0 c.requires.1 c.args.place.now c.requires.2
+    c.deref.result.now c.deref.ensures.value
 
 pub counts-requires-3 : goal.counts-requires-3
 unfolding back_task
 counts-requires-3 c =
     cell-there c.args.self.now c.requires.0 c.requires.1 c.args.place.now c.requires.2
-    c.index-3.result.now c.index-3.ensures
+    c.back_at.result.now
+    (told-there c.deref.result.now c.args.self.now.banks.items c.deref.ensures.value
+    c.back_at.result.now c.args.place.now.u.level c.back_at.ensures.task)
 
 pub shadow_misses-requires-3 : goal.shadow_misses-requires-3
 unfolding back_task
 shadow_misses-requires-3 c =
     cell-there c.args.self.now c.requires.0 c.requires.1 c.args.place.now c.requires.2
-    c.index-3.result.now c.index-3.ensures
+    c.back_at.result.now
+    (told-there c.deref.result.now c.args.self.now.banks.items c.deref.ensures.value
+    c.back_at.result.now c.args.place.now.u.level c.back_at.ensures.task)
 
 pub returns : goal.returns
 unfolding lane_task back_task first_task
@@ -64,7 +83,7 @@ returns c = λ rules chosen past place taken.
     let p = c.args.place.now in
     let fi = c.index.result.now in
     let fd = c.index-2.result.now in
-    let b = c.index-3.result.now in
+    let b = c.back_at.result.now in
     let sel : events l.first.selector.selection past ≡ events chosen past =
     ap (λ (s : Selection). events s past) place.selection in
     let es : List DinRecord = events chosen past in
@@ -76,17 +95,16 @@ returns c = λ rules chosen past place taken.
     let h-d = history side.D es in
     let st-i = at-seat f.i.items p.i fi c.index.ensures on-i (FrontAt h-i) served.i in
     let st-d = at-seat f.d.items p.d fd c.index-2.ensures on-d (FrontAt h-d) served.d in
-    let at = c.index-3.ensures in
+    let are = c.deref.ensures.value in
+    let at = told-there c.deref.result.now l.banks.items are b p.u.level
+    c.back_at.ensures.task in
     let there = back-there l rules chosen p place b at in
-    let inside = back-inside l rules chosen p place b at in
-    let were = back-asked taken.taken.asked p.u.level b inside in
-    let asked = subst
-    (WereAsked were.0 (sent_behind (map front_rules f.i.items) (map front_rules f.d.items) es))
-    (sym at)
-    (subst (λ (rs : List DinRecord). WereAsked were.0
-    (sent_behind (map front_rules f.i.items) (map front_rules f.d.items) rs)
-    (get_or l.backs.items p.u.level b)) sel were.1) in
-    let settled = subst NothingWaits (sym at) (taken.settled p.u.level b inside) in
+    let were = c.back_at.ensures.asked _
+    (subst (All (WasAsked _)) (sym are) taken.taken.asked) in
+    let asked = subst (λ (rs : List DinRecord). WereAsked were.0
+    (sent_behind (map front_rules f.i.items) (map front_rules f.d.items) rs) b) sel were.1 in
+    let settled = c.back_at.ensures.settled
+    (subst (All NothingWaitsIn) (sym are) taken.settled) in
     let st-u = subst (λ (ws : List What). LevelStandsBy were.0 b.second.level
     (second_history ws))
     (requests-there l rules chosen p place b at es)

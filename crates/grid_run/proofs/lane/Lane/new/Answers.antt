@@ -1,8 +1,6 @@
-use Rattle.std.proofs.Common.{length, map, ap, ◌∙◌, arith}
-use Rattle.std.proofs.lemmas.List.{length-map}
-use Rattle.grid_core.specs.Numbered.{blocks_in}
-use Rattle.grid_run.specs.Backs.{back_task}
+use Rattle.std.proofs.Common.{map, ap, ◌∙◌}
 use Rattle.grid_run.specs.Backs.{task_of_shelf}
+use Rattle.grid_run.specs.Banks.{tasks_of_banks}
 use Rattle.grid_run.specs.FirstLevels.{FirstTask, first_of_plan, first_task}
 use Rattle.grid_run.specs.Lanes.{lane_task, task_of_plan}
 use Rattle.grid_run.proofs.Given.{seated}
@@ -20,27 +18,17 @@ pub returns : goal.returns
 unfolding lane_task task_of_plan first_task first_of_plan
 returns c =
     let f = c.in_ok-new.field-0 in
-    let bs = c.in_ok-backs_for.field-0.items in
+    let banks = c.in_ok-banks_for.field-0.items in
     let shelves = c.args.plan.now.backs.items in
     let task = c.in_ok-new.ensures.task in
-    let tasks = c.in_ok-backs_for.ensures.tasks
+    let tasks = c.in_ok-banks_for.ensures.tasks
     ∙ ap (map task_of_shelf) c.deref.ensures.value in
     record {
       taken = record {
         given = c.in_ok-new.ensures.given;
-        asked = record {
-          sized = c.size_of_part-size.ensures;
-          covered = omega (
-            arith,
-            c.in_ok-tables_for.ensures,
-            ap length tasks,
-            length-map bs back_task,
-            length-map shelves task_of_shelf,
-            c.args.plan.now.backs.ok.0,
-          );
-          asked = λ k n b lt. c.in_ok-backs_for.ensures.asked (blocks_in _) k b lt;
-        };
-        matched = matched f.queues.items bs shelves (ap (λ (t : FirstTask). t.seats) task) tasks;
+        asked = c.in_ok-banks_for.ensures.asked;
+        matched = matched f.queues.items (tasks_of_banks banks) shelves
+            (ap (λ (t : FirstTask). t.seats) task) tasks;
       };
       task = same-lane (ap (λ (t : FirstTask). t.selection) task)
           (ap (λ (t : FirstTask). t.i) task) (ap (λ (t : FirstTask). t.d) task) tasks;

@@ -1,13 +1,13 @@
-use Rattle.std.proofs.Common.{◌++◌, drop, length, take, ap, sym, subst, ◌∙◌, arith}
-use Rattle.grid_core.proofs.ListLoops.{as-long}
-use Rattle.grid_run.specs.Backs.{back_task}
+use Rattle.std.proofs.Common.{◌++◌, drop, length, map, take, ap, sym, subst, ◌∙◌, arith}
+use Rattle.std.specs.List.{All}
+use Rattle.grid_run.specs.Backs.{seats_of_task}
+use Rattle.grid_run.specs.Banks.{HaveServed, WasAsked, bank_task}
 use Rattle.grid_run.specs.FirstLevels.{FirstTask, WasGiven, first_task, sent_by}
 use Rattle.grid_run.specs.Lanes.{lane_task}
-use Rattle.grid_run.specs.Settling.{AreAsked}
-use Rattle.grid_run.proofs.Cuts.{asked-of}
+use Rattle.grid_run.proofs.BankLemmas.{tasks-told}
 use Rattle.grid_run.proofs.Given.{few-sent}
-use Rattle.grid_run.proofs.Placed.{on-ok-both, same-lane, seats-told}
-use Rattle.grid_run.proofs.Slices.{served-items, told-items}
+use Rattle.grid_run.proofs.Placed.{on-ok-both, same-lane}
+use Rattle.grid_run.proofs.Slices.{on-items, told-items}
 use Rattle.grid_run.proofs.lane.Lane.work.Goals as goal
 
 pub take_on-requires-clause-asked : goal.take_on-requires-clause-asked
@@ -15,7 +15,7 @@ take_on-requires-clause-asked g c κs within =
     let room = c.requires.room in
     let t = first_task c.args.self.now.first in (
       sent_by t room.0,
-      asked-of (sym c.deref_mut-2.ensures.value) (sym c.deref_mut.ensures.value) room.1.asked,
+      subst (All (WasAsked (sent_by t room.0))) (sym c.deref_mut.ensures.value) room.1.asked,
       few-sent c.second_level_sees_at_most_two.ensures c.selections_make_at_most_two.ensures t
           room.0 (omega (arith, room.2)),
     )
@@ -25,25 +25,23 @@ unfolding first_task
 returns-clause-worked g c =
     let l = c.args.self.now in
     let f = c.take_on.new.first in
-    let bs = c.take_on.new.backs in
-    let ts = c.take_on.new.tables in
+    let bs = c.take_on.new.banks in
     let done = c.take_on.ensures in
-    let are-backs = c.deref_mut.ensures.value in
+    let are-banks = c.deref_mut.ensures.value in
     let lent = c.deref_mut.result.now in
     on-ok-both c.take_on.result (λ served took past taken.
-    let now = served-items l.size l.tables l.backs c.deref_mut-2.result.now ts lent bs
-    c.deref_mut-2.ensures.value are-backs done.tables (as-long back_task bs lent done.tasks)
-    served in
+    let now = on-items bank_task l.banks.items lent bs l.banks.len HaveServed l.banks.ok.0 are-banks
+    done.tasks served in
     record {
       given = subst (λ (t : FirstTask). WasGiven (sent_by t past) f (past ++ c.args.part.now))
           (sym done.task) (took.given _ past taken.given);
-      asked = subst (λ (t : FirstTask). AreAsked l.size (sent_by t past)
-          (take l.tables.len (ts ++ drop (length ts) l.tables.items))
-          (take l.backs.len (bs ++ drop (length bs) l.backs.items))) (sym done.task)
+      asked = subst (λ (t : FirstTask). All (WasAsked (sent_by t past))
+          (take l.banks.len (bs ++ drop (length bs) l.banks.items))) (sym done.task)
           (now.asked _ taken.asked);
       settled = now.settled;
       matched = ap (λ (t : FirstTask). t.seats) done.task ∙ taken.matched
-          ∙ sym (seats-told _ _ (told-items back_task l.backs lent bs are-backs done.tasks));
+          ∙ sym (ap (map seats_of_task)
+          (tasks-told _ _ (told-items bank_task l.banks lent bs are-banks done.tasks)));
     }) done.served done.taken
 
 pub returns-clause-task : goal.returns-clause-task
@@ -52,5 +50,5 @@ returns-clause-task g c =
     let task = c.take_on.ensures.task in
     same-lane (ap (λ (t : FirstTask). t.selection) task) (ap (λ (t : FirstTask). t.i) task)
     (ap (λ (t : FirstTask). t.d) task)
-    (told-items back_task c.args.self.now.backs c.deref_mut.result.now c.take_on.new.backs
-    c.deref_mut.ensures.value c.take_on.ensures.tasks)
+    (tasks-told _ _ (told-items bank_task c.args.self.now.banks c.deref_mut.result.now
+    c.take_on.new.banks c.deref_mut.ensures.value c.take_on.ensures.tasks))

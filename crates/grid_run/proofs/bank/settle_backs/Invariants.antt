@@ -3,7 +3,7 @@ use Rattle.grid_core.specs.Numbers.{GoesOn}
 use Rattle.grid_core.proofs.ListLoops.{HasChanged}
 use Rattle.grid_run.specs.Backs.{back_task}
 use Rattle.grid_run.proofs.LoopTurns.{Settles}
-use Rattle.grid_run.proofs.backs.settle_backs.Given as goal
+use Rattle.grid_run.proofs.bank.settle_backs.Given as goal
 
 -- the second levels that were passed have settled, and the others are as they were; there may be
 -- more numbers of blocks

@@ -1,7 +1,7 @@
 use Rattle.std.proofs.Common.{ℕ, List}
 use Rattle.grid_run.specs.Backs.{NothingWaits, WereAsked, back_task, no_requests, task_of_shelf}
 use Rattle.grid_run.proofs.Each.{AreMade}
-use Rattle.grid_run.proofs.backs.backs_for.Given as goal
+use Rattle.grid_run.proofs.bank.backs_for.Given as goal
 
 -- there are the second levels of each shelf that was passed
 abbrev pub invariant-loop-plan : goal.invariant-loop-plan

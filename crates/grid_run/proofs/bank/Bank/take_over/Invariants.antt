@@ -5,14 +5,14 @@ use Rattle.grid_run.specs.Backs.{AreWaiting, HasNone, RequestsFor, back_task, qu
 use Rattle.grid_run.specs.declared.back.Back.{Back}
 use Rattle.grid_run.specs.declared.queue.Queue.{Queue}
 use Rattle.grid_run.proofs.LoopTurns.{TakesOver}
-use Rattle.grid_run.proofs.backs.take_over_all.Given as goal
+use Rattle.grid_run.proofs.bank.Bank.take_over.Given as goal
 
 -- the second levels that were passed have taken over their queues, and the others are as they were
 abbrev pub invariant-loop-index : goal.invariant-loop-index
 invariant-loop-index l = record {
-  queues : HasChanged (λ (old new : Queue). HasNone new) queue_seats l.initial.queues.items l.index
-      l.queues.items;
+  queues : HasChanged (λ (old new : Queue). HasNone new) queue_seats l.initial.queues l.index
+      l.queues;
   backs : HasChanged (λ (old new : Back). ⊤) back_task l.initial.back-items l.index l.back-items;
-  asked : (served all : RequestsFor) → All (AreWaiting served all) l.initial.queues.items →
+  asked : (served all : RequestsFor) → All (AreWaiting served all) l.initial.queues →
       HasChanged (TakesOver served all) back_task l.initial.back-items l.index l.back-items;
 }

@@ -7,7 +7,7 @@ use Rattle.grid_run.specs.Backs.{WereAsked, back_task}
 use Rattle.grid_run.proofs.LoopTurns.{settled-more}
 use Rattle.grid_run.proofs.Numbered.{asked-more}
 use Rattle.grid_run.proofs.Slices.{all-turned}
-use Rattle.grid_run.proofs.backs.settle_backs.Goals as goal
+use Rattle.grid_run.proofs.bank.settle_backs.Goals as goal
 
 pub settle-requires : goal.settle-requires
 settle-requires c =

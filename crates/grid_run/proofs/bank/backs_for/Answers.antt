@@ -1,5 +1,5 @@
 use Rattle.grid_run.proofs.Each.{made_more}
-use Rattle.grid_run.proofs.backs.backs_for.Goals as goal
+use Rattle.grid_run.proofs.bank.backs_for.Goals as goal
 
 pub loop-plan-preserved : goal.loop-plan-preserved
 loop-plan-preserved c =

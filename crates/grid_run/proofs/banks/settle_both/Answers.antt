@@ -1,7 +1,7 @@
 use Rattle.std.proofs.Common.{of_calls}
 use Rattle.grid_run.proofs.Placed.{ok-so}
 use Rattle.grid_run.proofs.Readings.{on-any}
-use Rattle.grid_run.proofs.settling.settle_both.Goals as goal
+use Rattle.grid_run.proofs.banks.settle_both.Goals as goal
 
 pub returns-clause-front : goal.returns-clause-front
 returns-clause-front g c =

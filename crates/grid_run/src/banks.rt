@@ -1,0 +1,155 @@
+//! The second levels of a lane.
+
+ghost use Rattle.std.specs.Prelude.{◌≡◌, ◌<◌, ℕ, List, IfOk, OnOk, get_or, length, map};
+ghost use Rattle.std.specs.List.{All};
+ghost use Rattle.grid_run.specs.Backs.{AreFew, AreWaiting, BackTask, HasNone, NothingWaits};
+ghost use Rattle.grid_run.specs.Backs.{RequestsFor, WereAsked, back_task, no_requests};
+ghost use Rattle.grid_run.specs.Backs.{queue_seats, seats_of_task, task_of_shelf};
+ghost use Rattle.grid_run.specs.Banks.{HaveServed, NothingWaitsIn, WasAsked, bank_task};
+ghost use Rattle.grid_run.specs.Banks.{tasks_of_banks};
+
+use crate::back::Back;
+use crate::bank::Bank;
+use crate::lists::add_to;
+use crate::plan::BackShelf;
+use crate::queue::Queue;
+use cache_core::NoMemory;
+use std::alloc::Global;
+use std::thread::{Threads, join_mut};
+
+/// So many threads can work for one lane: one for its first levels, which are at least a third of
+/// all the work, and two for its second levels.
+const MOST_HELPFUL: usize = 3;
+
+/// Of `count` second levels, how many share a bank, so that each of so many threads can have two
+/// banks or more.
+fn size_of_bank(count: usize, threads: usize) -> usize
+    ensures { 0 < result }
+{
+    if threads < 2 {
+        return count.max(1);
+    }
+    count.div_ceil(threads.min(MOST_HELPFUL) * 2).max(1)
+}
+
+/// The empty second levels of these shelves, for so many threads.
+pub(crate) fn banks_for(
+    alloc: Global,
+    shelves: &[BackShelf],
+    threads: usize,
+) -> Result<Vec<Bank>, NoMemory>
+    ensures tasks { IfOk result (λ banks.
+        tasks_of_banks banks.items ≡ map task_of_shelf shelves.now) }
+    ensures asked { IfOk result (λ banks. All (WasAsked no_requests) banks.items) }
+{
+    let size = size_of_bank(shelves.len(), threads);
+    let mut banks = Vec::new(alloc);
+    let mut rest = shelves;
+    'banks: while !rest.is_empty() {
+        let (part, behind) = rest.split_at(size.min(rest.len()));
+        add_to(&mut banks, Bank::new(alloc, part)?)?;
+        rest = behind;
+    }
+    Ok(banks)
+}
+
+/// All second levels take over what waits in the queues, each from the queue behind its seats.
+pub(crate) fn take_over_all(queues: &mut [Queue], banks: &mut [Bank])
+    requires seats { map queue_seats queues.old ≡ map seats_of_task (tasks_of_banks banks.old) }
+    requires settled { All NothingWaitsIn banks.old }
+    ensures asked { (served all : RequestsFor) → All (AreWaiting served all) queues.old →
+        All (WasAsked served) banks.old → All (WasAsked all) banks.new }
+    ensures none { All HasNone queues.new }
+    ensures queues { map queue_seats queues.new ≡ map queue_seats queues.old }
+    ensures tasks { map bank_task banks.new ≡ map bank_task banks.old }
+{
+    let Some((bank, banks)) = banks.split_first_mut() else {
+        return;
+    };
+    let (near, queues) = queues.split_at_mut(bank.backs.len());
+    bank.take_over(near);
+    take_over_all(queues, banks);
+}
+
+/// How many requests wait for second levels.
+pub(crate) fn waiting_for(banks: &[Bank]) -> usize {
+    let mut sum = 0usize;
+    for bank in banks {
+        sum = sum.saturating_add(bank.waiting());
+    }
+    sum
+}
+
+/// Serves all requests that wait, for one bank after another.
+pub(crate) fn settle_all(banks: &mut [Bank]) -> Result<(), NoMemory>
+    requires room { (all : RequestsFor) × All (WasAsked all) banks.old × AreFew all }
+    ensures served { OnOk result (HaveServed banks.old banks.new) }
+    ensures tasks { map bank_task banks.new ≡ map bank_task banks.old }
+{
+    for bank in banks.iter_mut() {
+        bank.settle()?;
+    }
+    Ok(())
+}
+
+/// The same for two runs of banks, in two threads.
+fn settle_both<T: Threads + Sync>(
+    rt: &T,
+    front: &mut [Bank],
+    behind: &mut [Bank],
+) -> Result<(), NoMemory>
+    requires front { (all : RequestsFor) × All (WasAsked all) front.old × AreFew all }
+    requires behind { (all : RequestsFor) × All (WasAsked all) behind.old × AreFew all }
+    ensures front { OnOk result (HaveServed front.old front.new) }
+    ensures behind { OnOk result (HaveServed behind.old behind.new) }
+    ensures tasks { (map bank_task front.new ≡ map bank_task front.old)
+        × (map bank_task behind.new ≡ map bank_task behind.old) }
+{
+    let (one, other) = join_mut(
+        rt,
+        &mut ||
+            requires { (all : RequestsFor) × All (WasAsked all) front.now × AreFew all }
+        { settle_all(front) },
+        &mut ||
+            requires { (all : RequestsFor) × All (WasAsked all) behind.now × AreFew all }
+        { settle_all(behind) },
+    );
+    one?;
+    other
+}
+
+/// The same for all, in two threads if so many may work.
+pub(crate) fn settle_on<T: Threads + Sync>(
+    rt: &T,
+    threads: usize,
+    banks: &mut [Bank],
+) -> Result<(), NoMemory>
+    requires room { (all : RequestsFor) × All (WasAsked all) banks.old × AreFew all }
+    ensures served { OnOk result (HaveServed banks.old banks.new) }
+    ensures tasks { map bank_task banks.new ≡ map bank_task banks.old }
+{
+    if threads < 2 || banks.len() < 2 {
+        return settle_all(banks);
+    }
+    let (front, behind) = banks.split_at_mut(banks.len() / 2);
+    settle_both(rt, front, behind)
+}
+
+/// The second levels at an index, of those of all banks.
+pub(crate) fn back_at(banks: &[Bank], index: usize) -> &Back
+    requires { index < length (tasks_of_banks banks.now) }
+    ensures task { (other : BackTask) →
+        back_task result.now ≡ get_or (tasks_of_banks banks.now) index other }
+    ensures asked { (all : RequestsFor) → All (WasAsked all) banks.now →
+        (blocks : List ℕ) × WereAsked blocks all result.now }
+    ensures settled { All NothingWaitsIn banks.now → NothingWaits result.now }
+{
+    let Some((bank, banks)) = banks.split_first() else {
+        unreachable!()
+    };
+    let count = bank.backs.len();
+    if index < count {
+        return &bank.backs[index];
+    }
+    back_at(banks, index - count)
+}
