@@ -13,6 +13,7 @@ use grid_run::{Columns, Grid, Row, Setup};
 use stage_core::{Config, ConfigFault, Selection};
 use std::alloc::{AllocError, Global};
 
+/// What a row asks for: a simulation, or the text of why its configuration is refused.
 fn setup_of(
     alloc: Global,
     selection: Selection,
@@ -28,6 +29,7 @@ fn setup_of(
     }
 }
 
+/// The row of a point.
 fn row_of(alloc: Global, point: GridPoint) -> Result<Row, AllocError>
     requires { IsBoundedPoint point }
     ensures row { IfOk result (IsRowOf point) }
@@ -42,6 +44,7 @@ fn row_of(alloc: Global, point: GridPoint) -> Result<Row, AllocError>
     Ok(Row { words, setup })
 }
 
+/// The row of each point.
 fn rows_of(alloc: Global, points: Vec<GridPoint>) -> Result<Vec<Row>, AllocError>
     requires { All IsBoundedPoint points.items }
     ensures rows { IfOk result (λ rows. AllZip IsRowOf points.items rows.items) }

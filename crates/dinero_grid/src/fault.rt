@@ -20,6 +20,7 @@ pub enum Fault {
     Words(GridWordsFault),
 }
 
+/// The exit status for a refused command line.
 fn words_status_of(fault: GridWordsFault) -> u8
     ensures { result ≡ grid_words_status fault }
 {
@@ -44,6 +45,7 @@ pub fn status(fault: &Fault) -> u8
     }
 }
 
+/// Writes the text of a run's fault.
 fn put_run<W: ByteWriter>(fault: GridFault, writer: &mut W) -> Result<(), DeviceFailed>
     ensures { Writes W.contents W.failures writer.old writer.new result (run_fault_text fault) }
 {
@@ -54,6 +56,7 @@ fn put_run<W: ByteWriter>(fault: GridFault, writer: &mut W) -> Result<(), Device
     }
 }
 
+/// Writes the text of a fault.
 fn put_fault<W: ByteWriter>(fault: &Fault, writer: &mut W) -> Result<(), DeviceFailed>
     ensures { Writes W.contents W.failures writer.old writer.new result (message_of fault.now) }
 {
@@ -63,6 +66,7 @@ fn put_fault<W: ByteWriter>(fault: &Fault, writer: &mut W) -> Result<(), DeviceF
     }
 }
 
+/// Whether help was asked for.
 fn is_help(fault: &Fault) -> bool
     ensures { result ≡ asks_for_help fault.now }
 {

@@ -77,13 +77,13 @@ fn table<T: Threads + Sync, R: ByteReader + Drop + Send, W: ByteWriter>(
         → W.failures writer.new ≡ once_more (W.failures writer.old) }
     ensures unwritten { IfErr result (λ why. why ≢ GridFault.Write → writer.new ≡ writer.old) }
 {
-    let is_short = has_refused(&asked.points);
+    let some_refused = has_refused(&asked.points);
     let threads = threads_for(rt, asked.threads);
     let Ok(grid) = grid_for(alloc, asked) else {
         return Err(GridFault::Memory);
     };
     simulate_grid(rt, alloc, &grid, reader, MAX_LIMIT, threads, writer)?;
-    Ok(is_short)
+    Ok(some_refused)
 }
 
 /// As `table`, from any reader to any writer, through a buffer.
@@ -101,12 +101,10 @@ fn table_through_buffer<T: Threads + Sync, R: Read + Drop + Send, W: Write + Dro
     };
     let mut writer = FromWrite::new(output);
     let reader = FromRead::new(input);
-    match table(rt, alloc, asked, reader, &mut writer) {
-        Ok(is_short) => Ok(is_short),
-        Err(fault) => Err(Fault::Run(fault)),
-    }
+    table(rt, alloc, asked, reader, &mut writer).map_err(Fault::Run)
 }
 
+/// Writes the help to standard output.
 fn write_help(rt: &HostRuntime) -> Result<bool, Fault> {
     let Ok(text) = grid_help_text(rt.alloc()) else {
         return Err(Fault::Run(GridFault::Memory));

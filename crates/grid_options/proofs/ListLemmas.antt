@@ -1,13 +1,8 @@
 -- Lists of texts that a loop makes from the elements of another list.
 use Rattle.std.proofs.Common.{◌≡◌, ◌∙◌, ℕ, ◌+◌, ◌<◌, List, [], ◌∷◌, ◌++◌, length, take, get_or, map}
-use Rattle.std.proofs.Common.{Bor, Global, Vec, ap, sym}
+use Rattle.std.proofs.Common.{ap, sym}
 use Rattle.std.proofs.lemmas.List.{map_more}
 use Rattle.std.specs.List.{AllZip}
-use Rattle.clap.specs.Words.{Text}
-
--- the texts of a point
-abbrev pub texts_of : Vec (Bor Text) Global → List Text
-texts_of p = map (λ t. t.now) p.items
 
 -- what is seen of the elements so far, after one more
 pub seen_more : {X Y : Type 0} (f : X → Y) (xs : List X) (i : ℕ) (x : X) → i < length xs

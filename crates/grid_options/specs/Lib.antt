@@ -2,3 +2,4 @@ pub mod Grid
 pub mod Own
 pub mod Refusals
 pub mod Written
+pub mod Points

@@ -5,6 +5,7 @@ ghost use Rattle.std.specs.List.{AllZip};
 ghost use Rattle.dinero_options.specs.Answer.{settings_at, text_at};
 ghost use Rattle.dinero_options.specs.Options.{id_of};
 ghost use Rattle.grid_options.specs.Grid.{IsConfigured, IsPoint, words_of};
+ghost use Rattle.grid_options.specs.Points.{texts_of_points};
 ghost use Rattle.grid_options.specs.Written.{written};
 
 use crate::written::written;
@@ -39,6 +40,7 @@ pub struct ParsedGrid {
     pub full: bool,
 }
 
+/// The names of these options.
 pub(crate) fn names_of(alloc: Global, shown: &[Opt]) -> Result<Vec<String>, AllocError>
     ensures { IfOk result (λ names. map string_bytes names.items ≡ map id_of shown.now) }
 {
@@ -92,12 +94,14 @@ fn words_of(
     }
 }
 
+/// The configuration with these settings, or the first rule that they break.
 fn configured(settings: Settings) -> Result<Config, ConfigFault>
     ensures { IsConfigured settings result }
 {
     Config::new(settings.i, settings.d, settings.u, settings.ring)
 }
 
+/// The point that has these texts.
 fn point_of(
     alloc: Global,
     full: bool,
@@ -123,7 +127,7 @@ pub(crate) fn read_points(
     points: &[Vec<&str>],
 ) -> Result<Vec<GridPoint>, AllocError>
     ensures { IfOk result (λ v. AllZip (IsPoint full shown.now)
-        (map (λ p. map (λ t. t.now) p.items) points.now) v.items) }
+        (texts_of_points points.now) v.items) }
 {
     let mut read = Vec::new(alloc);
     for texts in points {

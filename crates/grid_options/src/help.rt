@@ -7,6 +7,7 @@ behind them. Reads a din trace from standard input once, and writes a table with
 configuration to standard output."
 }
 
+/// How the program is called.
 pub(crate) fn usage<'a>() -> &'a str {
     "dinero_grid --l1-isize <SIZE> --l1-ibsize <SIZE> --l1-dsize <SIZE> --l1-dbsize <SIZE>
                    --l2-usize <SIZE> --l2-ubsize <SIZE> [OPTIONS] < TRACE"
@@ -14,10 +15,10 @@ pub(crate) fn usage<'a>() -> &'a str {
 
 /// The text below the options.
 pub(crate) fn more<'a>() -> &'a str {
-    "An option without a default is required, and each is given at most once. Each value but those
-of --skipcount, --maxcount and --threads may be a list, with commas between its values: 1k,2k,4k.
-The table has a line for each choice of one value from each list, at most 4096 lines. The value of
-the last list changes from line to line.
+    "An option without a default is required, except --full, and each is given at most once. Each
+value but those of --skipcount, --maxcount and --threads may be a list, with commas between its
+values: 1k,2k,4k. The table has a line for each choice of one value from each list, at most 4096
+lines. The value of the last list changes from line to line.
   <SIZE>   bytes: 1 to 12 decimal digits, then nothing, k (times 1024) or m (times 1048576); 8k, 1M
   <COUNT>  1 to 12 decimal digits
   <l|f>    l: the least recently used block (LRU); f: the block loaded first (FIFO)

@@ -4,6 +4,7 @@ ghost use Rattle.std.specs.Prelude.{◌≡◌, ◌⊎◌, ◌*◌, ◌<◌, ◌�
 ghost use Rattle.std.specs.Prelude.{length, map, nat_lt};
 ghost use Rattle.clap.specs.Words.{found_of, rows_of};
 ghost use Rattle.grid_options.specs.Grid.{extended, memory, points_of};
+ghost use Rattle.grid_options.specs.Points.{texts_of_points};
 ghost use Rattle.grid_options.specs.declared.words.GridWordsFault.TheVariants.{TooMany};
 
 use crate::values::values_in;
@@ -13,7 +14,7 @@ use dinero_options::Opt;
 use std::alloc::{AllocError, Global};
 
 /// The most configurations that a grid may have.
-const MOST: usize = 4096;
+const MOST_POINTS: usize = 4096;
 
 /// The point, and this value behind it.
 fn longer<'a>(alloc: Global, point: &[&'a str], value: &'a str) -> Result<Vec<&'a str>, AllocError>
@@ -33,8 +34,8 @@ fn add_points<'a>(
     point: &[&'a str],
     values: &[&'a str],
 ) -> Result<(), AllocError>
-    ensures { OnOk result (map (λ p. map (λ t. t.now) p.items) points.new.items
-        ≡ map (λ p. map (λ t. t.now) p.items) points.old.items
+    ensures { OnOk result (texts_of_points points.new.items
+        ≡ texts_of_points points.old.items
         ++ map (λ v. map (λ t. t.now) point.now ++ v ∷ []) (map (λ t. t.now) values.now)) }
 {
     for value in values {
@@ -49,8 +50,8 @@ fn extend<'a>(
     points: &[Vec<&'a str>],
     values: &[&'a str],
 ) -> Result<Vec<Vec<&'a str>>, AllocError>
-    ensures { IfOk result (λ v. map (λ p. map (λ t. t.now) p.items) v.items
-        ≡ extended (map (λ p. map (λ t. t.now) p.items) points.now) (map (λ t. t.now) values.now)) }
+    ensures { IfOk result (λ v. texts_of_points v.items
+        ≡ extended (texts_of_points points.now) (map (λ t. t.now) values.now)) }
 {
     let mut made = Vec::new(alloc);
     for point in points {
@@ -61,7 +62,7 @@ fn extend<'a>(
 
 /// The one point that has no value yet.
 fn origin<'a>(alloc: Global) -> Result<Vec<Vec<&'a str>>, AllocError>
-    ensures { IfOk result (λ v. map (λ p. map (λ t. t.now) p.items) v.items ≡ [] ∷ []) }
+    ensures { IfOk result (λ v. texts_of_points v.items ≡ [] ∷ []) }
 {
     let mut points = Vec::new(alloc);
     points.push(Vec::new(alloc))?;
@@ -71,13 +72,13 @@ fn origin<'a>(alloc: Global) -> Result<Vec<Vec<&'a str>>, AllocError>
 /// Whether the points with each of these values behind them are more than a grid may have.
 fn are_too_many(points: &[Vec<&str>], values: &[&str]) -> bool
     requires some { 1 ≤ length points.now }
-    requires few { length points.now ≤ 4096 }
-    ensures { result ≡ nat_lt 4096 (length points.now * length values.now) }
+    requires few { length points.now ≤ MOST_POINTS }
+    ensures { result ≡ nat_lt MOST_POINTS (length points.now * length values.now) }
 {
-    if values.len() > MOST {
+    if values.len() > MOST_POINTS {
         return true;
     }
-    points.len() * values.len() > MOST
+    points.len() * values.len() > MOST_POINTS
 }
 
 /// All points of the grid that clap's matches ask for, each with a text for each option.
@@ -85,11 +86,11 @@ pub(crate) fn points_in<'a>(
     alloc: Global,
     matches: &ArgMatches<'a>,
 ) -> Result<Vec<Vec<&'a str>>, GridWordsFault>
-    ensures points { IfOk result (λ v. map (λ p. map (λ t. t.now) p.items) v.items
+    ensures points { IfOk result (λ v. texts_of_points v.items
         ≡ points_of (rows_of (found_of matches.now))) }
-    ensures few { OnOk result (length (points_of (rows_of (found_of matches.now))) ≤ 4096) }
+    ensures few { OnOk result (length (points_of (rows_of (found_of matches.now))) ≤ MOST_POINTS) }
     ensures fault { IfErr result (λ f. (f ≡ memory)
-        ⊎ ((f ≡ TooMany) × (4096 < length (points_of (rows_of (found_of matches.now)))))) }
+        ⊎ ((f ≡ TooMany) × (MOST_POINTS < length (points_of (rows_of (found_of matches.now)))))) }
 {
     let Ok(mut points) = origin(alloc) else {
         return Err(MEMORY);

@@ -32,6 +32,7 @@ fn pieces<'a>(alloc: Global, text: &'a str) -> Result<Vec<&'a str>, AllocError>
     text.split(',').collect(alloc)
 }
 
+/// A list of the text alone.
 fn alone<'a>(alloc: Global, text: &'a str) -> Result<Vec<&'a str>, AllocError>
     ensures { IfOk result (λ v. map (λ t. t.now) v.items ≡ text.now ∷ []) }
 {
@@ -57,6 +58,7 @@ pub(crate) fn values_in<'a>(
     }
 }
 
+/// Whether each of these values of an option can be read.
 fn can_read_all(option: Opt, values: &[&str]) -> bool
     ensures { result ≡ list_all (reads_as (kind_of_option option)) (map (λ t. t.now) values.now) }
 {

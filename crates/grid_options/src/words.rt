@@ -4,6 +4,7 @@ ghost use Rattle.std.specs.Prelude.{◌≡◌, ◌⊎◌, All, Err, IfOk, Some, 
 ghost use Rattle.clap.specs.Words.{found_of, rows_of};
 ghost use Rattle.stage_core.specs.Events.{IsBounded};
 ghost use Rattle.grid_options.specs.Grid.{AnswersGrid, AnswersGridWords, IsGridOf, memory};
+ghost use Rattle.grid_options.specs.Points.{texts_of_points};
 ghost use Rattle.grid_options.specs.Grid.{points_of};
 ghost use Rattle.grid_options.specs.Own.{threads_of};
 
@@ -39,7 +40,7 @@ fn grid_of(
     points: &[Vec<&str>],
     threads: usize,
 ) -> Result<ParsedGrid, AllocError>
-    requires points { map (λ p. map (λ t. t.now) p.items) points.now
+    requires points { texts_of_points points.now
         ≡ points_of (rows_of (found_of matches.now)) }
     requires threads { Some threads ≡ threads_of (rows_of (found_of matches.now)) }
     ensures { IfOk result (λ grid. IsGridOf (rows_of (found_of matches.now)) grid) }

@@ -8,6 +8,7 @@ use dinero_options::{Opt, Settings};
 use itoa::Buffer;
 use std::alloc::{AllocError, Global};
 
+/// A number in decimal digits.
 fn number_text(alloc: Global, number: u64) -> Result<String, AllocError>
     ensures { IfOk result (λ text. string_bytes text ≡ decimal number) }
 {
@@ -15,6 +16,7 @@ fn number_text(alloc: Global, number: u64) -> Result<String, AllocError>
     String::from_str(alloc, digits.format(number))
 }
 
+/// The letter of a replacement policy.
 fn replacement_text(alloc: Global, repl: Repl) -> Result<String, AllocError>
     ensures { IfOk result (λ text. string_bytes text ≡ replacement_letter repl) }
 {
@@ -24,6 +26,7 @@ fn replacement_text(alloc: Global, repl: Repl) -> Result<String, AllocError>
     }
 }
 
+/// The letter of "always" or "never".
 fn choice_text(alloc: Global, is_always: bool) -> Result<String, AllocError>
     ensures { IfOk result (λ text. string_bytes text ≡ choice_letter is_always) }
 {

@@ -11,7 +11,7 @@ use cache_core::PerClass;
 use din_trace::{ByteWriter, DeviceFailed};
 use itoa::{Buffer, Integer};
 
-/// The most zeros that six decimals can need.
+/// Zeros for a number that is filled up to six digits.
 static ZEROS: [u8; 6] = [b'0'; 6];
 
 /// Writes a word.

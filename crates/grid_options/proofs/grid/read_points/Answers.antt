@@ -2,7 +2,8 @@ use Rattle.std.proofs.Common.{◌+◌, List, [], ◌∷◌, ◌++◌, map, subst
 use Rattle.std.specs.List.{AllZip}
 use Rattle.grid_options.specs.Grid.{IsPoint}
 use Rattle.grid_options.specs.declared.grid.GridPoint.{GridPoint}
-use Rattle.grid_options.proofs.ListLemmas.{seen_more, texts_of, zip_push}
+use Rattle.grid_options.proofs.ListLemmas.{seen_more, zip_push}
+use Rattle.grid_options.specs.Points.{texts_of}
 use Rattle.grid_options.proofs.grid.read_points.Goals as goal
 
 pub loop-texts-preserved : goal.loop-texts-preserved

@@ -1,6 +1,7 @@
 use Rattle.std.proofs.Common.{◌∙◌, ◌∷◌, ◌++◌, [], ap, ap₂, map, sym, take}
 use Rattle.grid_options.specs.Grid.{extended}
-use Rattle.grid_options.proofs.ListLemmas.{seen_more, texts_of}
+use Rattle.grid_options.proofs.ListLemmas.{seen_more}
+use Rattle.grid_options.specs.Points.{texts_of}
 use Rattle.grid_options.proofs.ProductLemmas.{extended_more}
 use Rattle.grid_options.proofs.product.extend.Goals as goal
 

@@ -5,7 +5,7 @@ use Rattle.clap.specs.Words.{found_of, rows_of}
 use Rattle.dinero_options.specs.Options.{options}
 use Rattle.dinero_options.specs.declared.opt.Opt.TheVariants.{L1Isize}
 use Rattle.grid_options.specs.Grid.{extended, values_of}
-use Rattle.grid_options.proofs.ListLemmas.{texts_of}
+use Rattle.grid_options.specs.Points.{texts_of}
 use Rattle.grid_options.proofs.ProductLemmas.{above_test, length-extended, points_more}
 use Rattle.grid_options.proofs.ProductLemmas.{some_value, stays_above, within_test}
 use Rattle.grid_options.proofs.product.points_in.Goals as goal
