@@ -79,7 +79,7 @@ fn flush_stacked(stacked: &mut Stacked)
 }
 
 impl Caches {
-    ghost use Rattle.std.specs.Prelude.{◌≡◌, ◌<◌, ◌+◌, ◌^◌, ◌∷◌, List, ℕ, true, map};
+    ghost use Rattle.std.specs.Prelude.{◌≡◌, ◌<◌, ◌+◌, ◌^◌, ◌∷◌, List, ℕ, true, length, map};
     ghost use Rattle.std.specs.Prelude.{IfOk, OnOk, OnErr};
     ghost use Rattle.std.specs.List.{All};
     ghost use Rattle.cache_core.specs.History.{History, access as accessed, flush as flushed};
@@ -93,6 +93,7 @@ impl Caches {
     ghost use Rattle.grid_core.specs.Numbered.{blocks_in};
     ghost use Rattle.grid_core.specs.Numbers.{GoesOn};
     ghost use Rattle.grid_core.specs.Places.{rules_placed, shadow_placed};
+    ghost use Rattle.grid_core.specs.Singles.{AreFew};
     ghost use Rattle.grid_core.specs.Written.{written_by, SendsNothing};
 
     /// Serves an access where some caches are of their own. What can fail comes first, and only
@@ -161,6 +162,23 @@ impl Caches {
         self.stacked.again(access)
     }
 
+    /// Lets all blocks go, and counts a flush. Those of their own write these lists back.
+    fn clear(&mut self, apart: &Vec<Vec<u64>>)
+        requires step { (n : ℕ) × AreInStep n self.old × (n < 2 ^ 44) }
+        requires few { AreFew apart.now.items self.old.singles.items }
+        requires len { length apart.now.items ≡ length self.old.singles.items }
+        ensures stands { (h : History) → CachesStandFor h self.old →
+            map items_of apart.now.items ≡ map (written_by h) (apart_rules self.old) →
+            CachesStandFor (flushed ∷ h) self.new }
+        ensures step { (n : ℕ) → AreInStep n self.old → AreInStep (n + 1) self.new }
+        ensures numbers { caches_numbered self.new ≡ caches_numbered self.old }
+        ensures rules { HaveSameRules self.new self.old }
+    {
+        flush_stacked(&mut self.stacked);
+        clear_shades(&mut self.shades);
+        clear_all(&mut self.singles, apart);
+    }
+
     /// Empties all caches, and answers for each seat what its cache writes back. What can fail
     /// comes first, and only then is it counted.
     pub fn flush(&mut self, alloc: Global, seats: &Vec<Seat>) -> Result<Vec<Vec<u64>>, AllocError>
@@ -180,10 +198,24 @@ impl Caches {
         let apart = lists_all(alloc, &self.singles)?;
         let together = written_stacked(&self.stacked)?;
         let lists = lists_of(alloc, seats, &together, &apart)?;
-        flush_stacked(&mut self.stacked);
-        clear_shades(&mut self.shades);
-        clear_all(&mut self.singles, &apart);
+        self.clear(&apart);
         Ok(lists)
+    }
+
+    /// Empties all caches as `flush` does, and lists nothing that is served together.
+    pub fn flush_unlisted(&mut self, alloc: Global) -> Result<(), AllocError>
+        requires { (n : ℕ) × AreInStep n self.old × (n < 2 ^ 44) }
+        ensures stands { OnOk result ((h : History) → CachesStandFor h self.old →
+            CachesStandFor (flushed ∷ h) self.new) }
+        ensures step { OnOk result ((n : ℕ) → AreInStep n self.old →
+            AreInStep (n + 1) self.new) }
+        ensures numbers { caches_numbered self.new ≡ caches_numbered self.old }
+        ensures keeps { OnErr result (HaveSameCounts self.new self.old) }
+        ensures rules { HaveSameRules self.new self.old }
+    {
+        let own = lists_all(alloc, &self.singles)?;
+        self.clear(&own);
+        Ok(())
     }
 
     /// Exchanges the numbers of the blocks.

@@ -117,10 +117,7 @@ impl Level {
                 addr,
             }),
             What::Fetch(class, addr) => self.access(Access { class, addr }),
-            What::FlushAll => {
-                self.flush()?;
-                Ok(())
-            }
+            What::FlushAll => self.engine.flush_unlisted(),
         }
     }
 

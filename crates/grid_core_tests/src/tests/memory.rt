@@ -61,6 +61,7 @@ fn stays_failed(rt: &impl Abort, engine: &mut Engine, before: Snapshot) {
     assert!(rt; !short);
     assert!(rt; engine.served() < MAX_EVENTS);
     assert!(rt; engine.flush().is_err());
+    assert!(rt; engine.flush_unlisted().is_err());
     assert!(rt; engine.failed());
     assert_eq!(rt; kept(rt, engine), before);
 }

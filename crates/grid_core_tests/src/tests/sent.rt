@@ -43,7 +43,7 @@ fn reads_alike(rt: &impl Abort, engine: &mut Engine) {
     expect_sent(rt, engine, Class::Read, 0, true);
     expect_sent(rt, engine, Class::Read, 16, true);
     assert!(rt; engine.served() < MAX_EVENTS);
-    let _lists = engine.flush().expect(rt, "memory");
+    engine.flush_unlisted().expect(rt, "memory");
     expect_sent(rt, engine, Class::Read, 16, true);
     expect_sent(rt, engine, Class::Read, 16, false);
 }
