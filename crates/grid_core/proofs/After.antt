@@ -13,13 +13,12 @@ use Rattle.cache_core.specs.Kinds.{referenced_blocks, shadow_of}
 use Rattle.cache_core.specs.Counts.{counts_of, none_by_class, tally}
 use Rattle.cache_core.specs.Counting.{with_one}
 use Rattle.cache_core.proofs.Nothing.{renewals-flush}
-use Rattle.cache_core.proofs.Turns.{renewals-yes}
 use Rattle.marked_list.specs.Recency.{is_among, level_of, brought_front}
 use Rattle.marked_list.specs.Laws.{IsRising}
 use Rattle.marked_list.proofs.LevelLaws.{level-tells, shadow-holds, front-brought}
 use Rattle.grid_core.specs.declared.cells.Shape.{Shape}
 use Rattle.grid_core.specs.declared.shadows.Shadows.{Shadows}
-use Rattle.grid_core.specs.declared.shadows.Prior.{Prior}
+use Rattle.grid_core.specs.declared.shadows.PriorLevel.{PriorLevel}
 use Rattle.grid_core.specs.declared.stack.Stack.{Stack}
 use Rattle.grid_core.specs.FullyAssociative.{shadow_misses}
 use Rattle.grid_core.specs.Ways.{IsStacked}
@@ -32,21 +31,9 @@ use Rattle.grid_core.specs.Cells.{KnowsPrior, dirty_bytes_of, shape_rules}
 use Rattle.grid_core.specs.State.{IsAfter, IsRanked, base_rules}
 use Rattle.grid_core.specs.Totals.{total}
 use Rattle.grid_core.specs.Written.{written_by}
-use Rattle.grid_core.proofs.Distances.{renews-all}
+use Rattle.grid_core.proofs.Distances.{renewals-size}
 use Rattle.grid_core.proofs.Served.{far-step}
 use Rattle.grid_core.proofs.Repeats.{recent-access, recent-none}
-
--- caches of one block size use the same blocks, in the same order
-module _ (q r : Rules) (sq : IsStacked q) (sr : IsStacked r) (same : q.bsize ≡ r.bsize) where
-  pub renewals-size : (h : History) → renewals q h ≡ renewals r h
-  unfolding renewals
-  renewals-size [] = refl
-  renewals-size (flush ∷ h) = refl
-  renewals-size (access x ∷ h) =
-      renewals-yes q h x (renews-all q sq (renewals q h) x)
-      ∙ ap (λ n. x.addr / n ∷ renewals q h) same
-      ∙ ap (λ l. block_of r x ∷ l) (renewals-size h)
-      ∙ sym (renewals-yes r h x (renews-all r sr (renewals r h) x))
 
 pub referenced-size : (q r : Rules) → q.bsize ≡ r.bsize → (h : History)
     → referenced_blocks q h ≡ referenced_blocks r h
@@ -83,7 +70,7 @@ module _ (g : Geometry) (h : History) (x : Access) where
       ∙ sym (shadow-holds q ms (block_of q x))
 
   -- what the shadows and the known blocks tell of an access, for each cache
-  pub prior-known : (sizes : List ℕ) → IsRising sizes → (known : ℕ → Bool) (p : Prior)
+  pub prior-known : (sizes : List ℕ) → IsRising sizes → (known : ℕ → Bool) (p : PriorLevel)
       → p.known ≡ known b → p.level ≡ level_of sizes ys b
       → ((c : ℕ) → known c ≡ list_any (λ t. t == c) (referenced_blocks r h))
       → (s : Shape) → IsRanked sizes g s → KnowsPrior s h x p
@@ -103,7 +90,7 @@ module _ (g : Geometry) (h : History) (x : Access) where
 
   -- so it is known for each shape
   pub shapes-prior : (sizes : List ℕ) → IsRising sizes → (stacks : List Stack) (shadows : Shadows)
-      (first : List Shape) (p : Prior) → IsAfter g stacks shadows first h
+      (first : List Shape) (p : PriorLevel) → IsAfter g stacks shadows first h
       → p.known ≡ is_known shadows b → ((zs : List ℕ) → HoldsOrder shadows zs
       → p.level ≡ level_of sizes zs b) → (shapes : List Shape) → All (IsRanked sizes g) shapes
       → All (λ s. KnowsPrior s h x p) shapes
@@ -121,7 +108,7 @@ module _ (g : Geometry) (h : History) (x : Access) where
       ∙ ap (λ n. level_of sizes (distinct (renewals q h)) (x.addr / n)) (sym same)
 
   pub after-access : (stacks stacks' : List Stack) (shadows shadows' : Shadows)
-      (shapes : List Shape) (p : Prior) → IsAfter g stacks shadows shapes h
+      (shapes : List Shape) (p : PriorLevel) → IsAfter g stacks shadows shapes h
       → All (λ s. KnowsPrior s h x p) shapes
       → All (λ s. StandsFor s (access x ∷ h)) stacks'
       → All (IsCountedIn (shadow_sizes shadows) (access x ∷ h)) stacks'

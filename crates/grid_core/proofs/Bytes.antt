@@ -11,8 +11,9 @@ use Rattle.std.proofs.lemmas.Bool.{eqb-true, eqb-false}
 use Rattle.std.proofs.lemmas.List.Elements.{All-from_recursion, recursion_from_All, All-replicate}
 use Rattle.cache_core.specs.Row.{shifted, row}
 use Rattle.cache_core.proofs.Cases.{by_cases}
+use Rattle.marked_list.specs.Recency.{index_of}
 use Rattle.grid_core.specs.declared.slots.Slot.{Slot}
-use Rattle.grid_core.specs.Slots.{holds, used_slot, next_slots, level_after, level_of, index_of}
+use Rattle.grid_core.specs.Slots.{holds, used_slot, next_slots, level_after, level_of}
 use Rattle.grid_core.specs.Slots.{HaveBytes, no_slot}
 
 -- what holds of each slot of a row, and of the new front, holds of each after a pass

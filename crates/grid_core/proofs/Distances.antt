@@ -1,5 +1,5 @@
 -- Caches of as many sets, LRU, that allocate at writes: one order serves every number of ways.
-use Rattle.std.proofs.Common.{◌≡◌, ℕ, ◌%◌, ◌≤◌, Bool, true, false, cond, not, ◌&&◌, ◌||◌, ltb}
+use Rattle.std.proofs.Common.{◌≡◌, ℕ, ◌/◌, ◌%◌, ◌≤◌, Bool, true, false, cond, not, ◌&&◌, ◌||◌, ltb}
 use Rattle.std.proofs.Common.{List, [], ◌∷◌, length, take, refl, sym, ap, ◌∙◌, arith}
 use Rattle.std.proofs.lemmas.Bool.{or_left, or_right, and_parts, le-ltb, lt-ltb, ltb-true}
 use Rattle.std.proofs.lemmas.Bool.{ltb-false}
@@ -22,6 +22,18 @@ module _ (r : Rules) (st : IsStacked r) where
   pub renews-all : (ms : List ℕ) (x : Access) → renews r ms x ≡ true
   renews-all ms x = block-lru r ms x true st.lru (uses-all ms x)
 
+-- caches of one block size use the same blocks, in the same order
+module _ (q r : Rules) (sq : IsStacked q) (sr : IsStacked r) (same : q.bsize ≡ r.bsize) where
+  pub renewals-size : (h : History) → renewals q h ≡ renewals r h
+  unfolding renewals
+  renewals-size [] = refl
+  renewals-size (flush ∷ h) = refl
+  renewals-size (access x ∷ h) =
+      renewals-yes q h x (renews-all q sq (renewals q h) x)
+      ∙ ap (λ n. x.addr / n ∷ renewals q h) same
+      ∙ ap (λ l. block_of r x ∷ l) (renewals-size h)
+      ∙ sym (renewals-yes r h x (renews-all r sr (renewals r h) x))
+
 -- other numbers of ways keep the policy
 pub stacked-ways : (n : ℕ) (r : Rules) → IsStacked r → IsStacked (with_ways n r)
 stacked-ways n r st = record { lru = st.lru; allocates = st.allocates }
@@ -29,14 +41,7 @@ stacked-ways n r st = record { lru = st.lru; allocates = st.allocates }
 module _ (r : Rules) (st : IsStacked r) (n : ℕ) where
   -- the blocks are used in the same order, whatever the number of ways
   pub renewals-same : (h : History) → renewals (with_ways n r) h ≡ renewals r h
-  unfolding renewals
-  renewals-same [] = refl
-  renewals-same (flush ∷ h) = refl
-  renewals-same (access x ∷ h) =
-      renewals-yes (with_ways n r) h x
-      (renews-all (with_ways n r) (stacked-ways n r st) (renewals (with_ways n r) h) x)
-      ∙ ap (λ l. block_of r x ∷ l) (renewals-same h)
-      ∙ sym (renewals-yes r h x (renews-all r st (renewals r h) x))
+  renewals-same = renewals-size (with_ways n r) r (stacked-ways n r st) st refl
 
   -- the residents of n ways are the first n of the order
   pub resident-take : (h : History) (b : ℕ)

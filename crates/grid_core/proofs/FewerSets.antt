@@ -15,7 +15,7 @@ use Rattle.grid_core.specs.declared.stack.Stack.{Stack}
 use Rattle.grid_core.specs.declared.stacks.Behind.{Behind}
 use Rattle.grid_core.specs.Standing.{IsBehind, rules_of}
 use Rattle.grid_core.specs.Ways.{IsStacked, stack_distance}
-use Rattle.grid_core.proofs.After.{renewals-size}
+use Rattle.grid_core.proofs.Distances.{renewals-size}
 use Rattle.grid_core.proofs.Distances.{distance-place, place_in}
 use Rattle.grid_core.proofs.Firsts.{sets-divide}
 use Rattle.grid_core.proofs.MoreSets.{order-part}

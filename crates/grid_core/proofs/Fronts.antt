@@ -12,8 +12,9 @@ use Rattle.cache_core.specs.declared.geometry.Geometry.{Geometry}
 use Rattle.cache_core.specs.Geometry.{bsize_of, assoc_of}
 use Rattle.cache_core.proofs.Lawful.{sane_of}
 use Rattle.cache_core.specs.Row.{shifted}
+use Rattle.marked_list.specs.Recency.{index_of}
 use Rattle.grid_core.specs.declared.slots.Slot.{Slot}
-use Rattle.grid_core.specs.Slots.{holds, used_slot, level_of, level_after, index_of, next_slots}
+use Rattle.grid_core.specs.Slots.{holds, used_slot, level_of, level_after, next_slots}
 
 -- no index is above the length
 pub index-le : {X : Type 0} (p : X → Bool) (xs : List X) → index_of p xs ≤ length xs

@@ -1,16 +1,11 @@
--- What is counted where nothing is, and tests.
-use Rattle.std.proofs.Common.{◌≡◌, ℕ, ◌+◌, Bool, true, false, ◌&&◌}
-use Rattle.std.proofs.Common.{refl, ap, ◌∙◌, arith}
-use Rattle.std.proofs.lemmas.Bool.{false≢true}
+-- What is counted where nothing is.
+use Rattle.std.proofs.Common.{◌≡◌, ℕ, ◌+◌, Bool, false, ◌&&◌, ap, ◌∙◌, arith}
+use Rattle.std.proofs.Math.Bool.{and-false}
 use Rattle.cache_core.specs.declared.access.Access.{Access}
 use Rattle.cache_core.specs.declared.counts.PerClass.{PerClass}
 use Rattle.cache_core.specs.History.{is_instr, is_read, is_write, is_misc}
 use Rattle.cache_core.specs.Parts.{one_if}
 use Rattle.cache_core.specs.Counting.{with_one}
-
-and-false : (t : Bool) → (t && false) ≡ false
-and-false true = refl
-and-false false = refl
 
 none-more : (t : Bool) (n : ℕ) → one_if (t && false) + n ≡ n
 none-more t n =
@@ -40,8 +35,3 @@ with-none x p =
     }) (none-more (is_write x) p.write)
     ∙ ap (λ n. record { instr = p.instr; read = p.read; write = p.write; misc = n })
     (none-more (is_misc x) p.misc)
-
--- where both are true, each is
-pub both-true : (a b : Bool) → (a && b) ≡ true → (a ≡ true) × (b ≡ true)
-both-true true b e = (refl, e)
-both-true false b e = absurd (false≢true e)

@@ -10,7 +10,7 @@ use Rattle.grid_core.specs.declared.stack.Stack.{Stack}
 use Rattle.grid_core.specs.declared.stacked.Stacked.{Stacked}
 use Rattle.grid_core.specs.Cells.{items_of}
 use Rattle.grid_core.specs.Histograms.{level_at}
-use Rattle.grid_core.specs.Shades.{HasCounted, ShadeHasHit, ShadeReached, ShadeStandsFor}
+use Rattle.grid_core.specs.Shades.{ShadeHasCounted, ShadeHasHit, ShadeReached, ShadeStandsFor}
 use Rattle.grid_core.specs.Shading.{StackedFollowed}
 use Rattle.grid_core.specs.Singles.{HasSettled, IsPending, SingleHasAnswered, SingleReached}
 use Rattle.grid_core.specs.Singles.{SingleStandsFor, single_rules}
@@ -21,18 +21,18 @@ use Rattle.grid_core.specs.Written.{written_by}
 -- a shadow has served the access
 pub record ShadeServes (x : Access) (old new : Shade) : Type 0 where
   pub reached : (h : History) → ShadeStandsFor h old → ShadeReached h x new
-  pub counted : (n : ℕ) → HasCounted n old → HasCounted n new
+  pub counted : (n : ℕ) → ShadeHasCounted n old → ShadeHasCounted n new
 
 -- it has counted it
 pub record ShadeSettles (x : Access) (old new : Shade) : Type 0 where
   pub stands : (h : History) → ShadeReached h x old → ShadeStandsFor (access x ∷ h) new
   pub hit : (h : History) → ShadeReached h x old → ShadeHasHit h x new
-  pub counted : (n : ℕ) → HasCounted n old → HasCounted (n + 1) new
+  pub counted : (n : ℕ) → ShadeHasCounted n old → ShadeHasCounted (n + 1) new
 
 -- it has let all blocks go
 pub record ShadeClears (old new : Shade) : Type 0 where
   pub stands : (h : History) → ShadeStandsFor h old → ShadeStandsFor (flush ∷ h) new
-  pub counted : (n : ℕ) → HasCounted n old → HasCounted (n + 1) new
+  pub counted : (n : ℕ) → ShadeHasCounted n old → ShadeHasCounted (n + 1) new
 
 -- a cache of its own has served the access
 pub record SingleServes (x : Access) (old new : Single) : Type 0 where

@@ -3,15 +3,14 @@ use Rattle.std.proofs.Common.{◌≡◌, ℕ, ◌*◌, ◌%◌, Bool, true, fals
 use Rattle.std.proofs.Common.{List, [], ◌∷◌, length, take, filter, refl, sym, ap, subst, ◌∙◌, arith}
 use Rattle.std.proofs.lemmas.Bool.{eqb-true, eq-eqb, cond-false, and_parts, lt-ltb, ltb-true}
 use native.Mathlib.Nat.{mod-mod_of_dvd, dvd-mul_right}
-use Rattle.cache_core.specs.History.{Rules, History, access, flush, block_of}
+use Rattle.cache_core.specs.History.{Rules, History}
 use Rattle.cache_core.specs.Residents.{in_set, distinct, before, renewals, is_resident}
 use Rattle.cache_core.specs.Order.{ranked}
 use Rattle.cache_core.proofs.Reuse.{has, has-take, has-ways_of, has-filter, before-filter}
-use Rattle.cache_core.proofs.Turns.{renewals-yes}
 use Rattle.cache_core.proofs.Cases.{by_cases}
 use Rattle.cache_core.proofs.Members.{length-filter_le}
 use Rattle.grid_core.specs.Ways.{with_sets, IsStacked}
-use Rattle.grid_core.proofs.Distances.{renews-all}
+use Rattle.grid_core.proofs.Distances.{renewals-size}
 
 -- a finer filter may come after a coarser one
 filter-finer : (p q : ℕ → Bool) → ((m : ℕ) → p m ≡ true → q m ≡ true) → (ms : List ℕ)
@@ -56,14 +55,8 @@ module _ (r : Rules) (st : IsStacked r) (k : ℕ) where
   stacked-sets : IsStacked q
   stacked-sets = record { lru = st.lru; allocates = st.allocates }
 
-  pub renewals-sets : (h : History) → renewals q h ≡ renewals r h
-  unfolding renewals
-  renewals-sets [] = refl
-  renewals-sets (flush ∷ h) = refl
-  renewals-sets (access x ∷ h) =
-      renewals-yes q h x (renews-all q stacked-sets (renewals q h) x)
-      ∙ ap (λ l. block_of r x ∷ l) (renewals-sets h)
-      ∙ sym (renewals-yes r h x (renews-all r st (renewals r h) x))
+  renewals-sets : (h : History) → renewals q h ≡ renewals r h
+  renewals-sets = renewals-size q r stacked-sets st refl
 
   module _ (h : History) (b : ℕ) where
     abbrev ms : List ℕ

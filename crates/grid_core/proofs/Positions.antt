@@ -6,7 +6,7 @@ use Rattle.cache_core.specs.Residents.{before}
 use Rattle.cache_core.proofs.Reuse.{has}
 use Rattle.cache_core.proofs.Shift.{padded}
 use Rattle.cache_core.proofs.Cases.{by_cases}
-use Rattle.grid_core.specs.Slots.{index_of}
+use Rattle.marked_list.specs.Recency.{index_of}
 
 module _ {X : Type 0} (f : ℕ → X) (empty : X) (k : ℕ) (p : X → Bool) (b : ℕ)
     (at : (y : ℕ) → p (f y) ≡ eqb y b) (none : p empty ≡ false) where

@@ -2,7 +2,7 @@
 use Rattle.std.proofs.Common.{◌≡◌, ℕ, ◌%◌, ◌/◌, ◌<◌, Bool, true, false, cond, not, ◌&&◌, ◌||◌, ◌==◌}
 use Rattle.std.proofs.Common.{List, [], ◌∷◌, length, eqb, ltb, refl, sym, ap, ◌∙◌}
 use Rattle.std.specs.List.{filter, list_any}
-use Rattle.std.proofs.lemmas.Bool.{eqb-true, eq-eqb, lt-ltb, false≢true}
+use Rattle.std.proofs.lemmas.Bool.{and_parts, eqb-true, eq-eqb, lt-ltb, false≢true}
 use Rattle.cache_core.specs.declared.access.Access.{Access}
 use Rattle.cache_core.specs.History.{History, Rules, access, flush, is_write}
 use Rattle.cache_core.specs.Residents.{before, distinct, in_set, is_resident, renewals}
@@ -10,16 +10,16 @@ use Rattle.cache_core.specs.Residents.{reuse_distance}
 use Rattle.cache_core.specs.Row.{shifted}
 use Rattle.cache_core.proofs.Turns.{renewals-yes}
 use Rattle.marked_list.specs.Recency.{brought_front}
+use Rattle.marked_list.specs.Recency.{index_of}
 use Rattle.grid_core.specs.declared.recent.Recent.{Recent}
 use Rattle.grid_core.specs.Levels.{dirty_level}
 use Rattle.grid_core.specs.Recent.{IsAgain, IsRecent, after_use, none_recent, used_last}
 use Rattle.grid_core.specs.Recent.{written_last}
-use Rattle.grid_core.specs.Slots.{holds, index_of, level_after, next_slots, used_slot}
+use Rattle.grid_core.specs.Slots.{holds, level_after, next_slots, used_slot}
 use Rattle.grid_core.specs.Standing.{slots_of}
 use Rattle.grid_core.specs.Ways.{IsStacked, stack_distance}
 use Rattle.grid_core.proofs.Distances.{renews-all}
 use Rattle.grid_core.proofs.Fronts.{low-level, read-first}
-use Rattle.grid_core.proofs.Hitting.{both-true}
 use Rattle.grid_core.proofs.Levels.{level-step}
 use Rattle.grid_core.proofs.SlotTurns.{index-slots, seen-level}
 
@@ -30,7 +30,7 @@ module _ (n b : ℕ) where
   written-used [] e = absurd (false≢true e)
   written-used (flush ∷ h) e = absurd (false≢true e)
   written-used (access x ∷ h) e =
-      (both-true (eqb (x.addr / n) b) (is_write x || written_last n b h) e).0
+      (and_parts (eqb (x.addr / n) b) (is_write x || written_last n b h) e).0
 
 -- what is known stays true
 
@@ -54,7 +54,7 @@ recent-access n p h x known =
       used = λ e. same;
       written = λ e. ap (λ t. t && (is_write x || written_last n b h)) same
           ∙ either-way (is_write x) (p.block == b && p.written) (written_last n b h)
-          (λ both. let each = both-true (p.block == b) p.written both in
+          (λ both. let each = and_parts (p.block == b) p.written both in
           ap (λ c. written_last n c h) (sym (eqb-true p.block b each.0)) ∙ known.written each.1) e;
     }
 
@@ -151,7 +151,7 @@ module _ (r : Rules) (st : IsStacked r) (b : ℕ) where
   level-last some [] e = absurd (false≢true e)
   level-last some (flush ∷ h) e = absurd (false≢true e)
   level-last some (access x ∷ h) e =
-      let each = both-true (eqb (x.addr / r.bsize) b) (is_write x || written_last r.bsize b h) e in
+      let each = and_parts (eqb (x.addr / r.bsize) b) (is_write x || written_last r.bsize b h) e in
       level-step r st h x b each.0 ∙ (elim (is_write x) as (λ w.
       (w || written_last r.bsize b h) ≡ true
       → level_after w (dirty_level r h b) (stack_distance r h b) ≡ 0) [

@@ -16,8 +16,9 @@ use Rattle.cache_core.specs.Standing.{rules_from}
 use Rattle.grid_core.specs.declared.places.Place.{Place}
 use Rattle.grid_core.specs.declared.places.Place.TheVariants.{Together, Apart}
 use Rattle.grid_core.specs.declared.places.Seat.{Seat}
+use Rattle.grid_core.specs.Numbers.{GoesOn}
 use Rattle.grid_core.specs.Places.{IsPlace, rules_placed, shadow_placed, list_placed, IsSeated}
-use Rattle.grid_core.specs.Places.{Extends, planned_rules}
+use Rattle.grid_core.specs.Places.{planned_rules}
 use Rattle.grid_core.specs.Plans.{IsAsLarge}
 use Rattle.grid_core.specs.Standing.{stack_rules}
 use Rattle.grid_core.specs.Wholes.{IsWholeOf, IsLruOf}
@@ -27,24 +28,24 @@ use Rattle.grid_core.specs.Written.{rules_at, no_rules, written_by}
 
 -- lists that grow
 
-pub extends-same : {X : Type 0} (xs : List X) → Extends xs xs
-extends-same xs = ([], sym (append-nil xs))
+pub goes-on-same : {X : Type 0} (xs : List X) → GoesOn xs xs
+goes-on-same xs = ([], sym (append-nil xs))
 
-pub extends-push : {X : Type 0} (xs ys : List X) (x : X) → ys ≡ xs ++ x ∷ [] → Extends xs ys
-extends-push xs ys x is = (x ∷ [], is)
+pub goes-on-push : {X : Type 0} (xs ys : List X) (x : X) → ys ≡ xs ++ x ∷ [] → GoesOn xs ys
+goes-on-push xs ys x is = (x ∷ [], is)
 
-pub extends-map : {X Y : Type 0} (f : X → Y) (xs ys : List X) → Extends xs ys
-    → Extends (map f xs) (map f ys)
-extends-map f xs ys a = (map f a.0, ap (map f) a.1 ∙ map-append f xs a.0)
+pub goes-on-map : {X Y : Type 0} (f : X → Y) (xs ys : List X) → GoesOn xs ys
+    → GoesOn (map f xs) (map f ys)
+goes-on-map f xs ys a = (map f a.0, ap (map f) a.1 ∙ map-append f xs a.0)
 
-longer : {X : Type 0} (xs ys : List X) → Extends xs ys → length xs ≤ length ys
+longer : {X : Type 0} (xs ys : List X) → GoesOn xs ys → length xs ≤ length ys
 longer xs ys a = let len = ap length a.1 ∙ length-append xs a.0 in omega arith
 
-rules-longer : (rs rs' : List Rules) → Extends rs rs' → (i : ℕ) → i < length rs
+rules-longer : (rs rs' : List Rules) → GoesOn rs rs' → (i : ℕ) → i < length rs
     → rules_at rs' i ≡ rules_at rs i
 rules-longer rs rs' a i lt = ap (λ l. rules_at l i) a.1 ∙ get_or_append_left rs a.0 no_rules i lt
 
-module _ (rs rs' ss ss' : List Rules) (a : Extends rs rs') (b : Extends ss ss') where
+module _ (rs rs' ss ss' : List Rules) (a : GoesOn rs rs') (b : GoesOn ss ss') where
   place-longer : (p : Place) → IsPlace (length rs) (length ss) p
       → IsPlace (length rs') (length ss') p
   place-longer (Together i) lt = let le = longer rs rs' a in omega arith
@@ -70,13 +71,13 @@ module _ (rs rs' ss ss' : List Rules) (a : Extends rs rs') (b : Extends ss ss') 
   }
 
 -- a seat stays one
-pub seated-longer : (rs rs' ss ss' ts ts' : List Rules) → Extends rs rs' → Extends ss ss'
-    → Extends ts ts' → (p : Policy) (s : Seat) → IsSeated p rs ss ts s → IsSeated p rs' ss' ts' s
+pub seated-longer : (rs rs' ss ss' ts ts' : List Rules) → GoesOn rs rs' → GoesOn ss ss'
+    → GoesOn ts ts' → (p : Policy) (s : Seat) → IsSeated p rs ss ts s → IsSeated p rs' ss' ts' s
 seated-longer rs rs' ss ss' ts ts' a b t p s own = record {
   cell_there = place-longer rs rs' ss ss' a b s.cell own.cell_there;
   cell = placed-longer rs rs' ss ss' a b s.cell own.cell_there ∙ own.cell;
-  shade_there = place-longer rs rs' ts ts' a t s.shade own.shade_there;
-  shade = shadow-longer rs rs' ts ts' a t s.shade own.shade_there ∙ own.shade;
+  shadow_there = place-longer rs rs' ts ts' a t s.shadow own.shadow_there;
+  shadow = shadow-longer rs rs' ts ts' a t s.shadow own.shadow_there ∙ own.shadow;
 }
 
 -- an LRU cache that allocates at writes is one with a stack order
@@ -174,9 +175,9 @@ shadow-as-large gs g p i large walloc =
 -- a seat of a cache that joins those that are served together
 pub seated-together : (g : Geometry) (p : Policy) (gs gs' : List Geometry) (ss ts : List Rules)
     (s : Seat) → is_fifo p ≡ false → p.walloc ≡ true → gs' ≡ gs ++ g ∷ [] → s.geometry ≡ g
-    → s.cell ≡ Together (length gs) → s.shade ≡ Together (length gs)
+    → s.cell ≡ Together (length gs) → s.shadow ≡ Together (length gs)
     → IsSeated p (planned_rules p.wback gs') ss ts s
-seated-together g p gs gs' ss ts s lru walloc is geometry cell shade =
+seated-together g p gs gs' ss ts s lru walloc is geometry cell shadow =
     let f = λ (d : Geometry). stack_rules d p.wback in
     let rs = map f gs in
     let rs' = map f gs' in
@@ -188,36 +189,36 @@ seated-together g p gs gs' ss ts s lru walloc is geometry cell shade =
     record {
       cell_there = subst (λ q. IsPlace (length rs') (length ss) q) (sym cell) inside;
       cell = ap (rules_placed rs' ss) cell ∙ at ∙ ap (λ d. rules_from d p) (sym geometry);
-      shade_there = subst (λ q. IsPlace (length rs') (length ts) q) (sym shade) inside;
-      shade = ap (shadow_placed rs' ts) shade ∙ ap shadow_of at
+      shadow_there = subst (λ q. IsPlace (length rs') (length ts) q) (sym shadow) inside;
+      shadow = ap (shadow_placed rs' ts) shadow ∙ ap shadow_of at
           ∙ ap (λ d. shadow_of (rules_from d p)) (sym geometry);
     }
 
 -- a seat of a cache of its own
 pub seated-apart : (g : Geometry) (p : Policy) (rs ss ss' ts : List Rules) (cell : ℕ)
-    (shade : Place) → ss' ≡ ss ++ rules_from g p ∷ [] → cell ≡ length ss
-    → IsPlace (length rs) (length ts) shade
-    → shadow_placed rs ts shade ≡ shadow_of (rules_from g p)
-    → IsSeated p rs ss' ts (record { geometry = g; cell = Apart cell; shade = shade })
-seated-apart g p rs ss ss' ts cell shade is at there is-shadow = record {
+    (shadow : Place) → ss' ≡ ss ++ rules_from g p ∷ [] → cell ≡ length ss
+    → IsPlace (length rs) (length ts) shadow
+    → shadow_placed rs ts shadow ≡ shadow_of (rules_from g p)
+    → IsSeated p rs ss' ts (record { geometry = g; cell = Apart cell; shadow = shadow })
+seated-apart g p rs ss ss' ts cell shadow is at there is-shadow = record {
   cell_there = last-inside ss ss' (rules_from g p) cell is at;
   cell = last-is ss ss' (rules_from g p) cell is at;
-  shade_there = there;
-  shade = is-shadow;
+  shadow_there = there;
+  shadow = is-shadow;
 }
 
 -- its shadow joins the others
 pub shaded-apart : (b : ℕ) (g : Geometry) (p : Policy) (gs : List Geometry) (ts : List Rules)
-    (ps ps' : List (Place × Rules)) (shade : Place) → ps' ≡ ps ++ (shade, rules_from g p) ∷ []
+    (ps ps' : List (Place × Rules)) (shadow : Place) → ps' ≡ ps ++ (shadow, rules_from g p) ∷ []
     → bsize_of g ≡ b → All (λ d. bsize_of d ≡ b) gs → 0 < length gs
-    → IsPlace (length (planned_rules p.wback gs)) (length ts) shade
-    → shadow_placed (planned_rules p.wback gs) ts shade ≡ shadow_of (rules_from g p)
+    → IsPlace (length (planned_rules p.wback gs)) (length ts) shadow
+    → shadow_placed (planned_rules p.wback gs) ts shadow ≡ shadow_of (rules_from g p)
     → All (IsShaded (planned_rules p.wback gs) ts) ps
     → All (IsShaded (planned_rules p.wback gs) ts) ps'
-shaded-apart b g p gs ts ps ps' shade is one all some there is-shadow old =
+shaded-apart b g p gs ts ps ps' shadow is one all some there is-shadow old =
     let f = λ (d : Geometry). stack_rules d p.wback in
     let P = IsShaded (map f gs) ts in
-    subst (All P) (sym is) (All-push P ps (shade, rules_from g p) old (record {
+    subst (All P) (sym is) (All-push P ps (shadow, rules_from g p) old (record {
       there = there;
       shadow = is-shadow;
       some = subst (λ n. 0 < n) (sym (length-map gs f)) some;

@@ -14,7 +14,7 @@ use Rattle.cache_core.specs.Counting.{with_one}
 use Rattle.cache_core.proofs.MapStep.{suc_pred}
 use Rattle.cache_core.proofs.Steps.{counts-step}
 use Rattle.grid_core.specs.declared.cells.Shape.{Shape}
-use Rattle.grid_core.specs.declared.shadows.Prior.{Prior}
+use Rattle.grid_core.specs.declared.shadows.PriorLevel.{PriorLevel}
 use Rattle.grid_core.specs.FullyAssociative.{shadow_misses}
 use Rattle.grid_core.specs.Ways.{with_ways, IsStacked, stack_distance}
 use Rattle.grid_core.specs.Cells.{IsPlacedOn, KnowsPrior, HitsIn, shape_rules}
@@ -39,7 +39,8 @@ same-parts a a' b b' c c' d d' e e' p q r s t =
     ∙ ap (λ z. made a' b' c' z e) s ∙ ap (λ z. made a' b' c' d' z) t
 
 module _ (r : Rules) (st : IsStacked r) (s : Shape) (on : IsPlacedOn r s) (h : History) (x : Access)
-    (p : Prior) (prior : KnowsPrior s h x p) (d : ℕ) (found : d ≡ stack_distance r h (block_of r x))
+    (p : PriorLevel) (prior : KnowsPrior s h x p) (d : ℕ)
+    (found : d ≡ stack_distance r h (block_of r x))
   where
     abbrev q : Rules
     q = with_ways s.ways r
@@ -99,7 +100,7 @@ hit-is r st s on h x near =
     ∙ ap (λ (w : Rules). hit_made (is_write x && not w.wback)) on.same
 
 -- the misses of the shadow after an access
-pub far-step : (s : Shape) (h : History) (x : Access) (p : Prior) → KnowsPrior s h x p
+pub far-step : (s : Shape) (h : History) (x : Access) (p : PriorLevel) → KnowsPrior s h x p
     → with_one x (ltb s.rank p.level) (shadow_misses (shape_rules s) h)
     ≡ shadow_misses (shape_rules s) (access x ∷ h)
 unfolding shadow_misses outcome_of

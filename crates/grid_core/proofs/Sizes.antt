@@ -9,7 +9,7 @@ use Rattle.std.proofs.lemmas.Bool.{eqb-true, eq-eqb, or_cases, or_left, or_right
 use Rattle.std.proofs.lemmas.List.Elements.{All-nil, All-cons, All-head, All-tail, All-map}
 use Rattle.cache_core.specs.declared.geometry.Geometry.{Geometry}
 use Rattle.cache_core.specs.Geometry.{blocks_of}
-use Rattle.cache_core.specs.Laws.{IsBelow, Rises}
+use Rattle.cache_core.specs.Laws.{Rises}
 use Rattle.cache_core.proofs.Ascending.{has-permutation, has-dedup, rises-dedup}
 use Rattle.cache_core.proofs.Ascending.{same-rising, rises-rising, has-rising}
 use Rattle.cache_core.specs.Dirty.{rising}
@@ -17,20 +17,13 @@ use Rattle.cache_core.proofs.Reuse.{has}
 use Rattle.cache_core.proofs.Cases.{by_cases}
 use Rattle.cache_core.proofs.Lawful.{sane_of}
 use Rattle.marked_list.specs.Laws.{IsRising}
-use Rattle.grid_core.specs.Slots.{index_of}
+use Rattle.marked_list.proofs.Rising.{rises-stepwise}
+use Rattle.marked_list.specs.Recency.{index_of}
 use Rattle.grid_core.specs.Shapes.{has_size}
-
-all-below : (x : ℕ) (ys : List ℕ) → IsBelow x ys → All (λ m. x < m) ys
-all-below x [] b = All-nil (λ m. x < m)
-all-below x (y ∷ ys) b = All-cons (λ m. x < m) y ys b.0 (all-below x ys b.1)
-
-rising-rises : (xs : List ℕ) → Rises xs → IsRising xs
-rising-rises [] r = tt
-rising-rises (x ∷ xs) r = (all-below x xs r.0, rising-rises xs r.1)
 
 -- a list that is its own rising list rises
 pub rising-is : (xs : List ℕ) → rising xs ≡ xs → IsRising xs
-rising-is xs e = rising-rises xs (subst Rises e (rises-rising xs))
+rising-is xs e = rises-stepwise xs (subst Rises e (rises-rising xs))
 
 has-get : (xs : List ℕ) (k d : ℕ) → k < length xs → has xs (get_or xs k d) ≡ true
 has-get [] k d lt = absurd (omega arith)

@@ -18,10 +18,11 @@ use Rattle.cache_core.proofs.Shift.{has-take_absent}
 use Rattle.cache_core.proofs.Shadow.{eqb-comm}
 use Rattle.cache_core.proofs.Turns.{ranked-other, ranked-lru, IsOnce-ranked, absent, renewals-yes}
 use Rattle.cache_core.proofs.Cases.{by_cases}
+use Rattle.marked_list.specs.Recency.{index_of}
 use Rattle.grid_core.specs.declared.slots.Slot.{Slot}
 use Rattle.grid_core.specs.Ways.{IsStacked, stack_distance}
 use Rattle.grid_core.specs.Levels.{dirty_level}
-use Rattle.grid_core.specs.Slots.{holds, used_slot, no_slot, level_of, index_of, level_after}
+use Rattle.grid_core.specs.Slots.{holds, used_slot, no_slot, level_of, level_after}
 use Rattle.grid_core.specs.Slots.{next_slots, stays_in}
 use Rattle.grid_core.specs.Standing.{slot_at, slots_of}
 use Rattle.grid_core.proofs.Distances.{renews-all, distance-place}

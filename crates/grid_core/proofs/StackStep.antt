@@ -5,7 +5,7 @@ use Rattle.std.proofs.Common.{get_or, drop, length, min, sym, ap, subst, ◌∙�
 use Rattle.std.specs.Prelude.{vec_len}
 use Rattle.std.specs.List.{find}
 use Rattle.std.specs.Option.{option_map, option_map_or}
-use Rattle.std.proofs.lemmas.Bool.{eqb-true, eqb-false, le-ltb, ltb-true, ltb-false}
+use Rattle.std.proofs.lemmas.Bool.{and_parts, eqb-true, eqb-false, le-ltb, ltb-true, ltb-false}
 use Rattle.std.proofs.lemmas.List.{length-take-le, length-drop}
 use Rattle.std.proofs.Math.Nat.{mod-lt, mul-le-mul_right}
 use Rattle.std.proofs.Math.Seq.{get_or-take, get_or-drop}
@@ -19,10 +19,11 @@ use Rattle.cache_core.specs.Row.{row}
 use Rattle.cache_core.proofs.Cases.{by_cases}
 use Rattle.cache_core.proofs.Lawful.{sane_of}
 use Rattle.cache_core.proofs.MapStep.{suc_pred}
+use Rattle.marked_list.specs.Recency.{index_of}
 use Rattle.grid_core.specs.declared.slots.Slot.{Slot}
 use Rattle.grid_core.specs.declared.stack.Stack.{Stack}
 use Rattle.grid_core.specs.Ways.{with_ways, IsStacked, stack_distance}
-use Rattle.grid_core.specs.Slots.{holds, index_of, next_slots, no_slot, used_slot, level_of}
+use Rattle.grid_core.specs.Slots.{holds, next_slots, no_slot, used_slot, level_of}
 use Rattle.grid_core.specs.Slots.{HaveBytes, clean_in, level_after, level_in, lost_in, stays_in}
 use Rattle.grid_core.specs.Histograms.{clean_ways}
 use Rattle.grid_core.specs.Levels.{dirty_level}
@@ -30,7 +31,6 @@ use Rattle.grid_core.specs.Pushed.{dirty_in}
 use Rattle.grid_core.specs.Standing.{StandsFor, StaysFirst, rules_of, slots_of}
 use Rattle.grid_core.proofs.Distances.{hits-distance}
 use Rattle.grid_core.proofs.Fronts.{low-level, moved-back}
-use Rattle.grid_core.proofs.Hitting.{both-true}
 use Rattle.grid_core.proofs.SlotTurns.{after-le, distance-le, index-slots, level-le, seen-level}
 use Rattle.grid_core.proofs.SlotTurns.{slots-here, slots-other}
 use Rattle.grid_core.proofs.StackRules.{stacked}
@@ -80,7 +80,7 @@ module _ (r : Rules) (st : IsStacked r) (h : History) (x : Access) (xs : List Sl
   first-now e =
       let p = index_of (holds b) (row r.assoc s xs) in
       let l = level_in b (row r.assoc s xs) in
-      let each = both-true (eqb p 0) (not (is_write x) || eqb l 0) e in
+      let each = and_parts (eqb p 0) (not (is_write x) || eqb l 0) e in
       let near = sym (position-now p refl) ∙ eqb-true p 0 each.0 in
       record {
         first = near;

@@ -67,7 +67,8 @@ pub record HaveAnswered (h : History) (x : Access) (c : Caches) : Type 0 where
   pub stacked : StackedFollowed h x c.stacked
   pub singles : All (SingleHasAnswered h x) c.singles.items
 
--- no cache has served more than n events
+-- those served together have served n events at most, and each other has counted n and served no
+-- more
 pub record AreInStep (n : ℕ) (c : Caches) : Type 0 where
   pub stacked : stacked_served c.stacked ≤ n
   pub shades : All (λ s. s.counted ≡ n) c.shades.items

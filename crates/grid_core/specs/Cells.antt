@@ -9,7 +9,7 @@ use Rattle.cache_core.specs.Residents.{hits, renewals}
 use Rattle.cache_core.specs.Kinds.{referenced_blocks, shadow_of}
 use Rattle.cache_core.specs.Parts.{outcome_of}
 use Rattle.grid_core.specs.declared.cells.Shape.{Shape}
-use Rattle.grid_core.specs.declared.shadows.Prior.{Prior}
+use Rattle.grid_core.specs.declared.shadows.PriorLevel.{PriorLevel}
 use Rattle.grid_core.specs.Ways.{with_ways}
 use Rattle.grid_core.specs.Standing.{stack_rules}
 use Rattle.grid_core.specs.Hits.{hit_made}
@@ -31,7 +31,7 @@ pub record IsPlacedAmong (rs : List Rules) (s : Shape) : Type 0 where
   pub placed : (d : Rules) → IsPlacedOn (get_or rs s.stack d) s
 
 -- what is known of the block of an access, for the cache of one shape
-pub record KnowsPrior (s : Shape) (h : History) (x : Access) (p : Prior) : Type 0 where
+pub record KnowsPrior (s : Shape) (h : History) (x : Access) (p : PriorLevel) : Type 0 where
   pub known : p.known
       ≡ list_any (λ b. b == block_of (shape_rules s) x) (referenced_blocks (shape_rules s) h)
   pub far : not (nat_lt s.rank p.level)

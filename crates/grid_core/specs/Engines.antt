@@ -20,7 +20,7 @@ served_in e = e.served
 
 -- what the caches counted, and the misses of their shadows
 unfoldable pub kept_in : Engine → List (Counts × PerClass)
-kept_in e = map (λ s. (counts_in e.caches s.cell, misses_in e.caches s.shade)) e.seats.items
+kept_in e = map (λ s. (counts_in e.caches s.cell, misses_in e.caches s.shadow)) e.seats.items
 
 -- whether an allocation failed
 unfoldable pub has_failed : Engine → Bool

@@ -23,12 +23,12 @@ abbrev pub first_in : Histogram → ℕ → PerClass
 first_in t n = total (drop n t.first_writes.items)
 
 -- how many levels a histogram tells apart
-abbrev pub told_levels : Histogram → ℕ
-told_levels t = t.levels
+abbrev pub histogram_levels : Histogram → ℕ
+histogram_levels t = t.levels
 
 -- the greatest distance of a histogram
-abbrev pub told_ways : Histogram → ℕ
-told_ways t = t.ways
+abbrev pub histogram_ways : Histogram → ℕ
+histogram_ways t = t.ways
 
 -- no count of the histogram is above n
 abbrev pub IsWithinHistogram : ℕ → Histogram → Type 0

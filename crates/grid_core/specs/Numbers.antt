@@ -6,5 +6,5 @@ abbrev pub number_at : List ℕ → ℕ → Option ℕ
 number_at blocks b = position (nat_eq b) blocks
 
 -- the second list begins with the first one
-abbrev pub GoesOn : List ℕ → List ℕ → Type 0
-GoesOn before after = (rest : List ℕ) × (after ≡ before ++ rest)
+abbrev pub GoesOn : {X : Type 0} → List X → List X → Type 0
+GoesOn {X} before after = (rest : List X) × (after ≡ before ++ rest)

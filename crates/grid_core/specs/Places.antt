@@ -1,5 +1,5 @@
 -- Where each cache of an engine is served.
-use Rattle.std.specs.Prelude.{◌≡◌, ℕ, ◌<◌, ◌++◌, [], Bool, List, length, get_or, map}
+use Rattle.std.specs.Prelude.{◌≡◌, ℕ, ◌<◌, [], Bool, List, length, get_or, map}
 use Rattle.cache_core.specs.declared.geometry.Geometry.{Geometry}
 use Rattle.cache_core.specs.declared.policy.Policy.{Policy}
 use Rattle.cache_core.specs.History.{Rules}
@@ -45,12 +45,8 @@ list_placed together apart (Apart i) = get_or apart i []
 pub record IsSeated (p : Policy) (together apart shades : List Rules) (s : Seat) : Type 0 where
   pub cell_there : IsPlace (length together) (length apart) s.cell
   pub cell : rules_placed together apart s.cell ≡ rules_from s.geometry p
-  pub shade_there : IsPlace (length together) (length shades) s.shade
-  pub shade : shadow_placed together shades s.shade ≡ shadow_of (rules_from s.geometry p)
-
--- the second list is the first with more behind it
-abbrev pub Extends : {X : Type 0} → List X → List X → Type 0
-Extends {X} xs ys = (zs : List X) × (ys ≡ xs ++ zs)
+  pub shadow_there : IsPlace (length together) (length shades) s.shadow
+  pub shadow : shadow_placed together shades s.shadow ≡ shadow_of (rules_from s.geometry p)
 
 -- the rules of caches that are served together
 abbrev pub planned_rules : Bool → List Geometry → List Rules

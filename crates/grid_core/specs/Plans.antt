@@ -8,7 +8,7 @@ use Rattle.cache_core.specs.Kinds.{shadow_of}
 use Rattle.cache_core.specs.Standing.{rules_from}
 use Rattle.grid_core.specs.declared.shade.Shade.{Shade}
 use Rattle.grid_core.specs.declared.single.Single.{Single}
-use Rattle.grid_core.specs.Shades.{ShadeStandsFor, HasCounted}
+use Rattle.grid_core.specs.Shades.{ShadeStandsFor, ShadeHasCounted}
 use Rattle.grid_core.specs.Singles.{SingleStandsFor, HasSettled}
 use Rattle.grid_core.specs.Written.{rules_at}
 
@@ -31,4 +31,4 @@ pub record IsNew (s : Single) : Type 0 where
 -- the shadow was given nothing
 pub record IsNewShade (s : Shade) : Type 0 where
   pub stands : ShadeStandsFor [] s
-  pub counted : HasCounted 0 s
+  pub counted : ShadeHasCounted 0 s

@@ -17,8 +17,8 @@ abbrev pub shade_misses : Shade → PerClass
 shade_misses s = s.misses
 
 -- it counted n events
-unfoldable pub HasCounted : ℕ → Shade → Type 0
-HasCounted n s = s.counted ≡ n
+unfoldable pub ShadeHasCounted : ℕ → Shade → Type 0
+ShadeHasCounted n s = s.counted ≡ n
 
 -- whether the access x hit, after the history h
 unfoldable pub ShadeHasHit : History → Access → Shade → Type 0

@@ -12,7 +12,7 @@ use Rattle.grid_core.specs.StackedCells.{stacked_numbered, stacked_rules}
 use Rattle.grid_core.specs.Written.{rules_at}
 
 -- caches that are served together stand for the history by the numbers that the places of a list
--- of blocks are, if there are any caches; else none is served
+-- of blocks are, if there are any caches
 abbrev pub FollowsStackedBy : List ℕ → History → Stacked → Type 0
 FollowsStackedBy blocks h s = 0 < length (stacked_rules s) → StackedStandsBy blocks s h
 

@@ -24,7 +24,7 @@ single_dirty s = dirty_held s.contents
 
 -- the place of its shadow, and its rules
 abbrev pub single_shading : Single → Place × Rules
-single_shading s = (s.shade, single_rules s)
+single_shading s = (s.shadow, single_rules s)
 
 -- no list has more blocks than the cache at its place has dirty ways
 abbrev pub AreFew : List (Vec ℕ) → List Single → Type 0

@@ -1,11 +1,12 @@
 -- Inside the crate: a row of slots, and what one access does to it.
 use Rattle.std.specs.Prelude.{ℕ, zero, suc, ◌*◌, ◌^◌}
-use Rattle.std.specs.Prelude.{◌<◌, Bool, true, false, not, ◌&&◌, ◌||◌, ◌==◌, cond}
+use Rattle.std.specs.Prelude.{◌<◌, Bool, true, false, not, ◌&&◌, ◌||◌, ◌==◌}
 use Rattle.std.specs.Prelude.{nat_lt, if◌then◌else◌, get_or, ◌-◌, List, [], ◌∷◌, ◌++◌, length}
 use Rattle.std.specs.Prelude.{take, drop, min}
 use Rattle.std.specs.List.{find, All}
 use Rattle.std.specs.Option.{option_map_or}
 use Rattle.cache_core.specs.Row.{shifted, row}
+use Rattle.marked_list.specs.Recency.{index_of}
 use Rattle.grid_core.specs.declared.slots.Slot.{Slot}
 
 -- the slot holds block b
@@ -23,11 +24,6 @@ used_slot b l = record { block = b; valid = true; level = l }
 -- an empty slot
 abbrev pub no_slot : Slot
 no_slot = record { block = 0; valid = false; level = 0 }
-
--- the index of the first that passes, or the length of the list
-abbrev pub index_of : {X : Type 0} → (X → Bool) → List X → ℕ
-index_of p [] = 0
-index_of p (x ∷ xs) = cond (p x) 0 (suc (index_of p xs))
 
 -- the dirty level of block b in a row, or the length of the row if it is not there
 abbrev pub level_in : ℕ → List Slot → ℕ

@@ -16,7 +16,7 @@ use Rattle.grid_core.specs.declared.slots.Slot.{Slot}
 use Rattle.grid_core.specs.declared.stack.Stack.{Stack}
 use Rattle.grid_core.specs.declared.stacks.Behind.{Behind}
 use Rattle.grid_core.specs.Slots.{used_slot, no_slot, dirty_in_rows, stays_in}
-use Rattle.grid_core.specs.Histograms.{HasCounted, IsWithinHistogram, first_in, told_levels}
+use Rattle.grid_core.specs.Histograms.{HasCounted, IsWithinHistogram, first_in, histogram_levels}
 use Rattle.grid_core.specs.Pushed.{dirty_in}
 use Rattle.grid_core.specs.Ways.{with_ways, stack_distance}
 use Rattle.grid_core.specs.Levels.{dirty_level}
@@ -117,7 +117,7 @@ IsCountedIn sizes h s = HasCounted (rules_of s) sizes h s.histogram
 
 -- how many levels in the shadows the stack tells apart
 abbrev pub told_in : Stack → ℕ
-told_in s = told_levels s.histogram
+told_in s = histogram_levels s.histogram
 
 -- no count of the stack is above n
 abbrev pub IsWithinStack : ℕ → Stack → Type 0

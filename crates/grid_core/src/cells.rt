@@ -16,7 +16,7 @@ ghost use Rattle.grid_core.specs.State.{nothing_alike, whole_counts};
 use crate::counting::zero_per_class;
 use crate::misses::less;
 use crate::outcome::outcome_in;
-use crate::shadows::Prior;
+use crate::shadows::PriorLevel;
 use crate::stack::Stack;
 use cache_core::{Counts, Geometry, Outcome, PerClass};
 use std::alloc::{AllocError, Global};
@@ -89,7 +89,12 @@ pub(crate) fn all_have_hit(shapes: &Vec<Shape>, stacks: &Vec<Stack>) -> bool
 
 /// What the last access did in the cache of a shape, by whether it was a write, and what was known
 /// of its block.
-pub(crate) fn answer_in(shape: Shape, stacks: &Vec<Stack>, write: bool, prior: Prior) -> Outcome
+pub(crate) fn answer_in(
+    shape: Shape,
+    stacks: &Vec<Stack>,
+    write: bool,
+    prior: PriorLevel,
+) -> Outcome
     requires { IsPlacedAmong (map rules_of stacks.now.items) shape }
     ensures { (h : History) (x : Accessed) → All (HasMoved h x) stacks.now.items →
         KnowsPrior shape h x prior → write ≡ is_write x →
@@ -108,7 +113,7 @@ fn sent_of(writes: u64, wback: bool) -> u64
 /// All counts of the cache of a shape, which these rows serve. Each miss loads its block. A miss is
 /// compulsory if its block was never accessed before. Of the others, those that miss in the shadow
 /// too are capacity misses, and the rest conflicts.
-pub(crate) fn counts_in(shape: Shape, stack: &Stack, alike: Alike) -> Counts
+pub(crate) fn shape_counts(shape: Shape, stack: &Stack, alike: Alike) -> Counts
     requires ways { shape.ways ≤ (rules_of stack.now).assoc }
     requires some { 0 < shape.ways }
     requires rank { shape.rank + 1 ≤ told_in stack.now }
@@ -134,7 +139,7 @@ pub(crate) fn counts_in(shape: Shape, stack: &Stack, alike: Alike) -> Counts
 }
 
 /// The dirty blocks of the cache of a shape, by their first bytes, in rising order.
-fn dirty_in(alloc: Global, stacks: &Vec<Stack>, shape: Shape) -> Result<Vec<u64>, AllocError>
+fn dirty_list(alloc: Global, stacks: &Vec<Stack>, shape: Shape) -> Result<Vec<u64>, AllocError>
     requires { IsPlacedAmong (map rules_of stacks.now.items) shape }
     ensures { IfOk result (λ bytes. (h : History) → All (λ s. StandsFor s h) stacks.now.items →
         bytes.items ≡ dirty_bytes_of h shape) }
@@ -157,7 +162,7 @@ pub(crate) fn dirty_lists(
 {
     let mut lists = Vec::new(alloc);
     for shape in shapes.iter() {
-        let bytes = dirty_in(alloc, stacks, *shape)?;
+        let bytes = dirty_list(alloc, stacks, *shape)?;
         lists.push(bytes)?;
     }
     Ok(lists)

@@ -247,7 +247,7 @@ impl Engine {
         ensures counted { (blocks : List ℕ) (h : History) → EngineStandsBy blocks self.now h →
             result ≡ shadow_misses (rules_at (rules_in self.now) index) h }
     {
-        self.caches.shadow_misses(self.seats[index].shade)
+        self.caches.shadow_misses(self.seats[index].shadow)
     }
 
     /// Whether the last access sent nothing to the next level in any cache: it wrote nothing back,

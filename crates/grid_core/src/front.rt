@@ -4,7 +4,8 @@ ghost use Rattle.std.specs.Prelude.{◌≡◌, ◌≢◌, ◌≤◌, ◌<◌, �
 ghost use Rattle.std.specs.Prelude.{◌*◌, ◌^◌, ℕ, Bool, length, vec_len};
 ghost use Rattle.std.specs.Prelude.{nat_lt, if◌then◌else◌, ◌==◌, ◌&&◌, ◌||◌, not};
 ghost use Rattle.cache_core.specs.Row.{shifted, row};
-ghost use Rattle.grid_core.specs.Slots.{holds, index_of, level_after, next_slots};
+ghost use Rattle.marked_list.specs.Recency.{index_of};
+ghost use Rattle.grid_core.specs.Slots.{holds, level_after, next_slots};
 ghost use Rattle.grid_core.specs.Slots.{clean_in, level_in, lost_in, stays_in};
 
 use crate::slots::{Seen, Slot, empty_slot, has_block, look};

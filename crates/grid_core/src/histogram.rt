@@ -120,16 +120,16 @@ impl Histogram {
     ghost use Rattle.cache_core.specs.Counts.{none_by_class};
     ghost use Rattle.cache_core.specs.Counting.{with_one};
     ghost use Rattle.cache_core.specs.History.{is_write};
-    ghost use Rattle.grid_core.specs.Histograms.{past_in, first_in, told_levels, told_ways};
-    ghost use Rattle.grid_core.specs.Histograms.{IsWithinHistogram};
+    ghost use Rattle.grid_core.specs.Histograms.{past_in, first_in, histogram_levels};
+    ghost use Rattle.grid_core.specs.Histograms.{histogram_ways, IsWithinHistogram};
 
     /// A histogram of nothing, for so many ways and levels.
     pub fn new(alloc: Global, ways: usize, levels: usize) -> Result<Histogram, AllocError>
         requires { ways < 2 ^ 32 }
         ensures past { IfOk result (λ t. (n k : ℕ) → past_in t n k ≡ none_by_class) }
         ensures first { IfOk result (λ t. (n : ℕ) → first_in t n ≡ none_by_class) }
-        ensures levels { IfOk result (λ t. told_levels t ≡ levels) }
-        ensures ways { IfOk result (λ t. told_ways t ≡ ways) }
+        ensures levels { IfOk result (λ t. histogram_levels t ≡ levels) }
+        ensures ways { IfOk result (λ t. histogram_ways t ≡ ways) }
     {
         let distances = tables(alloc, ways + 1, levels)?;
         Ok(Histogram {
@@ -143,9 +143,9 @@ impl Histogram {
     /// Counts an access whose block stood at this place, or whose place is the number of ways as it
     /// was not there; which was not dirty in up to `clean` ways, and had this level in the shadows.
     pub fn note(&mut self, place: usize, clean: usize, level: usize, access: Access)
-        requires place { place ≤ told_ways self.old }
-        requires clean { clean ≤ told_ways self.old }
-        requires level { level < told_levels self.old }
+        requires place { place ≤ histogram_ways self.old }
+        requires clean { clean ≤ histogram_ways self.old }
+        requires level { level < histogram_levels self.old }
         requires within { (n : ℕ) × IsWithinHistogram n self.old × (n < 2 ^ 46) }
         ensures past { (n k : ℕ) → 0 < n → past_in self.new n k ≡ with_one access
             (not (nat_lt place n) && not (nat_lt level k)) (past_in self.old n k) }
@@ -153,8 +153,8 @@ impl Histogram {
             (is_write access && not (nat_lt clean n)) (first_in self.old n) }
         ensures bounds { (n : ℕ) → IsWithinHistogram n self.old →
             IsWithinHistogram (n + 1) self.new }
-        ensures levels { told_levels self.new ≡ told_levels self.old }
-        ensures ways { told_ways self.new ≡ told_ways self.old }
+        ensures levels { histogram_levels self.new ≡ histogram_levels self.old }
+        ensures ways { histogram_ways self.new ≡ histogram_ways self.old }
     {
         count_place(&mut self.distances, place, level, access);
         count_first(&mut self.first_writes, clean, access);
@@ -162,8 +162,8 @@ impl Histogram {
 
     /// The accesses that missed in so many ways, and in the first `level` of the shadows.
     pub fn past(&self, ways: usize, level: usize) -> PerClass
-        requires ways { ways ≤ told_ways self.now }
-        requires level { level ≤ told_levels self.now }
+        requires ways { ways ≤ histogram_ways self.now }
+        requires level { level ≤ histogram_levels self.now }
         requires within { IsWithinHistogram (2 ^ 46) self.now }
         ensures { result ≡ past_in self.now ways level }
     {
@@ -172,7 +172,7 @@ impl Histogram {
 
     /// How many writes found their block not dirty in so many ways.
     pub fn first_writes(&self, ways: usize) -> u64
-        requires ways { ways ≤ told_ways self.now }
+        requires ways { ways ≤ histogram_ways self.now }
         requires within { IsWithinHistogram (2 ^ 46) self.now }
         ensures { result ≡ (first_in self.now ways).write }
     {

@@ -22,9 +22,8 @@ pub fn dirty_levels_are_dirty_blocks()
 {}
 
 /// Set refinement (Hill and Smith): of two LRU caches of as many ways that allocate at writes, the
-/// one
-/// of more sets holds all that the other holds. With one way: a block that was used last in its set
-/// was used last in its set of every larger number of sets.
+/// one of more sets holds all that the other holds. With one way: a block that was used last in its
+/// set was used last in its set of every larger number of sets.
 pub fn more_sets_hold_more()
     ensures { MoreSetsHoldMore }
 {}

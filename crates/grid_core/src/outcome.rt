@@ -13,7 +13,7 @@ ghost use Rattle.grid_core.specs.Cells.{IsPlacedOn, KnowsPrior, shape_rules};
 ghost use Rattle.grid_core.specs.Hits.{hit_made};
 
 use crate::cells::Shape;
-use crate::shadows::Prior;
+use crate::shadows::PriorLevel;
 use crate::stack::Stack;
 use cache_core::{MissKind, Outcome};
 
@@ -29,7 +29,7 @@ pub(crate) fn no_outcome() -> Outcome {
 }
 
 /// Why an access misses, if it does, in the cache whose size has this rank.
-fn kind_in(hit: bool, prior: Prior, rank: usize) -> Option<MissKind>
+fn kind_in(hit: bool, prior: PriorLevel, rank: usize) -> Option<MissKind>
     ensures { result ≡ (if hit then None else Some (if prior.known
         then (if not (nat_lt rank prior.level) then Conflict else Capacity) else Compulsory)) }
 {
@@ -67,7 +67,7 @@ pub(crate) fn sends_on(write: bool, wback: bool) -> bool
 
 /// The outcome of the last access in the cache of this shape, by whether it was a write, and what
 /// was known of its block.
-pub(crate) fn outcome_in(stack: &Stack, shape: Shape, write: bool, prior: Prior) -> Outcome
+pub(crate) fn outcome_in(stack: &Stack, shape: Shape, write: bool, prior: PriorLevel) -> Outcome
     requires { IsPlacedOn (rules_of stack.now) shape }
     ensures hit { result.hit ≡ nat_lt (found_in stack.now) shape.ways }
     ensures is { (h : History) (x : Access) → HasMoved h x stack.now → write ≡ is_write x →

@@ -23,7 +23,7 @@ pub(crate) enum Place {
 pub(crate) struct Seat {
     pub geometry: Geometry,
     pub cell: Place,
-    pub shade: Place,
+    pub shadow: Place,
 }
 
 /// The list at a place.

@@ -5,7 +5,8 @@ ghost use Rattle.std.specs.List.{All};
 ghost use Rattle.cache_core.specs.Geometry.{bsize_of};
 ghost use Rattle.cache_core.specs.Policy.{is_fifo};
 ghost use Rattle.cache_core.specs.Standing.{rules_from};
-ghost use Rattle.grid_core.specs.Places.{IsSeated, Extends, planned_rules};
+ghost use Rattle.grid_core.specs.Numbers.{GoesOn};
+ghost use Rattle.grid_core.specs.Places.{IsSeated, planned_rules};
 ghost use Rattle.grid_core.specs.declared.places.Place.TheVariants.{Together};
 ghost use Rattle.grid_core.specs.Plans.{IsNew, IsNewShade};
 ghost use Rattle.grid_core.specs.Shades.{shade_rules};
@@ -48,16 +49,16 @@ fn push_single(
     singles: &mut Vec<Single>,
     geometry: Geometry,
     policy: Policy,
-    shade: Place,
+    shadow: Place,
 ) -> Result<usize, AllocError>
     ensures last { IfOk result (λ index. index ≡ length singles.old.items) }
     ensures rules { OnOk result (map single_rules singles.new.items
         ≡ map single_rules singles.old.items ++ rules_from geometry policy ∷ []) }
     ensures shading { OnOk result (map single_shading singles.new.items
-        ≡ map single_shading singles.old.items ++ (shade, rules_from geometry policy) ∷ []) }
+        ≡ map single_shading singles.old.items ++ (shadow, rules_from geometry policy) ∷ []) }
     ensures fresh { OnOk result (All IsNew singles.old.items → All IsNew singles.new.items) }
 {
-    let single = Single::new(alloc, geometry, policy, shade)?;
+    let single = Single::new(alloc, geometry, policy, shadow)?;
     let index = singles.len();
     singles.push(single)?;
     Ok(index)
@@ -67,7 +68,7 @@ fn push_single(
 fn seat_together(together: &mut Vec<Geometry>, geometry: Geometry) -> Result<Seat, AllocError>
     ensures seat { IfOk result (λ seat. (seat.geometry ≡ geometry)
         × (seat.cell ≡ Together (length together.old.items))
-        × (seat.shade ≡ Together (length together.old.items))) }
+        × (seat.shadow ≡ Together (length together.old.items))) }
     ensures joins { OnOk result (together.new.items ≡ together.old.items ++ geometry ∷ []) }
 {
     let index = together.len();
@@ -75,7 +76,7 @@ fn seat_together(together: &mut Vec<Geometry>, geometry: Geometry) -> Result<Sea
     Ok(Seat {
         geometry,
         cell: Place::Together(index),
-        shade: Place::Together(index),
+        shadow: Place::Together(index),
     })
 }
 
@@ -98,10 +99,10 @@ fn seat_for(
         (map shade_rules shades.old.items)) (map single_shading singles.old.items) →
         All (IsShaded (planned_rules policy.wback together.new.items)
         (map shade_rules shades.new.items)) (map single_shading singles.new.items)) }
-    ensures together { OnOk result (Extends together.old.items together.new.items) }
-    ensures apart { OnOk result (Extends (map single_rules singles.old.items)
+    ensures together { OnOk result (GoesOn together.old.items together.new.items) }
+    ensures apart { OnOk result (GoesOn (map single_rules singles.old.items)
         (map single_rules singles.new.items)) }
-    ensures shades { OnOk result (Extends (map shade_rules shades.old.items)
+    ensures shades { OnOk result (GoesOn (map shade_rules shades.old.items)
         (map shade_rules shades.new.items)) }
     ensures same { (b : ℕ) → OnOk result (bsize_of geometry ≡ b →
         All (λ g. bsize_of g ≡ b) together.old.items →
@@ -114,12 +115,12 @@ fn seat_for(
         let seat = seat_together(together, geometry)?;
         return Ok(seat);
     }
-    let shade = shade_for(alloc, together, shades, geometry, policy)?;
-    let cell = push_single(alloc, singles, geometry, policy, shade)?;
+    let shadow = shade_for(alloc, together, shades, geometry, policy)?;
+    let cell = push_single(alloc, singles, geometry, policy, shadow)?;
     Ok(Seat {
         geometry,
         cell: Place::Apart(cell),
-        shade,
+        shadow,
     })
 }
 

@@ -40,7 +40,7 @@ fn is_lru_of(policy: Policy, other: Policy) -> bool
     is_lru(policy) && policy.wback == other.wback && policy.walloc == other.walloc
 }
 
-#[tactic(auto, unfolding(crate::specs::Shades::HasCounted, crate::specs::Shades::ShadeHasHit))]
+#[tactic(auto, unfolding(crate::specs::Shades::ShadeHasCounted, crate::specs::Shades::ShadeHasHit))]
 impl Shade {
     ghost use Rattle.std.specs.Prelude.{◌≡◌, ◌<◌, ◌+◌, ◌^◌, ◌∷◌, ℕ, true, [], IfOk, OnOk};
     ghost use Rattle.cache_core.specs.History.{History, access as accessed, flush as flushed};
@@ -48,14 +48,15 @@ impl Shade {
     ghost use Rattle.cache_core.specs.Kinds.{shadow_of};
     ghost use Rattle.cache_core.specs.Parts.{outcome_of};
     ghost use Rattle.cache_core.specs.Standing.{rules_from};
-    ghost use Rattle.grid_core.specs.Shades.{ShadeStandsFor, ShadeReached, ShadeHasHit, HasCounted};
+    ghost use Rattle.grid_core.specs.Shades.{ShadeStandsFor, ShadeReached, ShadeHasHit};
+    ghost use Rattle.grid_core.specs.Shades.{ShadeHasCounted};
     ghost use Rattle.grid_core.specs.Shades.{shade_rules, shade_misses};
 
     /// An empty one.
     pub fn new(alloc: Global, geometry: Geometry, policy: Policy) -> Result<Shade, AllocError>
         ensures stands { IfOk result (λ shade. ShadeStandsFor [] shade) }
         ensures rules { IfOk result (λ shade. shade_rules shade ≡ rules_from geometry policy) }
-        ensures counted { IfOk result (λ shade. HasCounted 0 shade) }
+        ensures counted { IfOk result (λ shade. ShadeHasCounted 0 shade) }
     {
         let Ok(contents) = Contents::new(alloc, geometry, policy) else {
             return Err(AllocError);
@@ -81,7 +82,7 @@ impl Shade {
     pub fn serve(&mut self, access: Access) -> Result<(), AllocError>
         ensures reached { OnOk result ((h : History) → ShadeStandsFor h self.old →
             ShadeReached h access self.new) }
-        ensures counted { (n : ℕ) → HasCounted n self.old → HasCounted n self.new }
+        ensures counted { (n : ℕ) → ShadeHasCounted n self.old → ShadeHasCounted n self.new }
         ensures misses { shade_misses self.new ≡ shade_misses self.old }
         ensures rules { shade_rules self.new ≡ shade_rules self.old }
     {
@@ -94,12 +95,12 @@ impl Shade {
 
     /// Counts the access that was served last.
     pub fn settle(&mut self, access: Access)
-        requires { (n : ℕ) × HasCounted n self.old × (n < 2 ^ 44) }
+        requires { (n : ℕ) × ShadeHasCounted n self.old × (n < 2 ^ 44) }
         ensures stands { (h : History) → ShadeReached h access self.old →
             ShadeStandsFor (accessed access ∷ h) self.new }
         ensures hit { (h : History) → ShadeReached h access self.old →
             ShadeHasHit h access self.new }
-        ensures counted { (n : ℕ) → HasCounted n self.old → HasCounted (n + 1) self.new }
+        ensures counted { (n : ℕ) → ShadeHasCounted n self.old → ShadeHasCounted (n + 1) self.new }
         ensures rules { shade_rules self.new ≡ shade_rules self.old }
     {
         count(&mut self.misses, access, !self.hit);
@@ -108,10 +109,10 @@ impl Shade {
 
     /// Lets all blocks go.
     pub fn clear(&mut self)
-        requires { (n : ℕ) × HasCounted n self.old × (n < 2 ^ 44) }
+        requires { (n : ℕ) × ShadeHasCounted n self.old × (n < 2 ^ 44) }
         ensures stands { (h : History) → ShadeStandsFor h self.old →
             ShadeStandsFor (flushed ∷ h) self.new }
-        ensures counted { (n : ℕ) → HasCounted n self.old → HasCounted (n + 1) self.new }
+        ensures counted { (n : ℕ) → ShadeHasCounted n self.old → ShadeHasCounted (n + 1) self.new }
         ensures rules { shade_rules self.new ≡ shade_rules self.old }
     {
         self.contents.clear();

@@ -16,16 +16,16 @@ use std::mem::swap;
 /// What is known of a block before an access: whether it was ever accessed, and its level, the
 /// index of the smallest size whose shadow has it, or the number of sizes.
 #[derive(Clone, Copy, Debug, Default, PartialEq, Eq)]
-pub(crate) struct Prior {
+pub(crate) struct PriorLevel {
     pub known: bool,
     pub level: usize,
 }
 
 /// What is known of the block that was used last: all shadows have it.
-pub(crate) fn prior_of_last() -> Prior
+pub(crate) fn prior_of_last() -> PriorLevel
     ensures { result ≡ record { known = true; level = 0 } }
 {
-    Prior {
+    PriorLevel {
         known: true,
         level: 0,
     }
@@ -80,7 +80,7 @@ impl Shadows {
     }
 
     /// Serves an access to a block in all shadows, and answers what was known of the block before.
-    pub fn touch(&mut self, block: u64, access: Access) -> Result<Prior, AllocError>
+    pub fn touch(&mut self, block: u64, access: Access) -> Result<PriorLevel, AllocError>
         requires { IsWithin (total (levels_in self.old)) (2 ^ 46) }
         ensures known { IfOk result (λ prior. AreNumbered self.old →
             prior.known ≡ is_known self.old block) }
@@ -111,7 +111,7 @@ impl Shadows {
         };
         count_at(&mut self.levels, level, access);
         self.recent = used_now(self.recent, block, writes(access));
-        Ok(Prior { known, level })
+        Ok(PriorLevel { known, level })
     }
 
     /// How often the shadow of the size of this rank missed, by class.

@@ -4,9 +4,9 @@ ghost use Rattle.std.specs.Prelude.{◌≡◌, ◌<◌, ◌==◌, ℕ, Bool, tru
 ghost use Rattle.std.specs.Prelude.{IfSome};
 ghost use Rattle.std.specs.List.{All};
 ghost use Rattle.cache_core.specs.Geometry.{assoc_of, blocks_of, bsize_of};
-ghost use Rattle.grid_core.specs.Slots.{index_of};
 ghost use Rattle.cache_core.specs.Dirty.{rising};
 ghost use Rattle.cache_core.specs.Policy.{is_fifo};
+ghost use Rattle.marked_list.specs.Recency.{index_of};
 ghost use Rattle.grid_core.specs.Standing.{IsEmptyStack};
 ghost use Rattle.grid_core.specs.Shapes.{IsWider, IsSuited, HaveBsize, has_size};
 

@@ -17,7 +17,7 @@ use std::alloc::{AllocError, Global};
 pub(crate) struct Single {
     contents: Contents,
     /// The place of its shadow.
-    shade: Place,
+    shadow: Place,
     counts: Counts,
     /// What its sets answered to the last access, which may be `pending`: not counted yet.
     served: Served,
@@ -54,11 +54,11 @@ impl Single {
         alloc: Global,
         geometry: Geometry,
         policy: Policy,
-        shade: Place,
+        shadow: Place,
     ) -> Result<Single, AllocError>
         ensures stands { IfOk result (λ single. SingleStandsFor [] single) }
         ensures rules { IfOk result (λ single. single_rules single ≡ rules_from geometry policy) }
-        ensures shade { IfOk result (λ single. single.shade ≡ shade) }
+        ensures shadow { IfOk result (λ single. single.shadow ≡ shadow) }
         ensures settled { IfOk result (λ single. HasSettled 0 single) }
     {
         let Ok(contents) = Contents::new(alloc, geometry, policy) else {
@@ -66,7 +66,7 @@ impl Single {
         };
         Ok(Single {
             contents,
-            shade,
+            shadow,
             counts: Counts::default(),
             served: Served {
                 hit: false,
@@ -86,7 +86,7 @@ impl Single {
         ensures pending { OnOk result ((n : ℕ) → HasSettled n self.old → IsPending n self.new) }
         ensures counts { single_counts self.new ≡ single_counts self.old }
         ensures rules { single_rules self.new ≡ single_rules self.old }
-        ensures shade { self.new.shade ≡ self.old.shade }
+        ensures shadow { self.new.shadow ≡ self.old.shadow }
     {
         let Ok(served) = self.contents.serve(access) else {
             return Err(AllocError);
@@ -106,7 +106,7 @@ impl Single {
             IsKnown (single_rules self.old) h access prior → SingleHasAnswered h access self.new }
         ensures settled { (n : ℕ) → IsPending n self.old → HasSettled (n + 1) self.new }
         ensures rules { single_rules self.new ≡ single_rules self.old }
-        ensures shade { self.new.shade ≡ self.old.shade }
+        ensures shadow { self.new.shadow ≡ self.old.shadow }
     {
         let outcome = self.contents.outcome(access, self.served, prior);
         self.counts.add_access(access, outcome);
@@ -136,7 +136,7 @@ impl Single {
             SingleStandsFor (flushed ∷ h) self.new }
         ensures settled { (n : ℕ) → HasSettled n self.old → HasSettled (n + 1) self.new }
         ensures rules { single_rules self.new ≡ single_rules self.old }
-        ensures shade { self.new.shade ≡ self.old.shade }
+        ensures shadow { self.new.shadow ≡ self.old.shadow }
     {
         self.counts.add_flush(written);
         self.contents.clear();
@@ -144,10 +144,10 @@ impl Single {
     }
 
     /// The place of its shadow.
-    pub fn shade(&self) -> Place
-        ensures { result ≡ self.now.shade }
+    pub fn shadow(&self) -> Place
+        ensures { result ≡ self.now.shadow }
     {
-        self.shade
+        self.shadow
     }
 
     /// The counts.

@@ -94,7 +94,7 @@ pub(crate) fn settle_all(
         ≡ map single_shading singles.old.items }
 {
     for single in singles.iter_mut() {
-        let prior = prior_at(stacked, shades, single.shade());
+        let prior = prior_at(stacked, shades, single.shadow());
         single.settle(access, prior);
     }
 }

@@ -8,8 +8,9 @@ ghost use Rattle.std.specs.List.Sorted.{IsPermutation, IsSorted};
 ghost use Rattle.std.specs.Ordering.{nat_cmp};
 ghost use Rattle.std.specs.Option.{option_map};
 ghost use Rattle.cache_core.specs.Row.{row};
+ghost use Rattle.marked_list.specs.Recency.{index_of};
 ghost use Rattle.grid_core.specs.Pushed.{dirty_in};
-ghost use Rattle.grid_core.specs.Slots.{holds, index_of, level_in, no_slot};
+ghost use Rattle.grid_core.specs.Slots.{holds, level_in, no_slot};
 ghost use Rattle.grid_core.specs.Slots.{HaveBytes, dirty_bytes, dirty_in_rows};
 
 use std::alloc::{AllocError, Global};

@@ -4,7 +4,7 @@ ghost use Rattle.std.specs.Prelude.{◌≡◌, ◌<◌, ◌+◌, ◌*◌, ◌^�
 ghost use Rattle.cache_core.specs.History.{is_write};
 ghost use Rattle.cache_core.specs.Geometry.{bsize_of, sets_of, assoc_of};
 ghost use Rattle.cache_core.specs.Row.{row};
-ghost use Rattle.grid_core.specs.Histograms.{told_ways};
+ghost use Rattle.grid_core.specs.Histograms.{histogram_ways};
 ghost use Rattle.grid_core.specs.Slots.{HaveBytes};
 
 use crate::front::{stays, turn_in};
@@ -36,7 +36,7 @@ pub struct Stack {
         HaveBytes (bsize_of geometry) (row ways t slots.items) },
     ghost inside: { set < sets_of geometry },
     ghost fits: { last.block * bsize_of geometry < 2 ^ 64 },
-    ghost counted: { told_ways histogram ≡ ways },
+    ghost counted: { histogram_ways histogram ≡ ways },
 }
 
 /// Whether an access writes.

@@ -15,11 +15,11 @@ ghost use Rattle.grid_core.specs.State.{IsRanked, IsWithinAlike};
 mod last;
 
 use crate::block_numbers::BlockNumbers;
-use crate::cells::{Alike, Shape, counts_in, dirty_lists, none_alike};
+use crate::cells::{Alike, Shape, dirty_lists, none_alike, shape_counts};
 use crate::counting::count;
 use crate::outcome::sends_on;
 use crate::parts::parts_for;
-use crate::shadows::{Prior, Shadows, prior_of_last};
+use crate::shadows::{PriorLevel, Shadows, prior_of_last};
 use crate::shapes::rising_sizes;
 use crate::stack::{Stack, writes};
 use crate::stacks::{clear_rows, serve_rows};
@@ -45,7 +45,7 @@ pub(crate) struct Stacked {
     /// Whether it used the block that was used last, and changed nothing but the fetches.
     again: bool,
     /// What was known of its block before.
-    prior: Prior,
+    prior: PriorLevel,
     ghost rises: { rising (shadow_sizes shadows) ≡ shadow_sizes shadows },
     ghost placed: { All (λ s. IsPlacedAmong (map rules_of stacks.items) s) shapes.items },
     ghost ranked: { All (IsRanked (shadow_sizes shadows) geometry) shapes.items },
@@ -110,7 +110,7 @@ impl Stacked {
             served: 0,
             write: false,
             again: false,
-            prior: Prior::default(),
+            prior: PriorLevel::default(),
         })
     }
 
@@ -274,7 +274,7 @@ impl Stacked {
             result ≡ counts_of (rules_at (stacked_rules self.now) index) h }
     {
         let shape = self.shapes[index];
-        counts_in(shape, &self.stacks[shape.stack], self.alike)
+        shape_counts(shape, &self.stacks[shape.stack], self.alike)
     }
 
     /// The fully associative misses of one cache.

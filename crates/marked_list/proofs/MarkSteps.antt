@@ -7,12 +7,12 @@ use Rattle.std.proofs.Common.{below_more, get_or-set_same, get_or-set_other, add
 use Rattle.std.proofs.lemmas.List.{get_or_default}
 use Rattle.std.proofs.lemmas.Bool.{le-ltb}
 use Rattle.cache_core.proofs.Shift.{IsOnce}
+use Rattle.marked_list.specs.Laws.{IsRising}
 use Rattle.marked_list.specs.declared.marks.Mark.{Mark}
 use Rattle.marked_list.specs.Uses.{dead, last_in, living, used_next}
 use Rattle.marked_list.specs.Recency.{is_among, index_of, level_of}
-use Rattle.marked_list.specs.Marks.{covers, IsMark, AreMarks, IsStepwise, no_mark, size_of}
+use Rattle.marked_list.specs.Marks.{covers, IsMark, AreMarks, no_mark, size_of}
 use Rattle.marked_list.proofs.LevelLaws.{level-tells}
-use Rattle.marked_list.proofs.Rising.{stepwise-rises}
 use Rattle.marked_list.proofs.Windows.{level-marks, mark-covers, stays-inside}
 
 pub at-any : (P : Mark → Type 0) (xs : List Mark) (i : ℕ) (d e : Mark) → i < length xs
@@ -56,7 +56,7 @@ module _ (last : Option ℕ) where
 
 -- of rising sizes, the marks from the level on stay where they are
 pub rest-stays : (ms : List ℕ) (b : ℕ) → b ≢ dead → IsOnce (living ms) → (ks : List Mark)
-    → IsStepwise (map size_of ks) → AreMarks ms ks
+    → IsRising (map size_of ks) → AreMarks ms ks
     → (k : ℕ) → index_of (λ (z : Mark). covers z.place (last_in ms b)) ks ≤ k → k < length ks
     → IsMark (used_next b ms) (get_or ks k no_mark)
 rest-stays ms b low once ks rising are k le lt =
@@ -65,7 +65,7 @@ rest-stays ms b low once ks rising are k le lt =
     stays-inside ms b low once (get_or ks k no_mark) mark
     (mark-covers ms b low (get_or ks k no_mark) mark
     ∙ ap (is_among b (living ms)) (sym size)
-    ∙ level-tells (map size_of ks) (stepwise-rises (map size_of ks) rising) (living ms) b k
+    ∙ level-tells (map size_of ks) rising (living ms) b k
     (omega (arith, sizes-length ks))
     ∙ ap not (le-ltb k (level_of (map size_of ks) (living ms) b)
     (omega (arith, level-marks ms b low ks are))))

@@ -1,17 +1,16 @@
 -- What the level of a block says.
-use Rattle.std.specs.Prelude.{◌≡◌, ℕ, ◌<◌, true, not, ◌&&◌, ◌==◌, nat_lt, List, [], ◌∷◌, length}
+use Rattle.std.specs.Prelude.{◌≡◌, ℕ, ◌+◌, ◌<◌, true, not, ◌&&◌, ◌==◌, nat_lt, List, ◌∷◌, length}
 use Rattle.std.specs.Prelude.{get_or}
-use Rattle.std.specs.List.{All, list_any}
+use Rattle.std.specs.List.{list_any}
 use Rattle.cache_core.specs.declared.access.Access.{Access}
 use Rattle.cache_core.specs.History.{Rules, History, access, block_of}
 use Rattle.cache_core.specs.Residents.{distinct, before, hits, renewals}
 use Rattle.cache_core.specs.Kinds.{shadow_of}
 use Rattle.marked_list.specs.Recency.{is_among, level_of, brought_front}
 
--- each is larger than those before it
+-- each is larger than the one before it
 abbrev pub IsRising : List ℕ → Type 0
-IsRising [] = Unit {0}
-IsRising (n ∷ ns) = All (λ m. n < m) ns × IsRising ns
+IsRising ns = (i : ℕ) → i + 1 < length ns → get_or ns i 0 < get_or ns (i + 1) 0
 
 -- a size holds a block just if the block was used, and fewer other blocks than the size says were
 -- used after it
@@ -28,8 +27,7 @@ LevelsTellSizes = (sizes : List ℕ) → IsRising sizes → (ys : List ℕ) (b j
 -- is not above that size's index
 abbrev pub LevelsTellShadowHits : Type 0
 LevelsTellShadowHits = (sizes : List ℕ) → IsRising sizes → (j : ℕ) → j < length sizes →
-    (r : Rules) →
-    r.blocks ≡ get_or sizes j 0 → (h : History) (x : Access) →
+    (r : Rules) → r.blocks ≡ get_or sizes j 0 → (h : History) (x : Access) →
     hits (shadow_of r) (renewals (shadow_of r) h) x
     ≡ not (nat_lt j (level_of sizes (distinct (renewals (shadow_of r) h)) (block_of r x)))
 

@@ -56,7 +56,3 @@ counted_with (Some last) n = n
 -- the mark of the same size where each of some blocks was used once
 abbrev pub settled : ℕ → Mark → Mark
 settled used k = record { size = k.size; place = used - k.size }
-
--- each is larger than the one before it
-abbrev pub IsStepwise : List ℕ → Type 0
-IsStepwise ns = (i : ℕ) → i + 1 < length ns → get_or ns i 0 < get_or ns (i + 1) 0

@@ -1,9 +1,10 @@
 //! One list of blocks in order of last use, for all sizes.
 
 ghost use Rattle.std.specs.Prelude.{◌≡◌, ◌<◌, length, map, true};
+ghost use Rattle.marked_list.specs.Laws.{IsRising};
 ghost use Rattle.marked_list.specs.Log.{uses_of};
 ghost use Rattle.marked_list.specs.Uses.{living};
-ghost use Rattle.marked_list.specs.Marks.{AreMarks, IsStepwise, counted_with, size_of};
+ghost use Rattle.marked_list.specs.Marks.{AreMarks, counted_with, size_of};
 
 use crate::marks::{Mark, is_rising, move_each, new_marks, restart_each, settle_each};
 use crate::uses::Uses;
@@ -21,7 +22,7 @@ pub struct Marked {
     rising: bool,
     ghost marked: { AreMarks (uses_of uses) marks.items },
     ghost counted: { used ≡ length (living (uses_of uses)) },
-    ghost rises: { rising ≡ true → IsStepwise (map size_of marks.items) },
+    ghost rises: { rising ≡ true → IsRising (map size_of marks.items) },
 }
 
 /// How many different blocks were used after a use, by the last use of the block before it.
@@ -81,9 +82,7 @@ impl Marked {
         ensures sizes { marked_sizes self.new ≡ marked_sizes self.old }
     {
         let last = self.uses.last_use(number);
-        let Ok(()) = self.uses.add(number, last) else {
-            return Err(AllocError);
-        };
+        self.uses.add(number, last)?;
         let level = move_each(&mut self.marks, &self.uses, last, self.used, self.rising);
         self.used = counted(self.used, last);
         Ok(level)

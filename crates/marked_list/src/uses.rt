@@ -40,10 +40,7 @@ fn grow(stamps: &mut Vec<u32>, number: usize) -> Result<(), AllocError>
     if number < stamps.len() {
         return Ok(());
     }
-    let Ok(()) = stamps.resize(number + 1, NEVER) else {
-        return Err(AllocError);
-    };
-    Ok(())
+    stamps.resize(number + 1, NEVER)
 }
 
 /// Adds a use to the log, and stamps its block with the place.
@@ -59,9 +56,7 @@ fn note(log: &mut Vec<u32>, stamps: &mut Vec<u32>, number: usize) -> Result<(), 
         stamp_at stamps.new.items q ≡ stamp_at stamps.old.items q) }
 {
     let place = log.len();
-    let Ok(()) = log.push(number as u32) else {
-        return Err(AllocError);
-    };
+    log.push(number as u32)?;
     stamps[number] = place as u32;
     Ok(())
 }
@@ -235,12 +230,8 @@ impl Uses {
         if self.log.len() >= FORGOTTEN as usize {
             return Err(AllocError);
         }
-        let Ok(()) = grow(&mut self.stamps, number) else {
-            return Err(AllocError);
-        };
-        let Ok(()) = note(&mut self.log, &mut self.stamps, number) else {
-            return Err(AllocError);
-        };
+        grow(&mut self.stamps, number)?;
+        note(&mut self.log, &mut self.stamps, number)?;
         bury(&mut self.log, last);
         Ok(())
     }

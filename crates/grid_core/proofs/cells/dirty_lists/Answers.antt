@@ -4,8 +4,8 @@ use Rattle.grid_core.specs.Standing.{rules_of}
 use Rattle.grid_core.specs.Cells.{IsPlacedAmong}
 use Rattle.grid_core.proofs.cells.dirty_lists.Goals as goal
 
-pub dirty_in-requires : goal.dirty_in-requires
-dirty_in-requires c =
+pub dirty_list-requires : goal.dirty_list-requires
+dirty_list-requires c =
     let i = c.loop-shape.shape-index in
     let e = c.shape-item.result in
     subst (IsPlacedAmong (map rules_of c.args.stacks.now.items)) (sym (c.shape-item.is

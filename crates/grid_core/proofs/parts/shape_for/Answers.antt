@@ -1,7 +1,7 @@
 use Rattle.std.proofs.Common.{◌≡◌, ◌<◌, ◌==◌, length, get_or, refl, sym, ap, subst, ◌∙◌}
 use Rattle.cache_core.specs.Geometry.{blocks_of}
 use Rattle.cache_core.proofs.Lawful.{sane_of}
-use Rattle.grid_core.specs.Slots.{index_of}
+use Rattle.marked_list.specs.Recency.{index_of}
 use Rattle.grid_core.specs.Shapes.{IsSuited}
 use Rattle.grid_core.proofs.Sizes.{index-inside, index-found}
 use Rattle.grid_core.proofs.parts.shape_for.Goals as goal

@@ -9,8 +9,8 @@ use Rattle.grid_core.specs.Shades.{shade_rules}
 use Rattle.grid_core.specs.Shading.{IsShaded}
 use Rattle.grid_core.specs.Singles.{single_rules, single_shading}
 use Rattle.grid_core.specs.Standing.{stack_rules}
-use Rattle.grid_core.proofs.Seats.{seated-together, seated-apart, extends-map, extends-push}
-use Rattle.grid_core.proofs.Seats.{extends-same, joins-all, shaded-apart, shaded-longer}
+use Rattle.grid_core.proofs.Seats.{seated-together, seated-apart, goes-on-map, goes-on-push}
+use Rattle.grid_core.proofs.Seats.{goes-on-same, joins-all, shaded-apart, shaded-longer}
 use Rattle.grid_core.proofs.plan.seat_for.Goals as goal
 
 pub returns-then-has_stack-clause-seated : goal.returns-then-has_stack-clause-seated
@@ -32,20 +32,20 @@ returns-then-has_stack-clause-shaded c = λ b one all.
     let ts = map shade_rules c.args.shades.now.items in
     All-weaker (IsShaded (map f gs) ts) (IsShaded (map f gs') ts)
     (shaded-longer (map f gs) (map f gs') ts ts
-    (extends-map f gs gs' (extends-push gs gs' c.args.geometry c.in_ok-seat.ensures.joins))
-    (extends-same ts)) (map single_shading c.args.singles.now.items)
+    (goes-on-map f gs gs' (goes-on-push gs gs' c.args.geometry c.in_ok-seat.ensures.joins))
+    (goes-on-same ts)) (map single_shading c.args.singles.now.items)
 
 pub returns-then-has_stack-clause-together : goal.returns-then-has_stack-clause-together
-returns-then-has_stack-clause-together c = extends-push c.args.together.now.items
+returns-then-has_stack-clause-together c = goes-on-push c.args.together.now.items
     c.seat_together.new.together.items c.args.geometry c.in_ok-seat.ensures.joins
 
 pub returns-then-has_stack-clause-apart : goal.returns-then-has_stack-clause-apart
 returns-then-has_stack-clause-apart c =
-    extends-same (map single_rules c.args.singles.now.items)
+    goes-on-same (map single_rules c.args.singles.now.items)
 
 pub returns-then-has_stack-clause-shades : goal.returns-then-has_stack-clause-shades
 returns-then-has_stack-clause-shades c =
-    extends-same (map shade_rules c.args.shades.now.items)
+    goes-on-same (map shade_rules c.args.shades.now.items)
 
 pub returns-then-has_stack-clause-same : goal.returns-then-has_stack-clause-same
 returns-then-has_stack-clause-same c = λ b one all. joins-all b c.args.together.now.items
@@ -59,14 +59,14 @@ returns-clause-seated c =
     let xs = c.args.singles.now.items in
     let xs' = c.push_single.new.singles.items in
     let ts = c.shade_for.new.shades.items in
-    let shade = c.in_ok-shade.shade in
+    let shadow = c.in_ok-shadow.shadow in
     seated-apart g p (planned_rules p.wback gs) (map single_rules xs) (map single_rules xs')
-    (map shade_rules ts) c.in_ok-cell.cell shade c.in_ok-cell.ensures.rules
+    (map shade_rules ts) c.in_ok-cell.cell shadow c.in_ok-cell.ensures.rules
     (c.in_ok-cell.ensures.last ∙ sym (length-map xs single_rules))
-    (subst (λ n. IsPlace n (length (map shade_rules ts)) shade)
+    (subst (λ n. IsPlace n (length (map shade_rules ts)) shadow)
     (sym (length-map gs (λ d. stack_rules d p.wback)))
-    (subst (λ n. IsPlace (length gs) n shade) (sym (length-map ts shade_rules))
-    c.in_ok-shade.ensures.there)) c.in_ok-shade.ensures.shade
+    (subst (λ n. IsPlace (length gs) n shadow) (sym (length-map ts shade_rules))
+    c.in_ok-shadow.ensures.there)) c.in_ok-shadow.ensures.shadow
 
 pub returns-clause-shaded : goal.returns-clause-shaded
 returns-clause-shaded c = λ b one all old.
@@ -79,19 +79,19 @@ returns-clause-shaded c = λ b one all old.
     let xs' = c.shade_for.new.shades.items in
     let ts' = map shade_rules xs' in
     let ps = map single_shading c.args.singles.now.items in
-    let shade = c.in_ok-shade.shade in
-    shaded-apart b g p gs' ts' ps (map single_shading c.push_single.new.singles.items) shade
-    c.in_ok-cell.ensures.shading one (c.in_ok-shade.ensures.same b one all)
-    c.in_ok-shade.ensures.some
-    (subst (λ n. IsPlace n (length ts') shade) (sym (length-map gs' f))
-    (subst (λ n. IsPlace (length gs') n shade) (sym (length-map xs' shade_rules))
-    c.in_ok-shade.ensures.there)) c.in_ok-shade.ensures.shade
+    let shadow = c.in_ok-shadow.shadow in
+    shaded-apart b g p gs' ts' ps (map single_shading c.push_single.new.singles.items) shadow
+    c.in_ok-cell.ensures.shading one (c.in_ok-shadow.ensures.same b one all)
+    c.in_ok-shadow.ensures.some
+    (subst (λ n. IsPlace n (length ts') shadow) (sym (length-map gs' f))
+    (subst (λ n. IsPlace (length gs') n shadow) (sym (length-map xs' shade_rules))
+    c.in_ok-shadow.ensures.there)) c.in_ok-shadow.ensures.shadow
     (All-weaker (IsShaded (map f gs) ts) (IsShaded (map f gs') ts')
     (shaded-longer (map f gs) (map f gs') ts ts'
-    (extends-map f gs gs' c.in_ok-shade.ensures.together) c.in_ok-shade.ensures.shades) ps old)
+    (goes-on-map f gs gs' c.in_ok-shadow.ensures.together) c.in_ok-shadow.ensures.shades) ps old)
 
 pub returns-clause-apart : goal.returns-clause-apart
 returns-clause-apart c =
-    extends-push (map single_rules c.args.singles.now.items)
+    goes-on-push (map single_rules c.args.singles.now.items)
     (map single_rules c.push_single.new.singles.items) (rules_from c.args.geometry c.args.policy)
     c.in_ok-cell.ensures.rules

@@ -1,5 +1,5 @@
 use Rattle.std.proofs.Common.{arith}
-use Rattle.grid_core.specs.Shades.{HasCounted}
+use Rattle.grid_core.specs.Shades.{ShadeHasCounted}
 use Rattle.grid_core.proofs.ListLoops.{all_changed, changed_more, still}
 use Rattle.grid_core.proofs.shades.clear_shades.Goals as goal
 
@@ -7,7 +7,7 @@ pub clear-requires : goal.clear-requires
 clear-requires c =
     let before = c.requires in
     let counted = still c.loop-shade.invariant c.deref_mut-shade-items.ensures.value
-    (HasCounted before.0) (omega arith) before.1 c.shade-item.result in
+    (ShadeHasCounted before.0) (omega arith) before.1 c.shade-item.result in
     (before.0, counted, before.2)
 
 pub loop-shade-preserved : goal.loop-shade-preserved

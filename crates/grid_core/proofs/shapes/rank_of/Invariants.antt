@@ -1,5 +1,5 @@
 use Rattle.std.proofs.Common.{◌≡◌, ◌==◌, ◌+◌, drop}
-use Rattle.grid_core.specs.Slots.{index_of}
+use Rattle.marked_list.specs.Recency.{index_of}
 use Rattle.grid_core.proofs.shapes.rank_of.Given as goal
 
 abbrev pub invariant-loop-index : goal.invariant-loop-index

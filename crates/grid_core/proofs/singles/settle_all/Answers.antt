@@ -17,7 +17,7 @@ prior_at-prior-requires c =
     (IsShaded rs ss) (omega arith) c.requires.shaded c.single-item.result in
     record {
       some = shaded.some;
-      there = subst (λ p. IsPlace (length rs) (length ss) p) (sym c.shade.ensures) shaded.there;
+      there = subst (λ p. IsPlace (length rs) (length ss) p) (sym c.shadow.ensures) shaded.there;
     }
 
 pub settle-requires : goal.settle-requires
@@ -38,7 +38,7 @@ loop-single-preserved c =
     let known = λ (h : History) (followed : StackedFollowed h x c.args.stacked.now)
     (hit : All (ShadeHasHit h x) c.args.shades.now.items).
     c.prior_at-prior.ensures h x (followed shaded.some) hit (single_rules s)
-    (subst (λ p. IsShaded rs ss (p, single_rules s)) (sym c.shade.ensures) shaded) in
+    (subst (λ p. IsShaded rs ss (p, single_rules s)) (sym c.shadow.ensures) shaded) in
     let one = c.settle.ensures in
     changed_more c.loop-single.invariant c.single-item.result c.settle.new.self (omega arith) (cc)
     (record {

@@ -1,5 +1,5 @@
 use Rattle.std.proofs.Common.{refl, ◌∙◌, arith}
-use Rattle.grid_core.specs.Shades.{HasCounted}
+use Rattle.grid_core.specs.Shades.{ShadeHasCounted}
 use Rattle.grid_core.specs.Singles.{HasSettled}
 use Rattle.grid_core.proofs.Shadings.{shaded-still}
 use Rattle.grid_core.proofs.caches.Caches.access_each.Goals as goal
@@ -29,7 +29,7 @@ invariant_of-self-2 c = record {
 }
 
 pub serve_all-requires : goal.serve_all-requires
-unfolding HasSettled HasCounted
+unfolding HasSettled ShadeHasCounted
 serve_all-requires c = (c.requires.0, c.requires.1.singles)
 
 pub serve_stacked-requires : goal.serve_stacked-requires
@@ -39,7 +39,7 @@ serve_stacked-requires c =
     omega arith
 
 pub settle_shades-requires : goal.settle_shades-requires
-unfolding HasSettled HasCounted
+unfolding HasSettled ShadeHasCounted
 settle_shades-requires c = (
   c.requires.0,
   c.in_ok-serve_shades.ensures.counted c.requires.0 c.requires.1.shades,
@@ -47,7 +47,7 @@ settle_shades-requires c = (
 )
 
 pub settle_all-requires-clause-pending : goal.settle_all-requires-clause-pending
-unfolding HasSettled HasCounted
+unfolding HasSettled ShadeHasCounted
 settle_all-requires-clause-pending c = (
   c.requires.0,
   c.in_ok-serve_all.ensures.pending c.requires.0 c.requires.1.singles,
@@ -83,7 +83,7 @@ returns-clause-answers c = λ h e.
     }
 
 pub returns-clause-step : goal.returns-clause-step
-unfolding HasSettled HasCounted
+unfolding HasSettled ShadeHasCounted
 returns-clause-step c = λ n s. record {
   stacked =
       let more = c.in_ok-serve_stacked.ensures.served in

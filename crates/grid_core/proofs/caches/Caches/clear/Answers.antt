@@ -1,5 +1,5 @@
 use Rattle.std.proofs.Common.{arith}
-use Rattle.grid_core.specs.Shades.{HasCounted}
+use Rattle.grid_core.specs.Shades.{ShadeHasCounted}
 use Rattle.grid_core.specs.Singles.{HasSettled}
 use Rattle.grid_core.proofs.Shadings.{shaded-still}
 use Rattle.grid_core.proofs.caches.Caches.clear.Goals as goal
@@ -17,13 +17,13 @@ flush_stacked-requires c =
     omega arith
 
 pub clear_shades-requires : goal.clear_shades-requires
-unfolding HasSettled HasCounted
+unfolding HasSettled ShadeHasCounted
 clear_shades-requires c =
     let step = c.requires.step in
     (step.0, step.1.shades, step.2)
 
 pub clear_all-requires-clause-step : goal.clear_all-requires-clause-step
-unfolding HasSettled HasCounted
+unfolding HasSettled ShadeHasCounted
 clear_all-requires-clause-step c =
     let step = c.requires.step in
     (step.0, step.1.singles, step.2)
@@ -36,7 +36,7 @@ returns-clause-stands c = λ h e listed. record {
 }
 
 pub returns-clause-step : goal.returns-clause-step
-unfolding HasSettled HasCounted
+unfolding HasSettled ShadeHasCounted
 returns-clause-step c = λ n s. record {
   stacked =
       let more = c.flush_stacked.ensures.served in

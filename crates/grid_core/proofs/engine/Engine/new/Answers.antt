@@ -3,7 +3,7 @@ use Rattle.std.specs.List.{All}
 use Rattle.cache_core.specs.History.{Rules}
 use Rattle.grid_core.specs.Engines.{served_in, has_failed}
 use Rattle.grid_core.specs.Places.{IsSeated, planned_rules}
-use Rattle.grid_core.specs.Shades.{HasCounted, shade_rules}
+use Rattle.grid_core.specs.Shades.{ShadeHasCounted, shade_rules}
 use Rattle.grid_core.specs.Singles.{HasSettled, single_rules}
 use Rattle.grid_core.specs.StackedCells.{stacked_rules}
 use Rattle.grid_core.proofs.Shadings.{shaded-still}
@@ -18,7 +18,7 @@ invariant_of-result c =
     record { shaded = shaded-still c.in-Ok.ensures.shaded rules refl refl }
 
 pub invariant_of-result-2 : goal.invariant_of-result-2
-unfolding HasSettled HasCounted
+unfolding HasSettled ShadeHasCounted
 invariant_of-result-2 c =
     let plan = c.in-Ok.plan in
     let p = c.args.policy in

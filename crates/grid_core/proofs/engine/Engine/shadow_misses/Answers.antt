@@ -23,6 +23,6 @@ returns-clause-counted c = λ blocks h e.
     let ss = shades_rules old.caches in
     let lt : i < length xs = let all = c.requires in omega (arith, length-map xs f) in
     c.shadow_misses.ensures.counted blocks h e.caches
-    ∙ ap (λ (s : Seat). (counts_of (shadow_placed rs ss s.shade) h).misses) c.index.ensures
-    ∙ ap (λ r. (counts_of r h).misses) ((old.seated i v lt).shade
+    ∙ ap (λ (s : Seat). (counts_of (shadow_placed rs ss s.shadow) h).misses) c.index.ensures
+    ∙ ap (λ r. (counts_of r h).misses) ((old.seated i v lt).shadow
     ∙ ap shadow_of (sym (get_or-map f xs i v no_rules lt)))

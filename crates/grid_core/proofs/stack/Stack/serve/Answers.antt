@@ -6,8 +6,9 @@ use Rattle.std.proofs.Math.Nat.{div-mul-le_self}
 use Rattle.cache_core.specs.Geometry.{bsize_of, sets_of}
 use Rattle.cache_core.specs.Row.{row}
 use Rattle.cache_core.proofs.Lawful.{sane_of}
+use Rattle.marked_list.specs.Recency.{index_of}
 use Rattle.grid_core.specs.declared.slots.Slot.{Slot}
-use Rattle.grid_core.specs.Slots.{holds, index_of}
+use Rattle.grid_core.specs.Slots.{holds}
 use Rattle.grid_core.specs.Standing.{rules_of, found_in}
 use Rattle.grid_core.proofs.StackStep.{back-turned, clean-turned, distance-turned}
 use Rattle.grid_core.proofs.StackStep.{lost-fits, row-room, row-whole, rows-turned, set-below}

@@ -53,30 +53,30 @@ module _ (old : Stacked) {i : ℕ} (below : i < length (stacked_rules old)) {v :
       ap told_in rows-are ∙ sym (get_or-map told_in stacks v.stack w 0 inside)
       ∙ old.told v.stack 0 long
 
-pub counts_in-requires-clause-ways : goal.counts_in-requires-clause-ways
-counts_in-requires-clause-ways c =
+pub shape_counts-requires-clause-ways : goal.shape_counts-requires-clause-ways
+shape_counts-requires-clause-ways c =
     (on c.args.self.now c.requires c.index-shape.ensures c.index.ensures).fits
 
-pub counts_in-requires-clause-some : goal.counts_in-requires-clause-some
-counts_in-requires-clause-some c =
+pub shape_counts-requires-clause-some : goal.shape_counts-requires-clause-some
+shape_counts-requires-clause-some c =
     (on c.args.self.now c.requires c.index-shape.ensures c.index.ensures).some
 
-pub counts_in-requires-clause-rank : goal.counts_in-requires-clause-rank
-counts_in-requires-clause-rank c =
+pub shape_counts-requires-clause-rank : goal.shape_counts-requires-clause-rank
+shape_counts-requires-clause-rank c =
     let old = c.args.self.now in
     let levels = told old c.requires c.index-shape.ensures c.index.ensures in
     let low = (ranked old c.requires c.index-shape.ensures c.index.ensures).inside in
     omega arith
 
-pub counts_in-requires-clause-few : goal.counts_in-requires-clause-few
-counts_in-requires-clause-few c =
+pub shape_counts-requires-clause-few : goal.shape_counts-requires-clause-few
+shape_counts-requires-clause-few c =
     let old = c.args.self.now in
     let low = (ranked old c.requires c.index-shape.ensures c.index.ensures).inside in
     let small = old.small in
     omega arith
 
-pub counts_in-requires-clause-within : goal.counts_in-requires-clause-within
-counts_in-requires-clause-within c =
+pub shape_counts-requires-clause-within : goal.shape_counts-requires-clause-within
+shape_counts-requires-clause-within c =
     let old = c.args.self.now in
     let v = c.index-shape.result.now in
     let w = c.index.result.now in
@@ -92,7 +92,7 @@ returns-clause-kept c =
     let v = c.index-shape.result.now in
     let w = c.index.result.now in
     let rows = old.stacks.items in
-    c.counts_in.ensures
+    c.shape_counts.ensures
     ∙ kept-here rows v w c.index.ensures
     (inside old c.requires c.index-shape.ensures c.index.ensures) old.alike
     ∙ ap (counts_at old.alike rows) c.index-shape.ensures
@@ -108,7 +108,7 @@ returns-clause-counted c = λ blocks h e.
     let w = c.index.result.now in
     let levels = shadow_sizes old.shadows in
     let here = inside old c.requires c.index-shape.ensures c.index.ensures in
-    c.counts_in.ensures
+    c.shape_counts.ensures
     ∙ counts-are old.geometry levels (rising-is levels old.rises) w v
     (ranked old c.requires c.index-shape.ensures c.index.ensures)
     (on old c.requires c.index-shape.ensures c.index.ensures) h

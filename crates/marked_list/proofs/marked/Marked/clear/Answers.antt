@@ -1,6 +1,7 @@
 use Rattle.std.proofs.Common.{ℕ, List, [], length, map, sym, ap, subst, ◌∙◌}
+use Rattle.marked_list.specs.Laws.{IsRising}
 use Rattle.marked_list.specs.Log.{uses_of}
-use Rattle.marked_list.specs.Marks.{AreMarks, IsStepwise, size_of}
+use Rattle.marked_list.specs.Marks.{AreMarks, size_of}
 use Rattle.marked_list.specs.Marked.{marked_sizes}
 use Rattle.marked_list.specs.Uses.{living}
 use Rattle.marked_list.proofs.Windows.{restarted-marks, sizes-restarted}
@@ -15,7 +16,7 @@ invariant_of-self c =
           (subst (AreMarks []) (sym c.restart_each.ensures)
           (restarted-marks (uses_of old.uses) old.marks.items old.marked));
       counted = ap (λ (l : List ℕ). length (living l)) none;
-      rises = λ e. subst IsStepwise (sym (ap (map size_of) c.restart_each.ensures
+      rises = λ e. subst IsRising (sym (ap (map size_of) c.restart_each.ensures
           ∙ sizes-restarted old.marks.items)) (old.rises e);
     }
 

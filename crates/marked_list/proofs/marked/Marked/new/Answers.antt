@@ -1,6 +1,7 @@
 use Rattle.std.proofs.Common.{ℕ, List, [], length, map, sym, ap, subst, ◌∙◌}
+use Rattle.marked_list.specs.Laws.{IsRising}
 use Rattle.marked_list.specs.declared.marks.Mark.{Mark}
-use Rattle.marked_list.specs.Marks.{AreMarks, IsStepwise, size_of}
+use Rattle.marked_list.specs.Marks.{AreMarks, size_of}
 use Rattle.marked_list.specs.Marked.{marked_sizes}
 use Rattle.marked_list.specs.Uses.{living}
 use Rattle.marked_list.proofs.Windows.{fresh-marks, sizes-fresh}
@@ -15,8 +16,8 @@ invariant_of-result c =
       marked = subst (λ l. AreMarks l marks) none
           (subst (AreMarks []) (sym c.in_ok-marks.ensures) (fresh-marks sizes c.requires));
       counted = ap (λ (l : List ℕ). length (living l)) none;
-      rises = λ e. subst (λ (l : List Mark). IsStepwise (map size_of l)) (sym c.in_ok-marks.ensures)
-          (subst IsStepwise (sym (sizes-fresh sizes)) (c.is_rising.ensures e));
+      rises = λ e. subst (λ (l : List Mark). IsRising (map size_of l)) (sym c.in_ok-marks.ensures)
+          (subst IsRising (sym (sizes-fresh sizes)) (c.is_rising.ensures e));
     }
 
 pub returns-clause-sizes : goal.returns-clause-sizes

@@ -1,9 +1,10 @@
 use Rattle.std.proofs.Common.{◌≢◌, ℕ, List, length, sym, ap, subst, ◌∙◌, arith}
 use Rattle.std.proofs.lemmas.List.{length-reverse}
+use Rattle.marked_list.specs.Laws.{IsRising}
 use Rattle.marked_list.specs.declared.marks.Mark.{Mark}
 use Rattle.marked_list.specs.Recency.{index_of}
 use Rattle.marked_list.specs.Log.{uses_of}
-use Rattle.marked_list.specs.Marks.{covers, AreMarks, IsStepwise, IsUseAfter, counted_with}
+use Rattle.marked_list.specs.Marks.{covers, AreMarks, IsUseAfter, counted_with}
 use Rattle.marked_list.specs.Marked.{order_of, marked_sizes}
 use Rattle.marked_list.specs.Uses.{dead, living}
 use Rattle.marked_list.proofs.Windows.{level-marks}
@@ -27,7 +28,7 @@ pub move_each-level-requires : goal.move_each-level-requires
 move_each-level-requires c = λ i lt.
     let old = c.args.self.now in
     let within = (old.marked i lt).within in
-    let longer = ap (λ (l : List ℕ). length l) c.in-Ok.ensures.added in
+    let longer = ap (λ (l : List ℕ). length l) c.in_ok-add.ensures.added in
     let same = length-buried c.args.number (uses_of old.uses) in
     omega (arith, within, longer)
 
@@ -38,7 +39,7 @@ invariant_of-self-2 c =
     let b = c.args.number in
     let ms = uses_of old.uses in
     let low : b ≢ dead = omega (arith, c.requires) in
-    let added = c.in-Ok.ensures.added in
+    let added = c.in_ok-add.ensures.added in
     let after : IsUseAfter ms b c.last_use-last.result old.used = record {
       low = low;
       before = c.last_use-last.ensures;
@@ -53,7 +54,7 @@ invariant_of-self-2 c =
           ∙ ap (λ o. counted_with o (length (living ms))) c.last_use-last.ensures
           ∙ sym (count-next ms b low old.uses.once)
           ∙ sym (ap (λ l. length (living l)) added);
-      rises = λ e. subst IsStepwise (sym c.move_each-level.ensures.sizes) (old.rises e);
+      rises = λ e. subst IsRising (sym c.move_each-level.ensures.sizes) (old.rises e);
     }
 
 pub returns-clause-level : goal.returns-clause-level
@@ -70,4 +71,4 @@ unfolding order_of
 returns-clause-order c =
     let b = c.args.number in
     let ms = uses_of c.args.self.now.uses in
-    ap living c.in-Ok.ensures.added ∙ living-next b ms (omega (arith, c.requires))
+    ap living c.in_ok-add.ensures.added ∙ living-next b ms (omega (arith, c.requires))

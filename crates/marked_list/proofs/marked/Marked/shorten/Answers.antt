@@ -1,6 +1,7 @@
 use Rattle.std.proofs.Common.{ℕ, List, length, map, sym, ap, subst, ◌∙◌}
+use Rattle.marked_list.specs.Laws.{IsRising}
 use Rattle.marked_list.specs.Log.{uses_of}
-use Rattle.marked_list.specs.Marks.{AreMarks, IsStepwise, settled, size_of}
+use Rattle.marked_list.specs.Marks.{AreMarks, settled, size_of}
 use Rattle.marked_list.specs.Marked.{order_of, marked_sizes}
 use Rattle.marked_list.specs.Uses.{living}
 use Rattle.marked_list.proofs.Counted.{settled-marks, sizes-settled}
@@ -19,7 +20,7 @@ invariant_of-self c =
           (settled-marks ms old.marks.items old.marked));
       counted = old.counted ∙ ap (λ (l : List ℕ). length l) (sym (living-twice ms))
           ∙ sym (ap (λ l. length (living l)) last);
-      rises = λ e. subst IsStepwise (sym (ap (map size_of) c.settle_each.ensures
+      rises = λ e. subst IsRising (sym (ap (map size_of) c.settle_each.ensures
           ∙ sizes-settled old.used old.marks.items)) (old.rises e);
     }
 

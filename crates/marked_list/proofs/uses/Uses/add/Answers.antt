@@ -20,7 +20,7 @@ bury-requires c = λ p is.
       below,
       length-reverse log,
       length-append log (c.args.number ∷ []),
-      ap (λ (l : List ℕ). length l) c.in-Ok-note.ensures.log,
+      ap (λ (l : List ℕ). length l) c.in_ok-note.ensures.log,
     )
 
 -- the log after a use is what it is to be
@@ -48,13 +48,13 @@ invariant_of-self-2 c =
     let small : length log < forgotten =
     omega (arith, c.if-len.false, c.len.ensures, old.log.ok.0) in
     let after = next log c.note.new.log.items new b c.args.last low old.once c.requires.last
-    c.in-Ok-note.ensures.log c.bury.ensures in
+    c.in_ok-note.ensures.log c.bury.ensures in
     let long = longer log c.note.new.log.items new b c.args.last low old.once c.requires.last
-    c.in-Ok-note.ensures.log c.bury.ensures in
+    c.in_ok-note.ensures.log c.bury.ensures in
     record {
       stamped = subst (λ l. AreStamps l stamps) (sym after)
           (stamps-next c.grow.new.stamps.items stamps b (length log) small
-          c.in-Ok-note.ensures.stamps (reverse log)
+          c.in_ok-note.ensures.stamps (reverse log)
           (λ q ne. ap place_of (c.grow.ensures.kept q) ∙ old.stamped q ne)
           (sym (length-reverse log)));
       once = subst (λ l. distinct (living l) ≡ living l) (sym after)
@@ -67,7 +67,7 @@ unfolding uses_of
 returns-clause-added c =
     let old = c.args.self.now in
     next old.log.items c.note.new.log.items c.bury.new.log.items c.args.number c.args.last
-    (omega (arith, c.requires.low)) old.once c.requires.last c.in-Ok-note.ensures.log
+    (omega (arith, c.requires.low)) old.once c.requires.last c.in_ok-note.ensures.log
     c.bury.ensures
 
 pub returns-clause-used : goal.returns-clause-used
@@ -78,5 +78,5 @@ returns-clause-used c = λ q.
     let small : length log < forgotten =
     omega (arith, c.if-len.false, c.len.ensures, old.log.ok.0) in
     stamped-next c.grow.new.stamps.items c.note.new.stamps.items c.args.number (length log) small
-    c.in-Ok-note.ensures.stamps q
+    c.in_ok-note.ensures.stamps q
     ∙ ap (λ n. eqb c.args.number q || not (eqb n never)) (c.grow.ensures.kept q)

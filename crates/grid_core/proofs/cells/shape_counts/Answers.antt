@@ -2,7 +2,7 @@ use Rattle.std.proofs.Common.{◌^◌, map, sym, subst, arith}
 use Rattle.cache_core.specs.Counting.{IsWithin}
 use Rattle.grid_core.specs.Totals.{table_of}
 use Rattle.grid_core.proofs.Tables.{within-past}
-use Rattle.grid_core.proofs.cells.counts_in.Goals as goal
+use Rattle.grid_core.proofs.cells.shape_counts.Goals as goal
 
 pub overflow_cast-result : goal.overflow_cast-result
 overflow_cast-result c =

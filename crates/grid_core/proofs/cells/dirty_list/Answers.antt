@@ -3,7 +3,7 @@ use Rattle.std.proofs.lemmas.List.{length-map}
 use Rattle.grid_core.specs.Standing.{StandsFor, rules_of}
 use Rattle.grid_core.specs.Written.{written_by}
 use Rattle.grid_core.proofs.Placed.{rules-at}
-use Rattle.grid_core.proofs.cells.dirty_in.Goals as goal
+use Rattle.grid_core.proofs.cells.dirty_list.Goals as goal
 
 pub dirty-requires-clause-some : goal.dirty-requires-clause-some
 dirty-requires-clause-some c = (c.requires.placed (rules_of c.index.result.now)).some
