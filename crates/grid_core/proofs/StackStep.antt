@@ -179,9 +179,9 @@ lost-fits n p row some all = (elim (ltb p (length row)) as (λ t.
     ])
 
 -- an access to a stack, by the block and the set that the code works out for it
-module _ (v : Stack) (h : History) (st : StandsFor v h) (x : Access) {address block set : ℕ}
-    {write : Bool} (address-is : address ≡ x.addr)
-    (block-is : block ≡ address / bsize_of v.geometry) (set-is : set ≡ block % sets_of v.geometry)
+module _ (v : Stack) (h : History) (st : StandsFor v h) (x : Access) {block set : ℕ}
+    {write : Bool} (block-is : block ≡ x.addr / bsize_of v.geometry)
+    (set-is : set ≡ block % sets_of v.geometry)
     (write-is : write ≡ is_write x) where
   abbrev g : Geometry
   g = v.geometry
@@ -199,9 +199,8 @@ module _ (v : Stack) (h : History) (st : StandsFor v h) (x : Access) {address bl
   as-ruled : {X : Type 0} (f : ℕ → ℕ → ℕ → X)
       → f block set v.ways ≡ f at (at % sets_of g) (assoc_of g)
   as-ruled f =
-      let same : block ≡ at = block-is ∙ ap (λ a. a / bsize_of g) address-is in
-      ap (λ b. f b set v.ways) same
-      ∙ ap (λ t. f at t v.ways) (set-is ∙ ap (λ b. b % sets_of g) same)
+      ap (λ b. f b set v.ways) block-is
+      ∙ ap (λ t. f at t v.ways) (set-is ∙ ap (λ b. b % sets_of g) block-is)
       ∙ ap (f at (at % sets_of g)) v.width
 
   found-at : {p : ℕ} → p ≡ index_of (holds block) (row v.ways set xs)

@@ -2,8 +2,8 @@ pub mod Ways
 pub mod Levels
 pub mod WriteBacks
 pub mod FullyAssociative
-pub mod Slots
 pub mod Pushed
+pub mod Slots
 pub mod Hits
 pub mod Histograms
 pub mod Standing

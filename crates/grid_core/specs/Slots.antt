@@ -8,6 +8,7 @@ use Rattle.std.specs.Option.{option_map_or}
 use Rattle.cache_core.specs.Row.{shifted, row}
 use Rattle.marked_list.specs.Recency.{index_of}
 use Rattle.grid_core.specs.declared.slots.Slot.{Slot}
+use Rattle.grid_core.specs.Pushed.{is_dirty_slot}
 
 -- the slot holds block b
 abbrev pub holds : ℕ → Slot → Bool
@@ -61,8 +62,8 @@ module _ (bsize : ℕ) (wback : Bool) (n : ℕ) where
   -- the first bytes of the blocks of a row that are dirty in a cache of n ways
   abbrev pub dirty_bytes : List Slot → List ℕ
   dirty_bytes [] = []
-  dirty_bytes (s ∷ row) = if s.valid && (wback && nat_lt s.level n) then s.block * bsize
-      ∷ dirty_bytes row else dirty_bytes row
+  dirty_bytes (s ∷ row) = if is_dirty_slot wback n s then s.block * bsize ∷ dirty_bytes row
+      else dirty_bytes row
 
   -- of the first n slots of each of the first rows, which are so many and so long
   abbrev pub dirty_in_rows : ℕ → List Slot → ℕ → List ℕ

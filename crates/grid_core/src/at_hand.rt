@@ -47,10 +47,7 @@ fn make_places(entries: &mut Vec<Entry>) -> Result<(), AllocError>
         block: 0,
         number: usize::MAX,
     };
-    let Ok(()) = entries.resize(PLACES as usize, none) else {
-        return Err(AllocError);
-    };
-    Ok(())
+    entries.resize(PLACES as usize, none)
 }
 
 /// Puts the number of a block in its place, in place of another one.

@@ -1,6 +1,6 @@
 //! The caches of an engine: those that are served together, and those of their own.
 
-ghost use Rattle.std.specs.Prelude.{◌≡◌, ◌<◌, ◌≤◌, ◌+◌, ◌^◌, ◌∷◌, ℕ, false, length, map};
+ghost use Rattle.std.specs.Prelude.{◌≡◌, ◌<◌, ◌≤◌, ◌+◌, ◌∷◌, ℕ, false, length, map};
 ghost use Rattle.std.specs.Prelude.{IfOk, OnOk, OnErr};
 ghost use Rattle.cache_core.specs.History.{History, access as accessed, flush as flushed};
 ghost use Rattle.grid_core.specs.Cells.{items_of};
@@ -20,7 +20,7 @@ use crate::shades::{clear_shades, serve_shades, settle_shades};
 use crate::single::Single;
 use crate::singles::{clear_all, lists_all, none_sent, serve_all, settle_all};
 use crate::stacked::Stacked;
-use cache_core::{Access, Counts, Outcome, PerClass};
+use cache_core::{Access, Counts, MAX_EVENTS, Outcome, PerClass};
 use std::alloc::{AllocError, Global};
 
 /// Caches of one policy: those that have a stack order, and those of their own. Where there are
@@ -37,7 +37,7 @@ pub(crate) struct Caches {
 
 /// Serves an access in the caches that are served together, if there are any.
 fn serve_stacked(stacked: &mut Stacked, access: Access) -> Result<(), AllocError>
-    requires { stacked_served stacked.old < 2 ^ 44 }
+    requires { stacked_served stacked.old < MAX_EVENTS }
     ensures stands { OnOk result ((h : History) → FollowsStacked h stacked.old →
         FollowsStacked (accessed access ∷ h) stacked.new) }
     ensures answers { OnOk result ((h : History) → FollowsStacked h stacked.old →
@@ -59,13 +59,12 @@ fn written_stacked(stacked: &Stacked) -> Result<Vec<Vec<u64>>, AllocError>
         map items_of lists.items ≡ map (written_by h) (stacked_rules stacked.now)) }
     ensures len { IfOk result (λ lists. length lists.items ≡ length (stacked_rules stacked.now)) }
 {
-    let lists = stacked.written()?;
-    Ok(lists)
+    stacked.written()
 }
 
 /// Flushes the caches that are served together, if there are any.
 fn flush_stacked(stacked: &mut Stacked)
-    requires few { stacked_served stacked.old < 2 ^ 44 }
+    requires few { stacked_served stacked.old < MAX_EVENTS }
     ensures stands { (h : History) → FollowsStacked h stacked.old →
         FollowsStacked (flushed ∷ h) stacked.new }
     ensures served { stacked_served stacked.new ≤ stacked_served stacked.old + 1 }
@@ -79,7 +78,7 @@ fn flush_stacked(stacked: &mut Stacked)
 }
 
 impl Caches {
-    ghost use Rattle.std.specs.Prelude.{◌≡◌, ◌<◌, ◌+◌, ◌^◌, ◌∷◌, List, ℕ, true, length, map};
+    ghost use Rattle.std.specs.Prelude.{◌≡◌, ◌<◌, ◌+◌, ◌∷◌, List, ℕ, true, length, map};
     ghost use Rattle.std.specs.Prelude.{IfOk, OnOk, OnErr};
     ghost use Rattle.std.specs.List.{All};
     ghost use Rattle.cache_core.specs.History.{History, access as accessed, flush as flushed};
@@ -101,7 +100,7 @@ impl Caches {
     /// less code.
     #[inline(never)]
     fn access_each(&mut self, access: Access) -> Result<(), AllocError>
-        requires { (n : ℕ) × AreInStep n self.old × (n < 2 ^ 44) }
+        requires { (n : ℕ) × AreInStep n self.old × (n < MAX_EVENTS) }
         ensures stands { OnOk result ((h : History) → CachesStandFor h self.old →
             CachesStandFor (accessed access ∷ h) self.new) }
         ensures answers { OnOk result ((h : History) → CachesStandFor h self.old →
@@ -122,7 +121,7 @@ impl Caches {
 
     /// Serves an access in all caches.
     pub fn access(&mut self, access: Access) -> Result<(), AllocError>
-        requires { (n : ℕ) × AreInStep n self.old × (n < 2 ^ 44) }
+        requires { (n : ℕ) × AreInStep n self.old × (n < MAX_EVENTS) }
         ensures stands { OnOk result ((h : History) → CachesStandFor h self.old →
             CachesStandFor (accessed access ∷ h) self.new) }
         ensures answers { OnOk result ((h : History) → CachesStandFor h self.old →
@@ -142,7 +141,7 @@ impl Caches {
     /// Serves an access the short way, if all caches have a stack order: see `Stacked::again`.
     #[inline(always)]
     pub fn again(&mut self, access: Access) -> bool
-        requires { (n : ℕ) × AreInStep n self.old × (n < 2 ^ 44) }
+        requires { (n : ℕ) × AreInStep n self.old × (n < MAX_EVENTS) }
         ensures stands { result ≡ true → (h : History) → CachesStandFor h self.old →
             CachesStandFor (accessed access ∷ h) self.new }
         ensures answers { result ≡ true → (h : History) → CachesStandFor h self.old →
@@ -164,7 +163,7 @@ impl Caches {
 
     /// Lets all blocks go, and counts a flush. Those of their own write these lists back.
     fn clear(&mut self, apart: &Vec<Vec<u64>>)
-        requires step { (n : ℕ) × AreInStep n self.old × (n < 2 ^ 44) }
+        requires step { (n : ℕ) × AreInStep n self.old × (n < MAX_EVENTS) }
         requires few { AreFew apart.now.items self.old.singles.items }
         requires len { length apart.now.items ≡ length self.old.singles.items }
         ensures stands { (h : History) → CachesStandFor h self.old →
@@ -182,7 +181,7 @@ impl Caches {
     /// Empties all caches, and answers for each seat what its cache writes back. What can fail
     /// comes first, and only then is it counted.
     pub fn flush(&mut self, alloc: Global, seats: &Vec<Seat>) -> Result<Vec<Vec<u64>>, AllocError>
-        requires step { (n : ℕ) × AreInStep n self.old × (n < 2 ^ 44) }
+        requires step { (n : ℕ) × AreInStep n self.old × (n < MAX_EVENTS) }
         requires seats { All (λ s. HasPlace self.old s.cell) seats.now.items }
         ensures lists { IfOk result (λ lists. (h : History) → CachesStandFor h self.old →
             map items_of lists.items ≡ map (λ s. written_by h (rules_placed
@@ -204,7 +203,7 @@ impl Caches {
 
     /// Empties all caches as `flush` does, and lists nothing that is served together.
     pub fn flush_unlisted(&mut self, alloc: Global) -> Result<(), AllocError>
-        requires { (n : ℕ) × AreInStep n self.old × (n < 2 ^ 44) }
+        requires { (n : ℕ) × AreInStep n self.old × (n < MAX_EVENTS) }
         ensures stands { OnOk result ((h : History) → CachesStandFor h self.old →
             CachesStandFor (flushed ∷ h) self.new) }
         ensures step { OnOk result ((n : ℕ) → AreInStep n self.old →

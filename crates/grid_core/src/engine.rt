@@ -10,7 +10,7 @@ use crate::caches::Caches;
 use crate::places::Seat;
 use crate::plan::plan_for;
 use crate::stacked::Stacked;
-use cache_core::{Access, Counts, Geometry, NoMemory, Outcome, PerClass, Policy};
+use cache_core::{Access, Counts, Geometry, MAX_EVENTS, NoMemory, Outcome, PerClass, Policy};
 use std::alloc::Global;
 
 /// Caches of one block size and one policy. After a failed allocation, every later access or flush
@@ -31,7 +31,7 @@ pub struct Engine {
 
 #[tactic(auto, unfolding(crate::specs::Engines::rules_in, crate::specs::Engines::served_in, crate::specs::Engines::kept_in, crate::specs::Engines::has_failed))]
 impl Engine {
-    ghost use Rattle.std.specs.Prelude.{◌≡◌, ◌<◌, ◌+◌, ◌^◌, ◌∷◌, [], List, map, true, false};
+    ghost use Rattle.std.specs.Prelude.{◌≡◌, ◌<◌, ◌+◌, ◌∷◌, [], List, map, true, false};
     ghost use Rattle.std.specs.Prelude.{OnOk, OnErr, IfOk, IsErr, get_or, length, ℕ};
     ghost use Rattle.std.specs.List.{All};
     ghost use Rattle.cache_core.specs.Geometry.{bsize_of};
@@ -85,7 +85,7 @@ impl Engine {
 
     /// Serves one access in all caches.
     pub fn access(&mut self, access: Access) -> Result<(), NoMemory>
-        requires { served_in self.old < 2 ^ 44 }
+        requires { served_in self.old < MAX_EVENTS }
         ensures stands { OnOk result ((h : History) → EngineStandsFor self.old h →
             EngineStandsFor self.new (accessed access ∷ h)) }
         ensures answers { OnOk result ((h : History) → EngineStandsFor self.old h →
@@ -116,7 +116,7 @@ impl Engine {
     /// way; if not, nothing is changed, and `access` serves it.
     #[inline(always)]
     pub fn again(&mut self, access: Access) -> bool
-        requires { served_in self.old < 2 ^ 44 }
+        requires { served_in self.old < MAX_EVENTS }
         ensures stands { result ≡ true → (h : History) → EngineStandsFor self.old h →
             EngineStandsFor self.new (accessed access ∷ h) }
         ensures answers { result ≡ true → (h : History) → EngineStandsFor self.old h →
@@ -140,7 +140,7 @@ impl Engine {
     /// Empties all caches and the shadows, and answers for each cache the first bytes of the blocks
     /// that it writes back, in rising order. Known blocks stay known.
     pub fn flush(&mut self) -> Result<Vec<Vec<u64>>, NoMemory>
-        requires { served_in self.old < 2 ^ 44 }
+        requires { served_in self.old < MAX_EVENTS }
         ensures lists { IfOk result (λ lists. (h : History) → EngineStandsFor self.old h →
             map items_of lists.items ≡ map (written_by h) (rules_in self.old)) }
         ensures stands { OnOk result ((h : History) → EngineStandsFor self.old h →
@@ -169,7 +169,7 @@ impl Engine {
     /// Empties all caches and the shadows as `flush` does, and lists no blocks. Where nobody reads
     /// the lists, this spares the search of all rows for dirty blocks.
     pub fn flush_unlisted(&mut self) -> Result<(), NoMemory>
-        requires { served_in self.old < 2 ^ 44 }
+        requires { served_in self.old < MAX_EVENTS }
         ensures stands { OnOk result ((h : History) → EngineStandsFor self.old h →
             EngineStandsFor self.new (flushed ∷ h)) }
         ensures served { OnOk result (served_in self.new ≡ served_in self.old + 1) }

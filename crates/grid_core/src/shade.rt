@@ -7,7 +7,7 @@ ghost use Rattle.grid_core.specs.Wholes.{IsWholeOf, IsLruOf};
 
 use crate::counting::{count, zero_per_class};
 use crate::shapes::is_lru;
-use cache_core::{Access, Contents, Geometry, PerClass, Policy};
+use cache_core::{Access, Contents, Geometry, MAX_EVENTS, PerClass, Policy};
 use std::alloc::{AllocError, Global};
 
 /// A fully associative LRU cache that counts its misses alone, up to the last event that all caches
@@ -42,7 +42,7 @@ fn is_lru_of(policy: Policy, other: Policy) -> bool
 
 #[tactic(auto, unfolding(crate::specs::Shades::ShadeHasCounted, crate::specs::Shades::ShadeHasHit))]
 impl Shade {
-    ghost use Rattle.std.specs.Prelude.{◌≡◌, ◌<◌, ◌+◌, ◌^◌, ◌∷◌, ℕ, true, [], IfOk, OnOk};
+    ghost use Rattle.std.specs.Prelude.{◌≡◌, ◌<◌, ◌+◌, ◌∷◌, ℕ, true, [], IfOk, OnOk};
     ghost use Rattle.cache_core.specs.History.{History, access as accessed, flush as flushed};
     ghost use Rattle.cache_core.specs.Counts.{counts_of};
     ghost use Rattle.cache_core.specs.Kinds.{shadow_of};
@@ -95,7 +95,7 @@ impl Shade {
 
     /// Counts the access that was served last.
     pub fn settle(&mut self, access: Access)
-        requires { (n : ℕ) × ShadeHasCounted n self.old × (n < 2 ^ 44) }
+        requires { (n : ℕ) × ShadeHasCounted n self.old × (n < MAX_EVENTS) }
         ensures stands { (h : History) → ShadeReached h access self.old →
             ShadeStandsFor (accessed access ∷ h) self.new }
         ensures hit { (h : History) → ShadeReached h access self.old →
@@ -109,7 +109,7 @@ impl Shade {
 
     /// Lets all blocks go.
     pub fn clear(&mut self)
-        requires { (n : ℕ) × ShadeHasCounted n self.old × (n < 2 ^ 44) }
+        requires { (n : ℕ) × ShadeHasCounted n self.old × (n < MAX_EVENTS) }
         ensures stands { (h : History) → ShadeStandsFor h self.old →
             ShadeStandsFor (flushed ∷ h) self.new }
         ensures counted { (n : ℕ) → ShadeHasCounted n self.old → ShadeHasCounted (n + 1) self.new }

@@ -1,13 +1,13 @@
 //! The shadows of caches that do not allocate at writes, one after another.
 
-ghost use Rattle.std.specs.Prelude.{◌≡◌, ◌<◌, ◌+◌, ◌^◌, ◌∷◌, ℕ, map, OnOk};
+ghost use Rattle.std.specs.Prelude.{◌≡◌, ◌<◌, ◌+◌, ◌∷◌, ℕ, map, OnOk};
 ghost use Rattle.std.specs.List.{All};
 ghost use Rattle.cache_core.specs.History.{History, access as accessed, flush as flushed};
 ghost use Rattle.grid_core.specs.Shades.{ShadeStandsFor, ShadeReached, ShadeHasHit};
 ghost use Rattle.grid_core.specs.Shades.{ShadeHasCounted, shade_rules, shade_misses};
 
 use crate::shade::Shade;
-use cache_core::Access;
+use cache_core::{Access, MAX_EVENTS};
 use std::alloc::AllocError;
 
 /// Serves an access in all of them. It is not counted yet.
@@ -27,7 +27,7 @@ pub(crate) fn serve_shades(shades: &mut Vec<Shade>, access: Access) -> Result<()
 
 /// Counts the access that all of them served last.
 pub(crate) fn settle_shades(shades: &mut Vec<Shade>, access: Access)
-    requires { (n : ℕ) × All (ShadeHasCounted n) shades.old.items × (n < 2 ^ 44) }
+    requires { (n : ℕ) × All (ShadeHasCounted n) shades.old.items × (n < MAX_EVENTS) }
     ensures stands { (h : History) → All (ShadeReached h access) shades.old.items →
         All (ShadeStandsFor (accessed access ∷ h)) shades.new.items }
     ensures hit { (h : History) → All (ShadeReached h access) shades.old.items →
@@ -43,7 +43,7 @@ pub(crate) fn settle_shades(shades: &mut Vec<Shade>, access: Access)
 
 /// Lets all blocks of all of them go.
 pub(crate) fn clear_shades(shades: &mut Vec<Shade>)
-    requires { (n : ℕ) × All (ShadeHasCounted n) shades.old.items × (n < 2 ^ 44) }
+    requires { (n : ℕ) × All (ShadeHasCounted n) shades.old.items × (n < MAX_EVENTS) }
     ensures stands { (h : History) → All (ShadeStandsFor h) shades.old.items →
         All (ShadeStandsFor (flushed ∷ h)) shades.new.items }
     ensures counted { (n : ℕ) → All (ShadeHasCounted n) shades.old.items →

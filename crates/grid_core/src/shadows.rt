@@ -102,13 +102,9 @@ impl Shadows {
         ensures keeps { OnErr result (levels_in self.new ≡ levels_in self.old) }
         ensures sizes { shadow_sizes self.new ≡ shadow_sizes self.old }
     {
-        let Ok(number) = self.numbers.number(block) else {
-            return Err(AllocError);
-        };
+        let number = self.numbers.number(block)?;
         let known = self.order.knows(number);
-        let Ok(level) = self.order.touch(number) else {
-            return Err(AllocError);
-        };
+        let level = self.order.touch(number)?;
         count_at(&mut self.levels, level, access);
         self.recent = used_now(self.recent, block, writes(access));
         Ok(PriorLevel { known, level })

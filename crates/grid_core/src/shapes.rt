@@ -33,7 +33,8 @@ pub(crate) fn is_lru(policy: Policy) -> bool
 
 /// Whether all geometries have the block size of `first`.
 pub fn share_block_size(geometries: &[Geometry], first: Geometry) -> bool
-    ensures { result ≡ true → All (λ g. bsize_of g ≡ bsize_of first) geometries.now }
+    ensures share { result ≡ true → All (λ g. bsize_of g ≡ bsize_of first) geometries.now }
+    ensures every { All (λ g. bsize_of g ≡ bsize_of first) geometries.now → result ≡ true }
 {
     for geometry in geometries {
         if geometry.bsize() != first.bsize() {

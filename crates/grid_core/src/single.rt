@@ -8,7 +8,7 @@ ghost use Rattle.grid_core.specs.Written.{SendsNothing};
 
 use crate::outcome::no_outcome;
 use crate::places::Place;
-use cache_core::{Access, Contents, Counts, Geometry, Outcome, Policy, Prior, Served};
+use cache_core::{Access, Contents, Counts, Geometry, MAX_EVENTS, Outcome, Policy, Prior, Served};
 use std::alloc::{AllocError, Global};
 
 /// The blocks of a cache, and what it counted up to the last event that all caches of its engine
@@ -38,7 +38,7 @@ fn sends_nothing(outcome: Outcome) -> bool
 
 #[tactic(auto, unfolding(crate::specs::Singles::HasSettled, crate::specs::Singles::IsPending))]
 impl Single {
-    ghost use Rattle.std.specs.Prelude.{◌≡◌, ◌<◌, ◌≤◌, ◌+◌, ◌^◌, ◌∷◌, ℕ, true, [], IfOk, OnOk};
+    ghost use Rattle.std.specs.Prelude.{◌≡◌, ◌<◌, ◌≤◌, ◌+◌, ◌∷◌, ℕ, true, [], IfOk, OnOk};
     ghost use Rattle.std.specs.Prelude.{length};
     ghost use Rattle.cache_core.specs.History.{History, access as accessed, flush as flushed};
     ghost use Rattle.cache_core.specs.Standing.{IsKnown, rules_from};
@@ -98,7 +98,7 @@ impl Single {
 
     /// Counts the access that was served last, by what was known of its block before.
     pub fn settle(&mut self, access: Access, prior: Prior)
-        requires { (n : ℕ) × IsPending n self.old × (n < 2 ^ 44) }
+        requires { (n : ℕ) × IsPending n self.old × (n < MAX_EVENTS) }
         ensures stands { (h : History) → SingleReached h access self.old →
             IsKnown (single_rules self.old) h access prior →
             SingleStandsFor (accessed access ∷ h) self.new }
@@ -129,7 +129,7 @@ impl Single {
 
     /// Lets all blocks go, and counts a flush that wrote so many back.
     pub fn clear(&mut self, written: u64)
-        requires step { (n : ℕ) × HasSettled n self.old × (n < 2 ^ 44) }
+        requires step { (n : ℕ) × HasSettled n self.old × (n < MAX_EVENTS) }
         requires few { written ≤ single_dirty self.old }
         ensures stands { (h : History) → SingleStandsFor h self.old →
             written ≡ length (written_by h (single_rules self.old)) →

@@ -1,6 +1,6 @@
 //! Caches of their own, one after another.
 
-ghost use Rattle.std.specs.Prelude.{◌≡◌, ◌<◌, ◌+◌, ◌^◌, ◌∷◌, ℕ, true, map, length, IfOk, OnOk};
+ghost use Rattle.std.specs.Prelude.{◌≡◌, ◌<◌, ◌+◌, ◌∷◌, ℕ, true, map, length, IfOk, OnOk};
 ghost use Rattle.std.specs.List.{All};
 ghost use Rattle.cache_core.specs.declared.access.Access.{Access as Accessed};
 ghost use Rattle.cache_core.specs.History.{History, Rules, access as accessed, flush as flushed};
@@ -20,7 +20,7 @@ use crate::places::Place;
 use crate::shade::Shade;
 use crate::single::Single;
 use crate::stacked::Stacked;
-use cache_core::{Access, Prior};
+use cache_core::{Access, MAX_EVENTS, Prior};
 use std::alloc::{AllocError, Global};
 
 /// Serves an access in all caches. It is not counted yet.
@@ -78,7 +78,7 @@ pub(crate) fn settle_all(
     shades: &Vec<Shade>,
     access: Access,
 )
-    requires pending { (n : ℕ) × All (IsPending n) singles.old.items × (n < 2 ^ 44) }
+    requires pending { (n : ℕ) × All (IsPending n) singles.old.items × (n < MAX_EVENTS) }
     requires shaded { All (IsShaded (stacked_rules stacked.now) (map shade_rules shades.now.items))
         (map single_shading singles.old.items) }
     ensures stands { (h : History) → All (SingleReached h access) singles.old.items →
@@ -117,7 +117,7 @@ pub(crate) fn lists_all(alloc: Global, singles: &Vec<Single>) -> Result<Vec<Vec<
 
 /// Lets all blocks go, and counts a flush that wrote these lists back.
 pub(crate) fn clear_all(singles: &mut Vec<Single>, lists: &Vec<Vec<u64>>)
-    requires step { (n : ℕ) × All (HasSettled n) singles.old.items × (n < 2 ^ 44) }
+    requires step { (n : ℕ) × All (HasSettled n) singles.old.items × (n < MAX_EVENTS) }
     requires few { AreFew lists.now.items singles.old.items }
     requires len { length lists.now.items ≡ length singles.old.items }
     ensures stands { (h : History) → All (SingleStandsFor h) singles.old.items →

@@ -9,7 +9,7 @@ ghost use Rattle.std.specs.Ordering.{nat_cmp};
 ghost use Rattle.std.specs.Option.{option_map};
 ghost use Rattle.cache_core.specs.Row.{row};
 ghost use Rattle.marked_list.specs.Recency.{index_of};
-ghost use Rattle.grid_core.specs.Pushed.{dirty_in};
+ghost use Rattle.grid_core.specs.Pushed.{dirty_in, is_dirty_slot};
 ghost use Rattle.grid_core.specs.Slots.{holds, level_in, no_slot};
 ghost use Rattle.grid_core.specs.Slots.{HaveBytes, dirty_bytes, dirty_in_rows};
 
@@ -65,12 +65,20 @@ pub(crate) fn clear_in(slots: &mut Vec<Slot>)
     clear(slots);
 }
 
+/// Whether a slot holds a block that is dirty in a cache of `ways` ways.
+#[inline(always)]
+fn is_dirty(slot: Slot, wback: bool, ways: usize) -> bool
+    ensures { result ≡ is_dirty_slot wback ways slot }
+{
+    slot.valid && wback && (slot.level as usize) < ways
+}
+
 /// The first byte of the block of a slot, if it is dirty in a cache of `ways` ways.
 pub(crate) fn pushed(slot: Slot, wback: bool, ways: usize, bsize: u64) -> Option<u64>
     requires { slot.block * bsize < 2 ^ 64 }
     ensures { result ≡ option_map (λ b. b * bsize) (dirty_in wback ways slot) }
 {
-    if slot.valid && wback && (slot.level as usize) < ways {
+    if is_dirty(slot, wback, ways) {
         Some(slot.block * bsize)
     } else {
         None
@@ -146,7 +154,7 @@ fn gather(
         ≡ bytes.old.items ++ dirty_bytes bsize wback ways row.now) }
 {
     for slot in row {
-        if slot.valid && wback && (slot.level as usize) < ways {
+        if is_dirty(*slot, wback, ways) {
             bytes.push(slot.block * bsize)?;
         }
     }
@@ -191,7 +199,7 @@ fn count_in(row: &[Slot], wback: bool, ways: usize) -> usize
 {
     let mut count = 0;
     for slot in row {
-        if slot.valid && wback && (slot.level as usize) < ways {
+        if is_dirty(*slot, wback, ways) {
             count += 1;
         }
     }

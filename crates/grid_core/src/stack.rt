@@ -15,7 +15,7 @@ use std::alloc::{AllocError, Global};
 
 /// The sets of the widest cache, and with them those of every narrower one of as many sets.
 #[derive(Drop)]
-pub struct Stack {
+pub(crate) struct Stack {
     geometry: Geometry,
     ways: usize,
     /// The number of the last set.
@@ -47,13 +47,6 @@ pub(crate) fn writes(access: Access) -> bool
         Class::Write => true,
         _ => false,
     }
-}
-
-/// The address of an access.
-fn address(access: Access) -> u64
-    ensures { result ≡ access.addr }
-{
-    access.addr
 }
 
 #[tactic(auto, unfolding(crate::specs::Standing::rules_of, crate::specs::Standing::found_in))]
@@ -117,8 +110,7 @@ impl Stack {
             StaysFirst (rules_of self.now) h access }
     {
         let write = writes(access);
-        let addr = address(access);
-        let block = self.geometry.block(addr);
+        let block = self.geometry.block(access.addr);
         let set = self.set_of(block);
         stays(&self.slots, set, self.ways, block, write)
     }
@@ -142,8 +134,7 @@ impl Stack {
         ensures rules { rules_of self.new ≡ rules_of self.old }
     {
         let write = writes(access);
-        let addr = address(access);
-        let block = self.geometry.block(addr);
+        let block = self.geometry.block(access.addr);
         let set = self.set_of(block);
         let from = from.min(self.ways);
         let turned = turn_in(&mut self.slots, set, self.ways, block, from, write);

@@ -23,7 +23,7 @@ use crate::shadows::{PriorLevel, Shadows, prior_of_last};
 use crate::shapes::rising_sizes;
 use crate::stack::{Stack, writes};
 use crate::stacks::{clear_rows, serve_rows};
-use cache_core::{Access, Counts, Geometry, PerClass};
+use cache_core::{Access, Counts, Geometry, MAX_EVENTS, PerClass};
 use std::alloc::{AllocError, Global};
 
 /// LRU caches of one block size that allocate at writes: rows for each number of sets, which count
@@ -118,7 +118,7 @@ impl Stacked {
     /// in all caches and shadows, and changes none.
     #[inline(always)]
     fn repeat(&mut self, access: Access)
-        requires few { stacked_served self.old < 2 ^ 44 }
+        requires few { stacked_served self.old < MAX_EVENTS }
         requires again { IsAgain (access.addr / bsize_of self.old.geometry) (is_write access)
             (recent_in self.old.shadows) }
         ensures stands { (h : History) → StackedStandsFor self.old h →
@@ -141,7 +141,7 @@ impl Stacked {
 
     /// Serves one access to this block in all caches.
     fn serve(&mut self, access: Access, block: u64) -> Result<(), AllocError>
-        requires few { stacked_served self.old < 2 ^ 44 }
+        requires few { stacked_served self.old < MAX_EVENTS }
         requires block { block ≡ access.addr / bsize_of self.old.geometry }
         ensures stands { OnOk result ((h : History) → StackedStandsFor self.old h →
             StackedStandsFor self.new (accessed access ∷ h)) }
@@ -172,7 +172,7 @@ impl Stacked {
     /// within the loop over the records. Not inlined, a fetch took about 30 instructions more.
     #[inline(always)]
     pub fn again(&mut self, access: Access) -> bool
-        requires { stacked_served self.old < 2 ^ 44 }
+        requires { stacked_served self.old < MAX_EVENTS }
         ensures stands { result ≡ true → (h : History) → StackedStandsFor self.old h →
             StackedStandsFor self.new (accessed access ∷ h) }
         ensures answers { result ≡ true → (h : History) → StackedStandsFor self.old h →
@@ -201,7 +201,7 @@ impl Stacked {
 
     /// Serves one access in all caches.
     pub fn access(&mut self, access: Access) -> Result<(), AllocError>
-        requires { stacked_served self.old < 2 ^ 44 }
+        requires { stacked_served self.old < MAX_EVENTS }
         ensures stands { OnOk result ((h : History) → StackedStandsFor self.old h →
             StackedStandsFor self.new (accessed access ∷ h)) }
         ensures answers { OnOk result ((h : History) → StackedStandsFor self.old h →
@@ -233,7 +233,7 @@ impl Stacked {
 
     /// Empties all caches and the shadows. Known blocks stay known.
     pub fn flush(&mut self)
-        requires few { stacked_served self.old < 2 ^ 44 }
+        requires few { stacked_served self.old < MAX_EVENTS }
         ensures stands { (h : History) → StackedStandsFor self.old h →
             StackedStandsFor self.new (flushed ∷ h) }
         ensures served { stacked_served self.new ≡ stacked_served self.old + 1 }

@@ -27,75 +27,75 @@ number-tells blocks b n ys is all y h =
 pub count_at-requires-clause-inside : goal.count_at-requires-clause-inside
 count_at-requires-clause-inside c =
     let s = c.args.self.now in
-    let is = c.in-Ok-touch.ensures.level in
-    let le = level-le (marked_sizes s.order) (order_of s.order) c.in-Ok.number in
+    let is = c.in_ok-level.ensures.level in
+    let le = level-le (marked_sizes s.order) (order_of s.order) c.in_ok-number.number in
     let long = s.leveled in
     omega arith
 
 pub returns-clause-low : goal.returns-clause-low
 returns-clause-low c =
     let s = c.args.self.now in
-    let is = c.in-Ok-touch.ensures.level in
-    let le = level-le (marked_sizes s.order) (order_of s.order) c.in-Ok.number in
+    let is = c.in_ok-level.ensures.level in
+    let le = level-le (marked_sizes s.order) (order_of s.order) c.in_ok-number.number in
     omega arith
 
 pub returns-clause-levels : goal.returns-clause-levels
 returns-clause-levels c =
     let s = c.args.self.now in
-    let is = c.in-Ok-touch.ensures.level in
-    let le = level-le (marked_sizes s.order) (order_of s.order) c.in-Ok.number in
+    let is = c.in_ok-level.ensures.level in
+    let le = level-le (marked_sizes s.order) (order_of s.order) c.in_ok-number.number in
     let long = s.leveled in
     ap total c.count_at.ensures
-    ∙ total-set c.args.access s.levels.items c.in-Ok-touch.level (omega arith)
+    ∙ total-set c.args.access s.levels.items c.in_ok-level.level (omega arith)
 
 pub returns-clause-far : goal.returns-clause-far
 returns-clause-far c = λ k.
     let s = c.args.self.now in
-    let is = c.in-Ok-touch.ensures.level in
-    let le = level-le (marked_sizes s.order) (order_of s.order) c.in-Ok.number in
+    let is = c.in_ok-level.ensures.level in
+    let le = level-le (marked_sizes s.order) (order_of s.order) c.in_ok-number.number in
     let long = s.leveled in
     ap (λ l. total (drop (suc k) l)) c.count_at.ensures
-    ∙ total-behind c.args.access s.levels.items c.in-Ok-touch.level k (omega arith)
+    ∙ total-behind c.args.access s.levels.items c.in_ok-level.level k (omega arith)
 
 pub returns-clause-known : goal.returns-clause-known
 returns-clause-known c = λ low.
     let s = c.args.self.now in
     c.knows-known.ensures
-    ∙ sym (ap (is_used s.order) c.in-Ok.ensures.number)
+    ∙ sym (ap (is_used s.order) c.in_ok-number.ensures.number)
     ∙ used-same s.order (numbered s) _ c.number.ensures.grows low c.args.block
 
 pub returns-clause-level : goal.returns-clause-level
 returns-clause-level c = λ ys held low.
     let s = c.args.self.now in
     let b = c.args.block in
-    let n = c.in-Ok.number in
+    let n = c.in_ok-number.number in
     let blocks = blocks_in c.number.new.self in
     let on = c.number.ensures.grows in
     let some = λ (y : ℕ) (h : has ys y ≡ true). used-some s.order (number_at blocks y)
     (used-same s.order (numbered s) blocks on low y ∙ held.known y h) in
-    c.in-Ok-touch.ensures.level
+    c.in_ok-level.ensures.level
     ∙ ap (λ l. level_of (shadow_sizes s) l n)
     (held.order ∙ order-same s.order (numbered s) blocks on low ys held.known)
     ∙ level-map (number_by blocks) n b (shadow_sizes s) ys
-    (number-tells blocks b n ys c.in-Ok.ensures.number some)
+    (number-tells blocks b n ys c.in_ok-number.ensures.number some)
 
 pub returns-clause-order : goal.returns-clause-order
 returns-clause-order c = λ ys held low.
     let s = c.args.self.now in
     let b = c.args.block in
-    let n = c.in-Ok.number in
+    let n = c.in_ok-number.number in
     let blocks = blocks_in c.number.new.self in
     let on = c.number.ensures.grows in
-    let is = c.in-Ok.ensures.number in
+    let is = c.in_ok-number.ensures.number in
     let some = λ (y : ℕ) (h : has ys y ≡ true). used-some s.order (number_at blocks y)
     (used-same s.order (numbered s) blocks on low y ∙ held.known y h) in
     record {
-      order = c.in-Ok-touch.ensures.order
+      order = c.in_ok-level.ensures.order
           ∙ ap (brought_front n)
           (held.order ∙ order-same s.order (numbered s) blocks on low ys held.known)
           ∙ front-map (number_by blocks) n b (number_by blocks) (ap (λ o. unwrap_or o 0) is)
           (λ y e. refl) ys (number-tells blocks b n ys is some);
-      known = λ y h. used-after s.order _ blocks b n is c.in-Ok-touch.ensures.used y
+      known = λ y h. used-after s.order _ blocks b n is c.in_ok-level.ensures.used y
           ∙ known-front (is_known_by blocks s) b ys
           (λ z inside. used-same s.order (numbered s) blocks on low z ∙ held.known z inside) y h;
     }
@@ -105,14 +105,14 @@ returns-clause-adds c = λ low q.
     let s = c.args.self.now in
     let b = c.args.block in
     let blocks = blocks_in c.number.new.self in
-    used-after s.order _ blocks b c.in-Ok.number c.in-Ok.ensures.number
-    c.in-Ok-touch.ensures.used q
+    used-after s.order _ blocks b c.in_ok-number.number c.in_ok-number.ensures.number
+    c.in_ok-level.ensures.used q
     ∙ ap (λ t. eqb b q || t) (used-same s.order (numbered s) blocks c.number.ensures.grows low q)
 
 pub returns-clause-numbers : goal.returns-clause-numbers
 returns-clause-numbers c = λ low.
     let s = c.args.self.now in
     let blocks = blocks_in c.number.new.self in
-    low-after s.order _ blocks c.args.block c.in-Ok.number c.in-Ok.ensures.number
-    c.in-Ok-touch.ensures.used
+    low-after s.order _ blocks c.args.block c.in_ok-number.number c.in_ok-number.ensures.number
+    c.in_ok-level.ensures.used
     (low-same s.order (numbered s) blocks c.number.ensures.grows low)

@@ -33,16 +33,16 @@ turn_in-turned-requires-clause-far c =
     let wide = c.args.self.now.width in
     let from = c.min-from.ensures in
     ∥∥₁_elim c.requires.behind le_prop (λ w.
-    let at = distance-turned c.args.self.now w.0 w.1 c.args.access c.address-addr.ensures
-    c.block-block.ensures c.set_of-set.ensures c.writes-write.ensures refl in
+    let at = distance-turned c.args.self.now w.0 w.1 c.args.access c.block-block.ensures
+    c.set_of-set.ensures c.writes-write.ensures refl in
     let before = w.2 in
     omega arith)
 
 pub returns-clause-stands : goal.returns-clause-stands
 unfolding rules_of
 returns-clause-stands c = λ h st. record {
-  rows = rows-turned c.args.self.now h st c.args.access c.address-addr.ensures
-      c.block-block.ensures c.set_of-set.ensures c.writes-write.ensures
+  rows = rows-turned c.args.self.now h st c.args.access c.block-block.ensures
+      c.set_of-set.ensures c.writes-write.ensures
       c.turn_in-turned.new.slots.items c.turn_in-turned.ensures.slots
       c.turn_in-turned.ensures.others;
 }
@@ -50,11 +50,10 @@ returns-clause-stands c = λ h st. record {
 pub returns-clause-moved : goal.returns-clause-moved
 unfolding rules_of found_in
 returns-clause-moved c = λ h st. record {
-  found = distance-turned c.args.self.now h st c.args.access c.address-addr.ensures
-      c.block-block.ensures c.set_of-set.ensures c.writes-write.ensures
-      c.turn_in-turned.ensures.position;
-  backs = back-turned c.args.self.now h st c.args.access c.address-addr.ensures
-      c.block-block.ensures c.set_of-set.ensures c.writes-write.ensures
+  found = distance-turned c.args.self.now h st c.args.access c.block-block.ensures
+      c.set_of-set.ensures c.writes-write.ensures c.turn_in-turned.ensures.position;
+  backs = back-turned c.args.self.now h st c.args.access c.block-block.ensures
+      c.set_of-set.ensures c.writes-write.ensures
       c.turn_in-turned.new.slots.items c.turn_in-turned.result.last
       c.turn_in-turned.ensures.slots c.turn_in-turned.ensures.last;
 }
@@ -64,9 +63,8 @@ invariant_of-self-clause-bytes c =
     let old = c.args.self.now in
     let g = old.geometry in
     let lt = set-below old c.block-block.result c.set_of-set.ensures in
-    let down : c.address-addr.result / bsize_of g * bsize_of g ≤ c.address-addr.result =
-    div-mul-le_self c.address-addr.result (bsize_of g) in
-    let high = c.address-addr.type_inv in
+    let addr = c.args.access.addr in
+    let down : addr / bsize_of g * bsize_of g ≤ addr = div-mul-le_self addr (bsize_of g) in
     let fits : c.block-block.result * bsize_of g < 2 ^ 64 =
     rw c.block-block.ensures (omega arith) in
     bytes-next (bsize_of g) (sets_of g) old.ways c.block-block.result c.set_of-set.result
@@ -115,8 +113,8 @@ returns-clause-counted c = λ sizes h st low counted.
     let turned = c.turn_in-turned.result in
     counted-next (rules_of old) sizes h x old.histogram c.note.new.self turned.position
     turned.clean c.args.level
-    (distance-turned old h st x c.address-addr.ensures c.block-block.ensures c.set_of-set.ensures
+    (distance-turned old h st x c.block-block.ensures c.set_of-set.ensures
     c.writes-write.ensures c.turn_in-turned.ensures.position)
-    (clean-turned old h st x c.address-addr.ensures c.block-block.ensures c.set_of-set.ensures
+    (clean-turned old h st x c.block-block.ensures c.set_of-set.ensures
     c.writes-write.ensures c.turn_in-turned.ensures.clean)
     low c.note.ensures.past c.note.ensures.first counted

@@ -1,5 +1,5 @@
-use Rattle.std.proofs.Common.{◌/◌, ◌%◌, sym, ap, ◌∙◌, arith}
-use Rattle.cache_core.specs.Geometry.{bsize_of, sets_of}
+use Rattle.std.proofs.Common.{◌%◌, sym, ap, ◌∙◌, arith}
+use Rattle.cache_core.specs.Geometry.{sets_of}
 use Rattle.cache_core.specs.History.{is_write}
 use Rattle.cache_core.specs.Row.{row}
 use Rattle.cache_core.proofs.Lawful.{sane_of}
@@ -29,11 +29,11 @@ returns-clause-is c =
     c.writes-write.ensures
     ∙ ap (λ b. stays_in b (is_write c.args.access)
     (row v.ways (b % sets_of v.geometry) v.slots.items))
-    (c.block-block.ensures ∙ ap (λ a. a / bsize_of v.geometry) c.address-addr.ensures)
+    c.block-block.ensures
 
 pub returns-clause-first : goal.returns-clause-first
 unfolding rules_of
 returns-clause-first c = λ yes h st.
-    first-turned c.args.self.now h st c.args.access c.address-addr.ensures
-    c.block-block.ensures c.set_of-set.ensures c.writes-write.ensures
+    first-turned c.args.self.now h st c.args.access c.block-block.ensures c.set_of-set.ensures
+    c.writes-write.ensures
     (sym c.stays.ensures ∙ yes)
