@@ -39,6 +39,10 @@ low-levels n level (s ∷ stacks) told le zero d lt =
 low-levels n level (s ∷ stacks) told le (suc k) d lt =
     low-levels n level stacks (λ i e low. told (suc i) e (omega arith)) le k d (omega arith)
 
--- what is within the number of served accesses and flushes is within the bound of all sums
+-- what is within the number of served accesses and flushes is within the most that there may be
+pub within-events : (e : Stacked) {p : PerClass} → IsWithin p e.served → IsWithin p (2 ^ 44)
+within-events e {p} all = let few = e.few in within-more p e.served (2 ^ 44) (omega arith) all
+
+-- and within what can be counted
 pub within-most : (e : Stacked) {p : PerClass} → IsWithin p e.served → IsWithin p (2 ^ 46)
 within-most e {p} all = let few = e.few in within-more p e.served (2 ^ 46) (omega arith) all

@@ -1,6 +1,6 @@
 //! The caches of one engine that are served together: what each counts, and what each did last.
 
-ghost use Rattle.std.specs.Prelude.{◌≡◌, ◌<◌, ◌≤◌, ◌+◌, ◌^◌, map, nat_lt, IfOk, length, true};
+ghost use Rattle.std.specs.Prelude.{◌≡◌, ◌<◌, ◌≤◌, ◌+◌, map, nat_lt, IfOk, length, true};
 ghost use Rattle.std.specs.List.{All, list_all};
 ghost use Rattle.cache_core.specs.History.{History, is_write};
 ghost use Rattle.cache_core.specs.declared.access.Access.{Access as Accessed};
@@ -18,7 +18,7 @@ use crate::misses::less;
 use crate::outcome::outcome_in;
 use crate::shadows::PriorLevel;
 use crate::stack::Stack;
-use cache_core::{Counts, Geometry, Outcome, PerClass};
+use cache_core::{Counts, Geometry, MAX_EVENTS, Outcome, PerClass};
 use std::alloc::{AllocError, Global};
 
 /// Which cache a cell is: its geometry and write policy, the rows of its number of sets, its number
@@ -118,7 +118,7 @@ pub(crate) fn shape_counts(shape: Shape, stack: &Stack, alike: Alike) -> Counts
     requires some { 0 < shape.ways }
     requires rank { shape.rank + 1 ≤ told_in stack.now }
     requires few { shape.rank < usize.MAX }
-    requires within { IsWithinStack (2 ^ 46) stack.now }
+    requires within { IsWithinStack MAX_EVENTS stack.now }
     ensures { result ≡ whole_counts alike (past_in stack.now.histogram shape.ways 0)
         (past_in stack.now.histogram shape.ways (shape.rank + 1))
         (written_at stack.now shape.ways) shape.wback }

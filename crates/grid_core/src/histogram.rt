@@ -11,7 +11,7 @@ ghost use Rattle.grid_core.specs.Totals.{past, table_of, total};
 use crate::counting::zero_per_class;
 use crate::misses::{count_at, plus, sum_from, zeros};
 use crate::stack::writes;
-use cache_core::{Access, PerClass};
+use cache_core::{Access, MAX_EVENTS, PerClass};
 use std::alloc::{AllocError, Global};
 
 /// The accesses to the rows of one number of sets, by class: those that did not find their blocks
@@ -45,7 +45,7 @@ fn tables(alloc: Global, rows: usize, levels: usize) -> Result<Vec<Vec<PerClass>
 fn sum_past(tables: &[Vec<PerClass>], distance: usize, level: usize) -> PerClass
     requires distance { distance ≤ length tables.now }
     requires level { All (λ counts. level ≤ length counts) (map table_of tables.now) }
-    requires within { IsWithin (past distance level (map table_of tables.now)) (2 ^ 46) }
+    requires within { IsWithin (past distance level (map table_of tables.now)) MAX_EVENTS }
     ensures { result ≡ past distance level (map table_of tables.now) }
 {
     let mut sum = zero_per_class();
@@ -59,7 +59,7 @@ fn sum_past(tables: &[Vec<PerClass>], distance: usize, level: usize) -> PerClass
 fn count_past(tables: &mut [Vec<PerClass>], distance: usize, level: usize, access: Access)
     requires distance { distance < length tables.old }
     requires level { All (λ counts. level < length counts) (map table_of tables.old) }
-    requires within { IsWithin (past 0 0 (map table_of tables.old)) (2 ^ 46) }
+    requires within { IsWithin (past 0 0 (map table_of tables.old)) MAX_EVENTS }
     ensures past { (n k : ℕ) → past n k (map table_of tables.new)
         ≡ with_one access (not (nat_lt distance n) && not (nat_lt level k))
         (past n k (map table_of tables.old)) }
@@ -72,7 +72,7 @@ fn count_past(tables: &mut [Vec<PerClass>], distance: usize, level: usize, acces
 fn count_past_in(tables: &mut Vec<Vec<PerClass>>, distance: usize, level: usize, access: Access)
     requires distance { distance < length tables.old.items }
     requires level { All (λ counts. level < length counts) (map table_of tables.old.items) }
-    requires within { IsWithin (past 0 0 (map table_of tables.old.items)) (2 ^ 46) }
+    requires within { IsWithin (past 0 0 (map table_of tables.old.items)) MAX_EVENTS }
     ensures past { (n k : ℕ) → past n k (map table_of tables.new.items)
         ≡ with_one access (not (nat_lt distance n) && not (nat_lt level k))
         (past n k (map table_of tables.old.items)) }
@@ -86,7 +86,7 @@ fn count_past_in(tables: &mut Vec<Vec<PerClass>>, distance: usize, level: usize,
 fn count_place(tables: &mut Vec<Vec<PerClass>>, place: usize, level: usize, access: Access)
     requires place { place < length tables.old.items }
     requires level { All (λ counts. level < length counts) (map table_of tables.old.items) }
-    requires within { IsWithin (past 0 0 (map table_of tables.old.items)) (2 ^ 46) }
+    requires within { IsWithin (past 0 0 (map table_of tables.old.items)) MAX_EVENTS }
     ensures past { (n k : ℕ) → 0 < n → past n k (map table_of tables.new.items)
         ≡ with_one access (not (nat_lt place n) && not (nat_lt level k))
         (past n k (map table_of tables.old.items)) }
@@ -103,7 +103,7 @@ fn count_place(tables: &mut Vec<Vec<PerClass>>, place: usize, level: usize, acce
 /// Counts an access whose block was not dirty in up to `clean` ways, if it is a write.
 fn count_first(counts: &mut Vec<PerClass>, clean: usize, access: Access)
     requires clean { clean < length counts.old.items }
-    requires within { IsWithin (total counts.old.items) (2 ^ 46) }
+    requires within { IsWithin (total counts.old.items) MAX_EVENTS }
     ensures first { (n : ℕ) → 0 < n → total (drop n counts.new.items) ≡ with_one access
         (is_write access && not (nat_lt clean n)) (total (drop n counts.old.items)) }
     ensures bounds { (b : ℕ) → IsWithin (total counts.old.items) b →
@@ -146,7 +146,7 @@ impl Histogram {
         requires place { place ≤ histogram_ways self.old }
         requires clean { clean ≤ histogram_ways self.old }
         requires level { level < histogram_levels self.old }
-        requires within { (n : ℕ) × IsWithinHistogram n self.old × (n < 2 ^ 46) }
+        requires within { (n : ℕ) × IsWithinHistogram n self.old × (n < MAX_EVENTS) }
         ensures past { (n k : ℕ) → 0 < n → past_in self.new n k ≡ with_one access
             (not (nat_lt place n) && not (nat_lt level k)) (past_in self.old n k) }
         ensures first { (n : ℕ) → 0 < n → first_in self.new n ≡ with_one access
@@ -164,7 +164,7 @@ impl Histogram {
     pub fn past(&self, ways: usize, level: usize) -> PerClass
         requires ways { ways ≤ histogram_ways self.now }
         requires level { level ≤ histogram_levels self.now }
-        requires within { IsWithinHistogram (2 ^ 46) self.now }
+        requires within { IsWithinHistogram MAX_EVENTS self.now }
         ensures { result ≡ past_in self.now ways level }
     {
         sum_past(&self.distances, ways, level)
@@ -173,7 +173,7 @@ impl Histogram {
     /// How many writes found their block not dirty in so many ways.
     pub fn first_writes(&self, ways: usize) -> u64
         requires ways { ways ≤ histogram_ways self.now }
-        requires within { IsWithinHistogram (2 ^ 46) self.now }
+        requires within { IsWithinHistogram MAX_EVENTS self.now }
         ensures { result ≡ (first_in self.now ways).write }
     {
         sum_from(&self.first_writes, ways).write

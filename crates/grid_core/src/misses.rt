@@ -1,18 +1,18 @@
 //! Counts by class, a list of them, and their sum.
 
-ghost use Rattle.std.specs.Prelude.{◌≡◌, ◌<◌, ◌≤◌, ◌^◌, length, get_or, set, true, replicate};
+ghost use Rattle.std.specs.Prelude.{◌≡◌, ◌<◌, ◌≤◌, length, get_or, set, true, replicate};
 ghost use Rattle.std.specs.Prelude.{IfOk, drop};
 ghost use Rattle.cache_core.specs.Counts.{none_by_class};
 ghost use Rattle.cache_core.specs.Counting.{with_one, IsWithin};
 ghost use Rattle.grid_core.specs.Totals.{added, lessened, total};
 
 use crate::counting::{count, zero_per_class};
-use cache_core::{Access, PerClass};
+use cache_core::{Access, MAX_EVENTS, PerClass};
 use std::alloc::{AllocError, Global};
 
 /// Two counts, added class by class.
 pub(crate) fn plus(first: PerClass, second: PerClass) -> PerClass
-    requires { IsWithin (added first second) (2 ^ 48) }
+    requires { IsWithin (added first second) MAX_EVENTS }
     ensures { result ≡ added first second }
 {
     PerClass {
@@ -44,7 +44,7 @@ pub(crate) fn zeros(alloc: Global, count: usize) -> Result<Vec<PerClass>, AllocE
 
 /// All counts, added.
 pub(crate) fn sum_of(counts: &[PerClass]) -> PerClass
-    requires { IsWithin (total counts.now) (2 ^ 46) }
+    requires { IsWithin (total counts.now) MAX_EVENTS }
     ensures { result ≡ total counts.now }
 {
     let mut sum = zero_per_class();
@@ -57,7 +57,7 @@ pub(crate) fn sum_of(counts: &[PerClass]) -> PerClass
 /// The counts from an index on, added.
 pub(crate) fn sum_from(counts: &[PerClass], index: usize) -> PerClass
     requires inside { index ≤ length counts.now }
-    requires within { IsWithin (total (drop index counts.now)) (2 ^ 46) }
+    requires within { IsWithin (total (drop index counts.now)) MAX_EVENTS }
     ensures { result ≡ total (drop index counts.now) }
 {
     sum_of(&counts[index..])
@@ -66,7 +66,7 @@ pub(crate) fn sum_from(counts: &[PerClass], index: usize) -> PerClass
 /// Adds one in the count at an index, in the class of the access.
 fn count_one(counts: &mut [PerClass], index: usize, access: Access)
     requires inside { index < length counts.old }
-    requires within { IsWithin (total counts.old) (2 ^ 46) }
+    requires within { IsWithin (total counts.old) MAX_EVENTS }
     ensures { counts.new ≡ set counts.old index (with_one access true
         (get_or counts.old index none_by_class)) }
 {
@@ -76,7 +76,7 @@ fn count_one(counts: &mut [PerClass], index: usize, access: Access)
 /// The same for a vector.
 pub(crate) fn count_at(counts: &mut Vec<PerClass>, index: usize, access: Access)
     requires inside { index < length counts.old.items }
-    requires within { IsWithin (total counts.old.items) (2 ^ 46) }
+    requires within { IsWithin (total counts.old.items) MAX_EVENTS }
     ensures { counts.new.items ≡ set counts.old.items index (with_one access true
         (get_or counts.old.items index none_by_class)) }
 {

@@ -8,7 +8,7 @@ use crate::block_numbers::BlockNumbers;
 use crate::misses::{count_at, sum_from, zeros};
 use crate::recent::{Recent, is_again, nothing_recent, used_now};
 use crate::stack::writes;
-use cache_core::{Access, PerClass};
+use cache_core::{Access, MAX_EVENTS, PerClass};
 use marked_list::Marked;
 use std::alloc::{AllocError, Global};
 use std::mem::swap;
@@ -45,7 +45,7 @@ pub(crate) struct Shadows {
 
 impl Shadows {
     ghost use Rattle.std.specs.Prelude.{◌≡◌, ◌<◌, ◌≤◌, ◌==◌, ◌||◌, ℕ, List, [], IfOk, OnOk, OnErr};
-    ghost use Rattle.std.specs.Prelude.{true, false, ◌^◌, length, nat_lt};
+    ghost use Rattle.std.specs.Prelude.{true, false, length, nat_lt};
     ghost use Rattle.std.specs.List.{All};
     ghost use Rattle.marked_list.specs.Recency.{level_of, brought_front};
     ghost use Rattle.grid_core.specs.Numbers.{GoesOn};
@@ -81,7 +81,7 @@ impl Shadows {
 
     /// Serves an access to a block in all shadows, and answers what was known of the block before.
     pub fn touch(&mut self, block: u64, access: Access) -> Result<PriorLevel, AllocError>
-        requires { IsWithin (total (levels_in self.old)) (2 ^ 46) }
+        requires { IsWithin (total (levels_in self.old)) MAX_EVENTS }
         ensures known { IfOk result (λ prior. AreNumbered self.old →
             prior.known ≡ is_known self.old block) }
         ensures level { IfOk result (λ prior. (ys : List ℕ) → HoldsOrder self.old ys →
@@ -113,7 +113,7 @@ impl Shadows {
     /// How often the shadow of the size of this rank missed, by class.
     pub fn misses(&self, rank: usize) -> PerClass
         requires inside { rank < length (shadow_sizes self.now) }
-        requires within { IsWithin (total (levels_in self.now)) (2 ^ 46) }
+        requires within { IsWithin (total (levels_in self.now)) MAX_EVENTS }
         ensures { result ≡ far_in self.now rank }
     {
         sum_from(&self.levels, rank + 1)

@@ -10,7 +10,7 @@ ghost use Rattle.grid_core.specs.Slots.{HaveBytes};
 use crate::front::{stays, turn_in};
 use crate::histogram::Histogram;
 use crate::slots::{Slot, clear_in, count_dirty, dirty_rising, empty_slot, empty_slots, pushed};
-use cache_core::{Access, Class, Geometry, PerClass};
+use cache_core::{Access, Class, Geometry, MAX_EVENTS, PerClass};
 use std::alloc::{AllocError, Global};
 
 /// The sets of the widest cache, and with them those of every narrower one of as many sets.
@@ -120,7 +120,7 @@ impl Stack {
     /// counted and stays known, and so does what was pushed out.
     pub fn serve(&mut self, access: Access, level: usize, from: usize)
         requires level { level < told_in self.old }
-        requires within { (n : ℕ) × IsWithinStack n self.old × (n < 2 ^ 46) }
+        requires within { (n : ℕ) × IsWithinStack n self.old × (n < MAX_EVENTS) }
         requires behind { ∥ ((h : History) × StandsFor self.old h
             × IsBehind from h access (rules_of self.old)) ∥₁ }
         ensures stands { (h : History) → StandsFor self.old h →
@@ -243,7 +243,7 @@ impl Stack {
     pub fn past(&self, ways: usize, level: usize) -> PerClass
         requires ways { ways ≤ (rules_of self.now).assoc }
         requires level { level ≤ told_in self.now }
-        requires within { IsWithinStack (2 ^ 46) self.now }
+        requires within { IsWithinStack MAX_EVENTS self.now }
         ensures { result ≡ past_in self.now.histogram ways level }
     {
         self.histogram.past(ways, level)
@@ -263,7 +263,7 @@ impl Stack {
     pub fn written_back(&self, ways: usize) -> u64
         requires some { 0 < ways }
         requires ways { ways ≤ (rules_of self.now).assoc }
-        requires within { IsWithinStack (2 ^ 46) self.now }
+        requires within { IsWithinStack MAX_EVENTS self.now }
         ensures { result ≡ written_at self.now ways }
     {
         if !self.wback {

@@ -1,6 +1,6 @@
 //! The rows of all numbers of sets.
 
-ghost use Rattle.std.specs.Prelude.{◌≡◌, ◌<◌, ◌+◌, ◌^◌, ◌∷◌, List, ℕ, map};
+ghost use Rattle.std.specs.Prelude.{◌≡◌, ◌<◌, ◌+◌, ◌∷◌, List, ℕ, map};
 ghost use Rattle.std.specs.Prelude.{nat_lt, if◌then◌else◌};
 ghost use Rattle.std.specs.List.{All};
 ghost use Rattle.cache_core.specs.History.{History, access as accessed, flush as flushed};
@@ -11,7 +11,7 @@ ghost use Rattle.grid_core.specs.Standing.{AreBehind, HaveLived, IsCountedIn, Is
 ghost use Rattle.grid_core.specs.Standing.{told_in};
 
 use crate::stack::Stack;
-use cache_core::Access;
+use cache_core::{Access, MAX_EVENTS};
 
 /// In the rows of no more sets than these, the block of an access is not among the first `places`.
 #[derive(Clone, Copy, Debug)]
@@ -53,7 +53,7 @@ fn least_staying(stacks: &[Stack], access: Access) -> u64
 /// the block is not in rows of fewer sets.
 fn serve_one(stack: &mut Stack, access: Access, level: usize, least: u64, behind: Behind) -> Behind
     requires level { level < told_in stack.old }
-    requires within { (n : ℕ) × IsWithinStack n stack.old × (n < 2 ^ 46) }
+    requires within { (n : ℕ) × IsWithinStack n stack.old × (n < MAX_EVENTS) }
     requires behind { ∥ ((h : History) × StandsFor stack.old h
         × AreBehind behind (rules_of stack.old).bsize h access) ∥₁ }
     ensures stands { (h : History) → StandsFor stack.old h →
@@ -88,7 +88,7 @@ fn serve_one(stack: &mut Stack, access: Access, level: usize, least: u64, behind
 /// Serves an access, whose block has this level in the shadows, in all rows.
 pub(crate) fn serve_rows(stacks: &mut Vec<Stack>, access: Access, level: usize)
     requires levels { All (λ s. level < told_in s) stacks.old.items }
-    requires within { (n : ℕ) × All (IsWithinStack n) stacks.old.items × (n < 2 ^ 46) }
+    requires within { (n : ℕ) × All (IsWithinStack n) stacks.old.items × (n < MAX_EVENTS) }
     requires lived { (n : ℕ) × HaveBsize n stacks.old.items × HaveLived stacks.old.items }
     ensures stands { (n : ℕ) (h : History) → HaveBsize n stacks.old.items →
         All (λ s. StandsFor s h) stacks.old.items →

@@ -23,9 +23,9 @@ count_at-requires-clause-within c =
     let p = c.args.distance in
     let v = c.index-tables-distance.result in
     let long = length-map vs table_of in
-    subst (λ (l : List PerClass). IsWithin (total l) (2 ^ 46))
+    subst (λ (l : List PerClass). IsWithin (total l) (2 ^ 44))
     (get_or-map table_of vs p v [] c.requires.distance)
-    (within-place (2 ^ 46) (map table_of vs) p 0 0 (omega arith) (omega arith) c.requires.within)
+    (within-place (2 ^ 44) (map table_of vs) p 0 0 (omega arith) (omega arith) c.requires.within)
 
 pub returns-clause-past : goal.returns-clause-past
 returns-clause-past c = λ n k.

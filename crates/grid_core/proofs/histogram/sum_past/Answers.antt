@@ -1,7 +1,6 @@
-use Rattle.std.proofs.Common.{◌+◌, ◌^◌, map, ap, ◌∙◌, arith}
+use Rattle.std.proofs.Common.{◌+◌, ◌^◌, map, ap, ◌∙◌}
 use Rattle.grid_core.specs.Totals.{added, past, table_of}
 use Rattle.grid_core.proofs.Tables.{level-there, sum-next, sum-within, within-there}
-use Rattle.grid_core.proofs.Totals.{within-more}
 use Rattle.grid_core.proofs.histogram.sum_past.Goals as goal
 
 pub sum_from-requires-clause-inside : goal.sum_from-requires-clause-inside
@@ -10,17 +9,16 @@ sum_from-requires-clause-inside c = level-there c.args.tables.now c.loop-place-t
 
 pub sum_from-requires-clause-within : goal.sum_from-requires-clause-within
 sum_from-requires-clause-within c = within-there c.args.tables.now c.loop-place-test.true
-    c.index-tables-place.is c.deref.ensures.value c.args.level (2 ^ 46) c.args.distance
+    c.index-tables-place.is c.deref.ensures.value c.args.level (2 ^ 44) c.args.distance
     c.loop-place.auto.place c.requires.within
 
 pub plus-sum-requires : goal.plus-sum-requires
 plus-sum-requires c =
     let vs = c.args.tables.now in
     let f = c.sum_from.result in
-    within-more (added c.loop-place.sum f) (2 ^ 46) (2 ^ 48) (omega arith)
-    (sum-within vs c.loop-place-test.true c.index-tables-place.is c.deref.ensures.value c.args.level
-    (2 ^ 46) c.loop-place.sum f (past c.args.distance c.args.level (map table_of vs))
-    c.loop-place.invariant c.sum_from.ensures c.requires.within)
+    sum-within vs c.loop-place-test.true c.index-tables-place.is c.deref.ensures.value c.args.level
+    (2 ^ 44) c.loop-place.sum f (past c.args.distance c.args.level (map table_of vs))
+    c.loop-place.invariant c.sum_from.ensures c.requires.within
 
 pub loop-place-preserved : goal.loop-place-preserved
 loop-place-preserved c =

@@ -8,7 +8,7 @@ use Rattle.grid_core.proofs.misses.sum_from.Goals as goal
 pub sum_of-requires : goal.sum_of-requires
 sum_of-requires c =
     let ps = c.args.counts.now in
-    subst (λ (l : List PerClass). IsWithin (total l) (2 ^ 46))
+    subst (λ (l : List PerClass). IsWithin (total l) (2 ^ 44))
     (sym (rest-is ps ps c.args.index refl)) c.requires.within
 
 pub returns : goal.returns

@@ -21,6 +21,6 @@ pub sum_past-requires-clause-within : goal.sum_past-requires-clause-within
 sum_past-requires-clause-within c =
     let self = c.args.self.now in
     subst (λ (l : List (Vec PerClass)). IsWithin (past c.args.ways c.args.level (map table_of l))
-    (2 ^ 46)) (sym c.deref.ensures.value)
-    (within-past (2 ^ 46) (map table_of self.distances.items) c.args.ways c.args.level
+    (2 ^ 44)) (sym c.deref.ensures.value)
+    (within-past (2 ^ 44) (map table_of self.distances.items) c.args.ways c.args.level
     c.requires.within.0)

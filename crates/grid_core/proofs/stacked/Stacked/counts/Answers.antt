@@ -81,8 +81,8 @@ shape_counts-requires-clause-within c =
     let v = c.index-shape.result.now in
     let w = c.index.result.now in
     let few = old.few in
-    subst (IsWithinStack (2 ^ 46)) (sym c.index.ensures)
-    (within-stack old.served (2 ^ 46) (omega arith) (get_or old.stacks.items v.stack w)
+    subst (IsWithinStack (2 ^ 44)) (sym c.index.ensures)
+    (within-stack old.served (2 ^ 44) (omega arith) (get_or old.stacks.items v.stack w)
     (old.bounded v.stack w (inside old c.requires c.index-shape.ensures c.index.ensures)))
 
 pub returns-clause-kept : goal.returns-clause-kept

@@ -19,12 +19,12 @@ use Rattle.grid_core.proofs.After.{after-access, level-is, shapes-prior}
 use Rattle.grid_core.proofs.Again.{size-at}
 use Rattle.grid_core.proofs.Sharing.{alike-access}
 use Rattle.grid_core.proofs.Sizes.{rising-is}
-use Rattle.grid_core.proofs.StackBounds.{low-levels, within-most}
+use Rattle.grid_core.proofs.StackBounds.{low-levels, within-events, within-most}
 use Rattle.grid_core.proofs.StackRules.{stacked}
 use Rattle.grid_core.proofs.stacked.Stacked.serve.Goals as goal
 
 pub touch-requires : goal.touch-requires
-touch-requires c = within-most c.args.self.now c.args.self.now.leveled
+touch-requires c = within-events c.args.self.now c.args.self.now.leveled
 
 pub serve_rows-requires-clause-levels : goal.serve_rows-requires-clause-levels
 serve_rows-requires-clause-levels c =
@@ -33,9 +33,10 @@ serve_rows-requires-clause-levels c =
     c.in-Ok.ensures.low
 
 pub serve_rows-requires-clause-within : goal.serve_rows-requires-clause-within
+unfolding stacked_served
 serve_rows-requires-clause-within c =
     let old = c.args.self.now in
-    let few = old.few in
+    let few = c.requires.few in
     (old.served, old.bounded, omega arith)
 
 pub serve_rows-requires-clause-lived : goal.serve_rows-requires-clause-lived

@@ -10,7 +10,7 @@ use Rattle.grid_core.specs.StackedCells.{stacked_kept, stacked_rules}
 use Rattle.grid_core.specs.State.{kept_by}
 use Rattle.grid_core.specs.Written.{no_rules, none_kept}
 use Rattle.grid_core.proofs.Placed.{shape-there}
-use Rattle.grid_core.proofs.StackBounds.{within-most}
+use Rattle.grid_core.proofs.StackBounds.{within-events}
 use Rattle.grid_core.proofs.stacked.Stacked.shadow_misses.Goals as goal
 
 pub misses-requires-clause-inside : goal.misses-requires-clause-inside
@@ -21,7 +21,7 @@ misses-requires-clause-inside c =
     (old.ranked c.args.index c.index.result.now (shape-there old c.requires)).inside
 
 pub misses-requires-clause-within : goal.misses-requires-clause-within
-misses-requires-clause-within c = within-most c.args.self.now c.args.self.now.leveled
+misses-requires-clause-within c = within-events c.args.self.now c.args.self.now.leveled
 
 pub returns-clause-kept : goal.returns-clause-kept
 unfolding stacked_rules stacked_kept
