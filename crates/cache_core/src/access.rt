@@ -25,6 +25,18 @@ pub struct Access {
     pub addr: u64,
 }
 
+impl Access {
+    /// Whether it is a data write.
+    pub fn writes(self) -> bool
+        ensures { result ≡ is_write self }
+    {
+        match self.class {
+            Class::Write => true,
+            _ => false,
+        }
+    }
+}
+
 /// Why an access missed: Hill's three kinds of miss.
 #[derive(Clone, Copy, Debug, PartialEq, Eq)]
 pub enum MissKind {
@@ -59,14 +71,4 @@ pub struct Served {
     pub hit: bool,
     /// The address of the first byte of the dirty block that is evicted, if any.
     pub back: Option<u64>,
-}
-
-/// Whether an access writes.
-pub(crate) fn writes(access: Access) -> bool
-    ensures { result ≡ is_write access }
-{
-    match access.class {
-        Class::Write => true,
-        _ => false,
-    }
 }

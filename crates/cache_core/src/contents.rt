@@ -7,7 +7,7 @@ ghost use Rattle.cache_core.specs.Geometry.{sets_of, assoc_of};
 ghost use Rattle.cache_core.specs.Row.{outcome_made};
 ghost use Rattle.cache_core.specs.Sets.{has_shape};
 
-use crate::access::{Access, MissKind, Outcome, Served, writes};
+use crate::access::{Access, MissKind, Outcome, Served};
 use crate::geometry::Geometry;
 use crate::kinds::Prior;
 use crate::policy::{Policy, may_load};
@@ -104,7 +104,7 @@ impl Contents {
     pub fn may_load(&self, access: Access) -> bool
         ensures { result ≡ (not (is_write access) || (rules_held self.now).walloc) }
     {
-        may_load(writes(access), self.policy)
+        may_load(access.writes(), self.policy)
     }
 
     /// Serves one access. After an error nothing has changed.
@@ -129,7 +129,7 @@ impl Contents {
             assoc as usize,
             self.policy,
             block_addr,
-            writes(access),
+            access.writes(),
         ) else {
             return Err(NoMemory);
         };
@@ -146,7 +146,7 @@ impl Contents {
             (rules_held self.now).walloc (is_write access) served.hit served.back
             prior.referenced prior.in_shadow }
     {
-        outcome_from(self.policy, writes(access), served, prior)
+        outcome_from(self.policy, access.writes(), served, prior)
     }
 
     /// The first bytes of the dirty blocks, in ascending order: what a flush writes back.

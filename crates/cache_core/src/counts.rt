@@ -1,6 +1,6 @@
 //! The counts of one cache.
 
-ghost use Rattle.std.specs.Prelude.{◌≡◌, ◌<◌, ◌^◌};
+ghost use Rattle.std.specs.Prelude.{◌≡◌, ◌<◌, ◌-◌, ◌^◌};
 ghost use Rattle.cache_core.specs.Counts.{total_of};
 ghost use Rattle.cache_core.specs.Counting.{with_one, with_kind, IsWithin};
 
@@ -50,19 +50,19 @@ impl PerClass {
             + u128::from(self.write)
             + u128::from(self.misc)
     }
-}
 
-/// Adds one in the class of the access, if `counted`.
-fn count(per_class: &mut PerClass, access: Access, counted: bool)
-    requires { IsWithin per_class.old (2 ^ 44) }
-    ensures { per_class.new ≡ with_one access counted per_class.old }
-{
-    if counted {
-        match access.class {
-            Class::Instr => per_class.instr += 1,
-            Class::Read => per_class.read += 1,
-            Class::Write => per_class.write += 1,
-            Class::Misc => per_class.misc += 1,
+    /// Adds one in the class of the access, if `counted`.
+    pub fn count(&mut self, access: Access, counted: bool)
+        requires { IsWithin self.old (2 ^ 64 - 2) }
+        ensures { self.new ≡ with_one access counted self.old }
+    {
+        if counted {
+            match access.class {
+                Class::Instr => self.instr += 1,
+                Class::Read => self.read += 1,
+                Class::Write => self.write += 1,
+                Class::Misc => self.misc += 1,
+            }
         }
     }
 }
@@ -76,9 +76,9 @@ fn count_kind(counts: &mut Counts, access: Access, kind: Option<MissKind>)
 {
     match kind {
         None => {}
-        Some(MissKind::Compulsory) => count(&mut counts.compulsory, access, true),
-        Some(MissKind::Capacity) => count(&mut counts.capacity, access, true),
-        Some(MissKind::Conflict) => count(&mut counts.conflict, access, true),
+        Some(MissKind::Compulsory) => counts.compulsory.count(access, true),
+        Some(MissKind::Capacity) => counts.capacity.count(access, true),
+        Some(MissKind::Conflict) => counts.conflict.count(access, true),
     }
 }
 
@@ -91,8 +91,8 @@ impl Counts {
         requires { AreWithin self.old (2 ^ 44) }
         ensures { self.new ≡ with_access access outcome self.old }
     {
-        count(&mut self.fetches, access, true);
-        count(&mut self.misses, access, !outcome.hit);
+        self.fetches.count(access, true);
+        self.misses.count(access, !outcome.hit);
         count_kind(self, access, outcome.kind);
         self.loaded += outcome.fetch as u64;
         self.written_back += outcome.back.is_some() as u64;

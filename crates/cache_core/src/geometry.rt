@@ -107,7 +107,7 @@ impl Geometry {
     }
 
     /// How many ways a set has.
-    pub(crate) fn assoc(&self) -> u64
+    pub fn assoc(&self) -> u64
         ensures { result ≡ assoc_of self.now }
     {
         self.assoc
