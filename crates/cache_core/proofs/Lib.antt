@@ -9,6 +9,7 @@ pub mod FlushStep
 pub mod Flushed
 pub mod Held
 pub mod Referenced
+pub mod Refusals
 pub mod Lawful
 pub mod MapEntries
 pub mod MapStep

@@ -1,4 +1,4 @@
--- Inside the crate: the counts of a cache after one more event.
+-- The counts of a cache after one more event.
 use Rattle.std.specs.Prelude.{ℕ, ◌+◌, ◌≤◌, Bool, true, ◌&&◌, not, Option, is_some}
 use Rattle.cache_core.specs.declared.access.Access.{Access}
 use Rattle.cache_core.specs.declared.access.Outcome.{Outcome}

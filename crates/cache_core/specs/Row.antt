@@ -1,4 +1,4 @@
--- Inside the crate: a set as a row of ways, and what one pass over it does.
+-- A set as a row of ways, and what one pass over it does.
 use Rattle.std.specs.Prelude.{ℕ, ◌+◌, ◌*◌, take, drop, map, replicate, Bool, true, false, ◌&&◌}
 use Rattle.std.specs.Prelude.{◌||◌, not, ◌==◌, cond, if◌then◌else◌, List, [], ◌∷◌, ◌++◌, Option}
 use Rattle.std.specs.Prelude.{Some, None, is_some}

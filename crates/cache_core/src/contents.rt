@@ -82,9 +82,9 @@ impl Contents {
         ensures holds { IfOk result (λ contents. Holds contents []) }
         ensures clean { IfOk result (λ contents. dirty_held contents ≡ 0) }
     {
-        let Ok(sets) = empty_sets(alloc, geometry.sets() as usize, geometry.assoc() as usize) else {
-            return Err(NoMemory);
-        };
+        let count = geometry.sets() as usize;
+        let assoc = geometry.assoc() as usize;
+        let sets = empty_sets(alloc, count, assoc).or(Err(NoMemory))?;
         Ok(Contents {
             alloc,
             geometry,
@@ -123,17 +123,15 @@ impl Contents {
         let set = self.geometry.set(block);
         let assoc = self.geometry.assoc();
         let block_addr = self.geometry.first_byte(block);
-        let Ok(served) = serve_set(
+        let answer = serve_set(
             &mut self.sets,
             set as usize,
             assoc as usize,
             self.policy,
             block_addr,
             access.writes(),
-        ) else {
-            return Err(NoMemory);
-        };
-        Ok(served)
+        );
+        answer.or(Err(NoMemory))
     }
 
     /// The outcome of an access, by what `serve` answered, and by what was known of its block
@@ -157,10 +155,7 @@ impl Contents {
         ensures at_most { IfOk result (λ list. length list.items ≤ dirty_held self.now) }
         ensures few { dirty_held self.now ≤ 2 ^ 24 }
     {
-        let Ok(block_addrs) = dirty_block_addrs(self.alloc, &self.sets) else {
-            return Err(NoMemory);
-        };
-        Ok(block_addrs)
+        dirty_block_addrs(self.alloc, &self.sets).or(Err(NoMemory))
     }
 
     /// Lets all blocks go. What a flush writes back has to be taken before.

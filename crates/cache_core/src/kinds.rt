@@ -91,9 +91,7 @@ impl MissClassifier {
             else promoted (nat_eq block) self.old.shadow.entries)) }
         ensures capacity { self.new.shadow.cap ≡ self.old.shadow.cap }
     {
-        let Ok(referenced) = note_block(&mut self.referenced, block, hit) else {
-            return Err(AllocError);
-        };
+        let referenced = note_block(&mut self.referenced, block, hit)?;
         if is_last(self.last, block) {
             return Ok(Prior {
                 referenced,

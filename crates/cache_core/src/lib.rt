@@ -1,7 +1,7 @@
 //! One cache of a simulated hierarchy, as Dinero IV has them: LRU or FIFO replacement, write back
 //! or write through, with or without write allocation, and Hill's three kinds of miss.
 //!
-//! A [`Geometry`] is a valid shape of a cache. A [`Cache`] serves accesses and flushes one by one
+//! A [`Geometry`] is a lawful shape of a cache. A [`Cache`] serves accesses and flushes one by one
 //! and counts what they did. Its [`Contents`] are each set as a row of ways (`ways`), or as an
 //! ordered map if the set has many ways (`maps`). To tell the kinds of miss apart it keeps a fully
 //! associative LRU shadow and all blocks that were ever accessed (`kinds`). Contents alone are for

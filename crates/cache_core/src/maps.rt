@@ -14,7 +14,7 @@ ghost use Rattle.cache_core.specs.Row.{row, empty_way, is_dirty_way, block_addr_
 ghost use Rattle.cache_core.specs.Mapped.{shown, used_entries, touched_entries, dirty_entry};
 ghost use Rattle.cache_core.specs.Mapped.{dirty_keys_of, cap_of, emptied, flat};
 ghost use Rattle.cache_core.specs.Serving.{ServesRow};
-ghost use Rattle.lru.specs.LruCache.{lru_cache, put_entries, displaced};
+ghost use Rattle.lru.specs.LruCache.{lru_cache, put_entries, displaced, IsValid};
 
 use crate::access::Served;
 use crate::policy::{Policy, Repl, may_load};
@@ -103,6 +103,13 @@ fn load_block(
     Ok(dirty_left(left))
 }
 
+/// A set holds no more blocks than it has ways, and each once. Only the proofs need this call.
+fn within_ways(map: &LruCache<u64, bool>)
+    ensures { IsValid nat_eq map.now }
+{
+    let _len = map.len();
+}
+
 /// One access to a set.
 fn serve_map(
     map: &mut LruCache<u64, bool>,
@@ -115,7 +122,7 @@ fn serve_map(
     ensures capacity { map.new.cap ≡ map.old.cap }
     ensures keeps { OnErr result (map.new ≡ map.old) }
 {
-    let _len = map.len();
+    within_ways(map);
     let hit = touch(map, policy, block_addr, write);
     if hit {
         return Ok(Served {
@@ -131,9 +138,7 @@ fn serve_map(
         });
     }
     let dirty = mark_of(policy.wback, write, false);
-    let Ok(back) = load_block(map, block_addr, dirty) else {
-        return Err(AllocError);
-    };
+    let back = load_block(map, block_addr, dirty)?;
     Ok(Served { hit: false, back })
 }
 
@@ -142,7 +147,7 @@ fn dirty_keys(alloc: Global, set: &LruCache<u64, bool>) -> Result<Vec<u64>, Allo
     ensures keys { IfOk result (λ v. v.items ≡ dirty_keys_of set.now) }
     ensures room { length set.now.entries ≤ set.now.cap }
 {
-    let _len = set.len();
+    within_ways(set);
     set.iter()
         .filter(|entry| *entry.1)
         .map(|entry| *entry.0)
@@ -239,10 +244,7 @@ impl Maps {
         ensures assoc { self.new.assoc ≡ self.old.assoc }
         ensures sets { vec_len self.new.sets ≡ vec_len self.old.sets }
     {
-        let Ok(served) = serve_map(&mut self.sets[set], policy, block_addr, write) else {
-            return Err(AllocError);
-        };
-        Ok(served)
+        serve_map(&mut self.sets[set], policy, block_addr, write)
     }
 
     /// The first bytes of the dirty blocks, set by set.

@@ -43,7 +43,7 @@ pub(crate) fn empty_sets(alloc: Global, count: usize, assoc: usize) -> Result<Se
     Ok(Sets::Maps(maps))
 }
 
-/// Serves one access to a set. `first` is the first byte of its block.
+/// Serves one access to a set. `block_addr` is the first byte of its block.
 pub(crate) fn serve_set(
     sets: &mut Sets,
     set: usize,

@@ -1,18 +1,20 @@
 //! Sets of few ways. Each is a row of ways in order: the block that was used last (FIFO: loaded
 //! last) is first, and empty ways come after the blocks. The rows of all sets are in one vector.
 
-ghost use Rattle.std.specs.Prelude.{◌≡◌, ◌≢◌, ◌≤◌, ◌+◌, ◌*◌, ℕ, length, is_some, true, false};
-ghost use Rattle.std.specs.Prelude.{None, IfOk};
+ghost use Rattle.std.specs.Prelude.{◌≡◌, ◌≢◌, ◌≤◌, ◌+◌, ◌*◌, ◌&&◌, ℕ, length, is_some, true, false};
+ghost use Rattle.std.specs.Prelude.{None, IfOk, if◌then◌else◌};
 ghost use Rattle.std.specs.Prelude.{map, filter, replicate, vec_len};
 ghost use Rattle.std.specs.List.{find};
 ghost use Rattle.std.specs.Option.{option_map_or};
 ghost use Rattle.cache_core.specs.Parts.{one_if};
 ghost use Rattle.cache_core.specs.Row.{holds_block, shifted, leaving, changed, dirtied, row};
 ghost use Rattle.cache_core.specs.Row.{empty_way, is_dirty_way, block_addr_of, dirty_count};
+ghost use Rattle.cache_core.specs.Row.{dirty_block};
+ghost use Rattle.cache_core.specs.Policy.{is_fifo};
 ghost use Rattle.cache_core.specs.Serving.{ServesRow};
 
 use crate::access::Served;
-use crate::policy::{Policy, Repl};
+use crate::policy::{Policy, Repl, may_load};
 use std::alloc::{AllocError, Global};
 
 /// One way of a set. If `valid`, it holds the block whose first byte is `block_addr`; else it is
@@ -114,6 +116,37 @@ fn serve_front(row: &mut [Way], policy: Policy, block_addr: u64, write: bool) ->
     true
 }
 
+/// Updates the row for an access to a block that it holds. `used` is the way of the block after an
+/// LRU access.
+fn use_way(row: &mut [Way], policy: Policy, used: Way, write: bool)
+    ensures { row.new ≡ (if is_fifo policy
+        then (if policy.wback && write
+        then changed (holds_block used.block_addr) dirtied row.old else row.old)
+        else shifted (holds_block used.block_addr) used row.old) }
+{
+    match policy.repl {
+        Repl::Fifo => {
+            if policy.wback && write {
+                mark_dirty(row, used.block_addr);
+            }
+        }
+        Repl::Lru => {
+            let _left = bring_front(row, used.block_addr, used);
+        }
+    }
+}
+
+/// Puts a block first that the row does not hold, and answers the dirty block that it evicts, if
+/// any.
+fn load_way(row: &mut [Way], loaded: Way) -> Option<u64>
+    ensures row { row.new ≡ shifted (holds_block loaded.block_addr) loaded row.old }
+    ensures back { result
+        ≡ dirty_block (leaving (holds_block loaded.block_addr) loaded row.old) }
+{
+    let left = bring_front(row, loaded.block_addr, loaded);
+    (left.valid && left.dirty).then_some(left.block_addr)
+}
+
 /// Serves one access to the row of its set.
 fn serve_row(row: &mut [Way], policy: Policy, block_addr: u64, write: bool) -> Served
     ensures { ServesRow policy block_addr write row.old row.new result }
@@ -125,43 +158,20 @@ fn serve_row(row: &mut [Way], policy: Policy, block_addr: u64, write: bool) -> S
         };
     }
     let found = find_way(row, block_addr);
-    let dirty = policy.wback && (write || was_dirty(found));
     let used = Way {
         block_addr,
         valid: true,
-        dirty,
+        dirty: policy.wback && (write || was_dirty(found)),
     };
-    if let Some(_) = found {
-        match policy.repl {
-            Repl::Fifo => {
-                if policy.wback && write {
-                    mark_dirty(row, block_addr);
-                }
-            }
-            Repl::Lru => {
-                let _left = bring_front(row, block_addr, used);
-            }
-        }
-        return Served {
-            hit: true,
-            back: None,
-        };
+    let hit = found.is_some();
+    if hit {
+        use_way(row, policy, used, write);
     }
-    if write && !policy.walloc {
-        return Served {
-            hit: false,
-            back: None,
-        };
+    if hit || !may_load(write, policy) {
+        return Served { hit, back: None };
     }
-    let left = bring_front(row, block_addr, used);
-    Served {
-        hit: false,
-        back: if left.valid && left.dirty {
-            Some(left.block_addr)
-        } else {
-            None
-        },
-    }
+    let back = load_way(row, used);
+    Served { hit, back }
 }
 
 /// Serves one access to a set.

@@ -5,12 +5,13 @@ use Rattle.cache_core.specs.Policy.{is_fifo}
 use Rattle.cache_core.specs.Mapped.{shown, dirty_entry}
 use Rattle.cache_core.proofs.MapStep.{hit-row, hit-is, hit-back, miss-same, pass-row, pass-back}
 use Rattle.cache_core.proofs.MapStep.{load-row, load-back, suc_pred, or-nothing}
+use Rattle.cache_core.proofs.Refusals.{err-anyhow}
 use Rattle.cache_core.proofs.maps.serve_map.Goals as goal
 
 pub returns-then-hit-clause-served : goal.returns-then-hit-clause-served
 returns-then-hit-clause-served c =
     let m = c.args.map.now in let p = c.args.policy in
-    let fits = c.len-len.ensures.valid.1 in
+    let fits = c.within_ways.ensures.1 in
     let there = sym c.touch-hit.ensures.hit ∙ c.if-hit.true in
     record {
       row = ap (λ t. shown m.cap t.entries) c.touch-hit.ensures.map
@@ -26,7 +27,7 @@ returns-then-hit-clause-served c =
 pub returns-then-not-load-clause-served : goal.returns-then-not-load-clause-served
 returns-then-not-load-clause-served c =
     let m = c.args.map.now in let p = c.args.policy in
-    let fits = c.len-len.ensures.valid.1 in
+    let fits = c.within_ways.ensures.1 in
     let absent = sym c.touch-hit.ensures.hit ∙ c.if-hit.false in
     let pass = sym c.may_load-load.ensures ∙ c.if-not-load.true in
     record {
@@ -44,7 +45,7 @@ returns-then-not-load-clause-served c =
 pub returns-clause-served : goal.returns-clause-served
 returns-clause-served c =
     let m = c.args.map.now in let p = c.args.policy in
-    let valid = c.len-len.ensures.valid in
+    let valid = c.within_ways.ensures in
     let absent = sym c.touch-hit.ensures.hit ∙ c.if-hit.false in
     let load = sym c.may_load-load.ensures ∙ c.if-not-load.false in
     let size = suc_pred m.cap valid.2 in
@@ -53,7 +54,7 @@ returns-clause-served c =
     c.args.block_addr m.cap m.entries valid.1 absent) in
     let mark = c.mark_of-dirty.ensures ∙ or-nothing p.wback c.args.write in
     record {
-      row = ap (λ t. shown m.cap t.entries) c.in-Ok.ensures.map
+      row = ap (λ t. shown m.cap t.entries) c.in_ok-back.ensures.map
           ∙ ap (λ t. shown m.cap (put_entries nat_eq t c.args.block_addr c.mark_of-dirty.result))
           same
           ∙ ap (λ d. shown
@@ -65,7 +66,7 @@ returns-clause-served c =
       hit = sym c.if-hit.false ∙ c.touch-hit.ensures.hit
           ∙ hit-is (is_fifo p) p.wback p.walloc c.args.write c.args.block_addr m.cap m.entries
           valid.1;
-      back = c.in-Ok.ensures.back
+      back = c.in_ok-back.ensures.back
           ∙ ap (λ t. option_map_or dirty_entry
           (displaced nat_eq t c.args.block_addr c.mark_of-dirty.result) None) same
           ∙ ap (λ d. option_map_or dirty_entry
@@ -75,10 +76,10 @@ returns-clause-served c =
           absent (m.cap - 1) size load;
     }
 
-pub returns-in_default-clause-keeps : goal.returns-in_default-clause-keeps
-returns-in_default-clause-keeps c =
+pub returns-in_err-back-clause-keeps : goal.returns-in_err-back-clause-keeps
+returns-in_err-back-clause-keeps c =
     let m = c.args.map.now in let p = c.args.policy in
     let absent = sym c.touch-hit.ensures.hit ∙ c.if-hit.false in
-    c.in_default.ensures.keeps ∙ c.touch-hit.ensures.map
+    err-anyhow c.from_residual.result (c.in_err-back.ensures.keeps ∙ c.touch-hit.ensures.map
     ∙ ap (λ l. lru_cache l m.cap) (miss-same (is_fifo p) p.wback p.walloc c.args.write
-    c.args.block_addr m.cap m.entries c.len-len.ensures.valid.1 absent)
+    c.args.block_addr m.cap m.entries c.within_ways.ensures.1 absent))

@@ -8,24 +8,24 @@ use Rattle.cache_core.proofs.Lawful.{sane_of}
 use Rattle.cache_core.proofs.Charged.{dirty_count-filter, dirty_count-le}
 use Rattle.cache_core.proofs.Flat.{length-ways_in}
 use Rattle.cache_core.proofs.FlushStep.{flush-list}
+use Rattle.cache_core.proofs.Refusals.{ok-or}
 use Rattle.cache_core.proofs.contents.Contents.dirty.Goals as goal
 
 pub returns-clause-list : goal.returns-clause-list
 unfolding rules_held ways_held
-returns-clause-list c = λ h st.
+returns-clause-list c =
     let self = c.args.self.now in
-    flush-list self.geometry self.policy h (ways_in self.sets)
+    ok-or _ c.dirty_block_addrs.result _ c.or.ensures c.dirty_block_addrs.ensures.block_addrs
+    (λ list made h st. flush-list self.geometry self.policy h (ways_in self.sets)
     (length-ways_in (sets_of self.geometry) (assoc_of self.geometry) self.sets self.room) st.rows
-    c.in-Ok.block_addrs.items c.in-Ok.ensures.block_addrs
+    list.items made)
 
 pub returns-clause-at_most : goal.returns-clause-at_most
 unfolding ways_held
 returns-clause-at_most c =
-    let self = c.args.self.now in
-    let few = c.in-Ok.ensures.at_most in
-    let count = dirty_count-filter (ways_in self.sets) in
-    let block_addrs = c.in-Ok.block_addrs.ok.0 in
-    omega arith
+    let count = dirty_count-filter (ways_in c.args.self.now.sets) in
+    ok-or _ c.dirty_block_addrs.result _ c.or.ensures c.dirty_block_addrs.ensures.at_most
+    (λ list few. let long = list.ok.0 in omega arith)
 
 -- the ways are few, and so are the dirty ones
 few : (self : Contents) → dirty_count (ways_in self.sets) ≤ 2 ^ 24
@@ -39,7 +39,3 @@ few self =
 pub returns-clause-few : goal.returns-clause-few
 unfolding ways_held
 returns-clause-few c = few c.args.self.now
-
-pub returns-in_default-clause-few : goal.returns-in_default-clause-few
-unfolding ways_held
-returns-in_default-clause-few c = few c.args.self.now

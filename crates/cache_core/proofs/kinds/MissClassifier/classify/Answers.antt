@@ -34,7 +34,7 @@ pub invariant_of-self-2 : goal.invariant_of-self-2
 invariant_of-self-2 c = record {
   recent = λ x e. let same : c.args.block ≡ x = cc in
       subst (λ z. slice_get c.put.new.self.entries 0 ≡ Some (z, tt)) same
-      (ap (λ m. slice_get m.entries 0) c.in-Ok-put.ensures.entries
+      (ap (λ m. slice_get m.entries 0) c.in-Ok.ensures.entries
       ∙ put-first c.promote-in_shadow.new.self.entries c.promote-in_shadow.new.self.cap
       c.args.block);
 }

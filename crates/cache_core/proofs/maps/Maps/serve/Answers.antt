@@ -1,6 +1,7 @@
 use Rattle.std.proofs.Common.{◌≡◌, ◌<◌, length, get_or, sym, ap, subst, ◌∙◌, arith}
 use Rattle.std.specs.List.{find}
 use Rattle.std.proofs.Math.Seq.{map-set_same}
+use Rattle.std.proofs.lemmas.Result.{IfOk-weaker}
 use Rattle.cache_core.specs.Policy.{is_fifo}
 use Rattle.cache_core.specs.Row.{holds_block, row, dirty_count}
 use Rattle.cache_core.specs.Mapped.{cap_of, shown, flat}
@@ -33,7 +34,7 @@ returns-clause-served c =
     row-here m.assoc m.sets.items c.args.set o (inside c₁)
     ∙ ap (λ z. shown m.assoc z.entries) (sym c.index_mut.ensures.value) in
     let new = row-set m.assoc m.sets.items c.args.set c.serve_map.new.map (inside c₁) in
-    rw (old, new) (rw (cap c₁) at c.in-Ok.ensures.served)
+    rw (old, new) (rw (cap c₁) at c.serve_map.ensures.served)
 
 pub returns-clause-charged : goal.returns-clause-charged
 returns-clause-charged c =
@@ -41,15 +42,15 @@ returns-clause-charged c =
     let c₁ = (goal.at.returns-clause-charged c).After-index_mut in
     let old = shown m.assoc o.entries in
     let p = c.args.policy in
-    let served = c.in-Ok.ensures.served in
-    let step = charged-by old _ _ _ _ (rw (cap c₁) at served.row) (rw (cap c₁) at served.back)
-    (charged-row old (is_fifo p) p.wback p.walloc c.args.write c.args.block_addr
-    (find (holds_block c.args.block_addr) old)) in
     let sum = count-set m.assoc m.sets.items c.args.set c.serve_map.new.map o (inside c₁) in
     let same : dirty_count (shown m.assoc (get_or m.sets.items c.args.set o).entries)
     ≡ dirty_count old = ap (λ z. dirty_count (shown m.assoc z.entries))
     (sym c.index_mut.ensures.value) in
-    omega arith
+    IfOk-weaker c.serve_map.result _ _ (λ answer served.
+    let step = charged-by old _ _ _ _ (rw (cap c₁) at served.row) (rw (cap c₁) at served.back)
+    (charged-row old (is_fifo p) p.wback p.walloc c.args.write c.args.block_addr
+    (find (holds_block c.args.block_addr) old)) in
+    omega arith) c.serve_map.ensures.served
 
 pub invariant_of-self : goal.invariant_of-self
 invariant_of-self c =
