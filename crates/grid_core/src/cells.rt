@@ -13,7 +13,6 @@ ghost use Rattle.grid_core.specs.Standing.{StandsFor, HasMoved, found_in, rules_
 ghost use Rattle.grid_core.specs.Standing.{IsWithinStack, told_in};
 ghost use Rattle.grid_core.specs.State.{nothing_alike, whole_counts};
 
-use crate::counting::zero_per_class;
 use crate::misses::less;
 use crate::outcome::outcome_in;
 use crate::shadows::PriorLevel;
@@ -46,8 +45,8 @@ pub(crate) fn none_alike() -> Alike
     ensures { result ≡ nothing_alike }
 {
     Alike {
-        fetches: zero_per_class(),
-        firsts: zero_per_class(),
+        fetches: PerClass::default(),
+        firsts: PerClass::default(),
         flushes: 0,
     }
 }

@@ -8,9 +8,7 @@ ghost use Rattle.cache_core.specs.Counting.{IsWithin, with_one};
 ghost use Rattle.cache_core.specs.History.{is_write};
 ghost use Rattle.grid_core.specs.Totals.{past, table_of, total};
 
-use crate::counting::zero_per_class;
 use crate::misses::{count_at, plus, sum_from, zeros};
-use crate::stack::writes;
 use cache_core::{Access, MAX_EVENTS, PerClass};
 use std::alloc::{AllocError, Global};
 
@@ -48,7 +46,7 @@ fn sum_past(tables: &[Vec<PerClass>], distance: usize, level: usize) -> PerClass
     requires within { IsWithin (past distance level (map table_of tables.now)) MAX_EVENTS }
     ensures { result ≡ past distance level (map table_of tables.now) }
 {
-    let mut sum = zero_per_class();
+    let mut sum = PerClass::default();
     for place in distance..tables.len() {
         sum = plus(sum, sum_from(&tables[place], level));
     }
@@ -110,7 +108,7 @@ fn count_first(counts: &mut Vec<PerClass>, clean: usize, access: Access)
         IsWithin (total counts.new.items) (b + 1) }
     ensures len { length counts.new.items ≡ length counts.old.items }
 {
-    if clean > 0 && writes(access) {
+    if clean > 0 && access.writes() {
         count_at(counts, clean, access);
     }
 }

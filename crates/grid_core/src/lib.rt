@@ -23,7 +23,6 @@ mod at_hand;
 mod block_numbers;
 mod caches;
 mod cells;
-mod counting;
 mod engine;
 mod front;
 mod histogram;

@@ -6,7 +6,6 @@ ghost use Rattle.cache_core.specs.Counts.{none_by_class};
 ghost use Rattle.cache_core.specs.Counting.{with_one, IsWithin};
 ghost use Rattle.grid_core.specs.Totals.{added, lessened, total};
 
-use crate::counting::{count, zero_per_class};
 use cache_core::{Access, MAX_EVENTS, PerClass};
 use std::alloc::{AllocError, Global};
 
@@ -39,7 +38,7 @@ pub(crate) fn less(first: PerClass, second: PerClass) -> PerClass
 pub(crate) fn zeros(alloc: Global, count: usize) -> Result<Vec<PerClass>, AllocError>
     ensures { IfOk result (λ v. v.items ≡ replicate count none_by_class) }
 {
-    vec![in alloc; zero_per_class(); count]
+    vec![in alloc; PerClass::default(); count]
 }
 
 /// All counts, added.
@@ -47,7 +46,7 @@ pub(crate) fn sum_of(counts: &[PerClass]) -> PerClass
     requires { IsWithin (total counts.now) MAX_EVENTS }
     ensures { result ≡ total counts.now }
 {
-    let mut sum = zero_per_class();
+    let mut sum = PerClass::default();
     for one in counts {
         sum = plus(sum, *one);
     }
@@ -70,7 +69,7 @@ fn count_one(counts: &mut [PerClass], index: usize, access: Access)
     ensures { counts.new ≡ set counts.old index (with_one access true
         (get_or counts.old index none_by_class)) }
 {
-    count(&mut counts[index], access, true);
+    counts[index].count(access, true);
 }
 
 /// The same for a vector.

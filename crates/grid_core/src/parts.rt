@@ -11,7 +11,7 @@ ghost use Rattle.grid_core.specs.Cells.{IsPlacedAmong, shape_rules};
 ghost use Rattle.grid_core.specs.State.{IsRanked, IsShapeFor};
 
 use crate::cells::Shape;
-use crate::shapes::{rank_of, stack_for, ways_of};
+use crate::shapes::{rank_of, stack_for};
 use crate::stack::Stack;
 use cache_core::Geometry;
 use std::alloc::{AllocError, Global};
@@ -81,7 +81,7 @@ fn shape_for(
         geometry,
         wback,
         stack,
-        ways: ways_of(geometry),
+        ways: geometry.assoc() as usize,
         rank: rank_of(sizes, geometry.blocks() as usize),
     })
 }

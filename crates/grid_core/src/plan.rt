@@ -16,7 +16,7 @@ ghost use Rattle.grid_core.specs.Singles.{single_rules, single_shading};
 use crate::places::{Place, Seat};
 use crate::shade::Shade;
 use crate::shading::shade_for;
-use crate::shapes::{is_lru, ways_of};
+use crate::shapes::is_lru;
 use crate::single::Single;
 use cache_core::{Geometry, Policy};
 use std::alloc::{AllocError, Global};
@@ -40,7 +40,7 @@ fn has_stack(geometry: Geometry, policy: Policy) -> bool
     ensures lru { result ≡ true → is_fifo policy ≡ false }
     ensures allocates { result ≡ true → policy.walloc ≡ true }
 {
-    is_lru(policy) && policy.walloc && ways_of(geometry) <= MOST_TOGETHER
+    is_lru(policy) && policy.walloc && geometry.assoc() as usize <= MOST_TOGETHER
 }
 
 /// A new cache of its own, and its index.

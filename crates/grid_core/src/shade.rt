@@ -5,7 +5,6 @@ ghost use Rattle.cache_core.specs.Counting.{IsWithin};
 ghost use Rattle.cache_core.specs.Standing.{rules_held, rules_from};
 ghost use Rattle.grid_core.specs.Wholes.{IsWholeOf, IsLruOf};
 
-use crate::counting::{count, zero_per_class};
 use crate::shapes::is_lru;
 use cache_core::{Access, Contents, Geometry, MAX_EVENTS, PerClass, Policy};
 use std::alloc::{AllocError, Global};
@@ -65,7 +64,7 @@ impl Shade {
             geometry,
             policy,
             contents,
-            misses: zero_per_class(),
+            misses: PerClass::default(),
             hit: false,
             counted: 0,
         })
@@ -103,7 +102,7 @@ impl Shade {
         ensures counted { (n : ℕ) → ShadeHasCounted n self.old → ShadeHasCounted (n + 1) self.new }
         ensures rules { shade_rules self.new ≡ shade_rules self.old }
     {
-        count(&mut self.misses, access, !self.hit);
+        self.misses.count(access, !self.hit);
         self.counted += 1;
     }
 

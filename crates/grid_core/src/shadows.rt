@@ -7,7 +7,6 @@ ghost use Rattle.marked_list.specs.Marked.{marked_sizes};
 use crate::block_numbers::BlockNumbers;
 use crate::misses::{count_at, sum_from, zeros};
 use crate::recent::{Recent, is_again, nothing_recent, used_now};
-use crate::stack::writes;
 use cache_core::{Access, MAX_EVENTS, PerClass};
 use marked_list::Marked;
 use std::alloc::{AllocError, Global};
@@ -106,7 +105,7 @@ impl Shadows {
         let known = self.order.knows(number);
         let level = self.order.touch(number)?;
         count_at(&mut self.levels, level, access);
-        self.recent = used_now(self.recent, block, writes(access));
+        self.recent = used_now(self.recent, block, access.writes());
         Ok(PriorLevel { known, level })
     }
 

@@ -14,13 +14,6 @@ use crate::stack::Stack;
 use cache_core::{Geometry, Policy, Repl};
 use std::alloc::{AllocError, Global};
 
-/// How many ways a set has.
-pub(crate) fn ways_of(geometry: Geometry) -> usize
-    ensures { result ≡ assoc_of geometry }
-{
-    (geometry.blocks() / geometry.sets()) as usize
-}
-
 /// Whether a policy replaces the block that was used longest ago.
 pub(crate) fn is_lru(policy: Policy) -> bool
     ensures { result ≡ not (is_fifo policy) }
@@ -85,7 +78,7 @@ fn is_wider(geometry: Geometry, other: Geometry) -> bool
 {
     other.bsize() == geometry.bsize()
         && other.sets() == geometry.sets()
-        && ways_of(geometry) <= ways_of(other)
+        && geometry.assoc() <= other.assoc()
 }
 
 /// The wider of two geometries, if they have as many sets; else the first.
@@ -140,12 +133,12 @@ pub(crate) fn stack_for(
     ensures sizes { OnOk result ((n : ℕ) → bsize_of geometry ≡ n →
         HaveBsize n stacks.old.items → HaveBsize n stacks.new.items) }
 {
-    let ways = ways_of(geometry);
+    let ways = geometry.assoc() as usize;
     if let Some(index) = find_stack(stacks, geometry, ways, wback) {
         return Ok(index);
     }
     let wide = widest(geometries, geometry);
-    let stack = Stack::new(alloc, wide, ways_of(wide), levels, wback)?;
+    let stack = Stack::new(alloc, wide, wide.assoc() as usize, levels, wback)?;
     let index = stacks.len();
     stacks.push(stack)?;
     Ok(index)

@@ -1,7 +1,6 @@
 //! The sets of one number, for caches of every number of ways up to the widest.
 
 ghost use Rattle.std.specs.Prelude.{◌≡◌, ◌<◌, ◌+◌, ◌*◌, ◌^◌, ℕ, vec_len};
-ghost use Rattle.cache_core.specs.History.{is_write};
 ghost use Rattle.cache_core.specs.Geometry.{bsize_of, sets_of, assoc_of};
 ghost use Rattle.cache_core.specs.Row.{row};
 ghost use Rattle.grid_core.specs.Histograms.{histogram_ways};
@@ -10,7 +9,7 @@ ghost use Rattle.grid_core.specs.Slots.{HaveBytes};
 use crate::front::{stays, turn_in};
 use crate::histogram::Histogram;
 use crate::slots::{Slot, clear_in, count_dirty, dirty_rising, empty_slot, empty_slots, pushed};
-use cache_core::{Access, Class, Geometry, MAX_EVENTS, PerClass};
+use cache_core::{Access, Geometry, MAX_EVENTS, PerClass};
 use std::alloc::{AllocError, Global};
 
 /// The sets of the widest cache, and with them those of every narrower one of as many sets.
@@ -37,16 +36,6 @@ pub(crate) struct Stack {
     ghost inside: { set < sets_of geometry },
     ghost fits: { last.block * bsize_of geometry < 2 ^ 64 },
     ghost counted: { histogram_ways histogram ≡ ways },
-}
-
-/// Whether an access writes.
-pub(crate) fn writes(access: Access) -> bool
-    ensures { result ≡ is_write access }
-{
-    match access.class {
-        Class::Write => true,
-        _ => false,
-    }
 }
 
 #[tactic(auto, unfolding(crate::specs::Standing::rules_of, crate::specs::Standing::found_in))]
@@ -109,7 +98,7 @@ impl Stack {
         ensures first { result ≡ true → (h : History) → StandsFor self.now h →
             StaysFirst (rules_of self.now) h access }
     {
-        let write = writes(access);
+        let write = access.writes();
         let block = self.geometry.block(access.addr);
         let set = self.set_of(block);
         stays(&self.slots, set, self.ways, block, write)
@@ -133,7 +122,7 @@ impl Stack {
         ensures levels { told_in self.new ≡ told_in self.old }
         ensures rules { rules_of self.new ≡ rules_of self.old }
     {
-        let write = writes(access);
+        let write = access.writes();
         let block = self.geometry.block(access.addr);
         let set = self.set_of(block);
         let from = from.min(self.ways);

@@ -16,12 +16,11 @@ mod last;
 
 use crate::block_numbers::BlockNumbers;
 use crate::cells::{Alike, Shape, dirty_lists, none_alike, shape_counts};
-use crate::counting::count;
 use crate::outcome::sends_on;
 use crate::parts::parts_for;
 use crate::shadows::{PriorLevel, Shadows, prior_of_last};
 use crate::shapes::rising_sizes;
-use crate::stack::{Stack, writes};
+use crate::stack::Stack;
 use crate::stacks::{clear_rows, serve_rows};
 use cache_core::{Access, Counts, Geometry, MAX_EVENTS, PerClass};
 use std::alloc::{AllocError, Global};
@@ -132,8 +131,8 @@ impl Stacked {
         ensures policy { self.new.wback ≡ self.old.wback }
         ensures numbers { stacked_numbered self.new ≡ stacked_numbered self.old }
     {
-        count(&mut self.alike.fetches, access, true);
-        self.write = writes(access);
+        self.alike.fetches.count(access, true);
+        self.write = access.writes();
         self.again = true;
         self.prior = prior_of_last();
         self.served += 1;
@@ -157,9 +156,9 @@ impl Stacked {
             return Err(AllocError);
         };
         serve_rows(&mut self.stacks, access, prior.level);
-        count(&mut self.alike.fetches, access, true);
-        count(&mut self.alike.firsts, access, !prior.known);
-        self.write = writes(access);
+        self.alike.fetches.count(access, true);
+        self.alike.firsts.count(access, !prior.known);
+        self.write = access.writes();
         self.again = false;
         self.prior = prior;
         self.served += 1;
@@ -187,7 +186,7 @@ impl Stacked {
         ensures numbers { stacked_numbered self.new ≡ stacked_numbered self.old }
         ensures rules { stacked_rules self.new ≡ stacked_rules self.old }
     {
-        let write = writes(access);
+        let write = access.writes();
         if sends_on(write, self.wback) {
             return false;
         }
@@ -213,7 +212,7 @@ impl Stacked {
         ensures rules { stacked_rules self.new ≡ stacked_rules self.old }
     {
         let block = self.geometry.block(access.addr);
-        if self.shadows.is_again(block, writes(access)) {
+        if self.shadows.is_again(block, access.writes()) {
             self.repeat(access);
             return Ok(());
         }

@@ -21,9 +21,9 @@ returns-clause-own c =
       same_wback = refl;
       suited = record {
         suited = subst (λ w. IsSuited c.stack_for.new.stacks.items g w c.args.wback
-            c.in_ok-stack.stack) (sym c.ways_of.ensures) c.in_ok-stack.ensures.suited;
-        ways = c.ways_of.ensures;
-        some = subst (λ n. 0 < n) (sym c.ways_of.ensures) (sane_of g).assoc_pos;
+            c.in_ok-stack.stack) (sym c.assoc.ensures) c.in_ok-stack.ensures.suited;
+        ways = c.assoc.ensures;
+        some = subst (λ n. 0 < n) (sym c.assoc.ensures) (sane_of g).assoc_pos;
       };
       inside = inside;
       found = found;

@@ -10,12 +10,9 @@ use Rattle.grid_core.specs.StackedCells.{stacked_served}
 use Rattle.grid_core.specs.Totals.{total}
 use Rattle.grid_core.proofs.Again.{after-again, all-again, known-last, last-of, prior-again}
 use Rattle.grid_core.proofs.Sharing.{alike-again}
-use Rattle.grid_core.proofs.StackBounds.{within-most, within-stacks}
+use Rattle.grid_core.proofs.StackBounds.{within-stacks}
 use Rattle.grid_core.proofs.Totals.{within-more}
 use Rattle.grid_core.proofs.stacked.Stacked.repeat.Goals as goal
-
-pub count-requires : goal.count-requires
-count-requires c = within-most c.args.self.now c.args.self.now.alike_within.fetches
 
 pub invariant_of-self : goal.invariant_of-self
 unfolding stacked_served

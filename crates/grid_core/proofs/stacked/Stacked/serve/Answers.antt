@@ -44,12 +44,6 @@ serve_rows-requires-clause-lived c =
     let old = c.args.self.now in
     (bsize_of old.geometry, old.one_size, old.lived)
 
-pub count-requires : goal.count-requires
-count-requires c = within-most c.args.self.now c.args.self.now.alike_within.fetches
-
-pub count-requires-2 : goal.count-requires-2
-count-requires-2 c = within-most c.args.self.now c.args.self.now.alike_within.firsts
-
 pub invariant_of-self-2 : goal.invariant_of-self-2
 unfolding stacked_served
 invariant_of-self-2 c =
