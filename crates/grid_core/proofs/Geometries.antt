@@ -50,3 +50,8 @@ module _ (g : Geometry) where
       sym (ap (λ n. n / bsize_of g) (whole ∙ ap (λ n. sets_of g * n) (mul_comm (bsize_of g)
       (assoc_of g)) ∙ sym (mul_assoc (sets_of g) (assoc_of g) (bsize_of g)))
       ∙ mul-div_cancel (sets_of g * assoc_of g) pos)
+
+  -- so the number of ways is the blocks of each set
+  pub ways-are : blocks_of g / sets_of g ≡ assoc_of g
+  ways-are = ap (λ n. n / sets_of g) (sym sets-blocks ∙ mul_comm (sets_of g) (assoc_of g))
+      ∙ mul-div_cancel (assoc_of g) (sane_of g).sets_pos

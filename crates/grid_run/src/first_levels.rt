@@ -20,15 +20,9 @@ use crate::queue::Queue;
 use crate::queues::{ask_queues, queues_for};
 use crate::requests::{Request, asked_of};
 use cache_core::NoMemory;
-use din_trace::{DinRecord, Label, MAX_LIMIT};
+use din_trace::{DinRecord, MAX_LIMIT};
 use stage_core::{Selector, Side, selections_make_at_most_two};
 use std::alloc::Global;
-
-/// The flush that a selection inserts.
-const INSERTED: DinRecord = DinRecord {
-    label: Label::Flush,
-    addr: 0,
-};
 
 /// A selector, the first-level caches that serve what it selects, and the queues of what these
 /// send.
@@ -162,7 +156,7 @@ impl FirstLevels {
         selections_make_at_most_two();
         let picked = self.selector.offer(next);
         self.take_some(picked.event)?;
-        self.take_some(picked.flush.then_some(INSERTED))
+        self.take_some(picked.inserted())
     }
 
     /// Takes records in their order.

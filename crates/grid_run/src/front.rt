@@ -5,10 +5,10 @@ ghost use Rattle.grid_run.specs.declared.front.Last.TheVariants as last;
 
 use crate::level::Level;
 use crate::parts::{ask_backs, ask_parts};
-use crate::requests::{Request, back_part, fetch_part, flush_part, through_part};
+use crate::requests::Request;
 use crate::shelf::Shelf;
 use cache_core::{Access, NoMemory};
-use stage_core::{Side, What};
+use stage_core::{Side, What, back_part, fetch_part, flush_part, through_part};
 use std::alloc::Global;
 
 /// What the caches served last.

@@ -1,16 +1,13 @@
 //! What an event asks of each cache of a configuration.
 
 ghost use Rattle.std.specs.Prelude.{◌≡◌, map, option_to_list};
-ghost use Rattle.stage_core.specs.Places.{list_if};
 ghost use Rattle.stage_core.specs.Events.{asked};
-ghost use Rattle.stage_core.specs.SecondLevel.{back, fetch_class, flush_all};
 ghost use Rattle.stage_core.specs.declared.message.Side.TheVariants as side;
-ghost use Rattle.stage_core.specs.declared.message.What.TheVariants as what;
 ghost use Rattle.grid_run.specs.Sending.{event_of};
 
 use cache_core::{Access, Class};
 use din_trace::{DinRecord, Label};
-use stage_core::{Side, What};
+use stage_core::Side;
 
 /// A request to a first-level cache.
 #[derive(Clone, Copy)]
@@ -64,50 +61,5 @@ pub(crate) fn asked_of(side: Side, event: DinRecord) -> Option<Request>
     match side {
         Side::I => asked_of_i(event),
         Side::D => asked_of_d(event),
-    }
-}
-
-/// The request to the second level for a write-back, if there is one.
-pub(crate) fn back_part(addr: Option<u64>) -> Option<What>
-    ensures { option_to_list result ≡ map back (option_to_list addr) }
-{
-    match addr {
-        Some(addr) => Some(What::Back(addr)),
-        None => None,
-    }
-}
-
-/// The request to the second level for a block, if it is fetched.
-pub(crate) fn fetch_part(side: Side, fetch: bool, first: u64) -> Option<What>
-    ensures { option_to_list result ≡ list_if fetch (what.Fetch (fetch_class side) first) }
-{
-    if !fetch {
-        return None;
-    }
-    let class = match side {
-        Side::I => Class::Instr,
-        Side::D => Class::Read,
-    };
-    Some(What::Fetch(class, first))
-}
-
-/// The request to the second level for a write, if it is sent on.
-pub(crate) fn through_part(through: bool, addr: u64) -> Option<What>
-    ensures { option_to_list result ≡ list_if through (what.Through addr) }
-{
-    if through {
-        Some(What::Through(addr))
-    } else {
-        None
-    }
-}
-
-/// The last request to the second level for a flush, if this side makes it.
-pub(crate) fn flush_part(side: Side) -> Option<What>
-    ensures { option_to_list result ≡ flush_all side }
-{
-    match side {
-        Side::I => None,
-        Side::D => Some(What::FlushAll),
     }
 }

@@ -1,17 +1,16 @@
 //! A first-level stage: one cache, and the messages that it sends to the next level.
 
-ghost use Rattle.std.specs.Prelude.{◌≡◌, option_to_list};
+ghost use Rattle.std.specs.Prelude.{◌≡◌};
 ghost use Rattle.cache_core.specs.Standing.{rules_of};
 ghost use Rattle.cache_core.specs.Geometry.{bsize_of};
-ghost use Rattle.stage_core.specs.Places.{list_if};
-ghost use Rattle.stage_core.specs.SecondLevel.{access_parts, flush_all, fetch_class};
+ghost use Rattle.stage_core.specs.SecondLevel.{access_parts};
 ghost use Rattle.stage_core.specs.Streams.{answer};
-ghost use Rattle.stage_core.specs.declared.message.What.TheVariants as what;
 
 use crate::memory::NoMemory;
 use crate::message::{FromStage, Side, ToStage, What};
 use crate::outbox::Outbox;
-use cache_core::{Access, Cache, Class, Counts, Geometry, MAX_EVENTS, Outcome, Policy};
+use crate::parts::{fetch_part, flush_part, through_part};
+use cache_core::{Access, Cache, Counts, Geometry, MAX_EVENTS, Outcome, Policy};
 use std::alloc::Global;
 
 /// One first-level cache. It receives messages, and answers each with the parts for the next level.
@@ -25,41 +24,6 @@ pub struct L1Stage {
     outbox: Outbox,
     took_finish: bool,
     ghost shape: { (rules_of cache).bsize ≡ bsize_of geometry },
-}
-
-// The part for the fetch of a block, if there is one.
-fn fetch_part(side: Side, fetch: bool, first: u64) -> Option<What>
-    ensures { option_to_list result ≡ list_if fetch (what.Fetch (fetch_class side) first) }
-{
-    if !fetch {
-        return None;
-    }
-    let class = match side {
-        Side::I => Class::Instr,
-        Side::D => Class::Read,
-    };
-    Some(What::Fetch(class, first))
-}
-
-// The part for a write that is sent on, if it is.
-fn through_part(through: bool, addr: u64) -> Option<What>
-    ensures { option_to_list result ≡ list_if through (what.Through addr) }
-{
-    if through {
-        Some(What::Through(addr))
-    } else {
-        None
-    }
-}
-
-// The part after the write-backs of a flush, if there is one.
-fn flush_part(side: Side) -> Option<What>
-    ensures { option_to_list result ≡ flush_all side }
-{
-    match side {
-        Side::I => None,
-        Side::D => Some(What::FlushAll),
-    }
 }
 
 // The outbox with the answer to an access whose block begins at `first`: its parts, and Done.

@@ -28,6 +28,7 @@ mod merge;
 mod message;
 mod network;
 mod outbox;
+mod parts;
 mod plain;
 mod selection;
 mod splitter;
@@ -47,6 +48,7 @@ pub use network::{
     Core, complete_schedules_are_as_long, drive, no_schedule_is_stuck, rings_carry_beginnings,
     rings_hold_their_capacity, second_level_is_given_no_more, steps_keep_consistency,
 };
+pub use parts::{back_part, fetch_part, flush_part, through_part};
 pub use plain::run_plain;
 pub use selection::{Picked, Selection, Selector};
 pub use splitter::Splitter;

@@ -24,7 +24,7 @@ use crate::laws::{second_level_sees_at_most_two, selections_make_at_most_two};
 use crate::memory::NoMemory;
 use crate::merge::Merge;
 use crate::message::{Side, ToStage};
-use crate::selection::{Selection, Selector, inserted};
+use crate::selection::{Selection, Selector};
 use crate::splitter::Splitter;
 use crate::totals::Totals;
 use cache_core::MAX_EVENTS;
@@ -141,7 +141,7 @@ impl Machines {
         for next in records {
             let picked = selector.offer(*next);
             self.take_some(picked.event)?;
-            self.take_some(inserted(picked.flush))?;
+            self.take_some(picked.inserted())?;
         }
         Ok(())
     }

@@ -35,6 +35,18 @@ pub struct Picked {
     pub flush: bool,
 }
 
+impl Picked {
+    /// The flush that the selection inserts after the record, if it does.
+    pub fn inserted(self) -> Option<DinRecord>
+        ensures { option_to_list result ≡ list_if self.flush inserted_flush }
+    {
+        self.flush.then_some(DinRecord {
+            label: Label::Flush,
+            addr: 0,
+        })
+    }
+}
+
 /// Makes the events of a trace, one record at a time.
 #[derive(Drop)]
 pub struct Selector {
@@ -111,20 +123,6 @@ impl Selector {
     }
 }
 
-/// The flush that a selection inserts, if `flush`.
-pub fn inserted(flush: bool) -> Option<DinRecord>
-    ensures { option_to_list result ≡ list_if flush inserted_flush }
-{
-    if flush {
-        Some(DinRecord {
-            label: Label::Flush,
-            addr: 0,
-        })
-    } else {
-        None
-    }
-}
-
 // Adds an event, if there is one.
 fn add(events: &mut Vec<DinRecord>, event: Option<DinRecord>) -> Result<(), NoMemory>
     ensures { OnOk result (events.new.items ≡ events.old.items ++ option_to_list event) }
@@ -152,7 +150,7 @@ pub fn events_of(
     for next in records {
         let picked = selector.offer(*next);
         add(&mut made, picked.event)?;
-        add(&mut made, inserted(picked.flush))?;
+        add(&mut made, picked.inserted())?;
     }
     Ok(made)
 }

@@ -1,12 +1,10 @@
-use Rattle.std.proofs.Common.{◌≡◌, ◌++◌, ◌∷◌, [], Bool, true, false, List, count_by}
-use Rattle.std.proofs.Common.{option_to_list, refl, ap, sym, subst, ◌∙◌, append_assoc, arith}
+use Rattle.std.proofs.Common.{◌≡◌, ◌++◌, ◌∷◌, [], List, count_by}
+use Rattle.std.proofs.Common.{option_to_list, ap, sym, subst, ◌∙◌, append_assoc, arith}
 use Rattle.std.proofs.Common.{length-append}
-use Rattle.std.specs.Bool.{then_some}
 use Rattle.std.proofs.lemmas.Result.{on_ok_weaker}
 use Rattle.din_trace.specs.declared.record.DinRecord.{DinRecord}
-use Rattle.stage_core.specs.Events.{events, events_at, inserted_flush, is_reference, picked}
+use Rattle.stage_core.specs.Events.{events, events_at, is_reference, picked}
 use Rattle.stage_core.specs.Events.{picked_events}
-use Rattle.stage_core.specs.Places.{list_if}
 use Rattle.stage_core.specs.declared.selection.Picked.{Picked}
 use Rattle.stage_core.specs.Standing.{WasOffered}
 use Rattle.stage_core.specs.declared.selection.Selection.{Selection}
@@ -16,11 +14,6 @@ use Rattle.grid_run.specs.FirstLevels.{AreSeated, HasServed, first_task}
 use Rattle.grid_run.proofs.Events.{few-option}
 use Rattle.grid_run.proofs.Placed.{served-by-same}
 use Rattle.grid_run.proofs.first_levels.FirstLevels.take.Goals as goal
-
--- the flush that a selection inserts, if it does
-one-flush : (b : Bool) (x : DinRecord) → option_to_list (then_some b x) ≡ list_if b x
-one-flush true x = refl
-one-flush false x = refl
 
 pub offer-picked-requires : goal.offer-picked-requires
 offer-picked-requires c =
@@ -78,9 +71,7 @@ returns-clause-given c =
     let sel = old.selector.selection in
     let next = c.args.next in
     let event = option_to_list c.offer-picked.result.event in
-    let last = option_to_list c.then_some.result in
-    let flushes = ap option_to_list c.then_some.ensures
-    ∙ one-flush c.offer-picked.result.flush inserted_flush in
+    let last = option_to_list c.inserted.result in
     let selector = c.take_some-2.ensures.selector ∙ c.take_some.ensures.selector in
     let selection = ap (λ (s : Selector). s.selection) selector
     ∙ c.offer-picked.ensures.selection in
@@ -91,7 +82,7 @@ returns-clause-given c =
     c.offer-picked.ensures.picked past was.offered in
     let longer : (es ++ event) ++ last ≡ events sel (past ++ next ∷ []) =
     append_assoc es event last
-    ∙ ap (λ l. es ++ (event ++ l)) flushes
+    ∙ ap (λ l. es ++ (event ++ l)) c.inserted.ensures
     ∙ ap (λ (p : Picked). es ++ picked_events p) picks
     ∙ sym (flat_map_with_past-more (events_at sel) past next) in
     let picking = served-by-same given c.offer-picked.new.self old es was.served in
