@@ -10,6 +10,9 @@ use stage_core::{FromStage, Routed, ToStage, Turn};
 use std::alloc::Global;
 use std::sync::Wait;
 
+/// How many events, or messages, a thread posts from one offer to the next.
+pub(crate) const BETWEEN_OFFERS: usize = 32;
+
 /// The ends of the splitter: the order of turns to the merge, and a ring to each stage.
 #[derive(Drop)]
 pub struct SplitterEnds {

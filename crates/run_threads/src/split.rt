@@ -19,22 +19,13 @@ ghost use Rattle.run_threads.specs.Waits.{AllAnnounced, AllPublished, PostedWhol
 ghost use Rattle.run_threads.specs.Waits.{SplitterHasEnded, splitter_at};
 ghost use Rattle.run_threads.specs.declared.waits.Until.TheVariants as Until;
 
-use crate::ends::SplitterEnds;
+use crate::ends::{BETWEEN_OFFERS, SplitterEnds};
 use crate::fault::{RunFault, Stop, fault_of_source};
 use crate::gate::{Gate, Who};
 use crate::waits::{BodyRuntime, Until, await_rooms};
-use din_trace::{ByteReader, DinRecord, Label, MAX_LIMIT, Source, TraceFault};
+use din_trace::{ByteReader, DinRecord, MAX_LIMIT, Source, TraceFault};
 use stage_core::{Picked, Routed, Selection, Selector, Splitter};
 use std::sync::Wait;
-
-/// The flush that a selection inserts.
-const INSERTED: DinRecord = DinRecord {
-    label: Label::Flush,
-    addr: 0,
-};
-
-/// After how many events the posted messages are offered.
-const EACH: usize = 32;
 
 // Publishes posted messages, until all are published or there is room for another event. Each round
 // publishes as many as fit into each of the three rings, so that no ring waits for another one.
@@ -148,7 +139,7 @@ fn send_routed<H: Wait>(
         publish(rt, ends, Until::Room)?;
     }
     ends.post(routed);
-    if ends.order.posted() % EACH == 0 {
+    if ends.order.posted() % BETWEEN_OFFERS == 0 {
         ends.offer();
     }
     Ok(())
@@ -219,7 +210,7 @@ fn send_picked<H: Wait>(
     ensures cut { IfErr result (λ why. why ≡ Stop.Cut) }
 {
     send_some(rt, splitter, ends, picked.event)?;
-    send_some(rt, splitter, ends, picked.flush.then_some(INSERTED))
+    send_some(rt, splitter, ends, picked.inserted())
 }
 
 /// Reads the records one by one, sends the messages of the selected events, and then those of the

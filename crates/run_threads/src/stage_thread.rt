@@ -14,7 +14,7 @@ ghost use Rattle.run_threads.specs.Threads.{StageEnded};
 ghost use Rattle.run_threads.specs.Waits.{AnswersPublished, OfStage, StageHasEnded};
 ghost use Rattle.run_threads.specs.declared.waits.Until.TheVariants as Until;
 
-use crate::ends::StageEnds;
+use crate::ends::{BETWEEN_OFFERS, StageEnds};
 use crate::fault::{NoThread, Stop};
 use crate::gate::{Gate, Who, pass};
 use crate::waits::{BodyRuntime, Until, await_message, await_room};
@@ -40,9 +40,6 @@ impl Promise<StageEnd> for StagePromise {
 
 /// A stage's thread, which is still to be joined.
 pub type StageHandle = PromisedHandle<StageEnd, StagePromise>;
-
-/// After how many messages the posted messages are offered.
-const EACH: usize = 32;
 
 // Publishes posted messages, until all are published or there is room for another one.
 fn publish<H: Wait>(
@@ -166,7 +163,7 @@ fn send_outbox<H: Wait>(
     }
     while let Some(message) = stage.outbox_next() {
         ends.to_merge.post(message);
-        if ends.to_merge.posted() % EACH == 0 {
+        if ends.to_merge.posted() % BETWEEN_OFFERS == 0 {
             ends.to_merge.offer();
         }
         if !ends.to_merge.has_room() {
