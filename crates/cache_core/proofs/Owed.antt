@@ -5,9 +5,10 @@ use Rattle.std.proofs.Common.{Some, None, is_some, inl, inr, refl, sym, ap, subs
 use Rattle.std.specs.List.{find}
 use Rattle.std.proofs.lemmas.Bool.{eqb-true, eq-eqb, false≢true, or_left, or_right, or_cases}
 use Rattle.std.proofs.lemmas.Bool.{and_parts, and_from, ltb-true, lt-ltb, not-true}
+use Rattle.std.proofs.lemmas.Bool.{false_from_ne_true}
 use Rattle.cache_core.specs.declared.access.Access.{Access}
 use Rattle.cache_core.specs.History.{Rules, History}
-use Rattle.cache_core.specs.Residents.{hits, uses, renews, renewals, is_resident, victim}
+use Rattle.cache_core.specs.Residents.{hits, uses, renews, renewals, is_resident, leaves, victim}
 use Rattle.cache_core.specs.Dirty.{is_written, is_dirty, dirty_blocks}
 use Rattle.cache_core.specs.Parts.{dirty_victim, outcome_of, part_count}
 use Rattle.cache_core.specs.Order.{ranked}
@@ -42,14 +43,16 @@ find-passes p (x ∷ xs) v e = (elim (p x) as (λ t. p x ≡ t → cond t (Some 
     ]) refl e
 
 module _ (r : Rules) (h : History) where
-  dirty-parts : (y : ℕ) → is_dirty r h y ≡ true
+  -- in a cache that writes back, a dirty block is a resident one that is written
+  pub dirty-parts : (y : ℕ) → is_dirty r h y ≡ true
       → (r.wback ≡ true) × (is_resident r (renewals r h) y ≡ true) × (is_written r h y ≡ true)
   unfolding is_dirty
   dirty-parts y d = let p = and_parts (r.wback && is_resident r (renewals r h) y)
       (is_written r h y) d in let q = and_parts r.wback (is_resident r (renewals r h) y) p.0 in
       (q.0, q.1, p.1)
 
-  dirty-from : (y : ℕ) → r.wback ≡ true → is_resident r (renewals r h) y ≡ true
+  -- and each of these is dirty
+  pub dirty-from : (y : ℕ) → r.wback ≡ true → is_resident r (renewals r h) y ≡ true
       → is_written r h y ≡ true → is_dirty r h y ≡ true
   unfolding is_dirty
   dirty-from y a b c = and_from (r.wback && is_resident r (renewals r h) y) (is_written r h y)
@@ -76,7 +79,6 @@ module _ (r : Rules) (h : History) where
 module _ (r : Rules) (h : History) (x : Access) where
   open at_access r h x use {b, s, ms, h', w}
 
-  -- an access makes no other block resident
   in-front : (m : ℕ) → r.assoc ≡ suc m → renews r ms x ≡ true → (y : ℕ) → eqb b y ≡ false
       → is_resident r (b ∷ ms) y ≡ true → is_resident r ms y ≡ true
   in-front m size yes' y other res =
@@ -101,11 +103,13 @@ module _ (r : Rules) (h : History) (x : Access) where
       ∙ res))
       (λ g. sym (ap (λ l. is_resident r l y) (renewals-no r h x g)) ∙ res)
 
-  others : (y : ℕ) → eqb b y ≡ false → is_resident r (renewals r h') y ≡ true
+  -- an access makes no other block resident
+  pub others : (y : ℕ) → eqb b y ≡ false → is_resident r (renewals r h') y ≡ true
       → is_resident r ms y ≡ true
   others y other res = others-by r.assoc refl y other res
 
-  written-other : (y : ℕ) → eqb b y ≡ false → is_written r h' y ≡ is_written r h y
+  -- whether another block is written stays as it was
+  pub written-other : (y : ℕ) → eqb b y ≡ false → is_written r h' y ≡ is_written r h y
   unfolding is_written
   written-other y e = rw e refl
 
@@ -118,66 +122,82 @@ module _ (r : Rules) (h : History) (x : Access) where
       ∙ ap (λ t. cond (true && (not t || r.walloc || hits r ms x))
       (t || (hits r ms x && is_written r h b)) (is_written r h b)) e) ∙ g)
 
+  -- an access that does not write leaves its block dirty only if it was
+  pub dirty-here : w ≡ false → is_dirty r h' b ≡ true → is_dirty r h b ≡ true
+  dirty-here e d =
+      let p = dirty-parts r h' b d in
+      let k = written-here e p.2 in
+      dirty-from r h b p.0 k.0 k.1
+
   abbrev after : List ℕ
   after = dirty_blocks r h'
 
-  abbrev owing : List ℕ
-  owing = cond w (b ∷ dirty_blocks r h) (dirty_blocks r h)
+  -- the dirty blocks, and before them that of the access if it is said to become dirty
+  abbrev pub owing : Bool → List ℕ
+  owing made = cond made (b ∷ dirty_blocks r h) (dirty_blocks r h)
 
-  inside : (y : ℕ) → is_dirty r h y ≡ true → has owing y ≡ true
-  inside y d = (elim w as (λ t. has (cond t (b ∷ dirty_blocks r h) (dirty_blocks r h)) y ≡ true) [
-    | true ↦ or_right (eqb b y) (has (dirty_blocks r h) y) (dirty-has r h y d)
-    | false ↦ dirty-has r h y d
-  ])
+  -- they have each block that was dirty
+  pub inside : (made : Bool) (y : ℕ) → is_dirty r h y ≡ true → has (owing made) y ≡ true
+  inside true y d = or_right (eqb b y) (has (dirty_blocks r h) y) (dirty-has r h y d)
+  inside false y d = dirty-has r h y d
 
-  stays-inside : (y : ℕ) → has after y ≡ true → has owing y ≡ true
-  stays-inside y g =
-      let p = dirty-parts r h' y (has-dirty r h' y g) in
+  inside-here : (made : Bool)
+      → (made ≡ false → is_dirty r h' b ≡ true → is_dirty r h b ≡ true) → (y : ℕ)
+      → eqb b y ≡ true → is_dirty r h' y ≡ true → has (owing made) y ≡ true
+  inside-here true clean y e d = or_left (eqb b y) (has (dirty_blocks r h) y) e
+  inside-here false clean y e d = let same : b ≡ y = eqb-true b y e in
+      dirty-has r h y (subst (λ z. is_dirty r h z ≡ true) same
+      (clean refl (subst (λ z. is_dirty r h' z ≡ true) (sym same) d)))
+
+  -- and each that is dirty after the access, if its block becomes dirty only where that is said
+  pub stays-inside : (made : Bool)
+      → (made ≡ false → is_dirty r h' b ≡ true → is_dirty r h b ≡ true) → (y : ℕ)
+      → is_dirty r h' y ≡ true → has (owing made) y ≡ true
+  stays-inside made clean y d =
+      let p = dirty-parts r h' y d in
       by_cases (eqb b y)
-      (λ e. (elim w as (λ t. w ≡ t
-      → has (cond t (b ∷ dirty_blocks r h) (dirty_blocks r h)) y ≡ true) [
-        | true ↦ λ q. or_left (eqb b y) (has (dirty_blocks r h) y) e
-        | false ↦ λ q. let same : b ≡ y = eqb-true b y e in
-            let k = written-here q (subst (λ z. is_written r h' z ≡ true) (sym same) p.2) in
-            subst (λ z. has (dirty_blocks r h) z ≡ true) same
-            (dirty-has r h b (dirty-from r h b p.0 k.0 k.1))
-      ]) refl)
-      (λ e. inside y (dirty-from r h y p.0 (others y e p.1) (sym (written-other y e)
+      (λ e. inside-here made clean y e d)
+      (λ e. inside made y (dirty-from r h y p.0 (others y e p.1) (sym (written-other y e)
       ∙ p.2)))
 
-  owing-length : length owing ≡ length (dirty_blocks r h) + cond w 1 0
-  owing-length = (elim w as (λ t. length (cond t (b ∷ dirty_blocks r h) (dirty_blocks r h))
-      ≡ length (dirty_blocks r h) + cond t 1 0) [ true ↦ omega arith | false ↦ omega arith ])
+  -- and so many more they are
+  pub owing-length : (made : Bool) → length (owing made) ≡ length (dirty_blocks r h) + cond made 1 0
+  owing-length true = omega arith
+  owing-length false = omega arith
 
-  kept : length after ≤ length owing
-  kept = as_many after owing (dirty-once r h') stays-inside
+  written-inside : (y : ℕ) → has after y ≡ true → has (owing w) y ≡ true
+  written-inside y g = stays-inside w dirty-here y (has-dirty r h' y g)
 
-  -- the dirty victim is not dirty any more
-  victim-gone : (v : ℕ) → victim r h x ≡ Some v → has after v ≡ false
+  kept : length after ≤ length (owing w)
+  kept = as_many after (owing w) (dirty-once r h') written-inside
+
+  -- the victim leaves
+  pub victim-leaves : (v : ℕ) → victim r h x ≡ Some v → leaves r h x v ≡ true
   unfolding victim
-  victim-gone v e = (elim (has after v) as (λ t. has after v ≡ t → t ≡ false) [
-    | true ↦ λ g. let gone = (and_parts (is_resident r ms v) (not (is_resident r (renewals r h') v))
-        (find-passes (λ z. is_resident r ms z && not (is_resident r (renewals r h') z)) ms v e)).1
-        in
-        absurd (false≢true (sym (not-true (is_resident r (renewals r h') v) gone)
-        ∙ (dirty-parts r h' v (has-dirty r h' v g)).1))
-    | false ↦ λ g. refl
-  ]) refl
+  victim-leaves v e = find-passes (leaves r h x) ms v e
+
+  -- a block that leaves is not dirty any more
+  pub leaves-clean : (v : ℕ) → leaves r h x v ≡ true → has after v ≡ false
+  leaves-clean v l = false_from_ne_true (has after v) (λ g.
+      let gone = (and_parts (is_resident r ms v) (not (is_resident r (renewals r h') v)) l).1 in
+      false≢true (sym (not-true (is_resident r (renewals r h') v) gone)
+      ∙ (dirty-parts r h' v (has-dirty r h' v g)).1))
 
   backs-by : (o : Option ℕ) → victim r h x ≡ o
-      → cond (is_some (dirty_victim r h o)) 1 0 + length after ≤ length owing
+      → cond (is_some (dirty_victim r h o)) 1 0 + length after ≤ length (owing w)
   backs-by None e = let k = kept in omega arith
   backs-by (Some v) e = (elim (is_dirty r h v) as (λ t. is_dirty r h v ≡ t
-      → cond (is_some (cond t (Some (v * r.bsize)) None)) 1 0 + length after ≤ length owing) [
-        | true ↦ λ d. let le = as_many (v ∷ after) owing (victim-gone v e, dirty-once r h') (λ z g.
+      → cond (is_some (cond t (Some (v * r.bsize)) None)) 1 0 + length after ≤ length (owing w)) [
+        | true ↦ λ d. let le = as_many (v ∷ after) (owing w)
+            (leaves-clean v (victim-leaves v e), dirty-once r h') (λ z g.
             elim (or_cases (eqb v z) (has after z) g) [
-              | inl q ↦ subst (λ k. has owing k ≡ true) (eqb-true v z q) (inside v d)
-              | inr q ↦ stays-inside z q
+              | inl q ↦ subst (λ k. has (owing w) k ≡ true) (eqb-true v z q) (inside w v d)
+              | inr q ↦ written-inside z q
             ]) in omega arith
         | false ↦ λ d. let k = kept in omega arith
       ]) refl
 
-  backs : cond (is_some (dirty_victim r h (victim r h x))) 1 0 + length after ≤ length owing
+  backs : cond (is_some (dirty_victim r h (victim r h x))) 1 0 + length after ≤ length (owing w)
   backs = backs-by (victim r h x) refl
 
   -- under write through nothing is dirty
@@ -225,7 +245,7 @@ module _ (r : Rules) (h : History) (x : Access) where
   pays-made : counted + length after ≤ length (dirty_blocks r h) + (1 + cond w 1 0)
   pays-made =
       let both = sent r.wback (uses r ms x) (hits r ms x) w in
-      let owed = owing-length in
+      let owed = owing-length w in
       by_cases r.wback
       (λ e. let q : ◌≡◌ {A = ℕ} (cond r.wback 0 (cond w 1 0)) 0 =
       ap (λ t. cond t 0 (cond w 1 0)) e in let k = backs in omega arith)
