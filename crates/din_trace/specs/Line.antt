@@ -104,10 +104,10 @@ HasForm bound line Blank = Each is_blank line
 HasForm bound line (Din r) = (digit : ℕ) × (digits rest : List ℕ)
     × HasParts line digit digits rest × (0 < length digits) × (hex_value digits ≤ bound)
     × IsComment rest × (r ≡ record { label = label_of digit; addr = hex_value digits })
--- the first byte is neither a blank nor a digit 0 to 4
+-- blanks, if any, and then a byte that is neither a blank nor a digit 0 to 4
 HasForm bound line (Faulty why.Label) = (byte : ℕ) × (rest : List ℕ)
     × Begins line byte rest × (is_blank byte ≡ false) × (is_label byte ≡ false)
--- a label, then nothing, or a byte that is no blank
+-- blanks, if any, a label, and then nothing, or a byte that is no blank
 HasForm bound line (Faulty why.Gap) = (digit : ℕ) × (rest : List ℕ)
     × Begins line digit rest × (is_label digit ≡ true) × StopsAt is_blank rest
 -- a label and a gap, and then no hexadecimal digit

@@ -184,7 +184,8 @@ module _ (r : Rules) (allocates : r.walloc ≡ true) (back : r.wback ≡ true) (
   -- where a dirty block leaves
   one-lost : (v : ℕ) → is_dirty r h v ≡ true → leaves r h x v ≡ true
       → length (v ∷ left) ≡ length owed
-  one-lost v d l = once-length (v ∷ left) owed (leaves-clean r h x v l, dirty-once r after) owed-once
+  one-lost v d l = once-length (v ∷ left) owed (leaves-clean r h x v l, dirty-once r after)
+      owed-once
       (λ y g. elim (or_cases (eqb v y) (has left y) g) [
         | inl s ↦ subst (λ z. has owed z ≡ true) (eqb-true v y s) (inside r h x first v d)
         | inr t ↦ after-owed y (has-dirty r after y t)
@@ -210,7 +211,8 @@ module _ (r : Rules) (allocates : r.walloc ≡ true) (back : r.wback ≡ true) (
   backs-step : one_if (is_some (outcome_of r h x).back) + length left
       ≡ length dirty + one_if first
   unfolding outcome_of
-  backs-step = let k = backs-by (victim r h x) refl in let o = owing-length r h x first in omega arith
+  backs-step = let k = backs-by (victim r h x) refl in let o = owing-length r h x first in
+      omega arith
 
 module _ (r : Rules) (allocates : r.walloc ≡ true) (back : r.wback ≡ true)
     (some : 0 < r.assoc) where

@@ -1,4 +1,4 @@
--- Examples of the definitions: the streams and counts of small traces, worked out by computation.
+-- Examples of the definitions: the streams and counts of small traces, worked out by hand.
 use Rattle.std.specs.Prelude.{◌≡◌, ℕ, true, false, List, [], ◌∷◌, refl}
 use Rattle.cache_core.specs.declared.access.Class.TheVariants as class
 use Rattle.cache_core.specs.History.{Rules, flush}

@@ -42,7 +42,7 @@ pub enum ConfigFault {
     Ring,
 }
 
-/// A valid configuration.
+/// A lawful configuration.
 #[derive(Clone, Copy, Debug)]
 pub struct Config {
     i: (Geometry, Policy),
@@ -60,10 +60,9 @@ fn geometry(which: CacheName, spec: CacheSpec) -> Result<Geometry, ConfigFault>
     ensures lawful { OnOk result (geometry_refusal which spec ≡ None) }
     ensures refused { IfErr result (λ fault. geometry_refusal which spec ≡ Some fault) }
 {
-    match Geometry::new(spec.size, spec.bsize, spec.assoc) {
-        Ok(geometry) => Ok(geometry),
-        Err(fault) => Err(ConfigFault::Geometry(which, fault)),
-    }
+    Geometry::new(spec.size, spec.bsize, spec.assoc).map_err(|fault| ConfigFault::Geometry(
+        which, fault,
+    ))
 }
 
 #[tactic(auto, unfolding(crate::specs::Lawful::refusal_of, crate::specs::Config::geometry_in, crate::specs::Config::policy_in, crate::specs::Config::ring_of))]

@@ -69,7 +69,7 @@ pub fn drive(
         ≡ totals (hierarchy_of config.now) (events selection.now records.now)) }
     ensures steps { IfOk result (λ answer. answer.1
         ≡ 2 * messages (parts_for config.now) (events selection.now records.now)) }
-    // The run was the one that the choices give.
+    // The choices name a schedule of as many steps.
     ensures schedule { IfOk result (λ answer. (ms : List Machine)
         × IsNamed (parts_for config.now) (ring_of config.now) choices.now
         (events selection.now records.now) ms

@@ -78,7 +78,7 @@ static PUT_IN_RUN: Run<'static> = (&VICTIM, (2, 2), PUT_IN_TOTALS, 48);
 static EMPTY_RUN: Run<'static> = (&[], (0, 1), NO_TOTALS, 10);
 
 #[test]
-fn a_trace_has_as_many_events_whatever_the_choices(rt: HostRuntime) {
+fn a_trace_has_as_many_steps_whatever_the_choices(rt: HostRuntime) {
     is_driven_by_all(&rt, rt.alloc(), &VICTIM_RUN);
     is_driven_by_all(&rt, rt.alloc(), &FLUSHED_RUN);
     is_driven_by_all(&rt, rt.alloc(), &PUT_IN_RUN);
