@@ -60,9 +60,8 @@ fn geometry(which: CacheName, spec: CacheSpec) -> Result<Geometry, ConfigFault>
     ensures lawful { OnOk result (geometry_refusal which spec ≡ None) }
     ensures refused { IfErr result (λ fault. geometry_refusal which spec ≡ Some fault) }
 {
-    Geometry::new(spec.size, spec.bsize, spec.assoc).map_err(|fault| ConfigFault::Geometry(
-        which, fault,
-    ))
+    let made = Geometry::new(spec.size, spec.bsize, spec.assoc);
+    made.map_err(|fault| ConfigFault::Geometry(which, fault))
 }
 
 #[tactic(auto, unfolding(crate::specs::Lawful::refusal_of, crate::specs::Config::geometry_in, crate::specs::Config::policy_in, crate::specs::Config::ring_of))]
