@@ -23,10 +23,12 @@ show() {
     shown=${shown//[![:print:]]/?}
 }
 
-# measure TEXT: sets `columns` to what it takes in width. Letters of East Asia take two.
+# measure TEXT: sets `columns` to what it takes in width. Letters of East Asia take two. Their codes
+# become letters in this locale alone, and so not where bash reads the file.
 measure() {
-    local LC_ALL=C.UTF-8 wide
-    wide=${1//[!$'\u1100'-$'\u115f\u2e80'-$'\uffdc\U1f300'-$'\U3fffd']/}
+    local LC_ALL=C.UTF-8 others wide
+    printf -v others '[!\u1100-\u115f\u2e80-\uffdc\U1f300-\U3fffd]'
+    wide=${1//$others/}
     columns=$((${#1} + ${#wide}))
 }
 

@@ -146,7 +146,28 @@ test_builds() {
         'plot: twice.tsv: lines 3 and 6 are of one configuration' "$plot" rates twice.tsv none.svg
 }
 
+# sized_traces TRACE..: a table with two sizes of each.
+sized_traces() {
+    local trace size
+    printf 'trace\tl1-dsize\tl1-dcache-fetches\tl1-dcache-misses\n'
+    for trace; do
+        for size in 1k 2k; do printf '%s\t%s\t10\t5\n' "$trace" "$size"; done
+    done
+}
+
+# Of these letters of East Asia, which take two columns, 8 have room before the dots, and 9 behind.
+test_widths() {
+    local locale name=a_run_of_u_through_a_queue_of_u.din letters=語語語語語語語語語語
+    sized_traces "$name" "$letters$letters" >widths.tsv
+    for locale in C C.UTF-8; do
+        LC_ALL=$locale keeps rates widths.tsv points.svg --by trace --size 336x250 --title ''
+        gives "widths in the locale $locale" words \
+            " size of l1-dcache (KiB)$name語語語語語語語語…語語語語語語語語語"
+    done
+}
+
 test_points
 test_axes
 test_looks
 test_builds
+test_widths
