@@ -42,6 +42,25 @@ lackey_counts() {
             END { print "0 " loads "\n1 " stores "\n2 " fetches }'
 }
 
+# A file with room for 4096 bytes, of which the last stands in the midst of a record, or is its line
+# feed.
+test_full_disk() {
+    local last
+    run no_room 4 "$record" true
+    last=$(tail -n 1 "$out")
+    [ "$status" -eq 4 ] && [ "$(<"$err")" = 'record: the trace could not be written' ] &&
+        [ "$(stat -c %s "$out")" -eq 4096 ] && [ "${last: -1}" = ! ] &&
+        ! "$bin/dinero_pipe" "${words[@]}" <"$out" >/dev/null 2>"$err" &&
+        [[ $(<"$err") == "dinero_pipe: line $(grep -c '' "$out"): "* ]]
+    verdict 'record to a disk that fills up' $?
+    head -c 4096 /dev/zero | tr '\0' '\n' >full.din
+    cp full.din before.din
+    status=0
+    no_room 4 "$record" true >>full.din 2>"$err" </dev/null || status=$?
+    [ "$status" -eq 4 ] && cmp -s full.din before.din
+    verdict 'record to a full disk leaves what stood there' $?
+}
+
 test_record() {
     env -i PATH="$PATH" TMPDIR="$TMPDIR" LD_BIND_NOW=1 "$record" true >"$work/true.din" 2>"$err"
     status=$?
@@ -67,6 +86,7 @@ test_record() {
         "$record" nowhere
 
     to_full 'record to a full disk' 'record: the trace could not be written' "$record" true
+    test_full_disk
     "$record" sh -c 'while :; do :; done' 2>"$err" | head -n 1 >"$out"
     status=${PIPESTATUS[0]}
     [ "$status" -eq 141 ] && [ ! -s "$err" ]
@@ -113,6 +133,46 @@ known_trace() {
         [ "$(sed -E 's/ 1ff[0-9a-f]{7}$/ s/; s/^(.) .*(...)$/\1 \2/' "$out" | paste -s -d ,)" = "$2" ] &&
         [ "$(<"$err")" = "${3:+record: references that straddle blocks of 64 bytes: $3; --split 64 records one for each block}" ]
     verdict "$1" $?
+}
+
+# A program that ends while a copy of it waits for a byte.
+assemble_parting() {
+    cat >parting.s <<'END'
+        .globl _start
+_start: mov $57, %eax
+        syscall
+        test %eax, %eax
+        jz copy
+leave:  mov $60, %eax
+        xor %edi, %edi
+        syscall
+copy:   xor %edi, %edi
+        push %rdi
+        mov %rsp, %rsi
+        mov $1, %edx
+        syscall
+        jmp leave
+END
+    gcc -nostdlib -static -no-pie -Wl,-Ttext=0x401000 -o parting parting.s
+}
+
+test_parting() {
+    local input lived
+    mkfifo input
+    exec {input}<>input
+    status=0
+    timeout -k 1 20 "$record" ./parting <input >"$out" 2>"$err" || status=$?
+    lived=$(our_processes)
+    echo >&"$input"
+    exec {input}>&-
+    [ "$status" -eq 0 ] && [ -n "$lived" ] && [ ! -s "$err" ] && [ "$(<"$out")" = "2 00401000
+2 00401005
+2 00401007
+2 00401009
+2 0040100b
+2 00401010
+2 00401012" ]
+    verdict 'record of a program that leaves a process behind' $?
 }
 
 test_known() {
@@ -184,8 +244,9 @@ verdict 'no report is made where record failed' $?
 
 if has valgrind; then
     test_record
-    if has gcc && assemble; then
+    if has gcc && assemble && assemble_parting; then
         test_known
+        test_parting
     else
         skip 'record of known references' gcc
     fi
