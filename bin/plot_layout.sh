@@ -94,6 +94,12 @@ place_key() {
     fi
 }
 
+# check_labels LABEL..: no two of them are the same.
+check_labels() {
+    [ "$(printf '%s\0' "$@" | LC_ALL=C sort -zu | tr -dc '\0' | wc -c)" -eq $# ] ||
+        no_room_in_picture
+}
+
 # shorten_labels COLUMNS: they can still be told apart.
 shorten_labels() {
     local i
@@ -101,8 +107,7 @@ shorten_labels() {
         shorten "${labels[i]}" "$1"
         labels[i]=$piece
     done
-    [ -z "$(printf '%s\n' "${labels[@]}" | LC_ALL=C sort | LC_ALL=C uniq -d)" ] ||
-        no_room_in_picture
+    check_labels "${labels[@]}"
 }
 
 # place_groups BARS: below the bars of each group stands its label.
@@ -122,4 +127,5 @@ place_groups() {
         [ ${#wrapped[@]} -le "$group_rows" ] || group_rows=${#wrapped[@]}
         group_lines[group]=$(printf '%s\n' "${wrapped[@]}")
     done
+    check_labels "${group_lines[@]}"
 }

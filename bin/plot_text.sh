@@ -24,12 +24,15 @@ show() {
 }
 
 # measure TEXT: sets `columns` to what it takes in width. Letters of East Asia take two. Their codes
-# become letters in this locale alone, and so not where bash reads the file.
+# become letters in this locale alone, and so not where bash reads the file. What capitals and
+# digits take beyond one column, and M and W once more, is counted in hundredths.
 measure() {
-    local LC_ALL=C.UTF-8 others wide
+    local LC_ALL=C.UTF-8 others wide capitals digits widest
     printf -v others '[!\u1100-\u115f\u2e80-\uffdc\U1f300-\U3fffd]'
     wide=${1//$others/}
-    columns=$((${#1} + ${#wide}))
+    capitals=${1//[![:upper:]]/} digits=${1//[!0-9]/} widest=${1//[!MW]/}
+    columns=$((${#capitals} * 20 + ${#digits} * 5 + ${#widest} * 40))
+    columns=$((${#1} + ${#wide} + (columns + 99) / 100))
 }
 
 # begin TEXT COLUMNS: sets `piece` to as much of its beginning as takes so many columns.
@@ -69,15 +72,27 @@ shorten() {
     fi
 }
 
+# break_at_mark TEXT COLUMNS: cuts `piece`, the text's beginning, behind the last of `_-./` in it,
+# if what follows there has room in so many columns.
+break_at_mark() {
+    local LC_ALL=C.UTF-8 front=${piece%"${piece##*[-_./]}"}
+    measure "${1:${#front}}"
+    [ -z "$front" ] || [ "$columns" -gt "$2" ] || piece=$front
+}
+
 # wrap TEXT COLUMNS LINES: sets `wrapped` to at most so many lines, each of at most so many columns.
-# They are broken at blanks where there are some.
+# They are broken at blanks where there are some, and else behind a mark.
 wrap() {
     local LC_ALL=C.UTF-8 rest=$1
     wrapped=()
     measure "$rest"
     while [ "$columns" -gt "$2" ] && [ ${#wrapped[@]} -lt $(($3 - 1)) ]; do
         begin "$rest" "$2"
-        [[ ${rest:${#piece}:1} == ' ' || $piece != *' '* ]] || piece=${piece% *}
+        case $piece${rest:${#piece}:1} in
+        *' ') ;;
+        *' '*) piece=${piece% *} ;;
+        *) break_at_mark "$rest" $(($2 * ($3 - 1 - ${#wrapped[@]}))) ;;
+        esac
         wrapped+=("$piece")
         rest=${rest:${#piece}}
         rest=${rest# }

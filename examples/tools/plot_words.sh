@@ -81,6 +81,22 @@ test_apart() {
             --title 'A title that has a few more words than most, and then a few that nobody needs'
     done
     apart 'many lines' rates many.tsv apart.svg --over l1-dbsize
+    test_capitals
+}
+
+# In 720x460, the labels of groups have room for 21 columns. 24 letters, of which 13 are capitals, 2
+# of them M, and 4 are digits, take 24 and 260, 80 and 20 hundredths.
+test_capitals() {
+    awk -v OFS='\t' 'BEGIN {
+        print "trace", "l1-dsize", "l1-dcache-fetches", "l1-dcache-compulsory", \
+            "l1-dcache-capacity", "l1-dcache-conflict"
+        for (i = 1; i <= 3; i++) for (size = 1; size <= 32; size *= 2)
+            print "GEMM_N1024_BLOCKED_" substr("ABC", i, 1) ".din", size "k", 10, 1, 2, 3
+    }' >capitals.tsv
+    apart 'capitals, 336x250' kinds capitals.tsv apart.svg --by trace --size 336x250
+    apart capitals kinds capitals.tsv apart.svg --by trace
+    shows apart.svg GEMM_N1024_ BLOCKED_A.din BLOCKED_B.din BLOCKED_C.din
+    verdict 'and they are broken behind a mark' $?
 }
 
 if has gnuplot && has python3; then

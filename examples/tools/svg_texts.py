@@ -3,7 +3,8 @@
     svg_texts.py PICTURE           prints each text on a line
     svg_texts.py --apart PICTURE   checks that no two texts meet, and that none is cut off
 
-A letter is taken to be six tenths as wide as the font is high, which most fonts are not.
+Letters are taken to be as wide as those of a wide font: six tenths of its height, seven for a
+capital, and nine for M and W.
 """
 
 import re
@@ -27,9 +28,16 @@ def texts(element, x=0.0, y=0.0, turned=False, size=12.0, anchor="start"):
         yield from texts(child, x, y, turned, size, anchor)
 
 
+def tenths(letter):
+    """The width of a letter, in tenths of the font's height."""
+    if letter in "MW":
+        return 9
+    return 7 if letter.isupper() else 6
+
+
 def box(text, x, y, turned, size, anchor):
     """The left, top, right and bottom of a text."""
-    wide = 0.6 * size * len(text)
+    wide = size * sum(map(tenths, text)) / 10
     start = {"start": 0.0, "middle": wide / 2, "end": wide}[anchor]
     if turned:
         return x - 0.7 * size, y - wide + start, x + 0.1 * size, y + start
