@@ -16,7 +16,7 @@ print_script() {
     echo "set output 'picture'"
     cat <<'END'
 set datafile separator tab
-set grid ytics lc rgb '#dddddd' dt 1
+set grid ytics lt 1 lc rgb '#dddddd'
 set border 3
 set tics nomirror out
 END

@@ -77,6 +77,8 @@ test_plot() {
             'miss rate (% of accesses)' \
             '1 way' '2 ways' 8 16
     verdict 'a picture of the miss rates' $?
+    grep 'class="gridline"' rates.svg >"$work/grid" && ! grep -q dasharray "$work/grid"
+    verdict 'and the lines of its grid are whole' $?
     for kind in kinds rates; do
         run "$plot" $kind kinds.tsv $kind.png
         [ "$status" -eq 0 ] && [ "$(head -c 8 $kind.png | od -An -tx1 | tr -d ' ')" = 89504e470d0a1a0a ] &&
