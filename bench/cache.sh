@@ -3,5 +3,5 @@
 #
 #   bench/cache.sh [REFERENCES]        10,000,000 references, if no number is given
 set -eu
-cd "$(dirname "$0")/../crates/measure"
+CDPATH='' cd -P -- "$(dirname -- "$0")/../crates/measure"
 exec rt run -- cache-times "${1:-10000000}"

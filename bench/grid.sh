@@ -15,7 +15,7 @@
 set -euo pipefail
 references=${1:-1000000}
 rounds=${2:-5}
-top=$(cd "$(dirname "$0")/.." && pwd)
+top=$(CDPATH='' cd -P -- "$(dirname -- "$0")/.." && pwd)
 program=$(printf '%q' "$top/crates/measure/out/measure")
 . "$top/bench/build.sh"
 . "$top/bench/traces.sh"

@@ -9,7 +9,7 @@
 # seconds. If valgrind is installed, the script also prints the instructions for each record.
 set -euo pipefail
 records=${1:-10000000}
-top=$(cd "$(dirname "$0")/.." && pwd)
+top=$(CDPATH='' cd -P -- "$(dirname -- "$0")/.." && pwd)
 program=$top/crates/measure/out/measure
 . "$top/bench/build.sh"
 build measure

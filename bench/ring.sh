@@ -9,7 +9,7 @@
 # the processor time of a thread that waits for another one, which sends one message a second.
 set -euo pipefail
 messages=${1:-10000000}
-top=$(cd "$(dirname "$0")/.." && pwd)
+top=$(CDPATH='' cd -P -- "$(dirname -- "$0")/.." && pwd)
 program=$top/crates/ring_bench/out/ring_bench
 . "$top/bench/build.sh"
 build ring_bench

@@ -12,7 +12,7 @@
 set -euo pipefail
 references=${1:-3000000}
 rounds=${2:-5}
-top=$(cd "$(dirname "$0")/.." && pwd)
+top=$(CDPATH='' cd -P -- "$(dirname -- "$0")/.." && pwd)
 measure=$top/crates/measure/out/measure
 threads=$top/crates/dinero_pipe/out/dinero_pipe
 . "$top/bench/build.sh"

@@ -12,7 +12,7 @@
 set -euo pipefail
 references=${1:-1000000}
 rounds=${2:-5}
-top=$(cd "$(dirname "$0")/.." && pwd)
+top=$(CDPATH='' cd -P -- "$(dirname -- "$0")/.." && pwd)
 folder=$(mktemp -d)
 trap 'rm -rf "$folder"' EXIT
 . "$top/bench/traces.sh"

@@ -6,7 +6,7 @@
 set -euo pipefail
 lines=${1:-222222222}
 seconds=${2:-10}
-top=$(cd "$(dirname "$0")/.." && pwd)
+top=$(CDPATH='' cd -P -- "$(dirname -- "$0")/.." && pwd)
 words=(--l1-isize 32k --l1-ibsize 64 --l1-iassoc 8 --l1-dsize 32k --l1-dbsize 64 --l1-dassoc 8
     --l2-usize 1m --l2-ubsize 64 --l2-uassoc 16)
 "$top/bin/dinero_pipe" --help > /dev/null

@@ -2,7 +2,7 @@
 # Runs the simulator as a user does, and compares what each call prints on both streams and its exit
 # status with what it has to. The first argument is the program; without one the launcher is taken.
 set -u
-top=$(cd "$(dirname "$0")/.." && pwd)
+top=$(CDPATH='' cd -P -- "$(dirname -- "$0")/.." && pwd)
 program=${1:-$top/bin/dinero_pipe}
 . "$(dirname "$0")/calls.sh"
 

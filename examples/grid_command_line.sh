@@ -3,7 +3,7 @@
 # both streams and its exit status with what it has to. The first argument is the program; without
 # one the launcher is taken.
 set -u
-top=$(cd "$(dirname "$0")/.." && pwd)
+top=$(CDPATH='' cd -P -- "$(dirname -- "$0")/.." && pwd)
 program=${1:-$top/bin/dinero_grid}
 . "$(dirname "$0")/calls.sh"
 

@@ -2,7 +2,7 @@
 # Makes the hand-out of a first course from a trace: three pictures and a table. See usage.
 set -euo pipefail
 self=handout
-here=$(cd "$(dirname -- "$0")" && pwd)
+here=$(CDPATH='' cd -P -- "$(dirname -- "$0")" && pwd)
 bin=${here%/*}/bin
 . "$bin/common.sh"
 

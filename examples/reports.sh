@@ -4,7 +4,7 @@
 # the runs without a trace of their own share trace.din. A run with a table, RUN.tsv, is tried by
 # grid_command_line.sh. The first argument is the program; without one the launcher is taken.
 set -euo pipefail
-folder=$(cd "$(dirname "$0")" && pwd)
+folder=$(CDPATH='' cd -P -- "$(dirname -- "$0")" && pwd)
 program=${1:-$folder/../bin/dinero_pipe}
 . "$folder/tally.sh"
 for list in "$folder"/*/*.words; do

@@ -2,7 +2,7 @@
 # Tests bin/record, bin/sweep, bin/plot and bin/install as users call them. What the machine lacks
 # of Debian's packages is said, and the tests that need it are skipped.
 set -uo pipefail
-top=$(cd "$(dirname "$0")/.." && pwd)
+top=$(CDPATH='' cd -P -- "$(dirname -- "$0")/.." && pwd)
 work=$(realpath "$(mktemp -d)")
 daemons=()
 clean_up() {

@@ -4,6 +4,9 @@
 handout=$top/examples/handout.sh
 ends 'a hand-out without words' 2 'handout: a trace and a folder are needed; try --help' "$handout"
 ends 'a hand-out of no trace' 4 'sweep: no trace to read: nowhere.din' "$handout" nowhere.din made
+run env -C "$top" CDPATH="$top" examples/handout.sh --help
+[ "$status" -eq 0 ] && [ ! -s "$err" ] && grep -q '^Usage: examples/handout.sh' "$out"
+verdict 'the help of a hand-out, with a CDPATH' $?
 printf '0 0\n0 400\n0 0\n1 400\n2 0\n' >hand.din
 
 # Two blocks that meet in a direct-mapped cache of 1 KiB, and nowhere else: of its four misses, two
