@@ -36,6 +36,13 @@ sweep_to() {
     "$bin/sweep" "${fixed[@]}" "${@:2}" -- "$trace" > "$1"
 }
 
+# has_data: the first row of standard input counts accesses of the data cache.
+has_data() {
+    awk -F '\t' '
+        NR == 1 { for (i = 1; i <= NF; i++) at[$i] = i }
+        NR == 2 { exit $at["l1-dcache-fetches"] == 0 }'
+}
+
 # write_table: the rows of standard input, by the names of their columns.
 write_table() {
     awk -F '\t' '
@@ -57,6 +64,7 @@ write_table() {
 make_all() {
     sweep_to "$work/sizes.tsv" --l1-dbsize 32 \
         --vary --l1-dsize 1k,2k,4k,8k,16k,32k,64k --vary --l1-dassoc 1,2,4,8
+    has_data < "$work/sizes.tsv" || die 1 "$trace has no data references"
     sweep_to "$work/blocks.tsv" --l1-dassoc 2 \
         --vary --l1-dsize 4k,16k,64k --vary --l1-dbsize 8,16,32,64,128
     "$bin/plot" kinds "$work/sizes.tsv" "$work/kinds.svg" --whole-counts
@@ -68,7 +76,7 @@ make_all() {
 case ${1-} in
 -h | --help) show_help ;;
 esac
-[ $# -eq 2 ] || refuse 'a trace and a folder are needed'
+[[ $# -eq 2 && -n $1 && -n $2 ]] || refuse 'a trace and a folder are needed'
 trace=$1 folder=$2
 [[ $folder == /* ]] || folder=./$folder
 tidy_up_with remove_leftovers

@@ -7,6 +7,8 @@ ends 'a hand-out of no trace' 4 'sweep: no trace to read: nowhere.din' "$handout
 run env -C "$top" CDPATH="$top" examples/handout.sh --help
 [ "$status" -eq 0 ] && [ ! -s "$err" ] && grep -q '^Usage: examples/handout.sh' "$out"
 verdict 'the help of a hand-out, with a CDPATH' $?
+ends 'a hand-out into an empty name' 2 'handout: a trace and a folder are needed; try --help' \
+    "$handout" hand.din ''
 printf '0 0\n0 400\n0 0\n1 400\n2 0\n' >hand.din
 
 # Two blocks that meet in a direct-mapped cache of 1 KiB, and nowhere else: of its four misses, two
@@ -27,6 +29,11 @@ test_handout() {
 }
 if has gnuplot; then test_handout; else skip 'a hand-out' gnuplot-nox; fi
 
+printf '2 0\n2 4\n' >fetches.din
+ends 'a hand-out of a trace without data' 1 'handout: fetches.din has no data references' \
+    "$handout" fetches.din faulty
+[ ! -e faulty ]
+verdict 'and nothing is made of it' $?
 printf '0 0\nx\n' >bad.din
 run "$handout" bad.din faulty
 [ "$status" -eq 1 ] && [ ! -e faulty ]
