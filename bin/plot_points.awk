@@ -1,5 +1,5 @@
 # Chooses the points of a picture from a table of bin/sweep on standard input. The words behind the
-# program are KIND CACHE OVER BY and then those of --only, each COLUMN=VALUE. KIND is `rates`,
+# program are KIND CACHE OVER BY and then those of --only, each OPTION=VALUE. KIND is `rates`,
 # `kinds`, or `whole` for kinds by whole counts; CACHE, OVER and BY are empty where none was given.
 #
 # Prints the title, and the label of the axis; on a line what is on the axis, `size`, `ways` or
@@ -14,12 +14,7 @@ BEGIN {
     cache = ARGV[2]
     over = ARGV[3]
     by = ARGV[4]
-    for (i = 5; i < ARGC; i++) {
-        split_at = index(ARGV[i], "=")
-        column = substr(ARGV[i], 1, split_at - 1)
-        is_chosen[column]
-        wanted[column, substr(ARGV[i], split_at + 1)] = ARGV[i]
-    }
+    for (i = 5; i < ARGC; i++) only[i] = ARGV[i]
     ARGC = 1
 }
 
@@ -40,6 +35,23 @@ function need_option(name) {
     if (is_count(name)) fail("the column " name " is no option")
 }
 
+# column_of(OPTION): the column of an option, which may be written as for bin/sweep.
+function column_of(option,   bare) {
+    bare = option
+    return !(option in at) && sub(/^--/, "", bare) && bare in at ? bare : option
+}
+
+# choose_lines(): by the words of --only.
+function choose_lines(   i, split_at, column) {
+    for (i in only) {
+        split_at = index(only[i], "=")
+        column = column_of(substr(only[i], 1, split_at - 1))
+        need_column(column)
+        is_chosen[column]
+        wanted[column, plain(column, substr(only[i], split_at + 1))] = only[i]
+    }
+}
+
 function read_names(   i, counts) {
     columns = NF
     for (i = 1; i <= NF; i++) {
@@ -49,14 +61,17 @@ function read_names(   i, counts) {
         if (is_count($i) && $i != "fault") counts++
     }
     if (!counts) fail("no table of bin/sweep")
-    for (i in is_chosen) need_column(i)
+    choose_lines()
+    over = column_of(over)
+    by = column_of(by)
 }
 
 # is_wanted(): each column of --only has one of the values that were given for it.
-function is_wanted(   column, all) {
+function is_wanted(   column, text, all) {
     all = 1
     for (column in is_chosen) {
-        if ((column, $at[column]) in wanted) found[column, $at[column]]
+        text = plain(column, $at[column])
+        if ((column, text) in wanted) found[column, text]
         else all = 0
     }
     return all
@@ -82,12 +97,27 @@ function number(column,   text) {
     return text + 0
 }
 
-# amount(COLUMN): what stands there in this line: digits, and k or m behind them.
+# is_numeral(TEXT): digits, and k or m behind them.
+function is_numeral(text) {
+    return text ~ /^[0-9]+[kKmM]?$/ && length(text) <= 13
+}
+
+# worth(NUMERAL): its number.
+function worth(numeral) {
+    return numeral * (numeral ~ /[kK]$/ ? 1024 : numeral ~ /[mM]$/ ? 1048576 : 1)
+}
+
+# plain(COLUMN, TEXT): a value of the column as all texts of the same value have it.
+function plain(column, text) {
+    return is_amount(column) && is_numeral(text) ? sprintf("%.0f", worth(text)) : text
+}
+
+# amount(COLUMN): what stands there in this line, which has to be a numeral.
 function amount(column,   text) {
     text = $at[column]
-    if (text !~ /^[0-9]+[kKmM]?$/ || length(text) > 13)
+    if (!is_numeral(text))
         fail(here column " is no " (is_size(column) ? "size" : "number") ": " text)
-    return text * (text ~ /[kK]$/ ? 1024 : text ~ /[mM]$/ ? 1048576 : 1)
+    return worth(text)
 }
 
 # varies(COLUMN): it has several values in the lines that were chosen.
@@ -161,7 +191,7 @@ function shares(   compulsory, capacity, conflict, all) {
 
 # group_of_line(): the group of the line that was read, by the order in which they came.
 function group_of_line(   value) {
-    value = by == "" ? "" : is_amount(by) ? sprintf("%.0f", amount(by)) : $at[by]
+    value = (by == "" ? "" : is_amount(by) ? sprintf("%.0f", amount(by)) : $at[by])
     if (!(value in group)) {
         group[value] = ++groups
         value_of[groups] = value
@@ -219,6 +249,6 @@ END {
     print axis()
     class = is_size(over) ? "size" : is_ways(over) ? "ways" : "other"
     printf "%s %d %.0f %.0f %d\n", class, unit, least, most, groups
-    for (i = 1; i <= groups; i++) print by == "" ? "" : label(by, value_of[ranked[i]])
+    for (i = 1; i <= groups; i++) print (by == "" ? "" : label(by, value_of[ranked[i]]))
     for (i = 1; i <= lines; i++) print rank[group_at[i]] "\t" point[i]
 }

@@ -79,6 +79,29 @@ test_points() {
         ' l1-dcache, 1 way, 32-byte blocks, LRUsize of l1-dcache (KiB)x.din'
 }
 
+# Options as bin/sweep writes them, and a value that the table has in bytes.
+test_options() {
+    local only
+    sed 's/\t8k\t/\t8192\t/; s/\t16k\t/\t16384\t/' points.tsv >full.tsv
+    for only in '--only l1-dsize 8k' '--only --l1-dsize 8192' --only=--l1-dsize=8k; do
+        # shellcheck disable=SC2086  # words
+        keeps rates full.tsv points.svg --over --l1-dassoc --by=--l1-dsize $only
+        gives "points of $only" points $'1\t1\t50.000000\n1\t2\t25.000000'
+    done
+    gives 'and its words' words ' x.din, l1-dcache, 32-byte blocks, LRUways of l1-dcache8 KiB'
+    ends 'plot of a size that no line has' 1 \
+        'plot: full.tsv: no line without a fault has --l1-dsize=9k' \
+        "$plot" rates full.tsv none.svg --only --l1-dsize 9k
+}
+
+# The programs of awk are read by others than mawk.
+test_another_awk() {
+    mkdir "$work/another"
+    ln -s "$(command -v original-awk)" "$work/another/awk"
+    PATH=$work/another:$PATH keeps rates points.tsv points.svg --over l1-dassoc
+    gives 'points of another awk' points $'1\t1\t50.000000\n1\t2\t25.000000\n2\t1\t20.000000'
+}
+
 # In 336 pixels an axis has room for 34 letters, so for five names of four letters and two blanks.
 # 19 powers of two then have a name each fourth time.
 test_axes() {
@@ -171,3 +194,5 @@ test_axes
 test_looks
 test_builds
 test_widths
+test_options
+if has original-awk; then test_another_awk; else skip 'points of another awk' original-awk; fi
