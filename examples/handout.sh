@@ -5,6 +5,7 @@ self=handout
 here=$(CDPATH='' cd -P -- "$(dirname -- "$0")" && pwd)
 bin=${here%/*}/bin
 . "$bin/common.sh"
+. "$bin/plot_place.sh"
 
 usage() {
     cat <<'END'
@@ -85,5 +86,5 @@ leftovers+=("$work")
 make_all
 mkdir -p -- "$folder" 2>/dev/null || die 4 "$folder could not be made"
 for file in kinds.svg sizes.svg blocks.svg table.md; do
-    place 644 "$work/$file" "$folder/$file"
+    place_anew "$work/$file" "$folder/$file"
 done

@@ -21,6 +21,9 @@ test_handout() {
         grep -qxF '| 1k | 2 | 4 | 2 | 0.500000 | 2 | 0 | 0 |' made/table.md &&
         grep -qxF '| 64k | 8 | 4 | 2 | 0.500000 | 2 | 0 | 0 |' made/table.md
     verdict 'a hand-out' $?
+    chmod 600 made/table.md && run "$handout" hand.din made
+    [ "$status" -eq 0 ] && [ "$(stat -c %a made/table.md)" = 600 ]
+    verdict 'a hand-out keeps the modes of its files' $?
     gzip -k hand.din && run "$handout" hand.din.gz packed && cmp -s made/table.md packed/table.md
     verdict 'a hand-out of a packed trace' $?
     mkdir sealed && touch sealed/in && run "$handout" hand.din sealed/in

@@ -79,6 +79,25 @@ test_points() {
         ' l1-dcache, 1 way, 32-byte blocks, LRUsize of l1-dcache (KiB)x.din'
 }
 
+# The mode of a picture, and a picture that is a link.
+test_places() {
+    local mask
+    mask=$(umask)
+    umask 027
+    keeps rates points.tsv masked.svg && [ "$(stat -c %a masked.svg)" = 640 ]
+    verdict 'a picture has the mode that the umask leaves' $?
+    umask "$mask"
+    chmod 600 masked.svg
+    keeps rates points.tsv masked.svg && [ "$(stat -c %a masked.svg)" = 600 ]
+    verdict 'and keeps the mode that it has' $?
+    mkdir linked && ln -s linked/real.svg link.svg
+    keeps rates points.tsv link.svg && [ -L link.svg ] && [ "$(<linked/real.svg)" = '</svg>' ]
+    verdict 'a picture that is a link' $?
+    ln -s nowhere/none.svg lost.svg
+    PATH=$work/keeping:$PATH KEPT=$work/kept ends 'a picture that is a link to no folder' 4 \
+        'plot: lost.svg could not be written' "$plot" rates points.tsv lost.svg
+}
+
 # Options as bin/sweep writes them, and a value that the table has in bytes.
 test_options() {
     local only
@@ -195,4 +214,5 @@ test_looks
 test_builds
 test_widths
 test_options
+test_places
 if has original-awk; then test_another_awk; else skip 'points of another awk' original-awk; fi
