@@ -19,7 +19,7 @@ use Rattle.grid_core.proofs.After.{after-access, level-is, shapes-prior}
 use Rattle.grid_core.proofs.Again.{size-at}
 use Rattle.grid_core.proofs.Sharing.{alike-access}
 use Rattle.grid_core.proofs.Sizes.{rising-is}
-use Rattle.grid_core.proofs.StackBounds.{low-levels, within-events, within-most}
+use Rattle.grid_core.proofs.StackBounds.{low-levels, within-events}
 use Rattle.grid_core.proofs.StackRules.{stacked}
 use Rattle.grid_core.proofs.stacked.Stacked.serve.Goals as goal
 
