@@ -1,8 +1,12 @@
 -- What contracts say of the two ends of a ring: which ring it is, what was sent, what was received.
-use Rattle.std.specs.Prelude.{◌≡◌, ◌⊎◌, ℕ, ◌-◌, ◌<◌, List, [], ◌++◌, length, take, drop}
+use Rattle.std.specs.Prelude.{◌≡◌, ◌⊎◌, ℕ, ◌-◌, ◌<◌, List, [], ◌++◌, length, take, drop, min, max}
 use Rattle.rtrb.specs.Ring as ring
 use Rattle.pipe_rings.specs.declared.tx.Tx.{Tx}
 use Rattle.pipe_rings.specs.declared.rx.Rx.{Rx}
+
+-- the capacity of an outbox for which this number was given: at least 1, and at most 512
+abbrev pub outbox_for : ℕ → ℕ
+outbox_for count = max 1 (min count 512)
 
 module _ {T : Type 0} where
   -- the items that were posted and are still in the outbox, not yet in the ring

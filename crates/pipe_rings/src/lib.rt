@@ -12,9 +12,10 @@
 //! wait, `bell` how they wake one another, and `yields` what they learn of one another's yields.
 //!
 //! Proved: a successful call appends its item to the list of sent or received items, and nothing
-//! else changes these lists. Posted items count as sent, so publishing does not change the list. An
-//! item that is handed back was not sent. The sent items are the received ones, followed by as many
-//! items as `settle` counts. A ring has the capacity that was asked for, and keeps it.
+//! else changes these lists. Posted items count as sent, so publishing does not change the list. A
+//! successful `send` leaves none in the outbox. An item that is handed back was not sent. The sent
+//! items are the received ones, followed by as many items as `settle` counts. A ring has the
+//! capacity that was asked for, and keeps it.
 //!
 //! Only tested: that `send` and `recv` report a lost peer only if it was dropped, that a sleeping
 //! end is woken, and that the allocations for a ring succeed.
@@ -27,7 +28,7 @@ mod tx;
 mod yields;
 
 ghost use Rattle.std.specs.Prelude.{◌≡◌, ◌≤◌, [], IfOk};
-ghost use Rattle.pipe_rings.specs.Rings.{sent, received, capacity_of, outbox_of};
+ghost use Rattle.pipe_rings.specs.Rings.{sent, received, capacity_of, outbox_of, outbox_for};
 ghost use Rattle.pipe_rings.specs.Rings.{AreEnds, SameTx, SameRx, IsBehindBy, IsAnnounced};
 
 pub use bell::Bell;
@@ -40,12 +41,13 @@ pub use tx::{Gone, OUTBOX, Tx};
 #[derive(Debug, Clone, Copy, PartialEq, Eq)]
 pub struct NoMemory;
 
-/// Makes a ring with room for `capacity` items, and returns its two ends. All of its memory is
-/// allocated here.
+/// Makes a ring with room for `capacity` items, and returns its two ends. The outbox has room for
+/// [`OUTBOX`] items. All memory of the ring is allocated here.
 pub fn ring<T: Copy>(alloc: Global, capacity: usize) -> Result<(Tx<T>, Rx<T>), NoMemory>
     requires { (1 ≤ capacity) × (capacity ≤ 65536) }
     ensures one { IfOk result (λ r. AreEnds r.0 r.1) }
     ensures capacity { IfOk result (λ r. capacity_of r.0 ≡ capacity) }
+    ensures outbox { IfOk result (λ r. outbox_of r.0 ≡ OUTBOX) }
     ensures new { IfOk result (λ r. (sent r.0 ≡ []) × (received r.1 ≡ [])) }
     ensures announced { IfOk result (λ r. IsAnnounced r.0) }
 {
@@ -74,7 +76,7 @@ pub fn ring_from<T: Copy>(
     requires { (1 ≤ capacity) × (capacity ≤ 65536) }
     ensures one { IfOk result (λ r. AreEnds r.0 r.1) }
     ensures capacity { IfOk result (λ r. capacity_of r.0 ≡ capacity) }
-    ensures outbox { (1 ≤ outbox) → (outbox ≤ OUTBOX) → IfOk result (λ r. outbox_of r.0 ≡ outbox) }
+    ensures outbox { IfOk result (λ r. outbox_of r.0 ≡ outbox_for outbox) }
     ensures new { IfOk result (λ r. (sent r.0 ≡ []) × (received r.1 ≡ [])) }
     ensures announced { IfOk result (λ r. IsAnnounced r.0) }
 {

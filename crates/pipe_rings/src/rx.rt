@@ -72,6 +72,7 @@ impl<T: Copy> Rx<T> {
         ensures ring { SameRx self.old self.new }
         ensures ok { IfOk result (λ item. received self.new ≡ received self.old ++ item ∷ []) }
         ensures gone { OnErr result (received self.new ≡ received self.old) }
+        ensures looked { OnErr result (LookedForItem self.new) }
     {
         match self.try_recv() {
             Some(item) => Ok(item),
@@ -84,6 +85,7 @@ impl<T: Copy> Rx<T> {
         ensures ring { SameRx self.old self.new }
         ensures ok { IfOk result (λ item. received self.new ≡ received self.old ++ item ∷ []) }
         ensures gone { OnErr result (received self.new ≡ received self.old) }
+        ensures looked { OnErr result (LookedForItem self.new) }
     {
         for _ in rt.forever() {
             if let Some(item) = self.try_recv() {

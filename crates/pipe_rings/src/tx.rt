@@ -47,10 +47,10 @@ impl<T: Copy> Tx<T> {
     ghost use Rattle.std.specs.Prelude.{◌≡◌, ◌<◌, [], ◌∷◌, ◌++◌, ◌↔◌, OnOk, IfErr, IsTrue, false};
     ghost use Rattle.std.specs.Prelude.{length, ◌+◌, IfOk};
     ghost use Rattle.pipe_rings.specs.Rings.{sent, posted, SameTx, HasRoom, LookedForRoom};
-    ghost use Rattle.pipe_rings.specs.Rings.{IsAnnounced};
+    ghost use Rattle.pipe_rings.specs.Rings.{IsAnnounced, outbox_for};
 
-    // The sending end of a new ring, with an outbox for `outbox` items, at least 1 and at most
-    // `OUTBOX`. It sleeps at the bell `own`, and rings the bell `peer`.
+    // The sending end of a new ring, with an outbox for `outbox` items, but for at least 1 and at
+    // most `OUTBOX`. It sleeps at the bell `own`, and rings the bell `peer`.
     pub(crate) fn new(
         alloc: Global,
         end: Producer<T>,
@@ -60,7 +60,7 @@ impl<T: Copy> Tx<T> {
     ) -> Result<Tx<T>, NoMemory>
         requires { ring.sent end ≡ [] }
         ensures end { IfOk result (λ tx. tx.end ≡ end) }
-        ensures room { (1 ≤ outbox) → (outbox ≤ OUTBOX) → IfOk result (λ tx. tx.room ≡ outbox) }
+        ensures room { IfOk result (λ tx. tx.room ≡ outbox_for outbox) }
         ensures sent { IfOk result (λ tx. sent tx ≡ []) }
         ensures announced { IfOk result IsAnnounced }
     {
@@ -80,11 +80,13 @@ impl<T: Copy> Tx<T> {
         })
     }
 
-    /// Sends the item after all posted items. Waits until the ring has room for them. If the
-    /// receiver is gone, the item comes back, even if the ring has room.
+    /// Sends the item after all posted items. Waits until the ring has room for them, so that none
+    /// is left in the outbox. If the receiver is gone, the item comes back, even if the ring has
+    /// room.
     pub fn send<R: Wait>(&mut self, rt: &R, item: T) -> Result<(), Gone<T>>
         ensures ring { SameTx self.old self.new }
         ensures ok { OnOk result (sent self.new ≡ sent self.old ++ item ∷ []) }
+        ensures published { OnOk result (posted self.new ≡ []) }
         ensures announced { OnOk result (IsAnnounced self.new) }
         ensures gone { IfErr result (λ g. (g.item ≡ item) × (sent self.new ≡ sent self.old)) }
     {
@@ -241,6 +243,7 @@ impl<T: Copy> Tx<T> {
     fn push(&mut self, item: T) -> bool
         ensures ring { SameTx self.old self.new }
         ensures pushed { IsTrue result → sent self.new ≡ sent self.old ++ item ∷ [] }
+        ensures published { IsTrue result → posted self.new ≡ [] }
         ensures full { result ≡ false → sent self.new ≡ sent self.old }
         ensures announced { IsAnnounced self.new }
     {
