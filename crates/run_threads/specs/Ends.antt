@@ -2,6 +2,7 @@
 use Rattle.std.specs.Prelude.{◌≡◌, ℕ, List, []}
 use Rattle.pipe_rings.specs.Rings as ring
 use Rattle.pipe_rings.specs.Rings.{AreEnds, SameTx, SameRx, HasRoom, IsAnnounced, capacity_of}
+use Rattle.pipe_rings.specs.Rings.{outbox_of}
 use Rattle.stage_core.specs.declared.message.Turn.{Turn}
 use Rattle.stage_core.specs.declared.message.ToStage.{ToStage}
 use Rattle.stage_core.specs.declared.message.FromStage.{FromStage}
@@ -79,6 +80,14 @@ pub record HaveCapacity (capacity : ℕ) (rings : Rings) : Type 0 where
   pub to_d : capacity_of rings.splitter.to_d ≡ capacity
   pub from_i : capacity_of rings.i.to_merge ≡ capacity
   pub from_d : capacity_of rings.d.to_merge ≡ capacity
+
+-- the outbox of each sender has this capacity, in messages
+pub record HaveOutboxes (capacity : ℕ) (rings : Rings) : Type 0 where
+  pub order : outbox_of rings.splitter.order ≡ capacity
+  pub to_i : outbox_of rings.splitter.to_i ≡ capacity
+  pub to_d : outbox_of rings.splitter.to_d ≡ capacity
+  pub from_i : outbox_of rings.i.to_merge ≡ capacity
+  pub from_d : outbox_of rings.d.to_merge ≡ capacity
 
 -- the messages that a ring has carried, oldest first
 pub record Carried (Message : Type 0) : Type 0 where

@@ -1,9 +1,9 @@
 //! The rings of a run, and the ends that each thread owns.
 
 ghost use Rattle.std.specs.Prelude.{◌≡◌, ◌≤◌, ◌<◌, IfOk, IsTrue};
-ghost use Rattle.pipe_rings.specs.Rings.{sent, received, AreEnds, SameTx, SameRx};
+ghost use Rattle.pipe_rings.specs.Rings.{sent, received, AreEnds, SameTx, SameRx, outbox_for};
 ghost use Rattle.run_threads.specs.Ends.{AllReceived, ArePaired, AreUnused, HaveCapacity};
-ghost use Rattle.run_threads.specs.Ends.{SameRings};
+ghost use Rattle.run_threads.specs.Ends.{HaveOutboxes, SameRings};
 
 use pipe_rings::{Bell, NoMemory, Rx, Tx, ring_from, settle};
 use stage_core::{FromStage, Routed, ToStage, Turn};
@@ -145,12 +145,13 @@ fn is_settled<T: Copy>(tx: &mut Tx<T>, rx: &mut Rx<T>) -> bool
 
 impl Rings {
     /// Makes five rings, each with room for `capacity` messages. Each sender has an outbox with
-    /// room for `outbox` messages.
+    /// room for `outbox` messages, but for at least 1 and at most 512.
     pub(crate) fn new(alloc: Global, capacity: usize, outbox: usize) -> Result<Rings, NoMemory>
         requires { (0 < capacity) × (capacity ≤ 65536) }
         ensures paired { IfOk result (λ rings. ArePaired rings) }
         ensures unused { IfOk result (λ rings. AreUnused rings) }
         ensures capacity { IfOk result (λ rings. HaveCapacity capacity rings) }
+        ensures outboxes { IfOk result (λ rings. HaveOutboxes (outbox_for outbox) rings) }
     {
         let splitter = Bell::new(alloc)?;
         let i = Bell::new(alloc)?;

@@ -14,7 +14,8 @@ pub enum RunFault {
     Memory,
     /// A thread could not be started.
     Threads,
-    /// A thread was cut off: the other end of one of its rings was dropped.
+    /// A thread was cut off: the other end of one of its rings was dropped, or more messages came
+    /// than a run can have. Also if a message was left in a ring after the joins.
     Cut,
     /// The writer failed. It is not known how much of the report was written.
     Write,

@@ -5,9 +5,9 @@
 //! level in the fourth. They share only five rings.
 //!
 //! The threads wait for one another only in the functions of `waits`: the body of a thread has no
-//! runtime with which an end of a ring could wait. Each of these functions requires that its thread
-//! may wait there and has found nothing to do. By a law of stage_core, threads that wait only like
-//! this never all wait for one another.
+//! runtime with which an end of a ring could wait. Each of them that a thread can call requires
+//! that the thread may wait there and has found nothing to do. By a law of stage_core, threads that
+//! wait only like this never all wait for one another.
 //!
 //! The modules: `ends` has the rings, and which end each thread owns. `gate` lets tests hold
 //! threads. `split`, `stage_thread` and `merge_thread` are the bodies of the threads. `pipeline`
@@ -17,7 +17,7 @@
 //! What programs need of this, sim_run passes on. All else that is public here is for the tests of
 //! single threads, and of runs that are given up.
 //!
-//! Proved for every valid configuration, every selection, and whatever the reader does: if a run
+//! Proved for every lawful configuration, every selection, and whatever the reader does: if a run
 //! succeeds, the source was read to its end without a fault. Each ring has the capacity of the
 //! configuration and has carried exactly its stream, each message once and in order, and all of it
 //! was received. The second level got its requests in the order of the trace. The counts are those

@@ -146,9 +146,7 @@ fn merge_all<H: Wait, G: Gate>(
     for _ in rt.forever() {
         match merge.wants() {
             Want::Order => {
-                let Ok(turn) = next_turn(rt, &merge, ends) else {
-                    return Err(Stop::Cut);
-                };
+                let turn = next_turn(rt, &merge, ends)?;
                 received = pass(rt, gate, Who::Merge, received)?;
                 merge.turn(turn);
             }

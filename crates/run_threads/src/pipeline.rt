@@ -1,7 +1,8 @@
 //! The run in four threads: starts the threads, feeds them, joins them and checks the rings.
 
-ghost use Rattle.std.specs.Prelude.{◌≡◌, ◌⊎◌, List, ℕ, Option, None, IfOk, IfErr, IsOk};
+ghost use Rattle.std.specs.Prelude.{◌≡◌, ◌≤◌, ◌⊎◌, List, ℕ, Option, None, IfOk, IfErr, IsOk};
 ghost use Rattle.std.specs.Prelude.{OnOk, Ok, Err, true};
+ghost use Rattle.pipe_rings.specs.Rings.{outbox_for};
 ghost use Rattle.din_trace.specs.Text.{Remaining};
 ghost use Rattle.din_trace.specs.Remaining.{Script, Fate, Follows};
 ghost use Rattle.din_trace.specs.Source.{HasLeft, Takes};
@@ -10,9 +11,9 @@ ghost use Rattle.din_trace.specs.declared.record.DinRecord.{DinRecord};
 ghost use Rattle.stage_core.specs.Config.{hierarchy_of, ring_of};
 ghost use Rattle.stage_core.specs.Events.{IsBounded};
 ghost use Rattle.stage_core.specs.Waiting.{HasPosted};
-ghost use Rattle.run_threads.specs.Faults.{IsMet, MayAnswer};
+ghost use Rattle.run_threads.specs.Faults.{IsMet, MayAnswer, rank};
 ghost use Rattle.run_threads.specs.Ends.{AllReceived, ArePaired, AreUnused, HaveCapacity};
-ghost use Rattle.run_threads.specs.Ends.{SameRings};
+ghost use Rattle.run_threads.specs.Ends.{HaveOutboxes, SameRings};
 ghost use Rattle.run_threads.specs.Machines.{AreNew, hierarchy_in, machines_at, rings_at};
 ghost use Rattle.run_threads.specs.Runs.{HasRun, RunsOver};
 ghost use Rattle.run_threads.specs.Waits.{splitter_at};
@@ -72,13 +73,15 @@ impl Machines {
     }
 }
 
-/// Makes the rings and the machines of a run. Each outbox has room for `outbox` messages.
+/// Makes the rings and the machines of a run. Each outbox has room for `outbox` messages, but for
+/// at least 1 and at most [`OUTBOX`].
 pub fn prepare(alloc: Global, config: &Config, outbox: usize) -> Result<(Machines, Rings), NoMemory>
     ensures new { IfOk result (λ r. AreNew r.0) }
     ensures rules { IfOk result (λ r. hierarchy_in r.0 ≡ hierarchy_of config.now) }
     ensures paired { IfOk result (λ r. ArePaired r.1) }
     ensures unused { IfOk result (λ r. AreUnused r.1) }
     ensures capacity { IfOk result (λ r. HaveCapacity (ring_of config.now) r.1) }
+    ensures outboxes { IfOk result (λ r. HaveOutboxes (outbox_for outbox) r.1) }
 {
     let Ok(rings) = Rings::new(alloc, config.ring(), outbox) else {
         return Err(NoMemory);
@@ -178,6 +181,7 @@ fn finish<H: Threads>(
     ensures answers { IfErr result (λ why. (left : Option TraceFault)
         → IfErr fed (MayAnswer left) → MayAnswer left why) }
     ensures threads { result ≡ Err RunFault.Threads → fed ≡ Err RunFault.Threads }
+    ensures gravest { IfErr fed (λ fault. IfErr result (λ why. rank why ≤ rank fault)) }
 {
     merge_takes_the_requests();
     stages_answer_their_streams();

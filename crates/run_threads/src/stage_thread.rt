@@ -193,9 +193,7 @@ fn serve_all<H: Wait, G: Gate>(
 {
     let mut count = 0;
     for _ in rt.forever() {
-        let Ok(message) = receive(rt, stage, ends) else {
-            return Err(Stop::Cut);
-        };
+        let message = receive(rt, stage, ends)?;
         count = arrive(rt, gate, who, ends, count)?;
         if stage.served() >= MAX_EVENTS {
             return Err(Stop::Cut);

@@ -1,5 +1,6 @@
-//! The only functions in which the threads of a run wait for one another. Each of them requires
-//! that its thread may wait there, and that it has looked and found nothing to do.
+//! The only functions in which the threads of a run wait for one another. Each of those that are
+//! public requires that its thread may wait there, and that it has looked and found nothing to do.
+//! `await_item` is private: the two of the merge wait in it.
 //!
 //! The body of a thread has no runtime, only a [`BodyRuntime`], whose runtime no other module can
 //! reach. Without a runtime no end of a ring can be asked to wait.

@@ -9,7 +9,7 @@ loop-init g c =
 
 pub loop-preserved-in-Order : goal.loop-preserved-in-Order
 loop-preserved-in-Order g c =
-    merges-turn c.args.u.now c.args.ends.now c.loop.merge c.loop.u c.loop.ends c.in-Ok.turn
-    c.next_turn.new.ends c.turn.new.self c.loop.invariant (sym c.in-Order.ensures)
-    c.turn.ensures c.next_turn.ensures.order c.in-Ok.ensures.received c.next_turn.ensures.from_i
-    c.next_turn.ensures.from_d
+    merges-turn c.args.u.now c.args.ends.now c.loop.merge c.loop.u c.loop.ends
+    c.in_ok-turn-in-Order.turn c.next_turn.new.ends c.turn.new.self c.loop.invariant
+    (sym c.in-Order.ensures) c.turn.ensures c.next_turn.ensures.order
+    c.in_ok-turn-in-Order.ensures.received c.next_turn.ensures.from_i c.next_turn.ensures.from_d

@@ -18,31 +18,32 @@ use Rattle.run_threads.proofs.stage_thread.serve_all.Given.{Over}
 
 -- the stage after one message
 served : (g : Over) (c : After-finished g)
-    → Serves c.loop.stage c.loop.ends c.in-Ok.message c.send_outbox.new.stage c.send_outbox.new.ends
+    → Serves c.loop.stage c.loop.ends c.in_ok-message.message c.send_outbox.new.stage
+    c.send_outbox.new.ends
 served g c = record {
   from_splitter = subst (SameRx c.loop.ends.from_splitter)
-      (sym c.send_outbox.ensures.from_splitter) c.in-Ok.ensures.from_splitter;
+      (sym c.send_outbox.ensures.from_splitter) c.in_ok-message.ensures.from_splitter;
   to_merge = tx_stays c.loop.ends.to_merge c.receive.new.ends.to_merge
       c.send_outbox.new.ends.to_merge c.receive.ensures.to_merge c.send_outbox.ensures.ring;
-  got = ap received c.send_outbox.ensures.from_splitter ∙ c.in-Ok.ensures.received;
+  got = ap received c.send_outbox.ensures.from_splitter ∙ c.in_ok-message.ensures.received;
   side = c.send_outbox.ensures.side ∙ c.on.ensures.side;
   rules = ap rules_of c.send_outbox.ensures.cache ∙ c.on.ensures.rules;
   sends = λ before stands. grows _ _ _ _ _ c.in_ok-send_outbox.ensures.sent
-      (c.in-Ok-on.ensures.sent before stands) c.receive.ensures.sent;
+      (c.in-Ok.ensures.sent before stands) c.receive.ensures.sent;
   empty = c.in_ok-send_outbox.ensures.empty;
   stands = λ before stands. same_stands c.on.new.self c.send_outbox.new.stage _
       c.send_outbox.ensures.cache c.send_outbox.ensures.finish
-      (c.in-Ok-on.ensures.stands before stands);
+      (c.in-Ok.ensures.stands before stands);
 }
 
 pub send_outbox-requires : goal.send_outbox-requires
 send_outbox-requires g c = record {
   answered = answers-more c.args.stage.now c.args.ends.now c.loop.stage c.loop.ends
-      c.in-Ok.message c.on.new.self c.receive.new.ends c.loop.invariant.0 c.in-Ok.ensures.received
-      c.on.ensures.side c.on.ensures.rules
+      c.in_ok-message.message c.on.new.self c.receive.new.ends c.loop.invariant.0
+      c.in_ok-message.ensures.received c.on.ensures.side c.on.ensures.rules
       (rw (
         c.receive.ensures.sent,
-        c.in-Ok-on.ensures.sent (received c.loop.ends.from_splitter) c.loop.invariant.0.stands,
+        c.in-Ok.ensures.sent (received c.loop.ends.from_splitter) c.loop.invariant.0.stands,
       ) refl);
 }
 
@@ -50,7 +51,8 @@ send_outbox-requires g c = record {
 served-all : (g : Over) (c : After-finished g)
     → StageServed c.args.stage.now c.args.ends.now c.send_outbox.new.stage c.send_outbox.new.ends
 served-all g c = serves-more c.args.stage.now c.args.ends.now c.loop.stage c.loop.ends
-    c.in-Ok.message c.send_outbox.new.stage c.send_outbox.new.ends c.loop.invariant.0 (served g c)
+    c.in_ok-message.message c.send_outbox.new.stage c.send_outbox.new.ends c.loop.invariant.0
+    (served g c)
 
 pub publish-requires : goal.publish-requires
 publish-requires g c =
@@ -71,9 +73,9 @@ returns-then-finished-clause-ended g c =
     let c₂ = (goal.at.returns-then-finished-clause-ended g c).After-publish in
     let done : took_finish c.send_outbox.new.stage ≡ true = search rules in
     let ended = serves-finish c.args.stage.now c.args.ends.now c.loop.stage c.loop.ends
-    c.in-Ok.message c.send_outbox.new.stage c.send_outbox.new.ends c.loop.invariant.0
+    c.in_ok-message.message c.send_outbox.new.stage c.send_outbox.new.ends c.loop.invariant.0
     c.loop.invariant.1.goes_on (served g c₁)
-    (sym c.in-Ok-on.ensures.finish ∙ sym c.send_outbox.ensures.finish ∙ done) in
+    (sym c.in-Ok.ensures.finish ∙ sym c.send_outbox.ensures.finish ∙ done) in
     record {
       served = served-published g c₂ (served-all g c₁);
       finish = subst (EndOnce is_finish to_stage.Finish)
@@ -103,7 +105,7 @@ loop-init g c = (
 pub loop-preserved : goal.loop-preserved
 loop-preserved g c =
     let c₁ = (goal.at.loop-preserved g c).After-finished in (
-      serves-more c.args.stage.now c.args.ends.now c.loop.stage c.loop.ends c.in-Ok.message
+      serves-more c.args.stage.now c.args.ends.now c.loop.stage c.loop.ends c.in_ok-message.message
           c.send_outbox.new.stage c.send_outbox.new.ends c.loop.invariant.0 (served g c₁),
       search rules,
       elim (cases_Bool c.is_open.result) [
