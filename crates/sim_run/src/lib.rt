@@ -8,8 +8,8 @@
 //! The modules: `simulation` and `plain` are the two runs. `report` calls the crate that writes the
 //! report.
 //!
-//! Proved for every reader whose bytes are known, every valid configuration and every selection: if
-//! a run succeeds, the text has no fault. Each ring has the capacity of the configuration and has
+//! Proved for every reader whose bytes are known, every lawful configuration and every selection:
+//! if a run succeeds, the text has no fault. Each ring has the capacity of the configuration and has
 //! carried exactly its stream, each message once and in order, and all of it was received. The
 //! second level got its requests in the order of the trace. The bytes written are exactly the
 //! report (`specs/Report` of cache_report) of the counts that the definitions give for the whole
