@@ -169,6 +169,5 @@ RefusesWords app words f = (f ≡ fault.Memory)
 -- else the fault for one of the reasons for which clap refuses them
 abbrev pub AnswersWords : List Text → Result (Config × Selection) WordsFault → Type 0
 AnswersWords words r = (r ≡ Err fault.Memory)
-    ⊎ (((fault_of command_app words ≡ []) × AnswersRows (matches_of command_app words) r)
-    ⊎ ((k : ErrorKind) × (takes command_app words ≡ false) × IsAmong k (fault_of command_app words)
-    × (r ≡ Err (refusal_by_kind k))))
+    ⊎ (((rows : List Row) × AcceptsWords command_app words rows × AnswersRows rows r)
+    ⊎ ((f : WordsFault) × RefusesWords command_app words f × (r ≡ Err f)))

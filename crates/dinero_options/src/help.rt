@@ -76,7 +76,7 @@ pub(crate) fn value_name<'a>(option: Opt) -> &'a str {
     }
 }
 
-/// What the option sets, and its valid values. clap adds the default.
+/// What the option sets, and its lawful values. clap adds the default.
 pub(crate) fn help<'a>(option: Opt) -> &'a str {
     match option {
         Opt::L1Isize | Opt::L1Dsize | Opt::L2Usize => {

@@ -7,7 +7,7 @@
 //! The modules: `opt` has the names of the options, and `help` says what each one sets. `command`
 //! gives them to clap. `values` reads a size, a count or a letter. `texts` takes the text of each
 //! option from clap's matches, and tells which can be read. `settings` reads a text for each
-//! option, and `words` turns the words into a valid configuration and a selection. `refusal` and
+//! option, and `words` turns the words into a lawful configuration and a selection. `refusal` and
 //! `trace_refusal` have the text and the exit status of each refusal of words or of a trace, which
 //! all programs share.
 //!

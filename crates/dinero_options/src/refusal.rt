@@ -93,7 +93,7 @@ pub fn put_words<W: ByteWriter>(fault: WordsFault, writer: &mut W) -> Result<(),
             writer.put(b": not a lawful letter")
         }
         WordsFault::Config(fault) => put_config(fault, writer),
-        WordsFault::Help => writer.put(b""),
+        WordsFault::Help => Ok(()),
         WordsFault::Memory => writer.put(b"out of memory"),
     }
 }

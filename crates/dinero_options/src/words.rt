@@ -85,10 +85,10 @@ fn answer(texts: &[&str]) -> Result<(Config, Selection), WordsFault>
     ensures bound { IfOk result (λ p. IsBounded p.1) }
 {
     let settings = read_settings(texts)?;
-    match Config::new(settings.i, settings.d, settings.u, settings.ring) {
-        Ok(config) => Ok((config, settings.selection)),
-        Err(fault) => Err(WordsFault::Config(fault)),
-    }
+    let config = Config::new(settings.i, settings.d, settings.u, settings.ring).map_err(
+        WordsFault::Config,
+    )?;
+    Ok((config, settings.selection))
 }
 
 /// Reads the words after the program's name. Each number of the selection is at most 2^40. If an
@@ -100,13 +100,9 @@ pub fn parse_words(alloc: Global, words: &[String]) -> Result<(Config, Selection
     let Ok(command) = command(alloc) else {
         return Err(WordsFault::Memory);
     };
-    match take_words(command, words) {
-        Ok(matches) => {
-            let Ok(texts) = matched_texts(alloc, &matches) else {
-                return Err(WordsFault::Memory);
-            };
-            answer(texts.as_slice())
-        }
-        Err(fault) => Err(fault),
-    }
+    let matches = take_words(command, words)?;
+    let Ok(texts) = matched_texts(alloc, &matches) else {
+        return Err(WordsFault::Memory);
+    };
+    answer(texts.as_slice())
 }
