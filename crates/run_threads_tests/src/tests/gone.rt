@@ -119,7 +119,7 @@ fn without_sender<H: Wait + Abort>(rt: &H, alloc: Global, row: Row) -> Result<()
     Ok(())
 }
 
-/// A stage whose receiver is gone has to stop at its first part, though its sender is there.
+/// A stage whose receiver is gone has to stop, though its sender is there and sends nothing more.
 fn without_receiver<H: Wait + Abort>(rt: &H, alloc: Global, row: Row) -> Result<(), Fail> {
     let (mut to_stage, ends, from_stage) = stage_rings(alloc)?;
     is_sent(rt, &mut to_stage, reference(row.2));
@@ -139,7 +139,7 @@ fn a_stage_without_its_sender_answers_what_was_sent(rt: HostRuntime) -> Result<(
 }
 
 #[test]
-fn a_stage_without_its_receiver_stops_at_its_first_part(rt: HostRuntime) -> Result<(), Fail> {
+fn a_stage_without_its_receiver_stops(rt: HostRuntime) -> Result<(), Fail> {
     for row in SIDES {
         without_receiver(&rt, rt.alloc(), row)?;
     }

@@ -1,5 +1,5 @@
-//! Many short runs through small rings, with outboxes of the usual size and of one message. Each
-//! has to end, and always with the same result.
+//! Many runs through small rings, with outboxes of one message. Each has to end, and always with
+//! the same result. Those with outboxes of the usual size are in sim_run_tests.
 
 ghost use Rattle.run_threads.specs.Ends.{ArePaired, AreUnused};
 ghost use Rattle.run_threads.specs.Machines.{AreNew};
@@ -8,7 +8,6 @@ use super::config;
 use cache_core::{Counts, PerClass};
 use cache_report::write_report;
 use din_trace::{FromRead, FromWrite, MAX_LIMIT, Source, TraceFault, Why};
-use pipe_rings::OUTBOX;
 use run_threads::{BodyRuntime, OpenGate, RunFault, Settled, prepare, run_in};
 use stage_core::{Config, Selection, Totals};
 use std::alloc::Global;
@@ -38,17 +37,16 @@ static EVERYTHING: Selection = Selection {
     every: 0,
 };
 
-/// The result of a run in threads over a trace, with an outbox of this many messages before each
-/// ring, and the bytes that it wrote.
+/// The result of a run in threads over a trace, with an outbox of one message before each ring, and
+/// the bytes that it wrote.
 fn run_with<H: Threads + Wait + Sync>(
     rt: &H,
     alloc: Global,
     config: &Config,
-    outbox: usize,
     trace: &[u8],
     written: &mut Vec<u8>,
 ) -> Result<Option<RunFault>, Fail> {
-    let (machines, rings) = prepare(alloc, config, outbox)?;
+    let (machines, rings) = prepare(alloc, config, 1)?;
     let source = Source::new(FromRead::new(trace), MAX_LIMIT);
     let body_rt = &BodyRuntime::new(rt);
     let (source, ended) = thread::scope(
@@ -131,13 +129,12 @@ fn ends_alike<H: Threads + Wait + Abort + Sync>(
     rt: &H,
     alloc: Global,
     config: &Config,
-    outbox: usize,
     trace: &[u8],
     fault: Option<(u64, Why)>,
     text: &[u8],
 ) -> Result<(), Fail> {
     let mut written = Vec::new(alloc);
-    let ended = run_with(rt, alloc, config, outbox, trace, &mut written)?;
+    let ended = run_with(rt, alloc, config, trace, &mut written)?;
     match fault {
         Some((line, why)) => {
             let bad = TraceFault::Bad { line, why };
@@ -152,38 +149,24 @@ fn ends_alike<H: Threads + Wait + Abort + Sync>(
     Ok(())
 }
 
-/// Makes a thousand runs through rings of each of these capacities.
-fn a_thousand_end_alike<H: Threads + Wait + Abort + Sync>(
-    rt: &H,
-    alloc: Global,
-    outbox: usize,
-) -> Result<(), Fail> {
-    let text = reported(alloc, &totals_of_three())?;
+#[test]
+fn a_thousand_runs_with_outboxes_of_one_end_alike(rt: HostRuntime) -> Result<(), Fail> {
+    let text = reported(rt.alloc(), &totals_of_three())?;
     for ring in [1, 2, 3, 64] {
         let config = config(ring)?;
         for _ in 0..250 {
             for (trace, fault) in TRACES {
-                ends_alike(rt, alloc, &config, outbox, trace, fault, &text)?;
+                ends_alike(&rt, rt.alloc(), &config, trace, fault, &text)?;
             }
         }
     }
     Ok(())
 }
 
-#[test]
-fn a_thousand_runs_end_alike(rt: HostRuntime) -> Result<(), Fail> {
-    a_thousand_end_alike(&rt, rt.alloc(), OUTBOX)
-}
-
-#[test]
-fn a_thousand_runs_with_outboxes_of_one_end_alike(rt: HostRuntime) -> Result<(), Fail> {
-    a_thousand_end_alike(&rt, rt.alloc(), 1)
-}
-
 /// How many rounds the long trace has.
 const ROUNDS: u64 = 600;
 
-/// A fetch, a read and a flush in each round: turns of all three kinds, more than an outbox holds.
+/// A fetch, a read and a flush in each round: turns of all three kinds.
 fn rounds(alloc: Global) -> Result<Vec<u8>, Fail> {
     let mut trace = Vec::new(alloc);
     for _ in 0..ROUNDS {
@@ -222,29 +205,15 @@ fn totals_of_rounds() -> Totals {
     }
 }
 
-/// Makes twelve long runs through rings of each of these capacities.
-fn long_runs_end_alike<H: Threads + Wait + Abort + Sync>(
-    rt: &H,
-    alloc: Global,
-    outbox: usize,
-) -> Result<(), Fail> {
-    let trace = rounds(alloc)?;
-    let text = reported(alloc, &totals_of_rounds())?;
+#[test]
+fn long_runs_with_outboxes_of_one_write_the_same(rt: HostRuntime) -> Result<(), Fail> {
+    let trace = rounds(rt.alloc())?;
+    let text = reported(rt.alloc(), &totals_of_rounds())?;
     for ring in [1, 2, 3, 64] {
         let config = config(ring)?;
         for _ in 0..12 {
-            ends_alike(rt, alloc, &config, outbox, &trace, None, &text)?;
+            ends_alike(&rt, rt.alloc(), &config, &trace, None, &text)?;
         }
     }
     Ok(())
-}
-
-#[test]
-fn long_runs_write_the_same(rt: HostRuntime) -> Result<(), Fail> {
-    long_runs_end_alike(&rt, rt.alloc(), OUTBOX)
-}
-
-#[test]
-fn long_runs_with_outboxes_of_one_write_the_same(rt: HostRuntime) -> Result<(), Fail> {
-    long_runs_end_alike(&rt, rt.alloc(), 1)
 }
