@@ -79,10 +79,7 @@ fn report_through_buffer<H: Threads + Wait + Sync, R: Read + Drop, W: Write + Dr
     };
     let mut writer = FromWrite::new(output);
     let reader = FromRead::new(input);
-    match report(rt, alloc, config, selection, reader, &mut writer) {
-        Ok(()) => Ok(()),
-        Err(fault) => Err(Fault::Run(fault)),
-    }
+    report(rt, alloc, config, selection, reader, &mut writer).map_err(Fault::Run)
 }
 
 fn write_help(rt: &HostRuntime) -> Result<(), Fault> {
@@ -116,10 +113,7 @@ fn parse_args(rt: &HostRuntime) -> Result<(Config, Selection), Fault>
     let Ok(words) = arguments.collect::<Vec<String>>(alloc) else {
         return Err(Fault::Words(WordsFault::Memory));
     };
-    match parse_words(alloc, words.as_slice()) {
-        Ok(parsed) => Ok(parsed),
-        Err(fault) => Err(Fault::Words(fault)),
-    }
+    parse_words(alloc, words.as_slice()).map_err(Fault::Words)
 }
 
 /// Prints the line of a fault to standard error, and returns its exit status. If the line cannot be

@@ -9,8 +9,8 @@
 //! report.
 //!
 //! Proved for every reader whose bytes are known, every lawful configuration and every selection:
-//! if a run succeeds, the text has no fault. Each ring has the capacity of the configuration and has
-//! carried exactly its stream, each message once and in order, and all of it was received. The
+//! if a run succeeds, the text has no fault. Each ring has the capacity of the configuration and
+//! has carried exactly its stream, each message once and in order, and all of it was received. The
 //! second level got its requests in the order of the trace. The bytes written are exactly the
 //! report (`specs/Report` of cache_report) of the counts that the definitions give for the whole
 //! trace. If a run fails because of the trace, the fault is that of the text or of its reader. If a
