@@ -1,5 +1,5 @@
 //! Many runs of `simulate` through small rings. Each has to end, and always with the same result.
-//! The tests of sim_run itself make them with outboxes of one message too.
+//! The tests of run_threads make such runs with outboxes of one message.
 
 use super::layout::ONE_WRITE_BACK;
 use super::{EVERYTHING, USUAL, bad, config_of, reported, simulated, writes_text};

@@ -2,11 +2,12 @@
 
 use super::{
     EVERYTHING, NO_TOTALS, USUAL, bad, config_of, ends_with, is_counted, reports, run_source,
+    simulated,
 };
 use cache_core::Counts;
 use din_trace::{MAX_LIMIT, TraceFault, Why};
 use expected_counts::{by_class, first_misses};
-use sim_run::RunFault;
+use sim_run::{OpenGate, RunFault};
 use stage_core::Totals;
 use std::alloc::Global;
 use std::test::Fail;
@@ -78,10 +79,10 @@ fn many_records_go_through_rings_of_one_place(rt: HostRuntime) -> Result<(), Fai
     Ok(())
 }
 
-/// A thousand fetches, a faulty line, and ten more fetches.
+/// A thousand fetches, a faulty line, and fifteen thousand more fetches.
 fn late_fault(alloc: Global) -> Result<Vec<u8>, Fail> {
     let mut trace = Vec::new(alloc);
-    for number in 1..=1011u32 {
+    for number in 1..=16_001u32 {
         let line: &[u8] = if number == 1001 { b"9 0\n" } else { b"2 0\n" };
         trace.extend_from_slice(line)?;
     }
@@ -102,5 +103,19 @@ fn a_late_fault_is_answered_and_what_follows_is_not_read(rt: HostRuntime) -> Res
         MAX_LIMIT,
         fault,
     );
+    let mut rest = trace.as_slice();
+    let ended = simulated(
+        &rt,
+        rt.alloc(),
+        &narrow,
+        &EVERYTHING,
+        &mut rest,
+        MAX_LIMIT,
+        &OpenGate,
+        Vec::new(rt.alloc()),
+    );
+    assert_eq!(rt; ended.err(), fault.err());
+    // The faulty line ends after 4,004 bytes, and a reader is asked for at most 16 KiB at a time.
+    assert!(rt; trace.len().saturating_sub(rest.len()) <= 4_004 + 16_384);
     Ok(())
 }
