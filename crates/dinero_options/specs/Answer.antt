@@ -16,12 +16,12 @@ use Rattle.stage_core.specs.declared.selection.Selection.{Selection}
 use Rattle.dinero_options.specs.Options.{command_app, data_options, id_of}
 use Rattle.dinero_options.specs.Options.{instruction_options, kind_of_option, options, place_of}
 use Rattle.dinero_options.specs.Options.{second_level_options}
-use Rattle.dinero_options.specs.Values.{bounded_value, choice_value, count_value, replacement_value}
+use Rattle.dinero_options.specs.Values.{choice_value, count_value, replacement_value}
 use Rattle.dinero_options.specs.Values.{size_value}
 use Rattle.dinero_options.specs.declared.opt.CacheOptions.{CacheOptions}
 use Rattle.dinero_options.specs.declared.opt.Kind.{Kind}
-use Rattle.dinero_options.specs.declared.opt.Kind.TheVariants.{Size, Count, Bounded, Replacement}
-use Rattle.dinero_options.specs.declared.opt.Kind.TheVariants.{Choice}
+use Rattle.dinero_options.specs.declared.opt.Kind.TheVariants.{Size, Count, References}
+use Rattle.dinero_options.specs.declared.opt.Kind.TheVariants.{Replacement, Choice}
 use Rattle.dinero_options.specs.declared.opt.Opt.{Opt}
 use Rattle.dinero_options.specs.declared.opt.Opt.TheVariants as o
 use Rattle.dinero_options.specs.declared.settings.Settings.{Settings}
@@ -40,7 +40,7 @@ text_at texts x = slice_index_or texts (place_of x) []
 abbrev pub reads_as : Kind → Text → Bool
 reads_as Size text = is_some (size_value text)
 reads_as Count text = is_some (count_value text)
-reads_as Bounded text = is_some (bounded_value text)
+reads_as References text = is_some (count_value text)
 reads_as Replacement text = is_some (replacement_value text)
 reads_as Choice text = is_some (choice_value text)
 
@@ -48,7 +48,7 @@ reads_as Choice text = is_some (choice_value text)
 abbrev pub refusal_by : Kind → Opt → WordsFault
 refusal_by Size x = fault.Number x
 refusal_by Count x = fault.Number x
-refusal_by Bounded x = fault.Number x
+refusal_by References x = fault.Number x
 refusal_by Replacement x = fault.Choice x
 refusal_by Choice x = fault.Choice x
 
@@ -76,10 +76,6 @@ size_at texts x = unwrap_or (size_value (texts x)) 0
 -- the count that an option sets; 0 if its text cannot be read
 abbrev pub count_at : (Opt → Text) → Opt → ℕ
 count_at texts x = unwrap_or (count_value (texts x)) 0
-
--- the count of at most 2 ^ 40 that an option sets; 0 if its text cannot be read
-abbrev pub bounded_at : (Opt → Text) → Opt → ℕ
-bounded_at texts x = unwrap_or (bounded_value (texts x)) 0
 
 -- the replacement that an option sets; LRU if its text cannot be read
 abbrev pub replacement_at : (Opt → Text) → Opt → Repl
@@ -110,9 +106,9 @@ cache_at texts c = record {
 -- which references are simulated, and where flushes are inserted
 abbrev pub selection_at : (Opt → Text) → Selection
 selection_at texts = record {
-  skip = bounded_at texts o.Skipcount;
-  max = bounded_at texts o.Maxcount;
-  every = bounded_at texts o.Flushcount;
+  skip = count_at texts o.Skipcount;
+  max = count_at texts o.Maxcount;
+  every = count_at texts o.Flushcount;
 }
 
 -- all settings that the words ask for

@@ -5,8 +5,8 @@ use Rattle.std.specs.Option.{option_map_or}
 use Rattle.clap.specs.Words.{App, Rule, Text, new_app, new_rule, with_rule}
 use Rattle.dinero_options.specs.declared.opt.CacheOptions.{CacheOptions}
 use Rattle.dinero_options.specs.declared.opt.Kind.{Kind}
-use Rattle.dinero_options.specs.declared.opt.Kind.TheVariants.{Size, Count, Bounded, Replacement}
-use Rattle.dinero_options.specs.declared.opt.Kind.TheVariants.{Choice}
+use Rattle.dinero_options.specs.declared.opt.Kind.TheVariants.{Size, Count, References}
+use Rattle.dinero_options.specs.declared.opt.Kind.TheVariants.{Replacement, Choice}
 use Rattle.dinero_options.specs.declared.opt.Opt.{Opt}
 use Rattle.dinero_options.specs.declared.opt.Opt.TheVariants.{L1Isize, L1Ibsize, L1Iassoc, L1Irepl}
 use Rattle.dinero_options.specs.declared.opt.Opt.TheVariants.{L1Dsize, L1Dbsize, L1Dassoc, L1Drepl}
@@ -133,15 +133,15 @@ kind_of_option L2Urepl = Replacement
 kind_of_option L2Uwback = Choice
 kind_of_option L2Uwalloc = Choice
 kind_of_option Ring = Count
-kind_of_option Skipcount = Bounded
-kind_of_option Maxcount = Bounded
-kind_of_option Flushcount = Bounded
+kind_of_option Skipcount = References
+kind_of_option Maxcount = References
+kind_of_option Flushcount = References
 
 -- the default of an option of this kind; an option without a default is required
 abbrev pub default_by : Kind → Option Text
 default_by Size = None
 default_by Count = Some (codes "1")
-default_by Bounded = Some (codes "0")
+default_by References = Some (codes "0")
 default_by Replacement = Some (codes "l")
 default_by Choice = Some (codes "a")
 

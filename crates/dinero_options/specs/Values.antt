@@ -1,6 +1,6 @@
 -- How the value of an option is read.
-use Rattle.std.specs.Prelude.{ℕ, ◌-◌, ◌*◌, ◌^◌, ◌==◌, ◌&&◌, ◌||◌, Bool, true, false, length, take}
-use Rattle.std.specs.Prelude.{slice_index, nat_le, Option, Some, None, option_map, option_and_then}
+use Rattle.std.specs.Prelude.{ℕ, ◌-◌, ◌*◌, ◌==◌, ◌&&◌, ◌||◌, Bool, true, false, length, take}
+use Rattle.std.specs.Prelude.{slice_index, nat_le, Option, Some, None, option_map}
 use Rattle.std.specs.Prelude.{if◌then◌else◌, codes}
 use Rattle.std.specs.Char.{is_ascii_digit}
 use Rattle.std.specs.List.{list_all}
@@ -18,11 +18,6 @@ is_count text = nat_le 1 (length text) && (nat_le (length text) 12 && list_all i
 -- the number that a text gives if it is a count
 abbrev pub count_value : Text → Option ℕ
 count_value text = if is_count text then Some (digits_value 10 text) else None
-
--- the number that a text gives if it is a count of at most 2 ^ 40
-abbrev pub bounded_value : Text → Option ℕ
-bounded_value text = option_and_then (λ n. if nat_le n (2 ^ 40) then Some n else None)
-    (count_value text)
 
 -- the factor of a unit: k and K (107 and 75) are 1024, m and M (109 and 77) are 1024 * 1024
 abbrev pub unit_value : ℕ → Option ℕ

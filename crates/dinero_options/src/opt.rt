@@ -116,7 +116,7 @@ impl Opt {
             | Opt::L2Usize
             | Opt::L2Ubsize => Kind::Size,
             Opt::L1Iassoc | Opt::L1Dassoc | Opt::L2Uassoc | Opt::Ring => Kind::Count,
-            Opt::Skipcount | Opt::Maxcount | Opt::Flushcount => Kind::Bounded,
+            Opt::Skipcount | Opt::Maxcount | Opt::Flushcount => Kind::References,
             Opt::L1Irepl | Opt::L1Drepl | Opt::L2Urepl => Kind::Replacement,
             Opt::L1Dwback | Opt::L1Dwalloc | Opt::L2Uwback | Opt::L2Uwalloc => Kind::Choice,
         }
@@ -130,7 +130,7 @@ impl Opt {
             (Opt::Ring, _) => Some("64"),
             (_, Kind::Size) => None,
             (_, Kind::Count) => Some("1"),
-            (_, Kind::Bounded) => Some("0"),
+            (_, Kind::References) => Some("0"),
             (_, Kind::Replacement) => Some("l"),
             (_, Kind::Choice) => Some("a"),
         }
@@ -144,8 +144,8 @@ pub enum Kind {
     Size,
     /// A number of 1 to 12 decimal digits.
     Count,
-    /// A count of references, at most 2^40.
-    Bounded,
+    /// A count of references, read as any other count.
+    References,
     /// `l` for LRU or `f` for FIFO.
     Replacement,
     /// `a` for always or `n` for never.

@@ -1,14 +1,14 @@
 //! The settings that texts ask for, one text for each option.
 
-ghost use Rattle.std.specs.Prelude.{◌≡◌, ◌≤◌, ◌^◌, map};
+ghost use Rattle.std.specs.Prelude.{◌≡◌, ◌<◌, ◌^◌, map};
 ghost use Rattle.stage_core.specs.Events.{IsBounded};
-ghost use Rattle.dinero_options.specs.Answer.{bounded_at, cache_at, choice_at, count_at};
+ghost use Rattle.dinero_options.specs.Answer.{cache_at, choice_at, count_at};
 ghost use Rattle.dinero_options.specs.Answer.{replacement_at, selection_at, settings_at, size_at};
 ghost use Rattle.dinero_options.specs.Answer.{text_at, write_choices};
 
 use crate::opt::{CacheOptions, Opt};
 use crate::texts::listed_text;
-use crate::values::{read_bounded, read_choice, read_count, read_replacement, read_size};
+use crate::values::{read_choice, read_count, read_replacement, read_size};
 use cache_core::{Policy, Repl};
 use stage_core::{CacheSpec, Selection};
 
@@ -31,17 +31,10 @@ fn size_in(texts: &[&str], option: Opt) -> u64
 
 /// The count that an option sets; 0 if its text cannot be read.
 fn count_in(texts: &[&str], option: Opt) -> u64
-    ensures { result ≡ count_at (text_at (map (λ t. t.now) texts.now)) option }
+    ensures value { result ≡ count_at (text_at (map (λ t. t.now) texts.now)) option }
+    ensures bound { result < 10 ^ 12 }
 {
-    read_count(listed_text(texts, option)).unwrap_or(0)
-}
-
-/// The count of at most 2^40 that an option sets; 0 if its text cannot be read.
-fn bounded_in(texts: &[&str], option: Opt) -> u64
-    ensures value { result ≡ bounded_at (text_at (map (λ t. t.now) texts.now)) option }
-    ensures bound { result ≤ 2 ^ 40 }
-{
-    match read_bounded(listed_text(texts, option)) {
+    match read_count(listed_text(texts, option)) {
         Some(count) => count,
         None => 0,
     }
@@ -93,9 +86,9 @@ fn selection_in(texts: &[&str]) -> Selection
     ensures bound { IsBounded result }
 {
     Selection {
-        skip: bounded_in(texts, Opt::Skipcount),
-        max: bounded_in(texts, Opt::Maxcount),
-        every: bounded_in(texts, Opt::Flushcount),
+        skip: count_in(texts, Opt::Skipcount),
+        max: count_in(texts, Opt::Maxcount),
+        every: count_in(texts, Opt::Flushcount),
     }
 }
 

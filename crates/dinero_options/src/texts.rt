@@ -7,7 +7,7 @@ ghost use Rattle.dinero_options.specs.Answer.{text_at, text_of};
 ghost use Rattle.dinero_options.specs.Options.{kind_of_option, options};
 
 use crate::opt::{Kind, Opt};
-use crate::values::{read_bounded, read_choice, read_count, read_replacement, read_size};
+use crate::values::{read_choice, read_count, read_replacement, read_size};
 use crate::words::WordsFault;
 use clap::ArgMatches;
 use std::alloc::{AllocError, Global};
@@ -54,8 +54,7 @@ pub fn can_read(option: Opt, text: &str) -> bool
 {
     match option.kind() {
         Kind::Size => read_size(text).is_some(),
-        Kind::Count => read_count(text).is_some(),
-        Kind::Bounded => read_bounded(text).is_some(),
+        Kind::Count | Kind::References => read_count(text).is_some(),
         Kind::Replacement => read_replacement(text).is_some(),
         Kind::Choice => read_choice(text).is_some(),
     }
@@ -66,7 +65,7 @@ pub fn unread_fault(option: Opt) -> WordsFault
     ensures { result ≡ refusal_by_option option }
 {
     match option.kind() {
-        Kind::Size | Kind::Count | Kind::Bounded => WordsFault::Number(option),
+        Kind::Size | Kind::Count | Kind::References => WordsFault::Number(option),
         Kind::Replacement | Kind::Choice => WordsFault::Choice(option),
     }
 }

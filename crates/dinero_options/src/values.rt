@@ -1,16 +1,17 @@
 //! Reads the value of an option: a size, a count or a letter.
 
-ghost use Rattle.std.specs.Prelude.{◌≡◌, ◌<◌, ◌≤◌, ◌^◌, IfSome};
+ghost use Rattle.std.specs.Prelude.{◌≡◌, ◌<◌, ◌^◌, IfSome};
 ghost use Rattle.std.specs.Char.{is_ascii_digit};
 ghost use Rattle.std.specs.List.{list_all};
-ghost use Rattle.dinero_options.specs.Values.{bounded_value, choice_value, count_value};
-ghost use Rattle.dinero_options.specs.Values.{replacement_value, size_value, unit_value};
+ghost use Rattle.dinero_options.specs.Values.{choice_value, count_value, replacement_value};
+ghost use Rattle.dinero_options.specs.Values.{size_value, unit_value};
 
 use cache_core::Repl;
 
 /// Reads a count: 1 to 12 decimal digits.
 pub fn read_count(text: &str) -> Option<u64>
-    ensures { result ≡ count_value text.now }
+    ensures value { result ≡ count_value text.now }
+    ensures bound { IfSome result (λ n. n < 10 ^ 12) }
 {
     count_of(text.as_bytes())
 }
@@ -29,15 +30,6 @@ pub fn read_size(text: &str) -> Option<u64>
         }
         None => count_of(bytes),
     }
-}
-
-/// Reads a count of at most 2^40.
-pub(crate) fn read_bounded(text: &str) -> Option<u64>
-    ensures value { result ≡ bounded_value text.now }
-    ensures bound { IfSome result (λ n. n ≤ 2 ^ 40) }
-{
-    let count = read_count(text)?;
-    if count <= 1 << 40 { Some(count) } else { None }
 }
 
 /// The factor of the unit after the digits.

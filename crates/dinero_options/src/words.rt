@@ -24,7 +24,7 @@ pub enum WordsFault {
     /// clap refused the words: an unknown option, one given twice or without a value, or one that
     /// is required and missing.
     Words,
-    /// The value of the option is not a size or a count, or a count of the selection is above 2^40.
+    /// The value of the option is not a size or a count.
     Number(Opt),
     /// The value of the option is not one of its two letters.
     Choice(Opt),
