@@ -42,7 +42,3 @@ low-levels n level (s ∷ stacks) told le (suc k) d lt =
 -- what is within the number of served accesses and flushes is within the most that there may be
 pub within-events : (e : Stacked) {p : PerClass} → IsWithin p e.served → IsWithin p (2 ^ 44)
 within-events e {p} all = let few = e.few in within-more p e.served (2 ^ 44) (omega arith) all
-
--- and within what can be counted
-pub within-most : (e : Stacked) {p : PerClass} → IsWithin p e.served → IsWithin p (2 ^ 46)
-within-most e {p} all = let few = e.few in within-more p e.served (2 ^ 46) (omega arith) all
