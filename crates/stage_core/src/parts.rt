@@ -19,11 +19,14 @@ pub fn back_part(addr: Option<u64>) -> Option<What>
 pub fn fetch_part(side: Side, fetch: bool, first: u64) -> Option<What>
     ensures { option_to_list result ≡ list_if fetch (what.Fetch (fetch_class side) first) }
 {
+    if !fetch {
+        return None;
+    }
     let class = match side {
         Side::I => Class::Instr,
         Side::D => Class::Read,
     };
-    fetch.then_some(What::Fetch(class, first))
+    Some(What::Fetch(class, first))
 }
 
 /// The part for a write to this address, if it is sent on.
