@@ -10,8 +10,7 @@
 //! queue (`queue`, `queues`, `parts`): these are the `first_levels`. Behind each queue are second
 //! levels (`second`, `back`), which take it over and serve what waits. Some of them, a `bank`,
 //! share the numbers of blocks, so that different threads can serve the `banks` of a lane. `beside`
-//! does both at once. `requests` has what an event asks of each cache, and what the first level
-//! asks of the second.
+//! does both at once. `requests` has what an event asks of each cache.
 //!
 //! `plan` finds the place of each row: its lane, and a `seat` among the caches of each kind, which
 //! a `shelf` lists. A lane is the work of a `worker`; `crew` gives records to all workers in

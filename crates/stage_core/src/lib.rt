@@ -4,8 +4,9 @@
 //!
 //! No machine knows of threads or rings. Each has `&mut self` methods that take one item in and
 //! answer what it puts out. `config` and `selection` say what is simulated, `message` has the
-//! messages between the machines, `plain` runs all machines on one thread, and `laws` has
-//! properties of the definitions themselves.
+//! messages between the machines, and `parts` those that a request to a first-level cache makes for
+//! the second level. `plain` runs all machines on one thread, and `laws` has properties of the
+//! definitions themselves.
 //!
 //! `network` moves them one push or one pop at a time through rings of a given capacity, as the
 //! threads of a pipeline do, in whatever order its caller chooses. No program uses it.
