@@ -1,4 +1,4 @@
--- The three kinds of miss (Hill; Hill and Smith, 1989).
+-- Hill's three kinds of miss, each miss judged by itself.
 use Rattle.std.specs.Prelude.{ℕ, Bool, true, false, if◌then◌else◌, ◌==◌, List, [], ◌∷◌, Option}
 use Rattle.std.specs.Prelude.{Some, None}
 use Rattle.std.specs.List.{list_any}

@@ -5,8 +5,8 @@ ghost use Rattle.grid_core.specs.Levels.{DirtyLevelsAreDirtyBlocks};
 ghost use Rattle.grid_core.specs.Engines.{MoreNumbersServe};
 ghost use Rattle.grid_core.specs.WriteBacks.{WriteBacksAreFirstWrites};
 
-/// Inclusion (Mattson and others): of two LRU caches of as many sets that allocate at writes, the
-/// one of more ways holds all that the other holds.
+/// Inclusion (Mattson and others): of two LRU caches with the same number of sets that both
+/// allocate at writes, the one with more ways holds all that the other holds.
 pub fn wider_ways_hold_more()
     ensures { WiderWaysHoldMore }
 {}
@@ -16,14 +16,16 @@ pub fn stack_distances_are_hits()
     ensures { StackDistancesAreHits }
 {}
 
-/// One level tells in which numbers of ways a block is dirty (Thompson and Smith).
+/// One level tells in which numbers of ways a block was written at or after its last load (Thompson
+/// and Smith). Where a write-back cache holds it, it is then dirty.
 pub fn dirty_levels_are_dirty_blocks()
     ensures { DirtyLevelsAreDirtyBlocks }
 {}
 
-/// Set refinement (Hill and Smith): of two LRU caches of as many ways that allocate at writes, the
-/// one of more sets holds all that the other holds. With one way: a block that was used last in its
-/// set was used last in its set of every larger number of sets.
+/// Set refinement (Hill and Smith): of two LRU caches with the same number of ways that both
+/// allocate at writes, the one whose number of sets is a multiple of the other's holds all that the
+/// other holds. With one way: a block that was used last in its set was used last in its set of
+/// every larger number of sets.
 pub fn more_sets_hold_more()
     ensures { MoreSetsHoldMore }
 {}

@@ -97,7 +97,8 @@ impl Marked {
 
     /// Uses a block, and answers its level before: the index of the first size for which it was
     /// among the blocks used last, or the number of sizes. After an error nothing is changed.
-    /// Numbers have 32 bits: `u32::MAX` and more answer an error, as if memory were wanting.
+    /// Numbers and places in the log have 32 bits: `u32::MAX` and more, and a log of so many uses,
+    /// answer an error, as if memory were wanting.
     pub fn touch(&mut self, number: usize) -> Result<usize, AllocError>
         requires { number < usize.MAX }
         ensures level { IfOk result (λ level.
