@@ -62,7 +62,8 @@ installed_text() {
 print_way() {
     cat <<END
 #!/usr/bin/env bash
-exec "\$(dirname -- "\$(readlink -f -- "\$0")")/../lib/dinero_pipe/$1" "\$@"
+here=\$(readlink -f -- "\${BASH_SOURCE[0]}")
+exec "\${here%/*}/../lib/dinero_pipe/$1" "\$@"
 END
 }
 

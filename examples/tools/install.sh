@@ -73,6 +73,9 @@ ln -s 'a b/bin/dinero_plot' plot
 run ./plot --help
 [ "$status" -eq 0 ] && grep -q '^Usage: dinero_plot KIND' "$out"
 verdict 'the installed plot, by a link' $?
+run env PATH="$PWD/a b/bin:$PATH" bash dinero_plot --help
+[ "$status" -eq 0 ] && grep -q '^Usage: dinero_plot KIND' "$out"
+verdict 'the installed plot, found by PATH' $?
 if has valgrind && [ -x walk ]; then
     run from_away dinero_record --from leave "$PWD/walk"
     [ "$status" -eq 0 ] && [ "$(<"$out")" = $'2 0040100a\n2 0040100f\n2 00401011' ]
