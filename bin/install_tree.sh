@@ -90,5 +90,5 @@ END
 
 # print_files TREE: one a line.
 print_files() {
-    find "$1" ! -type d -printf '%P\n' | LC_ALL=C sort
+    find "$1" ! -type d -printf '%P\n' | sort
 }

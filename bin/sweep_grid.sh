@@ -8,7 +8,7 @@ of_grid() {
     for program in grid $1; do
         programs+=(-f "$here/sweep_$program.awk")
     done
-    LC_ALL=C work=$work awk "${programs[@]}" "$described" "${@:2}"
+    work=$work awk "${programs[@]}" "$described" "${@:2}"
 }
 
 # no_room: for the files that a sweep keeps for itself.

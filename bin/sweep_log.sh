@@ -71,6 +71,6 @@ say_other_names() {
 # keep FILE: adds its lines to the log.
 keep() {
     local fault
-    fault=$({ LC_ALL=C cat "$1" >&"$log_lock"; } 2>&1) ||
+    fault=$({ cat "$1" >&"$log_lock"; } 2>&1) ||
         die 4 "$log could not be written: ${fault##*: }"
 }

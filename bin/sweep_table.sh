@@ -92,7 +92,7 @@ gather_table() {
 # writing_fault FOLDER: why no report can be written there, such as a full disk, if none can.
 writing_fault() {
     local fault probe=$1/probe.$BASHPID
-    fault=$({ LC_ALL=C head -c 8192 /dev/zero > "$probe"; } 2>&1) && fault=
+    fault=$({ head -c 8192 /dev/zero > "$probe"; } 2>&1) && fault=
     rm -f -- "$probe"
     echo "${fault##*: }"
 }

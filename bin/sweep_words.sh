@@ -186,7 +186,7 @@ check_task() {
 # find_packer TRACE: sets `packer` to the command that unpacks it, if its first bytes are those of a
 # packed file. They are read up to a zero byte, as the sixth of xz is, unless the file ends before.
 find_packer() {
-    local LC_ALL=C bytes ends=
+    local bytes ends=
     IFS= read -r -d '' -n 6 bytes < "$1" || ends=yes
     case $bytes$ends in
     $'\x1f\x8b'*) packer='zcat' ;;
@@ -220,7 +220,7 @@ check_trace() {
 # check_once: no trace is given twice. Of several that are, the first in the order of bytes is
 # named.
 check_once() {
-    local LC_ALL=C trace twice=
+    local trace twice=
     local -A given=()
     for trace in "${traces[@]}"; do
         if [ -n "${given[$trace]-}" ] && [[ -z $twice || $trace < $twice ]]; then

@@ -17,3 +17,22 @@ for command in dinero_pipe dinero_grid record sweep plot install prove release; 
     verdict "bash $command, found by PATH" $?
 done
 rm -r links
+
+# In Turkish, an i is no letter between a and z, and its capital has a dot.
+mkdir "$work/locales"
+turkish=(env "LOCPATH=$work/locales" LC_ALL=tr_TR.UTF-8)
+if has localedef && localedef -i tr_TR -f UTF-8 "$work/locales/tr_TR.UTF-8" 2>"$err"; then
+    run "${turkish[@]}" "$sweep" --with l1-isize=l1-dsize "${grid[@]:0:6}" "${rest[@]:2}" \
+        -- kinds.din
+    [ "$status" -eq 0 ] && [ ! -s "$err" ] && [ "$(rows_of 2-4)" = '8 1 8,8 2 8,16 1 16,16 2 16,' ]
+    verdict 'sweep in Turkish' $?
+    run "${turkish[@]}" "$bin/install" prefix
+    [ "$status" -eq 0 ] && head -q -n 1 prefix/share/man/man1/*.1 | cut -d ' ' -f 1-3 >"$out" &&
+        [ "$(<"$out")" = "$(printf '.TH DINERO_%s 1\n' GRID PIPE PLOT RECORD SWEEP)" ]
+    verdict 'install in Turkish' $?
+    run "${turkish[@]}" "$bin/install" --remove prefix
+    [ "$status" -eq 0 ] && [ ! -s "$err" ] && [ ! -e prefix ]
+    verdict 'install --remove in Turkish' $?
+else
+    skip 'the commands in Turkish' 'the sources of locales (locales)'
+fi
