@@ -36,3 +36,11 @@ if has localedef && localedef -i tr_TR -f UTF-8 "$work/locales/tr_TR.UTF-8" 2>"$
 else
     skip 'the commands in Turkish' 'the sources of locales (locales)'
 fi
+
+# What is installed is for all users.
+(umask 077 && exec "$bin/install" a/prefix) >"$out" 2>"$err"
+status=$?
+[ "$status" -eq 0 ] && [ "$(find a -type d -printf '%m\n' | sort -u)" = 755 ] &&
+    [ "$(find a ! -type d -printf '%m\n' | sort -u | tr '\n' ' ')" = '644 755 ' ]
+verdict 'install by a user whose files are private' $?
+"$bin/install" --remove a/prefix >"$out"
