@@ -88,8 +88,9 @@ is_ready() {
 prove_several() {
     export -f prove_library room_of take_made link_library link_part all_below
     # shellcheck disable=SC2016,SC2086  # the inner shell's words; names of crates
-    by_size $2 | sed '2,$s/$/ --jobs 1/' | top=$top logs=$1 self=$self xargs -P "$(nproc)" -L 1 \
-        bash -c 'prove_library "$@" > "$logs/$1" 2>&1 && echo "$self: $1 is proved" >&2' lib
+    by_size $2 | sed '2,$s/$/ --jobs 1/' |
+        top=$top logs=$1 self=$self xargs -P "$("${cores[@]}")" -L 1 \
+            bash -c 'prove_library "$@" > "$logs/$1" 2>&1 && echo "$self: $1 is proved" >&2' lib
 }
 
 # by_size CRATE..: the same, the largest first.

@@ -32,6 +32,15 @@ show_help() {
     exit 0
 }
 
+# Where POSIXLY_CORRECT is set, a file that can't be opened would end the shell without a word. The
+# program of record keeps what the caller has set.
+# shellcheck disable=SC2154  # each command sets its name
+[ "$self" = record ] || set +o posix
+
+# What prints how many cores there are: nproc itself goes by what OpenMP is told.
+# shellcheck disable=SC2034  # commands use it
+cores=(env -u OMP_NUM_THREADS -u OMP_THREAD_LIMIT nproc)
+
 # The names of temporary files are absolute, and so begin with no hyphen.
 [[ ${TMPDIR:-/} == /* ]] || TMPDIR=$PWD/$TMPDIR
 

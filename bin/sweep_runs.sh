@@ -53,7 +53,7 @@ choose_hosts() {
 }
 
 count_cores() {
-    exec nproc > "$work/cores"
+    exec "${cores[@]}" > "$work/cores"
 }
 
 # find_slots: sets `slots` to how many runs can be made at once. A machine of the list that does not

@@ -44,3 +44,13 @@ status=$?
     [ "$(find a ! -type d -printf '%m\n' | sort -u | tr '\n' ' ')" = '644 755 ' ]
 verdict 'install by a user whose files are private' $?
 "$bin/install" --remove a/prefix >"$out"
+
+# What can't be opened is told, also by a shell that goes by the letter of POSIX.
+posix=(env POSIXLY_CORRECT=1)
+ends 'a log where none can be, by POSIX' 4 'sweep: /dev/null/log could not be written' \
+    "${posix[@]}" "$sweep" --resume /dev/null/log "${grid[@]}" -- kinds.din
+ends 'plot of no table, by POSIX' 4 'plot: no table to read: nowhere' \
+    "${posix[@]}" "$bin/plot" rates nowhere rates.svg
+run "${posix[@]}" "$sweep" --resume posix.log --jobs 2 "${grid[@]}" -- kinds.din fifo.din
+check 'sweep by POSIX' is_table_of_rows
+rm posix.log

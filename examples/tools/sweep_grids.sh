@@ -59,6 +59,13 @@ if has parallel; then
         [ "$(calls_of --l1-dsize)" = '16 8 8 ' ]
     verdict 'into as many parts as the machines of a list can run at once' $?
 fi
+# A machine of two cores, which nproc says where OpenMP is told nothing.
+mkdir "$work/two"
+printf '#!/bin/sh\n[ -z "$OMP_NUM_THREADS$OMP_THREAD_LIMIT" ] && echo 2 || echo 1\n' >"$work/two/nproc"
+chmod +x "$work/two/nproc"
+OMP_NUM_THREADS=1 OMP_THREAD_LIMIT=1 PATH=$work/two:$PATH noted "${grid[@]}" -- kinds.din
+[ "$status" -eq 0 ] && [ "$(calls_of --l1-dsize)" = '16 8 ' ]
+verdict 'by default into as many parts as there are cores, whatever OpenMP is told' $?
 noted --jobs 1 --vary --skipcount 0,1 "${grid[@]}" -- kinds.din
 [ "$status" -eq 0 ] && [ "$(calls_of --skipcount)" = '0 1 ' ] &&
     [ "$(calls_of --l1-dsize)" = '8,16 8,16 ' ] && [ "$(rows_of 2-4)" = \
