@@ -234,11 +234,21 @@ plan() {
 claim() {
     choose_folder "$1"
     if ! [ -f "$reports/grid" ]; then
-        mkdir -p "$reports" 2>/dev/null || die 4 "the folder $folder could not be made"
+        make_reports 2>/dev/null || die 4 "the folder $folder could not be made"
         end_where_stuck
         place 644 "$described" "$reports/grid"
     fi
     cmp -s "$described" "$reports/grid" || refuse "$folder is of another grid"
+}
+
+# make_reports: the folder of the reports, if it is not there. Sets `made_reports` if it makes it.
+make_reports() {
+    mkdir -p -- "${reports%/*}/" || return
+    if mkdir -- "$reports"; then
+        made_reports=yes
+    else
+        [ -d "$reports" ]
+    fi
 }
 
 # choose_folder FOLDER: of the reports. Its name is kept for what is said of it.

@@ -108,6 +108,45 @@ run "$install" --remove usr
 [ "$status" -eq 0 ] && [ ! -s "$err" ] && [ ! -e usr ]
 verdict 'install --remove' $?
 
+# The names are of what is done already, also where nobody reads them.
+to_full 'install to a full disk' \
+    'install: all is installed, but the names of the files could not be written' "$install" usr
+"$install" usr >"$out" && files_of usr | cmp -s - "$work/files"
+verdict 'and all is installed' $?
+cp -r usr aside
+to_full 'install --remove to a full disk' \
+    'install: all is removed, but the names of the files could not be written' \
+    "$install" --remove usr
+mv aside usr
+"$install" --remove usr 2>"$err" | true
+status=${PIPESTATUS[0]}
+[ ! -e usr/bin ] && [ ! -e usr/lib ]
+verdict 'install --remove whose reader goes away' $?
+rm -rf usr
+
+# A removal that was cut off is made again, since the list of the files is the last of them.
+"$install" usr >"$out"
+mkdir stuck && mv usr/lib/dinero_pipe/sweep stuck && mkdir usr/lib/dinero_pipe/sweep
+run "$install" --remove usr
+[ "$status" -eq 4 ] && [ ! -s "$out" ] &&
+    [ "$(<"$err")" = "install: $PWD/usr/lib/dinero_pipe/sweep could not be removed" ] &&
+    [ -e usr/lib/dinero_pipe/installed ]
+verdict 'install --remove that is cut off' $?
+rmdir usr/lib/dinero_pipe/sweep && mv stuck/sweep usr/lib/dinero_pipe && rmdir stuck
+run "$install" --remove usr
+[ "$status" -eq 0 ] && [ ! -s "$err" ] && [ ! -e usr ]
+verdict 'and is made again' $?
+
+# Above an installation that was moved stands what it did not make.
+"$install" new/prefix >"$out" && mkdir moved && mv new/prefix moved && rmdir new
+run "$install" --remove moved/prefix
+[ "$status" -eq 0 ] && [ ! -s "$err" ] && [ "$(find moved)" = $'moved\nmoved/prefix' ]
+verdict 'install --remove of an installation that was moved' $?
+"$install" new/prefix >"$out" && mv new/prefix moved && rmdir new && "$install" moved/prefix >"$out"
+"$install" --remove moved/prefix >"$out" && [ "$(find moved)" = $'moved\nmoved/prefix' ]
+verdict 'and of one that was then installed anew' $?
+rm -r moved
+
 # What stood there before stays, and so does what others put there.
 mkdir -p usr/share/man
 "$install" usr/share/new/prefix >"$out" && "$install" usr >"$out" && touch usr/lib/dinero_pipe/mine

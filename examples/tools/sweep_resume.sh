@@ -123,8 +123,24 @@ test_full_disk() {
     rm -r full
 }
 
+# A folder of the user's stays, though a task leaves nothing in it, and one that it made does not.
+test_folders() {
+    local folder
+    mkdir empty
+    ends 'gathering from an empty folder' 4 'sweep: no folder of reports: empty' \
+        "$sweep" --gather empty
+    for folder in empty new; do
+        ends "a task that can't be written into a folder that is $folder" 4 \
+            "sweep: no report can be written to $folder: File too large" \
+            no_room 4 "$sweep" --task 1 --into $folder "${grid[@]}" -- kinds.din
+    done
+    [ ! -e new ] && rmdir empty
+    verdict 'an empty folder stays, and a new one does not' $?
+}
+
 refused '--restart goes with --resume' --restart "${grid[@]}" -- kinds.din
 test_full_disk
+test_folders
 test_known_traces
 test_cut_logs
 test_kills
