@@ -37,6 +37,9 @@ show_help() {
 # shellcheck disable=SC2154  # each command sets its name
 [ "$self" = record ] || set +o posix
 
+# A closed output stays one that can't be written, but no file of the command's takes its number.
+{ : >&1; } 2>/dev/null || exec 1< /dev/null
+
 # What prints how many cores there are: nproc itself goes by what OpenMP is told.
 # shellcheck disable=SC2034  # commands use it
 cores=(env -u OMP_NUM_THREADS -u OMP_THREAD_LIMIT nproc)
@@ -66,10 +69,13 @@ interrupt() {
 
 # place MODE FILE TARGET: puts a whole copy of the file in the target's place, or nothing.
 place() {
-    local part=$3.part$$
+    local part=$3.part$$ fault
     leftovers+=("$part")
-    if ! cp -- "$2" "$part" 2>/dev/null || ! chmod "$1" -- "$part" ||
-        ! mv -fT -- "$part" "$3" 2>/dev/null; then
-        die 4 "$3 could not be written"
+    if [ -d "$3" ] && [ ! -L "$3" ]; then
+        die 4 "$3 could not be written: Is a directory"
     fi
+    fault=$({
+        export LC_ALL=C
+        cp -- "$2" "$part" && chmod "$1" -- "$part" && mv -fT -- "$part" "$3"
+    } 2>&1) || die 4 "$3 could not be written${fault:+: ${fault##*: }}"
 }

@@ -8,7 +8,8 @@ of_grid() {
     for program in grid $1; do
         programs+=(-f "$here/sweep_$program.awk")
     done
-    work=$work awk "${programs[@]}" "$described" "${@:2}"
+    # An awk may fail at its end where its output is closed, though it has printed nothing.
+    work=$work awk "${programs[@]}" "$described" "${@:2}" > /dev/null
 }
 
 # no_room: for the files that a sweep keeps for itself.

@@ -38,7 +38,12 @@ function take_line(text,   field) {
     else if (in_table) {
         line_of_table[++lines] = text
         if (split(text, field, "\t") != labels + head_count) is_cut = 1
-    } else if (said == "") said = text
+    } else if (said == "" || is_ours(text) && !is_ours(said)) said = text
+}
+
+# is_ours(TEXT): it is the simulator that has said it, and not what unpacks the trace.
+function is_ours(text) {
+    return text ~ /^dinero_grid: /
 }
 
 function end_run() {

@@ -21,6 +21,8 @@ run_with_parallel() {
     [ ! -t 2 ] || words+=(--bar)
     [ -z "$hosts" ] || words+=("${host_words[@]}")
     cd "$work" && : > joblog || return
+    # A terminal may stop who writes to it from behind, and the bar would stand still for ever.
+    trap '' TTOU
     TMPDIR=${work%/*} PARALLEL_SHELL=/bin/sh parallel "${words[@]}" < commands > /dev/null &
     tail --pid $! -s 0.1 -n +1 -f joblog |
         while IFS=$'\t' read -r number _; do
@@ -28,22 +30,24 @@ run_with_parallel() {
         done
 }
 
+# A line of a list that names no machine: it is empty or a comment.
+no_machine='^[[:space:]]*(#|$)'
+
 # On each machine the runs are made in a folder of one name: here it has links, elsewhere copies. It
 # is not the folder that is copied, since a list may name this machine by its address too.
 host_words=()
 choose_hosts() {
-    local name paths place=$work
-    find_paths "$hosts"
-    hosts=${paths[0]}
+    local name place=$work
     # Other machines' shells, and parallel, could take other characters for their own.
     if [[ $place =~ [^A-Za-z0-9/._-] ]]; then
         place=$(mktemp -d /tmp/sweep.XXXXXXXXXX) || die 4 'no folder for temporary files'
         leftovers+=("$place")
     fi
-    { mkdir "$place/host" && furnish "$place/host" && cp "$hosts" "$work/hosts"; } 2>/dev/null ||
-        no_room
+    # The list is read once, since it may be a pipe.
+    { mkdir "$place/host" && furnish "$place/host" && cat < "$hosts" > "$work/hosts"; } \
+        2>/dev/null || no_room
     host_words=(--sshloginfile hosts --workdir "$place/host")
-    grep -qvE '^([0-9]+/)?:$' "$work/hosts" || return 0
+    grep -qvE "^([0-9]+/)?:\$|$no_machine" "$work/hosts" || return 0
     need ssh openssh-client
     need rsync rsync
     host_words+=(--basefile dinero_grid --cleanup --rsync-opts -rLDzR)
@@ -67,10 +71,11 @@ find_slots() {
     while IFS= read -r line; do
         if [ -z "$jobs" ] && [[ $line =~ ^([1-9][0-9]{0,3})/ ]]; then
             slots=$((slots + BASH_REMATCH[1]))
-        elif [[ $line != '#'* && -n $line ]]; then
+        elif [[ ! $line =~ $no_machine ]]; then
             slots=$((slots + each))
         fi
     done < "$work/hosts"
+    [ "$slots" -gt 0 ] || die 4 "no machine stands in $hosts"
 }
 
 has_parallel() {

@@ -56,16 +56,19 @@ tie() {
     leads+=("$lead")
 }
 
+# set_once NAME OPTION VALUE: sets the variable of this name, which is empty before.
+set_once() {
+    [ -n "$3" ] || refuse "$2 has no value"
+    [ -z "${!1}" ] || refuse "$2 is given twice"
+    printf -v "$1" %s "$3"
+}
+
 # set_word OPTION VALUE
 set_word() {
     case $1 in
     --with) tie "$2" ;;
-    --jobs) jobs=$2 ;;
-    --resume) log=$2 ;;
-    --hosts) hosts=$2 ;;
-    --task) task=$2 ;;
-    --into) into=$2 ;;
-    --gather) gather=$2 ;;
+    --resume) set_once log "$@" ;;
+    --jobs | --hosts | --task | --into | --gather) set_once "${1#--}" "$@" ;;
     *)
         take "$1" "$2"
         [[ $2 != *,* ]] || refuse "$1 has several values, but no --vary before it"
@@ -92,7 +95,9 @@ parse() {
         *) refuse "unknown word: $1 (traces stand behind --)" ;;
         esac
         if [ "$1" = --vary ]; then
+            [[ ${2-} != *=* ]] || set -- --vary "${2%%=*}" "${2#*=}" "${@:3}"
             [ $# -ge 3 ] || refuse '--vary has no values'
+            [[ $2 == -* ]] || set -- --vary "--$2" "${@:3}"
             vary "$2" "$3"
             shift
         else
@@ -201,6 +206,7 @@ find_packer() {
 # to a hyphen.
 check_trace() {
     local packer package
+    [ ! -p "$1" ] || die 4 "$1 is a pipe, and a sweep takes files: bin/dinero_grid reads a pipe"
     if [ ! -f "$1" ] || [ ! -r "$1" ]; then
         die 4 "no trace to read: $1"
     fi
@@ -239,5 +245,6 @@ check_files() {
         unpackers+=("$unpacker")
     done
     check_once
-    [ -z "$hosts" ] || [ -r "$hosts" ] || die 4 "no list of machines to read: $hosts"
+    [ -z "$hosts" ] || { [ -r "$hosts" ] && [ ! -d "$hosts" ]; } ||
+        die 4 "no list of machines to read: $hosts"
 }

@@ -26,8 +26,9 @@ for program in pipe grid; do
 done
 
 # In this order: a later file uses the tables and traces of those before it.
-for subject in checks names help building record sweep sweep_names sweep_grids sweep_full \
-    sweep_resume settings slurm plot plot_points plot_words plot_names install hostile formats; do
+for subject in checks names help building record sweep sweep_names sweep_words sweep_grids \
+    sweep_full sweep_resume settings slurm plot plot_points plot_words plot_names install hostile \
+    formats; do
     # shellcheck source=/dev/null
     . "$top/examples/tools/$subject.sh"
 done

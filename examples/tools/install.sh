@@ -187,7 +187,8 @@ ends 'install where no folder can be' 4 'install: the folder /dev/null/lib/diner
 stopped 'install and Ctrl-C' cp "$install" "$PWD/usr"
 [ ! -e usr ]
 verdict 'and nothing is left' $?
-ends 'install where there is no room' 4 "install: $PWD/usr/bin/dinero_grid could not be written" \
+ends 'install where there is no room' 4 \
+    "install: $PWD/usr/bin/dinero_grid could not be written: File too large" \
     no_room 100 "$install" "$PWD/usr"
 [ ! -e usr ]
 verdict 'and no part of it is left' $?

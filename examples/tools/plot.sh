@@ -120,7 +120,8 @@ test_lacking_tables() {
     head -n 1 kinds.tsv | cat - <(echo $'kinds.din\t8\t1') >short.tsv
     ends 'plot of a line that is cut off' 1 \
         'plot: short.tsv: line 2: 3 fields, where the names are 37' "$plot" rates short.tsv none.svg
-    ends 'plot into no folder' 4 'plot: nowhere/none.svg could not be written' \
+    ends 'plot into no folder' 4 \
+        'plot: nowhere/none.svg could not be written: No such file or directory' \
         "$plot" kinds kinds.tsv nowhere/none.svg
     ends 'plot where there is no room' 4 "plot: no room for temporary files in $TMPDIR" \
         no_room 4 "$plot" kinds kinds.tsv none.svg

@@ -1,0 +1,85 @@
+# Tests what bin/sweep makes of its words: empty ones, repeated ones and other forms of them, lists
+# of machines and traces that are no files, and closed streams. Read by tools.sh.
+# shellcheck shell=bash disable=SC2054,SC2154  # names that tools.sh and its other files set
+
+for word in --jobs --resume --hosts --task --into --gather; do
+    refused "$word has no value" $word '' "${grid[@]}" -- kinds.din
+    refused "$word is given twice" $word 1 $word=2 "${grid[@]}" -- kinds.din
+done
+[ ! -e 1 ]
+verdict 'no log is begun' $?
+
+# An option that is varied, in the forms that --with takes.
+for words in '--vary l1-dsize 8,16 --vary l1-dassoc 1,2' \
+    '--vary --l1-dsize=8,16 --vary --l1-dassoc=1,2' '--vary=l1-dsize=8,16 --vary l1-dassoc=1,2'; do
+    # shellcheck disable=SC2086  # several words
+    run "$sweep" $words "${rest[@]}" -- kinds.din fifo.din
+    check "sweep $words" is_table_of_rows
+done
+refused '--vary has no values' --vary l1-dsize
+refused "--l1-dsize: no such value: ''" --vary l1-dsize= "${rest[@]}" -- kinds.din
+refused 'unknown option: --quick' --vary quick=1 "${rest[@]}" -- kinds.din
+
+# Nothing but files is read several times.
+mkfifo pipe.din
+ends 'sweep of a pipe' 4 \
+    'sweep: pipe.din is a pipe, and a sweep takes files: bin/dinero_grid reads a pipe' \
+    "$sweep" "${grid[@]}" -- kinds.din pipe.din
+rm pipe.din
+
+# A list of machines in which lines stand that name none, without ssh and rsync.
+test_lists() {
+    local here_alone
+    here_alone=$(without rsync)
+    printf '# this machine\n\n \n  # twice\n2/:\n' >machines
+    run env PATH="$here_alone" "$sweep" --hosts machines "${grid[@]}" -- kinds.din fifo.din
+    check 'sweep over a list with comments and empty lines' is_table_of_rows
+    run env PATH="$here_alone" "$sweep" --hosts <(cat machines) "${grid[@]}" -- kinds.din fifo.din
+    check 'sweep over a list that is a pipe' is_table_of_rows
+    ends 'a list of machines that is a folder' 4 "sweep: no list of machines to read: $work" \
+        "$sweep" --hosts "$work" "${grid[@]}" -- kinds.din
+    printf '# none\n\n' >machines
+    ends 'a list of machines that names none' 4 'sweep: no machine stands in machines' \
+        "$sweep" --hosts machines "${grid[@]}" -- kinds.din
+}
+
+# A terminal that stops who writes to it from behind.
+test_bar() {
+    # shellcheck disable=SC2016  # the inner shell's words
+    TABLE=$work/table run script -qec 'stty tostop; timeout 60 "$SWEEP" $GRID -- kinds.din fifo.din \
+        >"$TABLE"' /dev/null
+    [ "$status" -eq 0 ] && grep -q '100%' "$out" && shared "$work/table" | cmp -s - "$work/rows"
+    verdict 'the bar of a sweep on a terminal that stops those behind' $?
+}
+
+if has parallel; then
+    test_lists
+    if has script; then
+        SWEEP=$sweep GRID=${grid[*]} test_bar
+    else
+        skip 'the bar of a sweep' script
+    fi
+else
+    skip 'lists of machines' parallel
+fi
+
+# What unpacks a trace may have something to say too.
+printf '2 0\n9 9\n' | gzip -c >bad.din.gz
+run env GZIP=-9 "$sweep" --vary --l1-dsize 8,16 "${rest[@]}" -- bad.din.gz
+[ "$status" -eq 1 ] && [ "$(rows_of 36)" = 'line 2: label,line 2: label,' ]
+verdict 'the fault of a trace whose unpacker warns' $?
+rm bad.din.gz
+
+# closed COMMAND..: its output is closed.
+closed() {
+    "$@" >&-
+}
+ends 'sweep whose output is closed' 4 'sweep: the table could not be written' \
+    closed "$sweep" "${grid[@]}" -- kinds.din
+run closed "$sweep" --task 1/1 --into closed "${grid[@]}" -- kinds.din
+[ "$status" -eq 0 ] && [ ! -s "$err" ] && run "$sweep" --gather closed && [ "$status" -eq 0 ] &&
+    shared "$out" | cmp -s - <(head -n 4 "$work/rows")
+verdict 'a task whose output is closed' $?
+rm -r closed
+ends 'sweep --help whose output is closed' 4 'sweep: the help text could not be written' \
+    closed "$sweep" --help
