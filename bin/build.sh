@@ -24,7 +24,7 @@ may_write() {
     local name
     for name in $(all_below "$1"); do
         can_hold "$top/crates/$name/out" ||
-            die 70 "the program is missing or older than its sources, and $top/crates/$name/out can't be written"
+            die 70 "the program is missing or older than its sources, and $top/crates/$name/out can't be written; $way_out"
     done
 }
 
@@ -35,7 +35,7 @@ build() {
     find_place "$1"
     may_write "$1"
     sources=$(sum_of_sources "$1")
-    need rt 'the Rattle toolchain'
+    command -v rt >/dev/null || die 69 "rt is missing: $1 is built by the Rattle toolchain"
     total=$(all_below "$1" | wc -l)
     complain "proving and building $1 from $total crates, once; this takes about 15 minutes on 4 cores"
     log=$(mktemp -d) || die 4 'no folder for temporary files'

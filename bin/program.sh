@@ -125,30 +125,47 @@ compare_kept() {
         echo "release/$1.sums does not name the toolchain that built it here; bin/release adds it"
 }
 
-# take_kept NAME: puts the kept program in its place, if it is of these sources, if the toolchain
-# that is installed, if any is, is one that built it, and if it runs here.
-take_kept() {
+# What somebody can do to whom the checkout is closed.
+way_out='its owner can call bin/install PREFIX, which makes programs that need no checkout'
+
+# suits NAME: the kept program is of these sources, and the toolchain that is installed, if any is,
+# is one that built it. Else `lack` says why it is not taken.
+suits() {
+    lack="release/$1.sums is missing or damaged"
+    [ -n "$(kept_word "$1" sources)" ] || return
+    lack='it is of other sources'
+    [ "$(sum_of_sources "$1")" = "$(kept_word "$1" sources)" ] || return
+    lack='another toolchain than the one here has built it'
+    ! command -v rt >/dev/null || is_by_toolchain "$1" "$(rt version)"
+}
+
+# put_kept NAME: the kept program into its place, if it runs there. Else `lack` says why not.
+put_kept() {
     local place part
     find_place "$1"
     part=$place.part$$
-    [ "$(sum_of_sources "$1")" = "$(kept_word "$1" sources)" ] || return 1
-    ! command -v rt >/dev/null || is_by_toolchain "$1" "$(rt version)" || return 1
-    mkdir -p "${place%/*}" 2>/dev/null || return 1
-    if unpack_kept "$1" "$part" && chmod +x "$part" && "$part" --help >/dev/null 2>&1 &&
-        mv -fT "$part" "$place"; then
-        note_standing "$1"
-    else
-        rm -f "$part"
-        return 1
-    fi 2>/dev/null
+    leftovers+=("$part")
+    { mkdir -p -- "${place%/*}" && : > "$part"; } 2>/dev/null ||
+        die 70 "the kept program can't be put into ${place%/*}; $way_out"
+    lack="release/$1.gz is missing or damaged"
+    if unpack_kept "$1" "$part"; then
+        lack="it does not run in ${place%/*}"
+        if chmod +x -- "$part" && "$part" --help && mv -fT -- "$part" "$place"; then
+            note_standing "$1" || true
+            return
+        fi >/dev/null 2>&1
+    fi
+    rm -f -- "$part"
+    return 1
 }
 
 # build_where_needed NAME: puts the program in its place, unless it stands there.
 build_where_needed() {
     ! is_current "$1" || return 0
-    if take_kept "$1"; then
+    if suits "$1" && put_kept "$1"; then
         complain 'this is the kept program, which the gate proved and built from these very sources; bin/prove does so here'
     else
+        complain "the kept program is not taken: $lack"
         . "$top/bin/build.sh"
         build "$1"
     fi

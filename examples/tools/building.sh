@@ -41,9 +41,10 @@ is_kept() {
     is_report && [ "$(wc -l <"$err")" -eq 1 ] && grep -q '^dinero_pipe: this is the kept program' "$err"
 }
 
-# is_built: it began to prove.
+# is_built [WHY]: it began to prove, and said why it does not take the kept program.
 is_built() {
     [ "$status" -eq 70 ] && [ ! -s "$out" ] &&
+        [[ $(head -n 1 "$err") == "dinero_pipe: the kept program is not taken: ${1-}"* ]] &&
         grep -q '^dinero_pipe: proving and building dinero_pipe from 9 crates' "$err" &&
         grep -q '^rt lib: nothing is proved here' "$err"
 }
@@ -61,13 +62,14 @@ launch
 is_report && [ ! -s "$err" ]
 verdict 'a change of a README changes no program' $?
 
+other_sources='it is of other sources'
 # changed FILE: one more line in it, and the program is proved and built anew.
 changed() {
     new_checkout
     [ $# -lt 2 ] || launch
     echo '-- changed' >>"$fresh/$1"
     launch
-    check "a change of $1${2+ after a first call} builds the program" is_built
+    check "a change of $1${2+ after a first call} builds the program" is_built "$other_sources"
 }
 changed crates/sim_run/src/lib.rt
 changed crates/cache_core/specs/Kinds.antt after
@@ -99,7 +101,7 @@ launch
 check 'a change of what a crate uses builds the program' is_built
 new_checkout
 launch 'another toolchain'
-check 'another toolchain builds the program' is_built
+check 'another toolchain builds the program' is_built 'another toolchain than the one here has built it'
 new_checkout
 sed -i '/^toolchain /s/13/14/' "$fresh/release/dinero_pipe.sums"
 launch
@@ -120,7 +122,7 @@ damaged() {
 new_checkout
 damaged
 launch
-check 'a damaged program is not run' is_built
+check 'a damaged program is not run' is_built 'release/dinero_pipe.gz is missing or damaged'
 mkdir -p "$fresh/crates/dinero_pipe/out"
 gzip -dc "$top/release/dinero_pipe.gz" >"$fresh/crates/dinero_pipe/out/dinero_pipe"
 run "$fresh/.ci/kept_programs"
@@ -134,11 +136,16 @@ new_checkout
 echo 'exit 1' | gzip -9n >"$fresh/release/dinero_pipe.gz"
 sed -i "s/^program .*/program $(echo 'exit 1' | sha256sum | cut -d ' ' -f 1)/" "$fresh/release/dinero_pipe.sums"
 launch
-check 'a program that does not run is not kept' is_built
+check 'a program that does not run is not kept' \
+    is_built "it does not run in $fresh/crates/dinero_pipe/out"
 new_checkout
 rm -r "$fresh/release"
 launch
-check 'without a kept program it is built' is_built
+check 'without a kept program it is built' is_built 'release/dinero_pipe.sums is missing or damaged'
+run env PATH="$(without rt)" "$fresh/bin/dinero_pipe" --help
+[ "$status" -eq 69 ] && [ "$(tail -n 1 "$err")" = \
+    'dinero_pipe: rt is missing: dinero_pipe is built by the Rattle toolchain' ]
+verdict 'nor can it be built without a toolchain' $?
 
 # A toolchain that takes the kept program for what it has built, and under which a source changes.
 cat >"$work/builds/rt" <<'END'
@@ -218,7 +225,7 @@ sweep_there --l3-usize 4 "${grid[@]}"
 verdict 'nor does it refuse a word by what that one says' $?
 echo >>"$fresh/crates/grid_run/src/lib.rt"
 sweep_there "${grid[@]}"
-is_swept 10 && grep -q '^sweep: proved and built dinero_grid' "$err"
+is_swept 11 && grep -q '^sweep: proved and built dinero_grid' "$err"
 verdict 'a sweep of sources that were changed builds the simulator' $?
 
 # as_other COMMAND..: by a toolchain of another name.
@@ -242,9 +249,19 @@ as_other "$fresh/bin/release"
 verdict 'and names it alone for other sources' $?
 tools=$work/fake
 
-# can_not_write CRATE: it says so in one line, and does not begin to prove.
+way_out='its owner can call bin/install PREFIX, which makes programs that need no checkout'
+
+# can_not_write CRATE: it says so, and does not begin to prove.
 can_not_write() {
-    [ "$status" -eq 70 ] && [ "$(<"$err")" = "dinero_pipe: the program is missing or older than its sources, and $fresh/crates/$1/out can't be written" ]
+    [ "$status" -eq 70 ] && [ "$(wc -l <"$err")" -eq 2 ] &&
+        grep -q '^dinero_pipe: the kept program is not taken: ' "$err" &&
+        [ "$(tail -n 1 "$err")" = "dinero_pipe: the program is missing or older than its sources, and $fresh/crates/$1/out can't be written; $way_out" ]
+}
+
+# can_not_put: it says in one line that the kept program has no place.
+can_not_put() {
+    [ "$status" -eq 70 ] && [ "$(<"$err")" = \
+        "dinero_pipe: the kept program can't be put into $fresh/crates/dinero_pipe/out; $way_out" ]
 }
 
 for crate in dinero_pipe sim_run; do
@@ -264,7 +281,7 @@ as_guest() {
 if [ "$(id -u)" -eq 0 ] && setpriv --reuid 65534 test -r "$fresh/crates.txt"; then
     new_checkout
     as_guest
-    check 'a checkout of another user, without the program' can_not_write pipe_rings
+    check 'a checkout of another user, without the program' can_not_put
     launch
     as_guest
     [ "$status" -eq 0 ] && grep -q '^l1-dcache' "$out" && [ ! -s "$err" ]
