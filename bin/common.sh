@@ -44,6 +44,22 @@ show_help() {
 # shellcheck disable=SC2034  # commands use it
 cores=(env -u OMP_NUM_THREADS -u OMP_THREAD_LIMIT nproc)
 
+# read_version: of the product, from the one file that has it.
+read_version() {
+    local version
+    version=$(cat -- "${BASH_SOURCE[0]%/*}/../VERSION" 2>/dev/null) || return
+    [[ $version =~ ^[0-9]+\.[0-9]+\.[0-9]+$ ]] && echo "$version"
+}
+
+# show_version: of the product, in the name of the command, and ends the command.
+show_version() {
+    local version
+    version=$(read_version) || die 4 'the file VERSION is missing or damaged'
+    (echo "$self $version") 2>/dev/null || die 4 'the version could not be written'
+    exit 0
+}
+[ "${1-}" != --version ] || show_version
+
 # The names of temporary files are absolute, and so begin with no hyphen.
 [[ ${TMPDIR:-/} == /* ]] || TMPDIR=$PWD/$TMPDIR
 

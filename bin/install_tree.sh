@@ -1,8 +1,8 @@
 # The files that are installed, in a tree, as it is to stand below a prefix. Read by install.
 # shellcheck shell=bash disable=SC2154  # names that install and its other files set
 #
-#   bin/dinero_NAME               the simulators, and a way to each command
-#   lib/dinero_pipe/NAME          the commands themselves, with the files that they read
+#   bin/dinero_NAME               a way to each simulator and to each command
+#   lib/dinero_pipe/NAME          themselves, with the files that the commands read
 #   share/man/man1/dinero_NAME.1  a man page for each
 
 commands=(record sweep plot)
@@ -13,7 +13,9 @@ grow() {
     mkdir -p "$lib" "$pages" "$1/bin" || return
     for name in "${programs[@]}"; do
         find_place "$name"
-        ln -s "$place" "$1/bin/$name" || return
+        ln -s "$place" "$lib/$name" || return
+        print_way "$name" "$name" "$2" > "$1/bin/$name" || return
+        chmod 755 "$1/bin/$name" || return
         with_version "$2" < "$top/docs/$name.1" > "$pages/$name.1" || return
     done
     installed_text < "$top/bin/installed_program.sh" > "$lib/program.sh" || return
@@ -21,18 +23,11 @@ grow() {
         installed_text < "$top/bin/$name" > "$lib/$name" || return
     done
     for name in "${commands[@]}"; do
-        print_way "$name" > "$1/bin/dinero_$name" || return
+        print_way "dinero_$name" "$name" "$2" > "$1/bin/dinero_$name" || return
         chmod 755 "$lib/$name" "$1/bin/dinero_$name" || return
         "$lib/$name" --help | print_page "dinero_$name" | with_version "$2" > \
             "$pages/dinero_$name.1" || return
     done
-}
-
-# read_version: of the product, from the one file that has it.
-read_version() {
-    local version
-    version=$(cat -- "$top/VERSION" 2>/dev/null) || return
-    [[ $version =~ ^[0-9]+\.[0-9]+\.[0-9]+$ ]] && echo "$version"
 }
 
 # with_version VERSION: a man page, whose first line names the product without a version.
@@ -58,12 +53,14 @@ installed_text() {
     sed -E "s,\\bbin/($names)\\b,dinero_\\1,g; s,\\bbin/(dinero_[a-z]+)\\b,\\1,g"
 }
 
-# print_way COMMAND: the file that a user calls. It finds the command wherever the tree stands.
+# print_way NAME FILE VERSION: the file that a user calls, of this name. It finds what it is for
+# wherever the tree stands, and knows the version itself.
 print_way() {
     cat <<END
 #!/usr/bin/env bash
+[ "\${1-}" != --version ] || { (echo '$1 $3') 2>/dev/null || exit 4; exit 0; }
 here=\$(readlink -f -- "\${BASH_SOURCE[0]}")
-exec "\${here%/*}/../lib/dinero_pipe/$1" "\$@"
+exec "\${here%/*}/../lib/dinero_pipe/$2" "\$@"
 END
 }
 

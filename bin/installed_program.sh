@@ -1,14 +1,10 @@
 # Where the simulator stands that bin/install has installed. There, this file is the program.sh of
 # the commands beside it.
-# shellcheck shell=bash
-
-# What stands behind the name keeps the line feeds at its end.
-programs=$(CDPATH='' cd -P -- "${BASH_SOURCE[0]%/*}/../../bin" && pwd && echo .)
-programs=${programs%$'\n.'}
+# shellcheck shell=bash disable=SC2154  # names that the commands set
 
 # find_place NAME: sets `place`.
 find_place() {
-    place=$programs/$1
+    place=$here/$1
 }
 
 # is_current NAME: the program stands there.

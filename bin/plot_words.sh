@@ -26,6 +26,7 @@ list_options() {
                         [default: 720x460, or more if there is much to draw]
   --font NAME[,SIZE]    the SIZE is in points, from 4 to 200 [default: sans-serif, with 9 at
                         720x460, and at another --size more or less, but 8 at least]
+  --version             as the first word: print the name and the version
   --                    all that follows is a kind, a table or a picture, also where its name begins
                         with a hyphen
 END

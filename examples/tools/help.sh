@@ -9,6 +9,15 @@ for command in record sweep plot install prove release; do
     to_full "$command --help to a full disk" "$command: the help text could not be written" \
         "$bin/$command" --help
 done
+
+for command in dinero_pipe dinero_grid record sweep plot install; do
+    run "$bin/$command" --version
+    [ "$status" -eq 0 ] && [ ! -s "$err" ] && [ "$(<"$out")" = "$command $(<"$top/VERSION")" ]
+    verdict "$command --version" $?
+    to_full "$command --version to a full disk" "$command: the version could not be written" \
+        "$bin/$command" --version
+done
+
 # helps_with_options COMMAND: each option that the command looks for is in its help.
 helps_with_options() {
     local option

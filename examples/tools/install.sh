@@ -16,7 +16,7 @@ files_of() {
 wanted() {
     local name
     for name in grid pipe plot record sweep; do echo "755 bin/dinero_$name"; done
-    for name in plot record sweep; do echo "755 lib/dinero_pipe/$name"; done
+    for name in dinero_grid dinero_pipe plot record sweep; do echo "755 lib/dinero_pipe/$name"; done
     for name in grid pipe plot record sweep; do echo "644 share/man/man1/dinero_$name.1"; done
 }
 
@@ -43,7 +43,7 @@ for name in grid pipe; do
     sed "1s/ $version//" "$pages/dinero_$name.1" | cmp -s - "$top/docs/dinero_$name.1"
     verdict "the man page of $name is as it was written but for that" $?
 done
-! grep -rqF -e "$top" -e bin/record -e bin/sweep -e bin/plot usr/lib usr/share
+! grep -rIqF -e "$top" -e bin/record -e bin/sweep -e bin/plot usr/lib usr/share
 verdict 'what is installed does not name the checkout' $?
 run "$install" usr
 [ "$status" -eq 0 ] && files_of usr | cmp -s - "$work/files"
@@ -103,6 +103,11 @@ if has groff; then
 else
     skip 'the man pages of the commands' groff
 fi
+for name in grid pipe plot record sweep; do
+    run from_away dinero_$name --version
+    [ "$status" -eq 0 ] && [ "$(<"$out")" = "dinero_$name $version" ]
+    verdict "the version of dinero_$name" $?
+done
 mv 'a b' usr
 run "$install" --remove usr
 [ "$status" -eq 0 ] && [ ! -s "$err" ] && [ ! -e usr ]
@@ -188,7 +193,7 @@ stopped 'install and Ctrl-C' cp "$install" "$PWD/usr"
 [ ! -e usr ]
 verdict 'and nothing is left' $?
 ends 'install where there is no room' 4 \
-    "install: $PWD/usr/bin/dinero_grid could not be written: File too large" \
+    "install: $PWD/usr/lib/dinero_pipe/dinero_pipe could not be written: File too large" \
     no_room 100 "$install" "$PWD/usr"
 [ ! -e usr ]
 verdict 'and no part of it is left' $?

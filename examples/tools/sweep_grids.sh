@@ -4,15 +4,15 @@
 
 # A simulator that notes its calls, in a copy of the commands that have it in place of theirs.
 noting=$work/noting/lib/dinero_pipe
-mkdir -p "$noting" "$work/noting/bin"
+mkdir -p "$noting"
 cp "$bin"/common.sh "$bin"/sweep* "$noting"
 cp "$bin/installed_program.sh" "$noting/program.sh"
-cat >"$work/noting/bin/dinero_grid" <<'END'
+cat >"$noting/dinero_grid" <<'END'
 #!/usr/bin/env bash
 [ "$1" = --help ] || [ /dev/stdin -ef /dev/null ] || echo "$*" >>"$CALLS"
 exec "$GRID" "$@"
 END
-chmod +x "$work/noting/bin/dinero_grid"
+chmod +x "$noting/dinero_grid"
 
 # noted WORD..: a sweep, whose calls of the simulator are then in the file `calls`.
 simulator=$top/crates/dinero_grid/out/dinero_grid
