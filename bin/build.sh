@@ -31,15 +31,15 @@ may_write() {
 # build NAME: proves each crate that the program is built from, and then the program, which is built
 # by a run of it on its crate's own words and trace.
 build() {
-    local began=$SECONDS log total sources place
-    find_place "$1"
+    local began=$SECONDS log total sources built
+    find_built "$1"
     may_write "$1"
     sources=$(sum_of_sources "$1")
     command -v rt >/dev/null || die 69 "rt is missing: $1 is built by the Rattle toolchain"
     total=$(all_below "$1" | wc -l)
     complain "proving and building $1 from $total crates, once; this takes about 15 minutes on 4 cores"
-    log=$(mktemp -d) || die 4 'no folder for temporary files'
-    leftovers+=("$log")
+    make_temporary
+    log=$temporary
     if ! prove_libraries "$1" "$log" || ! run_once "$1" > "$log/$1" 2>&1; then
         cat "$log"/* >&2
         die 70 'the build failed'
@@ -49,7 +49,7 @@ build() {
     # What is noted is the sources as they stand now, and so they must be those that were read.
     note_standing "$1"
     [ "$(sum_of_sources "$1")" = "$sources" ] || {
-        rm -f -- "$place.from"
+        rm -f -- "$built.from"
         die 70 'a source was changed while the program was built: call the command again'
     }
 }

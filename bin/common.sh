@@ -69,6 +69,17 @@ remove_leftovers() {
     [ ${#leftovers[@]} -eq 0 ] || rm -rf -- "${leftovers[@]}"
 }
 
+# make_temporary: sets `temporary` to a new folder, which goes at the command's end.
+make_temporary() {
+    temporary=$(mktemp -d) || die 4 'no folder for temporary files'
+    leftovers+=("$temporary")
+}
+
+# no_room: for the files that a command keeps for itself.
+no_room() {
+    die 4 "no room for temporary files in ${TMPDIR:-/tmp}"
+}
+
 # tidy_up_with FUNCTION: it is called at the command's end, also where that is an interrupt.
 tidy_up_with() {
     # shellcheck disable=SC2064  # the function of now

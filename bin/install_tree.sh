@@ -9,11 +9,11 @@ commands=(record sweep plot)
 
 # grow TREE VERSION: it fails where a file can't be written.
 grow() {
-    local lib=$1/lib/dinero_pipe pages=$1/share/man/man1 name place
+    local lib=$1/lib/dinero_pipe pages=$1/share/man/man1 name built
     mkdir -p "$lib" "$pages" "$1/bin" || return
     for name in "${programs[@]}"; do
-        find_place "$name"
-        ln -s "$place" "$lib/$name" || return
+        find_built "$name"
+        ln -s "$built" "$lib/$name" || return
         print_way "$name" "$name" "$2" > "$1/bin/$name" || return
         chmod 755 "$1/bin/$name" || return
         with_version "$2" < "$top/docs/$name.1" > "$pages/$name.1" || return

@@ -2,16 +2,16 @@
 # the commands beside it.
 # shellcheck shell=bash disable=SC2154  # names that the commands set
 
-# find_place NAME: sets `place`.
-find_place() {
-    place=$here/$1
+# find_built NAME: sets `built`.
+find_built() {
+    built=$here/$1
 }
 
 # is_current NAME: the program stands there.
 is_current() {
-    local place
-    find_place "$1"
-    [ -x "$place" ]
+    local built
+    find_built "$1"
+    [ -x "$built" ]
 }
 
 # build_where_needed NAME: there is nothing here to build it from.

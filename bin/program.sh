@@ -65,26 +65,26 @@ is_by_toolchain() {
     kept_word "$1" toolchain | grep -Fqx -- "$2"
 }
 
-# find_place NAME: sets `place` to where the program stands.
-find_place() {
-    place=$top/crates/$1/out/$1
+# find_built NAME: sets `built` to where the program stands.
+find_built() {
+    built=$top/crates/$1/out/$1
 }
 
 # standing NAME: the sum of a program's sources, and its own.
 standing() {
-    local place
-    find_place "$1"
-    echo "$(sum_of_sources "$1") $(sum_of "$place")"
+    local built
+    find_built "$1"
+    echo "$(sum_of_sources "$1") $(sum_of "$built")"
 }
 
 # note_standing NAME: writes it beside the program, as of a second before it was looked at. The file
 # system tells the time, since its clock is the one that the sources have, and may be behind ours.
 note_standing() {
-    local place part began
-    find_place "$1"
-    part=$place.from.part$$
+    local built part began
+    find_built "$1"
+    part=$built.from.part$$
     : > "$part" && began=$(stat -c %Y -- "$part") && standing "$1" > "$part" &&
-        touch -d "@$((began - 1))" -- "$part" && mv -fT -- "$part" "$place.from"
+        touch -d "@$((began - 1))" -- "$part" && mv -fT -- "$part" "$built.from"
 }
 
 # is_untouched PLACE: by the file system's clock, which no `touch` turns back, nothing that standing
@@ -96,11 +96,11 @@ is_untouched() {
 
 # is_current NAME: the program that stands there was built from what the checkout holds.
 is_current() {
-    local place
-    find_place "$1"
-    [ -x "$place" ] && [ -f "$place.from" ] || return
-    is_untouched "$place" || {
-        [ "$(standing "$1")" = "$(< "$place.from")" ] && { note_standing "$1" 2>/dev/null || true; }
+    local built
+    find_built "$1"
+    [ -x "$built" ] && [ -f "$built.from" ] || return
+    is_untouched "$built" || {
+        [ "$(standing "$1")" = "$(< "$built.from")" ] && { note_standing "$1" 2>/dev/null || true; }
     }
 }
 
@@ -114,8 +114,8 @@ unpack_kept() {
 # Other toolchains may have built the same bits before; what is compared is what was built here.
 compare_kept() {
     local kept
-    kept=$(mktemp) || die 4 'no room for temporary files'
-    leftovers+=("$kept")
+    make_temporary
+    kept=$temporary/$1
     unpack_kept "$1" "$kept" || die 1 "release/$1.gz is missing or damaged"
     cmp -s "$kept" "$2" || die 1 "the kept program $1 is not the one that was built"
     [ "$(sum_of_sources "$1")" = "$(kept_word "$1" sources)" ] ||
@@ -141,22 +141,31 @@ suits() {
 
 # put_kept NAME: the kept program into its place, if it runs there. Else `lack` says why not.
 put_kept() {
-    local place part
-    find_place "$1"
-    part=$place.part$$
+    local built part
+    find_built "$1"
+    part=$built.part$$
     leftovers+=("$part")
-    { mkdir -p -- "${place%/*}" && : > "$part"; } 2>/dev/null ||
-        die 70 "the kept program can't be put into ${place%/*}; $way_out"
+    { mkdir -p -- "${built%/*}" && : > "$part"; } 2>/dev/null ||
+        die 70 "the kept program can't be put into ${built%/*}; $way_out"
     lack="release/$1.gz is missing or damaged"
     if unpack_kept "$1" "$part"; then
-        lack="it does not run in ${place%/*}"
-        if chmod +x -- "$part" && "$part" --help && mv -fT -- "$part" "$place"; then
+        lack="it does not run in ${built%/*}"
+        if chmod +x -- "$part" && "$part" --help && mv -fT -- "$part" "$built"; then
             note_standing "$1" || true
             return
         fi >/dev/null 2>&1
     fi
     rm -f -- "$part"
     return 1
+}
+
+# launch WORD..: becomes the program that the command is named for.
+launch() {
+    local built
+    tidy_up_with remove_leftovers
+    build_where_needed "$self"
+    find_built "$self"
+    exec "$built" "$@"
 }
 
 # build_where_needed NAME: puts the program in its place, unless it stands there.

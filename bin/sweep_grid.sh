@@ -12,11 +12,6 @@ of_grid() {
     work=$work awk "${programs[@]}" "$described" "${@:2}" > /dev/null
 }
 
-# no_room: for the files that a sweep keeps for itself.
-no_room() {
-    die 4 "no room for temporary files in ${TMPDIR:-/tmp}"
-}
-
 # ask: begins what the simulator is asked before any run: its options, and whether it takes the
 # values of each that has several. It may yet turn out that it is of other sources.
 ask() {

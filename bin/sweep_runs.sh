@@ -37,16 +37,16 @@ no_machine='^[[:space:]]*(#|$)'
 # is not the folder that is copied, since a list may name this machine by its address too.
 host_words=()
 choose_hosts() {
-    local name place=$work
+    local name site=$work
     # Other machines' shells, and parallel, could take other characters for their own.
-    if [[ $place =~ [^A-Za-z0-9/._-] ]]; then
-        place=$(mktemp -d /tmp/sweep.XXXXXXXXXX) || die 4 'no folder for temporary files'
-        leftovers+=("$place")
+    if [[ $site =~ [^A-Za-z0-9/._-] ]]; then
+        TMPDIR=/tmp make_temporary
+        site=$temporary
     fi
     # The list is read once, since it may be a pipe.
-    { mkdir "$place/host" && furnish "$place/host" && cat < "$hosts" > "$work/hosts"; } \
+    { mkdir "$site/host" && furnish "$site/host" && cat < "$hosts" > "$work/hosts"; } \
         2>/dev/null || no_room
-    host_words=(--sshloginfile hosts --workdir "$place/host")
+    host_words=(--sshloginfile hosts --workdir "$site/host")
     grep -qvE "^([0-9]+/)?:\$|$no_machine" "$work/hosts" || return 0
     need ssh openssh-client
     need rsync rsync
