@@ -54,13 +54,21 @@ installed_text() {
 }
 
 # print_way NAME FILE VERSION: the file that a user calls, of this name. It finds what it is for
-# wherever the tree stands, and knows the version itself.
+# wherever the tree stands, and knows the version itself. It is for the plainest of shells, which
+# starts fastest.
 print_way() {
     cat <<END
-#!/usr/bin/env bash
-[ "\${1-}" != --version ] || { (echo '$1 $3') 2>/dev/null || exit 4; exit 0; }
-here=\$(readlink -f -- "\${BASH_SOURCE[0]}")
-exec "\${here%/*}/../lib/dinero_pipe/$2" "\$@"
+#!/bin/sh
+if [ "\${1-}" = --version ]; then
+    (echo '$1 $3') 2>/dev/null || exit 4
+    exit 0
+fi
+case \$0 in
+*/*) way=\$0 ;;
+*) way=./\$0 ;;
+esac
+[ ! -L "\$way" ] || way=\$(readlink -f -- "\$way")
+exec "\${way%/*}/../lib/dinero_pipe/$2" "\$@"
 END
 }
 
