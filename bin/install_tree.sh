@@ -63,9 +63,10 @@ if [ "\${1-}" = --version ]; then
     (echo '$1 $3') 2>/dev/null || exit 4
     exit 0
 fi
+way=\$0
 case \$0 in
-*/*) way=\$0 ;;
-*) way=./\$0 ;;
+*/*) ;;
+*) [ -e "\$0" ] && way=./\$0 || way=\$(command -v -- "\$0") ;;
 esac
 [ ! -L "\$way" ] || way=\$(readlink -f -- "\$way")
 exec "\${way%/*}/../lib/dinero_pipe/$2" "\$@"
