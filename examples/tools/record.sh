@@ -161,7 +161,7 @@ test_parting() {
     mkfifo input
     exec {input}<>input
     status=0
-    timeout -k 1 20 "$record" ./parting <input >"$out" 2>"$err" || status=$?
+    timeout -k 1 120 "$record" ./parting <input >"$out" 2>"$err" || status=$?
     lived=$(our_processes)
     echo >&"$input"
     exec {input}>&-
