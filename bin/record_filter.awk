@@ -6,8 +6,8 @@
 #                and ends before the next fetch of `until`; where one is empty, that end is open
 #
 # lackey's lines are `I  04001000,3`, ` L 1ffe7e24,8`, ` S ..` and ` M ..`: the kind of reference,
-# its address in eight hexadecimal digits or more, and its bytes. All else is no reference, and a line
-# `end`, which is record's own, ends the trace.
+# its address in eight hexadecimal digits or more, and its bytes. All else is no reference, and a
+# line `end`, which is record's own, ends the trace.
 #
 # The last words go to standard error: `from` or `until`, if it was never fetched, or `-`; `none` if
 # valgrind made no reference, `broken` if it failed by its own words, `whole` if it came to its end,

@@ -81,8 +81,8 @@ esac
 trace=$1 folder=$2
 [[ $folder == /* ]] || folder=./$folder
 tidy_up_with remove_leftovers
-work=$(mktemp -d) || die 4 'no folder for temporary files'
-leftovers+=("$work")
+make_temporary
+work=$temporary
 make_all
 mkdir -p -- "$folder" 2>/dev/null || die 4 "$folder could not be made"
 for file in kinds.svg sizes.svg blocks.svg table.md; do
