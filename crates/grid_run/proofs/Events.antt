@@ -28,7 +28,14 @@ history-one s es e q one =
     ap (λ (l : List Event). newest_first l ++ history s es) one
     ∙ sym (history-more s es e)
 
--- and the side sends up for it what it sends for the request
+-- one that makes none leaves it
+pub history-none : (s : Side) (es : List DinRecord) (e : DinRecord) → asked s e ≡ []
+    → history s es ≡ history s (es ++ e ∷ [])
+history-none s es e none =
+    ap (λ (l : List Event). newest_first l ++ history s es) (sym none)
+    ∙ sym (history-more s es e)
+
+-- what the side sends up for an event with a request is what it sends for that
 pub sent-one : (s : Side) (es : List DinRecord) (e : DinRecord) (r : Rules) (q : Request)
     → event_of q ∷ [] ≡ asked s e
     → parts_of r s (history s es) (event_of q) ≡ sent_up (parts_of r) s es e

@@ -1,6 +1,6 @@
 -- What first levels sent for the records that they were given.
 use Rattle.std.proofs.Common.{◌≡◌, ◌≤◌, ◌*◌, ◌^◌, ◌++◌, List, length, get_or, map, ap, sym, subst}
-use Rattle.std.proofs.Common.{◌∙◌, append-nil, arith}
+use Rattle.std.proofs.Common.{◌∙◌, append-nil, arith, length-append}
 use Rattle.std.specs.Global.{Vec}
 use Rattle.std.specs.List.{All}
 use Rattle.std.proofs.lemmas.List.Elements.{All-map}
@@ -15,7 +15,9 @@ use Rattle.grid_run.specs.Backs.{queue_seats, seats_of_task, sent_behind, task_o
 use Rattle.grid_run.specs.FirstLevels.{FirstTask, WasGiven, first_task, sent_by}
 use Rattle.grid_run.specs.Fronts.{front_rules}
 use Rattle.grid_run.specs.Seats.{Table, rules_of_seat}
+use Rattle.grid_run.specs.Lanes.{HasGiven, HasTaken}
 use Rattle.grid_run.specs.declared.first_levels.FirstLevels.{FirstLevels}
+use Rattle.grid_run.specs.declared.lane.Lane.{Lane}
 use Rattle.grid_run.specs.declared.plan.BackShelf.{BackShelf}
 use Rattle.grid_run.specs.declared.queue.Queue.{Queue}
 use Rattle.grid_run.specs.declared.seat.BothSeats.{BothSeats}
@@ -50,9 +52,9 @@ seated i d shelves placed =
 -- first levels whose queues are empty have given all that they sent to the second levels
 pub emptied : (f : FirstLevels) (qs : Vec Queue) (records : List DinRecord)
     (before : RequestsFor) → map queue_seats qs.items ≡ map queue_seats f.queues.items
-    → All HasNone qs.items → WasGiven before f records
+    → All HasNone qs.items → WasGiven before records f
     → WasGiven (sent_by (first_task (record f { queues = qs })) records)
-    (record f { queues = qs }) records
+    records (record f { queues = qs })
 unfolding first_task
 emptied f qs records before seats none given =
     let is = map front_rules f.i.items in
@@ -71,3 +73,19 @@ emptied f qs records before seats none given =
             };
       };
     }
+
+-- a lane whose second levels were given all has taken the records
+pub taken-all : {l : Lane} {records : List DinRecord} → HasGiven records records l
+    → HasTaken records l
+taken-all {records = records} given =
+    record { past = records; some = omega (arith); lane = given }
+
+-- a lane has taken more where its first levels were given more
+pub taken-more : {l m : Lane} {records more : List DinRecord} → HasTaken records l
+    → ((past : List DinRecord) (rs : List DinRecord) → HasGiven past rs l
+    → HasGiven past (rs ++ more) m) → HasTaken (records ++ more) m
+taken-more {records = records} {more = more} taken given = record {
+  past = taken.past;
+  some = omega (arith, taken.some, length-append records more);
+  lane = given taken.past records taken.lane;
+}

@@ -18,4 +18,3 @@ pub mod Slices
 pub mod LoopTurns
 pub mod BankLemmas
 pub mod Given
-pub mod Handed

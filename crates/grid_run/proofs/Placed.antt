@@ -42,7 +42,7 @@ ok-so (Err e) is p = absurd cc
 
 -- first levels with another selector have served the same
 pub served-by-same : (given : RequestsFor) (s : Selector) (f : FirstLevels) (es : List DinRecord)
-    → HasServed given f es → HasServed given (record f { selector = s }) es
+    → HasServed given es f → HasServed given es (record f { selector = s })
 served-by-same given s f es served =
     record { i = served.i; d = served.d; queues = served.queues }
 

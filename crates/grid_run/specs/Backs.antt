@@ -8,7 +8,7 @@ use Rattle.stage_core.specs.declared.message.Side.TheVariants as side
 use Rattle.stage_core.specs.declared.message.What.{What}
 use Rattle.grid_run.specs.Levels.{rules_in}
 use Rattle.grid_run.specs.Seats.{Table, rules_of_seat, rules_on}
-use Rattle.grid_run.specs.Sending.{HasSettled, SecondAsked}
+use Rattle.grid_run.specs.Sending.{NothingWaitsFor, SecondAsked}
 use Rattle.grid_run.specs.declared.back.Back.{Back}
 use Rattle.grid_run.specs.declared.plan.BackShelf.{BackShelf}
 use Rattle.grid_run.specs.declared.queue.Queue.{Queue}
@@ -108,7 +108,7 @@ pub record HasNone (q : Queue) : Type 0 where
 -- the second levels were asked for the requests of their seats, and have served some by the numbers
 -- that the places of a list of blocks are
 pub record WereAsked (blocks : List ℕ) (requests : RequestsFor) (b : Back) : Type 0 where
-  pub second : SecondAsked blocks b.second (requests b.seats)
+  pub second : SecondAsked blocks (requests b.seats) b.second
 
 -- a second level can serve so many
 pub record AreFew (requests : RequestsFor) : Type 0 where
@@ -116,4 +116,4 @@ pub record AreFew (requests : RequestsFor) : Type 0 where
 
 -- no request waits for the second levels
 abbrev pub NothingWaits : Back → Type 0
-NothingWaits b = HasSettled b.second
+NothingWaits b = NothingWaitsFor b.second

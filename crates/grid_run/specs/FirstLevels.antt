@@ -50,7 +50,7 @@ sent_by t records = sent_behind t.i t.d (events t.selection records)
 
 -- the caches have served these events; what they sent for them is what the second levels were
 -- given before, and then what waits
-pub record HasServed (given : RequestsFor) (f : FirstLevels) (es : List DinRecord) : Type 0 where
+pub record HasServed (given : RequestsFor) (es : List DinRecord) (f : FirstLevels) : Type 0 where
   pub i : All (FrontAt (history side.I es)) f.i.items
   pub d : All (FrontAt (history side.D es)) f.d.items
   pub queues :
@@ -58,13 +58,13 @@ pub record HasServed (given : RequestsFor) (f : FirstLevels) (es : List DinRecor
       (sent_behind (map front_rules f.i.items) (map front_rules f.d.items) es)) f.queues.items
 
 -- the caches were given these records: they have served what is selected of them
-pub record WasGiven (given : RequestsFor) (f : FirstLevels) (records : List DinRecord)
+pub record WasGiven (given : RequestsFor) (records : List DinRecord) (f : FirstLevels)
     : Type 0 where
   pub seated : AreSeated (first_task f)
   pub offered : WasOffered f.selector records
-  pub served : HasServed given f (events f.selector.selection records)
+  pub served : HasServed given (events f.selector.selection records) f
 
 -- caches were given these records behind all that they had been given
 pub record HaveTaken (records : List DinRecord) (old new : FirstLevels) : Type 0 where
-  pub given : (given : RequestsFor) (past : List DinRecord) → WasGiven given old past
-      → WasGiven given new (past ++ records)
+  pub given : (given : RequestsFor) (past : List DinRecord) → WasGiven given past old
+      → WasGiven given (past ++ records) new

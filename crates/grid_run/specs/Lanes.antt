@@ -1,5 +1,5 @@
 -- The caches of all rows of one selection.
-use Rattle.std.specs.Prelude.{◌≡◌, List, map}
+use Rattle.std.specs.Prelude.{◌≡◌, ◌≤◌, List, length, map}
 use Rattle.std.specs.List.{All}
 use Rattle.din_trace.specs.declared.record.DinRecord.{DinRecord}
 use Rattle.stage_core.specs.declared.selection.Selection.{Selection}
@@ -45,21 +45,25 @@ abbrev pub AreMatched : Lane → Type 0
 AreMatched l = map queue_seats l.first.queues.items
     ≡ map seats_of_task (tasks_of_banks l.banks.items)
 
--- the first levels of a lane were given records, of which all that they sent for `past` was served
-pub record HasWorked (past records : List DinRecord) (l : Lane) : Type 0 where
-  pub given : WasGiven (sent_by (first_task l.first) past) l.first records
+-- the first levels of a lane were given records, and its second levels all that these sent for
+-- `past`; what they sent for later ones waits in the queues
+pub record HasGiven (past records : List DinRecord) (l : Lane) : Type 0 where
+  pub given : WasGiven (sent_by (first_task l.first) past) records l.first
   pub asked : All (WasAsked (sent_by (first_task l.first) past)) l.banks.items
-  pub settled : All NothingWaitsIn l.banks.items
   pub matched : AreMatched l
 
 -- a lane has taken these records: its first levels have served what is selected of them, and its
--- second levels were given all that these sent
-pub record HasTaken (l : Lane) (records : List DinRecord) : Type 0 where
-  pub given : WasGiven (sent_by (first_task l.first) records) l.first records
-  pub asked : All (WasAsked (sent_by (first_task l.first) records)) l.banks.items
-  pub matched : AreMatched l
+-- second levels were given what these sent for some of them
+pub record HasTaken (records : List DinRecord) (l : Lane) : Type 0 where
+  pub past : List DinRecord
+  pub some : length past ≤ length records
+  pub lane : HasGiven past records l
+
+-- the second levels of a lane have served all that they were given
+abbrev pub AreIdle : Lane → Type 0
+AreIdle l = All NothingWaitsIn l.banks.items
 
 -- all caches of a lane have served what is selected of these records
-pub record HasSettled (l : Lane) (records : List DinRecord) : Type 0 where
-  pub taken : HasTaken l records
-  pub settled : All NothingWaitsIn l.banks.items
+pub record HasSettled (records : List DinRecord) (l : Lane) : Type 0 where
+  pub lane : HasGiven records records l
+  pub idle : AreIdle l

@@ -15,22 +15,22 @@ event_of (request.Access x) = access x
 event_of request.Flush = flush
 
 -- the caches of a second level have served these requests of the first level
-abbrev pub SecondServed : Level → List What → Type 0
-SecondServed u ws = LevelStandsFor u (second_history ws)
+abbrev pub SecondServed : List What → Level → Type 0
+SecondServed ws u = LevelStandsFor u (second_history ws)
 
 -- they have served some requests, and have room for these too
 pub record HasRoom (u : Level) (ws : List What) : Type 0 where
   pub past : List What
-  pub stands : SecondServed u past
+  pub stands : SecondServed past u
   pub short : length past + length ws ≤ 2 ^ 44
 
 -- a second level was asked for these requests: it has served the first of them, by the numbers that
 -- the places of a list of blocks are, and the others wait
-pub record SecondAsked (blocks : List ℕ) (u : Second) (ws : List What) : Type 0 where
+pub record SecondAsked (blocks : List ℕ) (ws : List What) (u : Second) : Type 0 where
   pub served : List What
   pub stands : LevelStandsBy blocks u.level (second_history served)
   pub all : ws ≡ served ++ u.waiting.items
 
 -- no request waits
-pub record HasSettled (u : Second) : Type 0 where
+pub record NothingWaitsFor (u : Second) : Type 0 where
   pub none : u.waiting.items ≡ []

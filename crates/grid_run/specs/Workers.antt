@@ -10,12 +10,12 @@ worker_task w = lane_task w.lane
 
 -- all caches of a worker have served what is selected of these records
 pub record Took (records : List DinRecord) (w : Worker) : Type 0 where
-  pub lane : HasSettled w.lane records
+  pub lane : HasSettled records w.lane
 
 -- a worker has taken these records, unless it was refused memory
 pub record MayHaveTaken (records : List DinRecord) (w : Worker) : Type 0 where
-  pub lane : w.failed ≡ false → HasTaken w.lane records
+  pub lane : w.failed ≡ false → HasTaken records w.lane
 
 -- it has served them, unless it was refused memory
 pub record MayHaveSettled (records : List DinRecord) (w : Worker) : Type 0 where
-  pub lane : w.failed ≡ false → HasSettled w.lane records
+  pub lane : w.failed ≡ false → HasSettled records w.lane

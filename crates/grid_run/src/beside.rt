@@ -36,7 +36,7 @@ fn settle_and_take(
     banks: &mut [Bank],
 ) -> Result<(), NoMemory>
     requires near { (all : RequestsFor) × All (WasAsked all) banks.old × AreFew all }
-    requires room { (served : RequestsFor) × (past : List Event) × WasGiven served first.old past
+    requires room { (served : RequestsFor) × (past : List Event) × WasGiven served past first.old
         × (length past + length part.now ≤ MAX_LIMIT) }
     ensures served { OnOk result (HaveServed banks.old banks.new) }
     ensures tasks { map bank_task banks.new ≡ map bank_task banks.old }
@@ -60,7 +60,7 @@ fn take_beside<T: Threads + Sync>(
     requires two { 1 < threads }
     requires far { (all : RequestsFor) × All (WasAsked all) far.old × AreFew all }
     requires near { (all : RequestsFor) × All (WasAsked all) near.old × AreFew all }
-    requires room { (served : RequestsFor) × (past : List Event) × WasGiven served first.old past
+    requires room { (served : RequestsFor) × (past : List Event) × WasGiven served past first.old
         × (length past + length part.now ≤ MAX_LIMIT) }
     ensures far { OnOk result (HaveServed far.old far.new) }
     ensures near { OnOk result (HaveServed near.old near.new) }
@@ -78,7 +78,7 @@ fn take_beside<T: Threads + Sync>(
         &mut ||
             requires near { (all : RequestsFor) × All (WasAsked all) near.now × AreFew all }
             requires room { (served : RequestsFor) × (past : List Event)
-                × WasGiven served first.now past × (length past + length part.now ≤ MAX_LIMIT) }
+                × WasGiven served past first.now × (length past + length part.now ≤ MAX_LIMIT) }
         { settle_and_take(first, part, near) },
     );
     settled?;
@@ -95,7 +95,7 @@ pub(crate) fn take_on<T: Threads + Sync>(
     part: &[DinRecord],
 ) -> Result<(), NoMemory>
     requires asked { (all : RequestsFor) × All (WasAsked all) banks.old × AreFew all }
-    requires room { (served : RequestsFor) × (past : List Event) × WasGiven served first.old past
+    requires room { (served : RequestsFor) × (past : List Event) × WasGiven served past first.old
         × (length past + length part.now ≤ MAX_LIMIT) }
     ensures served { OnOk result (HaveServed banks.old banks.new) }
     ensures tasks { map bank_task banks.new ≡ map bank_task banks.old }

@@ -10,7 +10,7 @@ ghost use Rattle.grid_run.specs.Workers.{MayHaveSettled, MayHaveTaken, Took, wor
 
 use crate::lists::made_for_each;
 use crate::plan::LanePlan;
-use crate::worker::Worker;
+use crate::worker::{PART, Worker};
 use cache_core::NoMemory;
 use din_trace::{DinRecord, MAX_LIMIT};
 use std::alloc::Global;
@@ -20,6 +20,9 @@ use std::thread::Threads;
 /// At most so many records are taken together. Threads start and end with each batch, and wait for
 /// the slowest of them; so a batch should give them tens of milliseconds of work.
 const BATCH: usize = 393_216;
+
+/// One thread that is alone takes so many at a time: what was read stays in the processor's caches.
+const BATCH_ALONE: usize = 16_384;
 
 /// The workers of all lanes.
 #[derive(Drop)]
@@ -186,9 +189,18 @@ impl Crew {
         tell_failure(&self.workers)
     }
 
+    /// How many records the first batch has.
+    pub fn first_size(&self) -> usize {
+        if self.may_start_threads() {
+            PART
+        } else {
+            BATCH_ALONE
+        }
+    }
+
     /// How many records the batch after one of this size has. A worker that is alone waits for no
-    /// other, and is fastest while what was read stays in the processor's caches. For several, each
-    /// batch is twice as long as the one before it: so a short trace is read beside the work, too.
+    /// other. For several, each batch is twice as long as the one before it: so a short trace is
+    /// read beside the work, too.
     pub fn size_after(&self, size: usize) -> usize {
         if self.workers.len() < 2 {
             return size;

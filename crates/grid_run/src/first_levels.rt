@@ -20,7 +20,7 @@ use crate::queue::Queue;
 use crate::queues::{ask_queues, queues_for};
 use crate::requests::{Request, asked_of};
 use cache_core::NoMemory;
-use din_trace::{DinRecord, MAX_LIMIT};
+use din_trace::{DinRecord, Label, MAX_LIMIT};
 use stage_core::{Selector, Side, selections_make_at_most_two};
 use std::alloc::Global;
 
@@ -102,7 +102,7 @@ impl FirstLevels {
     pub fn new(alloc: Global, plan: &LanePlan) -> Result<FirstLevels, NoMemory>
         requires bounded { IsBounded plan.now.selection }
         requires seated { AreSeated (first_of_plan plan.now) }
-        ensures given { IfOk result (λ first. WasGiven no_requests first []) }
+        ensures given { IfOk result (WasGiven no_requests []) }
         ensures task { IfOk result (λ first. first_task first ≡ first_of_plan plan.now) }
     {
         Ok(FirstLevels {
@@ -117,14 +117,18 @@ impl FirstLevels {
     #[inline(always)]
     fn take_event(&mut self, event: DinRecord) -> Result<(), NoMemory>
         requires seated { AreSeated (first_task self.old) }
-        requires room { (served : RequestsFor) × (es : List Event) × HasServed served self.old es
+        requires room { (served : RequestsFor) × (es : List Event) × HasServed served es self.old
             × (length es < 2 * MAX_LIMIT) }
         ensures served { OnOk result ((served : RequestsFor) (es : List Event) →
-            HasServed served self.old es → HasServed served self.new (es ++ event ∷ [])) }
+            HasServed served es self.old → HasServed served (es ++ event ∷ []) self.new) }
         ensures task { first_task self.new ≡ first_task self.old }
         ensures selector { self.new.selector ≡ self.old.selector }
     {
         serve_side(&mut self.i, &mut self.queues, Side::I, event)?;
+        // Most events are fetches, which ask nothing of the data caches.
+        if matches!(event.label, Label::Instr) {
+            return Ok(());
+        }
         serve_side(&mut self.d, &mut self.queues, Side::D, event)
     }
 
@@ -132,10 +136,10 @@ impl FirstLevels {
     #[inline(always)]
     fn take_some(&mut self, event: Option<DinRecord>) -> Result<(), NoMemory>
         requires seated { AreSeated (first_task self.old) }
-        requires room { (served : RequestsFor) × (es : List Event) × HasServed served self.old es
+        requires room { (served : RequestsFor) × (es : List Event) × HasServed served es self.old
             × (length es < 2 * MAX_LIMIT) }
         ensures served { OnOk result ((served : RequestsFor) (es : List Event) →
-            HasServed served self.old es → HasServed served self.new (es ++ option_to_list event)) }
+            HasServed served es self.old → HasServed served (es ++ option_to_list event) self.new) }
         ensures task { first_task self.new ≡ first_task self.old }
         ensures selector { self.new.selector ≡ self.old.selector }
     {
@@ -148,9 +152,9 @@ impl FirstLevels {
     /// Takes a record, and serves the events that the selection makes of it.
     fn take(&mut self, next: DinRecord) -> Result<(), NoMemory>
         requires room { (served : RequestsFor) × (past : List Event)
-            × WasGiven served self.old past × (length past < MAX_LIMIT) }
+            × WasGiven served past self.old × (length past < MAX_LIMIT) }
         ensures given { OnOk result ((served : RequestsFor) (past : List Event) →
-            WasGiven served self.old past → WasGiven served self.new (past ++ next ∷ [])) }
+            WasGiven served past self.old → WasGiven served (past ++ next ∷ []) self.new) }
         ensures task { first_task self.new ≡ first_task self.old }
     {
         selections_make_at_most_two();
@@ -162,9 +166,9 @@ impl FirstLevels {
     /// Takes records in their order.
     pub fn take_part(&mut self, part: &[DinRecord]) -> Result<(), NoMemory>
         requires room { (served : RequestsFor) × (past : List Event)
-            × WasGiven served self.old past × (length past + length part.now ≤ MAX_LIMIT) }
+            × WasGiven served past self.old × (length past + length part.now ≤ MAX_LIMIT) }
         ensures given { OnOk result ((served : RequestsFor) (past : List Event) →
-            WasGiven served self.old past → WasGiven served self.new (past ++ part.now)) }
+            WasGiven served past self.old → WasGiven served (past ++ part.now) self.new) }
         ensures task { first_task self.new ≡ first_task self.old }
     {
         for next in part {

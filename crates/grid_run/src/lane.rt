@@ -6,6 +6,7 @@ use crate::beside::take_on;
 use crate::figures::{Figures, ShadowMisses};
 use crate::first_levels::FirstLevels;
 use crate::plan::{LanePlan, Place};
+use crate::queues::much_waits;
 use cache_core::NoMemory;
 use din_trace::{DinRecord, MAX_LIMIT};
 use stage_core::{Totals, second_level_sees_at_most_two, selections_make_at_most_two};
@@ -27,7 +28,7 @@ impl Lane {
     ghost use Rattle.stage_core.specs.SecondLevel.{Hierarchy};
     ghost use Rattle.stage_core.specs.declared.selection.Selection.{Selection as Chosen};
     ghost use Rattle.grid_run.specs.Grids.{figures_of};
-    ghost use Rattle.grid_run.specs.Lanes.{HasSettled, HasTaken, HasWorked, IsPlaced};
+    ghost use Rattle.grid_run.specs.Lanes.{AreIdle, HasGiven, HasSettled, HasTaken, IsPlaced};
     ghost use Rattle.grid_run.specs.Lanes.{lane_task, task_of_plan};
     ghost use Rattle.grid_run.specs.Rows.{IsPlaceIn};
 
@@ -35,7 +36,7 @@ impl Lane {
     pub fn new(alloc: Global, plan: &LanePlan, threads: usize) -> Result<Lane, NoMemory>
         requires bounded { IsBounded plan.now.selection }
         requires placed { IsPlaced (task_of_plan plan.now) }
-        ensures taken { IfOk result (λ lane. HasTaken lane []) }
+        ensures taken { IfOk result (HasTaken []) }
         ensures task { IfOk result (λ lane. lane_task lane ≡ task_of_plan plan.now) }
     {
         Ok(Lane {
@@ -44,17 +45,18 @@ impl Lane {
         })
     }
 
-    /// The first levels take records, and beside that the second levels serve what waits for them.
+    /// The first levels take records, and beside that the second levels serve what they were given.
     fn work<T: Threads + Sync>(
         &mut self,
         rt: &T,
         threads: usize,
         part: &[DinRecord],
     ) -> Result<(), NoMemory>
-        requires room { (past : List Event) × HasTaken self.old past
-            × (length past + length part.now ≤ MAX_LIMIT) }
-        ensures worked { OnOk result ((past : List Event) → HasTaken self.old past
-            → HasWorked past (past ++ part.now) self.new) }
+        requires room { (records : List Event) × HasTaken records self.old
+            × (length records + length part.now ≤ MAX_LIMIT) }
+        ensures given { OnOk result ((past records : List Event) → HasGiven past records self.old
+            → HasGiven past (records ++ part.now) self.new) }
+        ensures idle { OnOk result (AreIdle self.new) }
         ensures task { lane_task self.new ≡ lane_task self.old }
     {
         selections_make_at_most_two();
@@ -62,65 +64,13 @@ impl Lane {
         take_on(rt, threads, &mut self.banks, &mut self.first, part)
     }
 
-    /// The same, and then the second levels take over what waits in the queues.
-    fn pass_on<T: Threads + Sync>(
-        &mut self,
-        rt: &T,
-        threads: usize,
-        part: &[DinRecord],
-    ) -> Result<(), NoMemory>
-        requires room { (past : List Event) × HasTaken self.old past
-            × (length past + length part.now ≤ MAX_LIMIT) }
-        ensures taken { OnOk result ((past : List Event) → HasTaken self.old past
-            → HasTaken self.new (past ++ part.now)) }
-        ensures task { lane_task self.new ≡ lane_task self.old }
-    {
-        self.work(rt, threads, part)?;
-        take_over_all(&mut self.first.queues, &mut self.banks);
-        Ok(())
-    }
-
-    /// Serves what waits for the second levels, which give back the lists that they took over.
-    fn give_back<T: Threads + Sync>(&mut self, rt: &T) -> Result<(), NoMemory>
-        requires room { (past : List Event) × HasTaken self.old past
-            × (length past ≤ MAX_LIMIT) }
-        ensures taken { OnOk result ((past : List Event) → HasTaken self.old past
-            → HasTaken self.new past) }
-        ensures task { lane_task self.new ≡ lane_task self.old }
-    {
-        self.settle(rt, 1)?;
-        take_over_all(&mut self.first.queues, &mut self.banks);
-        Ok(())
-    }
-
-    /// Takes records in their order. What they ask of the second levels may wait until more records
-    /// are taken, or until it is settled. One thread serves it at once, so that each queue does
-    /// with one list.
-    pub fn take<T: Threads + Sync>(
-        &mut self,
-        rt: &T,
-        threads: usize,
-        part: &[DinRecord],
-    ) -> Result<(), NoMemory>
-        requires room { (past : List Event) × HasTaken self.old past
-            × (length past + length part.now ≤ MAX_LIMIT) }
-        ensures taken { OnOk result ((past : List Event) → HasTaken self.old past
-            → HasTaken self.new (past ++ part.now)) }
-        ensures task { lane_task self.new ≡ lane_task self.old }
-    {
-        self.pass_on(rt, threads, part)?;
-        if threads < 2 {
-            return self.give_back(rt);
-        }
-        Ok(())
-    }
-
-    /// Serves what waits for the second levels.
-    pub fn settle<T: Threads + Sync>(&mut self, rt: &T, threads: usize) -> Result<(), NoMemory>
-        requires room { (past : List Event) × HasTaken self.old past
-            × (length past ≤ MAX_LIMIT) }
-        ensures settled { OnOk result ((past : List Event) → HasTaken self.old past
-            → HasSettled self.new past) }
+    /// The second levels serve what they were given.
+    fn serve<T: Threads + Sync>(&mut self, rt: &T, threads: usize) -> Result<(), NoMemory>
+        requires room { (records : List Event) × HasTaken records self.old
+            × (length records ≤ MAX_LIMIT) }
+        ensures given { OnOk result ((past records : List Event) → HasGiven past records self.old
+            → HasGiven past records self.new) }
+        ensures idle { OnOk result (AreIdle self.new) }
         ensures task { lane_task self.new ≡ lane_task self.old }
     {
         selections_make_at_most_two();
@@ -128,11 +78,75 @@ impl Lane {
         settle_on(rt, threads, &mut self.banks)
     }
 
+    /// The second levels, which are idle, are given all that waits in the queues. The queues get
+    /// their empty lists.
+    fn pass_on(&mut self)
+        requires taken { (records : List Event) × HasTaken records self.old }
+        requires idle { AreIdle self.old }
+        ensures given { (past records : List Event) → HasGiven past records self.old
+            → HasGiven records records self.new }
+        ensures task { lane_task self.new ≡ lane_task self.old }
+    {
+        take_over_all(&mut self.first.queues, &mut self.banks);
+    }
+
+    /// Serves all that waits for the second levels.
+    pub fn settle<T: Threads + Sync>(&mut self, rt: &T, threads: usize) -> Result<(), NoMemory>
+        requires room { (records : List Event) × HasTaken records self.old
+            × (length records ≤ MAX_LIMIT) }
+        ensures settled { OnOk result ((records : List Event) → HasTaken records self.old
+            → HasSettled records self.new) }
+        ensures task { lane_task self.new ≡ lane_task self.old }
+    {
+        self.serve(rt, threads)?;
+        self.pass_on();
+        self.serve(rt, threads)
+    }
+
+    /// Serves all that waits for the second levels, and gives the lists back to the queues, so that
+    /// each queue does with one list.
+    pub fn catch_up<T: Threads + Sync>(&mut self, rt: &T, threads: usize) -> Result<(), NoMemory>
+        requires room { (records : List Event) × HasTaken records self.old
+            × (length records ≤ MAX_LIMIT) }
+        ensures given { OnOk result ((records : List Event) → HasTaken records self.old
+            → HasGiven records records self.new) }
+        ensures task { lane_task self.new ≡ lane_task self.old }
+    {
+        self.settle(rt, threads)?;
+        self.pass_on();
+        Ok(())
+    }
+
+    /// Takes records in their order. What they ask of the second levels may wait until more records
+    /// are taken, or until it is settled. One thread lets it wait until it is much.
+    pub fn take<T: Threads + Sync>(
+        &mut self,
+        rt: &T,
+        threads: usize,
+        part: &[DinRecord],
+    ) -> Result<(), NoMemory>
+        requires room { (records : List Event) × HasTaken records self.old
+            × (length records + length part.now ≤ MAX_LIMIT) }
+        ensures taken { OnOk result ((records : List Event) → HasTaken records self.old
+            → HasTaken (records ++ part.now) self.new) }
+        ensures task { lane_task self.new ≡ lane_task self.old }
+    {
+        self.work(rt, threads, part)?;
+        if threads > 1 {
+            self.pass_on();
+            return Ok(());
+        }
+        if much_waits(&self.first.queues) {
+            return self.catch_up(rt, threads);
+        }
+        Ok(())
+    }
+
     /// What the caches of a row have counted.
     pub fn figures(&self, place: &Place) -> Figures
         requires { (c : Hierarchy) × (s : Chosen) × IsPlaceIn (lane_task self.now) c s place.now }
         ensures { (c : Hierarchy) (s : Chosen) (past : List Event) →
-            IsPlaceIn (lane_task self.now) c s place.now → HasSettled self.now past →
+            IsPlaceIn (lane_task self.now) c s place.now → HasSettled past self.now →
             result ≡ figures_of c (events s past) }
     {
         let i = &self.first.i[place.i.level].level;

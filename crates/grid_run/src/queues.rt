@@ -19,6 +19,14 @@ use cache_core::NoMemory;
 use stage_core::Side;
 use std::alloc::Global;
 
+/// For each second level so many requests may wait, on an average, before one thread serves them.
+/// The more there are, the longer each second level finds its own in the processor's caches; but
+/// what waits takes memory.
+const MUCH_EACH: usize = 65_536;
+
+/// For all second levels of a lane, so many may wait at most.
+const MUCH: usize = 2_097_152;
+
 /// An empty queue for the second levels of a shelf.
 fn queue_for(alloc: Global, shelf: &BackShelf) -> Result<Queue, NoMemory>
     ensures seats { IfOk result (λ queue.
@@ -61,4 +69,13 @@ pub(crate) fn ask_queues(
         queue.ask(fronts, side)?;
     }
     Ok(())
+}
+
+/// Whether so many requests wait that they should be served.
+pub(crate) fn much_waits(queues: &[Queue]) -> bool {
+    let mut sum = 0usize;
+    for queue in queues {
+        sum = sum.saturating_add(queue.waiting.len());
+    }
+    sum >= queues.len().saturating_mul(MUCH_EACH).min(MUCH)
 }

@@ -13,7 +13,6 @@ ghost use Rattle.grid_run.specs.Workers.{MayHaveTaken, worker_task};
 
 use crate::crew::Crew;
 use crate::fault::{GridFault, fault_of_source};
-use crate::worker::PART;
 use din_trace::{ByteReader, DinRecord, MAX_LIMIT, Source, TraceFault};
 use std::alloc::Global;
 use std::mem::swap;
@@ -113,7 +112,7 @@ pub(crate) fn serve_trace<R: ByteReader + Send, T: Threads + Sync>(
 {
     let mut batch = Vec::new(alloc);
     let mut next = Vec::new(alloc);
-    let mut size = PART;
+    let mut size = crew.first_size();
     let mut more = read_batch(source, &mut batch, size)?;
     'batches: while more {
         size = crew.size_after(size);

@@ -25,8 +25,8 @@ pub(crate) struct Second {
 /// Serves requests in their order.
 fn serve_each(level: &mut Level, requests: &[What]) -> Result<(), NoMemory>
     requires room { HasRoom level.old requests.now }
-    ensures served { OnOk result ((ws : List Sent) → SecondServed level.old ws →
-        SecondServed level.new (ws ++ requests.now)) }
+    ensures served { OnOk result ((ws : List Sent) → SecondServed ws level.old →
+        SecondServed (ws ++ requests.now) level.new) }
     ensures numbers { GoesOn (numbered_on level.old) (numbered_on level.new) }
     ensures rules { rules_in level.new ≡ rules_in level.old }
 {
@@ -43,12 +43,12 @@ impl Second {
     ghost use Rattle.grid_core.specs.Numbers.{GoesOn};
     ghost use Rattle.grid_run.specs.Levels.{rules_in};
     ghost use Rattle.grid_run.specs.Seats.{rules_on};
-    ghost use Rattle.grid_run.specs.Sending.{HasSettled, SecondAsked};
+    ghost use Rattle.grid_run.specs.Sending.{NothingWaitsFor, SecondAsked};
 
     /// The empty caches of a shelf, for which nothing waits.
     pub fn new(alloc: Global, shelf: &Shelf) -> Result<Second, NoMemory>
-        ensures asked { IfOk result (λ second. (blocks : List ℕ) → SecondAsked blocks second []) }
-        ensures settled { IfOk result HasSettled }
+        ensures asked { IfOk result (λ second. (blocks : List ℕ) → SecondAsked blocks [] second) }
+        ensures settled { IfOk result NothingWaitsFor }
         ensures rules { IfOk result (λ second. rules_in second.level ≡ rules_on shelf.now) }
     {
         Ok(Second {
@@ -59,9 +59,9 @@ impl Second {
 
     /// Exchanges the requests that wait, of which there are none here, for others.
     pub fn swap_waiting(&mut self, waiting: &mut Vec<What>)
-        requires settled { HasSettled self.old }
-        ensures asked { (blocks : List ℕ) (ws : List Sent) → SecondAsked blocks self.old ws →
-            SecondAsked blocks self.new (ws ++ waiting.old.items) }
+        requires settled { NothingWaitsFor self.old }
+        ensures asked { (blocks : List ℕ) (ws : List Sent) → SecondAsked blocks ws self.old →
+            SecondAsked blocks (ws ++ waiting.old.items) self.new }
         ensures none { waiting.new.items ≡ [] }
         ensures level { self.new.level ≡ self.old.level }
     {
@@ -77,13 +77,13 @@ impl Second {
 
     /// Serves all requests that wait, by these numbers of blocks, of which there may be more then.
     pub fn settle(&mut self, numbers: &mut BlockNumbers) -> Result<(), NoMemory>
-        requires room { (ws : List Sent) × SecondAsked (blocks_in numbers.old) self.old ws
+        requires room { (ws : List Sent) × SecondAsked (blocks_in numbers.old) ws self.old
             × (length ws ≤ 2 ^ 44) }
         ensures asked { OnOk result ((ws : List Sent) →
-            SecondAsked (blocks_in numbers.old) self.old ws →
-            SecondAsked (blocks_in numbers.new) self.new ws) }
+            SecondAsked (blocks_in numbers.old) ws self.old →
+            SecondAsked (blocks_in numbers.new) ws self.new) }
         ensures grows { GoesOn (blocks_in numbers.old) (blocks_in numbers.new) }
-        ensures settled { OnOk result (HasSettled self.new) }
+        ensures settled { OnOk result (NothingWaitsFor self.new) }
         ensures rules { rules_in self.new.level ≡ rules_in self.old.level }
     {
         self.level.swap_numbers(numbers);

@@ -8,9 +8,9 @@ use din_trace::{DinRecord, MAX_LIMIT};
 use std::alloc::Global;
 use std::thread::Threads;
 
-/// The first levels take so many records while the second levels serve what they sent for so many
-/// before. More of them are served a little faster, since each second level finds its own in the
-/// processor's caches for longer; but what waits for it takes more memory.
+/// A lane takes so many records at a time. With several threads, the second levels serve meanwhile
+/// what was sent for so many before. More of them are served a little faster, since each second
+/// level finds its own in the processor's caches for longer; but what waits for it takes memory.
 pub(crate) const PART: usize = 49_152;
 
 /// A lane, and whether it was refused memory. If it was, it takes no more records.
@@ -58,7 +58,7 @@ impl Worker {
     }
 
     /// Takes records in their order, part by part.
-    pub fn take<T: Threads + Sync>(&mut self, rt: &T, threads: usize, batch: &[DinRecord])
+    fn take_parts<T: Threads + Sync>(&mut self, rt: &T, threads: usize, batch: &[DinRecord])
         requires room { (past : List Event) × MayHaveTaken past self.old
             × (length past + length batch.now ≤ MAX_LIMIT) }
         ensures taken { (past : List Event) → MayHaveTaken past self.old
@@ -71,6 +71,35 @@ impl Worker {
             taken += PART;
         }
         self.take_part(rt, threads, &batch[taken..]);
+    }
+
+    /// Serves what waits for the second levels, before it takes more.
+    fn catch_up<T: Threads + Sync>(&mut self, rt: &T, threads: usize)
+        requires room { (past : List Event) × MayHaveTaken past self.old
+            × (length past ≤ MAX_LIMIT) }
+        ensures taken { (past : List Event) → MayHaveTaken past self.old
+            → MayHaveTaken past self.new }
+        ensures task { worker_task self.new ≡ worker_task self.old }
+    {
+        if !self.failed {
+            self.failed = self.lane.catch_up(rt, threads).is_err();
+        }
+    }
+
+    /// Takes records in their order. Of several workers, each waits at the end of a long batch for
+    /// the slowest one. So where they have a thread each, they let nothing wait for the next batch,
+    /// which would make them uneven.
+    pub fn take<T: Threads + Sync>(&mut self, rt: &T, threads: usize, batch: &[DinRecord])
+        requires room { (past : List Event) × MayHaveTaken past self.old
+            × (length past + length batch.now ≤ MAX_LIMIT) }
+        ensures taken { (past : List Event) → MayHaveTaken past self.old
+            → MayHaveTaken (past ++ batch.now) self.new }
+        ensures task { worker_task self.new ≡ worker_task self.old }
+    {
+        self.take_parts(rt, threads, batch);
+        if threads < 2 && batch.len() > PART {
+            self.catch_up(rt, threads);
+        }
     }
 
     /// Serves what waits for the second levels.

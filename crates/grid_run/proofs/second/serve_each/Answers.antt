@@ -27,7 +27,7 @@ loop-what-preserved c =
     let lt = c.loop-what-test.true in
     let one = served-one old c.serve.new.self _ c.in_ok-serve.ensures.stands in
     record {
-      served = λ ws st. subst (λ (l : List What). SecondServed c.serve.new.self l)
+      served = λ ws st. subst (λ (l : List What). SecondServed l c.serve.new.self)
           (requests-to ws xs i _ lt)
           (one (ws ++ take i xs) (c.loop-what.invariant.served ws st));
       room = room-next old c.serve.new.self (_ ∷ []) (drop (i + 1) xs)
@@ -39,5 +39,5 @@ loop-what-preserved c =
 pub returns-clause-served : goal.returns-clause-served
 returns-clause-served c = λ ws st.
     let xs = c.args.requests.now in
-    subst (λ (l : List What). SecondServed c.loop-what.level (ws ++ l))
+    subst (λ (l : List What). SecondServed (ws ++ l) c.loop-what.level)
     (take_all c.loop-what.what-index xs c.loop-what-test.false) (c.loop-what.invariant.served ws st)

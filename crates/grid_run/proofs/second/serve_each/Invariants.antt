@@ -8,8 +8,8 @@ use Rattle.grid_run.proofs.second.serve_each.Given as goal
 -- the requests that were passed are served, and there is room for the others
 abbrev pub invariant-loop-what : goal.invariant-loop-what
 invariant-loop-what l = record {
-  served : (ws : List What) → SecondServed l.initial.level ws →
-      SecondServed l.level (ws ++ take l.what-index l.requests);
+  served : (ws : List What) → SecondServed ws l.initial.level →
+      SecondServed (ws ++ take l.what-index l.requests) l.level;
   room : HasRoom l.level (drop l.what-index l.requests);
   numbers : GoesOn (numbered_on l.initial.level) (numbered_on l.level);
   rules : rules_in l.level ≡ rules_in l.initial.level;

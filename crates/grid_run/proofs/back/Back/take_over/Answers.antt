@@ -10,6 +10,6 @@ returns-clause-asked c = λ blocks served all waiting were.
     let ws = c.args.queue.now.waiting.items in
     let is = subst (λ (s : BothSeats). all s ≡ served s ++ ws) c.requires.seats waiting.all in
     record {
-      second = subst (λ (l : List What). SecondAsked blocks c.swap_waiting.new.self l) (sym is)
+      second = subst (λ (l : List What). SecondAsked blocks l c.swap_waiting.new.self) (sym is)
           (c.swap_waiting.ensures.asked blocks (served p) were.second);
     }

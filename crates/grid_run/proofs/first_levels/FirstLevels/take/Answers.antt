@@ -91,9 +91,9 @@ returns-clause-given c =
           was.seated;
       offered = subst (λ (s : Selector). WasOffered s (past ++ next ∷ [])) (sym selector)
           (c.offer-picked.ensures.stands past was.offered);
-      served = subst (λ (s : Selection). HasServed given new (events s (past ++ next ∷ [])))
+      served = subst (λ (s : Selection). HasServed given (events s (past ++ next ∷ [])) new)
           (sym selection)
-          (subst (λ (l : List DinRecord). HasServed given new l) longer
+          (subst (λ (l : List DinRecord). HasServed given l new) longer
           (second given (es ++ event) (c.in_ok-take_some.ensures.served given es picking)));
     })
     c.take_some-2.ensures.served

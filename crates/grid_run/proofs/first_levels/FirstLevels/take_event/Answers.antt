@@ -1,14 +1,27 @@
-use Rattle.std.proofs.Common.{◌++◌, ◌∷◌, [], List, get_or, map, sym, subst}
-use Rattle.std.specs.List.{All}
+use Rattle.std.proofs.Common.{◌≡◌, ◌++◌, ◌∷◌, ◌∙◌, [], List, append-nil, get_or, map, ap, refl}
+use Rattle.std.proofs.Common.{sym, subst}
+use Rattle.std.specs.List.{All, flat_map}
+use Rattle.cache_core.specs.History.{Event, History}
+use Rattle.din_trace.specs.declared.record.DinRecord.{DinRecord}
+use Rattle.din_trace.specs.declared.record.Label.TheVariants as label
+use Rattle.stage_core.specs.Events.{asked, asked_by, history}
+use Rattle.stage_core.specs.SecondLevel.{parts_of}
 use Rattle.stage_core.specs.declared.message.Side.TheVariants as side
-use Rattle.grid_run.specs.Backs.{IsPlacedOn, followed_by, queue_seats, sent_behind}
+use Rattle.grid_run.specs.Backs.{IsPlacedOn, followed_by, queue_seats, seat_on, sent_behind}
 use Rattle.grid_run.specs.Backs.{sent_on_side}
 use Rattle.grid_run.specs.FirstLevels.{first_task}
-use Rattle.grid_run.specs.Fronts.{front_rules}
+use Rattle.grid_run.specs.Fronts.{FrontAt, front_rules}
+use Rattle.grid_run.specs.Seats.{rules_of_seat}
 use Rattle.grid_run.specs.declared.seat.BothSeats.{BothSeats}
 use Rattle.grid_run.proofs.Behind.{waiting-same}
+use Rattle.grid_run.proofs.Events.{history-none}
 use Rattle.grid_run.proofs.Placed.{both-sides, on-ok-both, seated-on-d, seated-on-i, served-same}
 use Rattle.grid_run.proofs.first_levels.FirstLevels.take_event.Goals as goal
+use Rattle.grid_run.proofs.first_levels.FirstLevels.take_event.Goals.{in-Instr, in_default}
+
+-- a fetch asks nothing of the data caches
+nothing-for-d : (e : DinRecord) → e.label ≡ label.Instr → asked side.D e ≡ []
+nothing-for-d e is = ap (λ l. asked_by side.D l e.addr) is
 
 pub serve_side-requires : goal.serve_side-requires
 unfolding first_task
@@ -28,6 +41,34 @@ serve_side-requires-2 c =
       placed = subst (λ (ps : List BothSeats). All (IsPlacedOn side.D ds) ps)
           (sym c.serve_side.ensures.seats) (seated-on-d _ c.requires.seated);
       room = (room.1, room.2.d, room.3);
+    }
+
+pub returns-then-matches-clause-served : goal.returns-then-matches-clause-served
+unfolding first_task
+returns-then-matches-clause-served c = λ given es past.
+    let e = c.args.event in
+    let none : asked side.D e ≡ [] = elim c.match-matches.branch [
+      | in-Instr w ↦ nothing-for-d e w.in-Instr.is
+      | in_default w ↦ let is = w.matches-is in let true = c.if-matches.true in absurd cc
+    ] in
+    let is = map front_rules c.args.self.now.i.items in
+    let ds = map front_rules c.args.self.now.d.items in
+    let qs = c.serve_side.new.queues.items in
+    let done = c.in_ok-serve_side.ensures in
+    let before = sent_behind is ds es in
+    let after-i = followed_by before (sent_on_side side.I is es e) in
+    record {
+      i = done.stands es past.i;
+      d = subst (λ (h : History). All (FrontAt h) c.args.self.now.d.items)
+          (history-none side.D es e none) past.d;
+      queues = served-same given (es ++ e ∷ []) qs c.serve_side.ensures.rules refl
+          (waiting-same given after-i (sent_behind is ds (es ++ e ∷ [])) qs
+          (λ k q lt. let p = queue_seats (get_or qs k q) in
+          sym (append-nil (after-i p))
+          ∙ ap (λ (l : List Event). after-i p ++ flat_map (parts_of (rules_of_seat ds
+          (seat_on side.D p)) side.D (history side.D es)) l) (sym none)
+          ∙ both-sides is ds es e p)
+          (done.asked given es before past.i past.queues));
     }
 
 pub returns-clause-served : goal.returns-clause-served

@@ -7,7 +7,7 @@ use Rattle.grid_run.proofs.first_levels.FirstLevels.take_part.Goals as goal
 
 pub loop-next-init : goal.loop-next-init
 loop-next-init c = record {
-  given = λ served past was. subst (λ (l : List DinRecord). WasGiven served c.args.self.now l)
+  given = λ served past was. subst (λ (l : List DinRecord). WasGiven served l c.args.self.now)
       (sym (append-nil past)) was;
   task = refl;
 }
@@ -40,7 +40,7 @@ loop-next-preserved c =
       given = λ served past was.
           let done = c.in_ok-take.ensures.given served (past ++ take k xs)
           (c.loop-next.invariant.given served past was) in
-          subst (λ (l : List DinRecord). WasGiven served c.take.new.self l)
+          subst (λ (l : List DinRecord). WasGiven served l c.take.new.self)
           (append_assoc past (take k xs) _
           ∙ ap (λ l. past ++ l) (sym (take_more xs k _ c.loop-next-test.true)))
           done;
@@ -49,6 +49,6 @@ loop-next-preserved c =
 
 pub returns-clause-given : goal.returns-clause-given
 returns-clause-given c = λ served past was.
-    subst (λ (rs : List DinRecord). WasGiven served c.loop-next.self (past ++ rs))
+    subst (λ (rs : List DinRecord). WasGiven served (past ++ rs) c.loop-next.self)
     (take_all c.loop-next.next-index c.args.part.now c.loop-next-test.false)
     (c.loop-next.invariant.given served past was)

@@ -7,7 +7,7 @@ use Rattle.grid_run.proofs.first_levels.FirstLevels.take_part.Given as goal
 -- the records that were passed were given
 abbrev pub invariant-loop-next : goal.invariant-loop-next
 invariant-loop-next l = record {
-  given : (served : RequestsFor) (past : List DinRecord) → WasGiven served l.initial.self past →
-      WasGiven served l.self (past ++ take l.next-index l.part);
+  given : (served : RequestsFor) (past : List DinRecord) → WasGiven served past l.initial.self →
+      WasGiven served (past ++ take l.next-index l.part) l.self;
   task : first_task l.self ≡ first_task l.initial.self;
 }

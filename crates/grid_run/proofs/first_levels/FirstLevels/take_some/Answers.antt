@@ -8,5 +8,5 @@ pub returns-in-Some-clause-served : goal.returns-in-Some-clause-served
 returns-in-Some-clause-served c =
     on_ok_weaker c.take_event.result (λ served given es ran.
     subst (λ (o : Option DinRecord).
-    HasServed given c.take_event.new.self (es ++ option_to_list o))
+    HasServed given (es ++ option_to_list o) c.take_event.new.self)
     (sym c.in-Some.is) (served given es ran)) c.take_event.ensures.served

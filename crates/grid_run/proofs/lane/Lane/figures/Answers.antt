@@ -13,7 +13,7 @@ use Rattle.stage_core.specs.declared.selection.Selection.{Selection}
 use Rattle.grid_core.specs.FullyAssociative.{shadow_misses}
 use Rattle.grid_run.specs.Backs.{BackTask, WereAsked, back_task, sent_behind}
 use Rattle.grid_run.specs.Banks.{NothingWaitsIn, WasAsked, tasks_of_banks}
-use Rattle.grid_run.specs.FirstLevels.{HasServed, first_task}
+use Rattle.grid_run.specs.FirstLevels.{HasServed, first_task, sent_by}
 use Rattle.grid_run.specs.Fronts.{FrontAt, front_rules}
 use Rattle.grid_run.specs.Lanes.{lane_task}
 use Rattle.grid_run.specs.Levels.{LevelStandsBy}
@@ -88,7 +88,9 @@ returns c = λ rules chosen past place taken.
     ap (λ (s : Selection). events s past) place.selection in
     let es : List DinRecord = events chosen past in
     let f = l.first in
-    let served = subst (HasServed _ f) sel taken.taken.given.served in
+    let given = sent_by (first_task f) past in
+    let served = subst (λ (rs : List DinRecord). HasServed given rs f) sel
+    taken.lane.given.served in
     let on-i = seat-there place.i in
     let on-d = seat-there place.d in
     let h-i = history side.I es in
@@ -100,11 +102,11 @@ returns c = λ rules chosen past place taken.
     c.back_at.ensures.task in
     let there = back-there l rules chosen p place b at in
     let were = c.back_at.ensures.asked _
-    (subst (All (WasAsked _)) (sym are) taken.taken.asked) in
+    (subst (All (WasAsked _)) (sym are) taken.lane.asked) in
     let asked = subst (λ (rs : List DinRecord). WereAsked were.0
     (sent_behind (map front_rules f.i.items) (map front_rules f.d.items) rs) b) sel were.1 in
     let settled = c.back_at.ensures.settled
-    (subst (All NothingWaitsIn) (sym are) taken.settled) in
+    (subst (All NothingWaitsIn) (sym are) taken.idle) in
     let st-u = subst (λ (ws : List What). LevelStandsBy were.0 b.second.level
     (second_history ws))
     (requests-there l rules chosen p place b at es)

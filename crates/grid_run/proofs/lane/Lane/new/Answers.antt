@@ -3,7 +3,7 @@ use Rattle.grid_run.specs.Backs.{task_of_shelf}
 use Rattle.grid_run.specs.Banks.{tasks_of_banks}
 use Rattle.grid_run.specs.FirstLevels.{FirstTask, first_of_plan, first_task}
 use Rattle.grid_run.specs.Lanes.{lane_task, task_of_plan}
-use Rattle.grid_run.proofs.Given.{seated}
+use Rattle.grid_run.proofs.Given.{seated, taken-all}
 use Rattle.grid_run.proofs.Placed.{matched, same-lane}
 use Rattle.grid_run.proofs.lane.Lane.new.Goals as goal
 
@@ -24,12 +24,12 @@ returns c =
     let tasks = c.in_ok-banks_for.ensures.tasks
     ∙ ap (map task_of_shelf) c.deref.ensures.value in
     record {
-      taken = record {
+      taken = taken-all (record {
         given = c.in_ok-new.ensures.given;
         asked = c.in_ok-banks_for.ensures.asked;
         matched = matched f.queues.items (tasks_of_banks banks) shelves
             (ap (λ (t : FirstTask). t.seats) task) tasks;
-      };
+      });
       task = same-lane (ap (λ (t : FirstTask). t.selection) task)
           (ap (λ (t : FirstTask). t.i) task) (ap (λ (t : FirstTask). t.d) task) tasks;
     }

@@ -37,7 +37,7 @@ returns-clause-asked c = λ ws asked.
     let stands = subst (λ (blocks : List ℕ). LevelStandsBy blocks lent
     (second_history asked.served)) (sym c.swap_numbers.ensures.taken)
     (c.swap_numbers.ensures.stands _ _ asked.stands) in
-    let served = subst (λ (l : List What). SecondServed done l)
+    let served = subst (λ (l : List What). SecondServed l done)
     (ap (λ l. asked.served ++ l) c.deref.ensures.value ∙ sym asked.all)
     ((rw c.in_ok-served.was at c.serve_each-served.ensures.served) asked.served stands) in
     record {

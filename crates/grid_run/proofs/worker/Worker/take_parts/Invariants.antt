@@ -1,7 +1,7 @@
 use Rattle.std.proofs.Common.{◌≡◌, ◌++◌, ◌≤◌, ◌-◌, List, length, take}
 use Rattle.din_trace.specs.declared.record.DinRecord.{DinRecord}
 use Rattle.grid_run.specs.Workers.{MayHaveTaken, worker_task}
-use Rattle.grid_run.proofs.worker.Worker.take.Given as goal
+use Rattle.grid_run.proofs.worker.Worker.take_parts.Given as goal
 
 -- the records of the parts that were passed were taken
 abbrev pub invariant-parts : goal.invariant-parts
