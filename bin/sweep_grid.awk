@@ -55,6 +55,11 @@ function file(name) {
     return ENVIRON["work"] "/" name
 }
 
+# made(NAME): of the sweep's folder, too, and made by this call alone.
+function made(name) {
+    return file(name "." ENVIRON["call"])
+}
+
 # keep_row(TEXT): a whole row, if it is of the grid.
 function keep_row(text,   n) {
     $0 = text

@@ -2,14 +2,18 @@
 # shellcheck shell=bash disable=SC2154,SC2034  # names that sweep and its other files set, or use
 
 # of_grid PROGRAMS WORD..: programs of awk, which read the grid's description, and then what the
-# words say: files, and values of names.
+# words say: files, and values of names. The names of the files that they make end in the number
+# `call`. A file that was made before would be emptied first, and some file systems write such a one
+# to the disk as soon as it is closed.
+call=0
 of_grid() {
     local program programs=()
+    call=$((call + 1))
     for program in grid $1; do
         programs+=(-f "$here/sweep_$program.awk")
     done
     # An awk may fail at its end where its output is closed, though it has printed nothing.
-    work=$work awk "${programs[@]}" "$described" "${@:2}" > /dev/null
+    work=$work call=$call awk "${programs[@]}" "$described" "${@:2}" > /dev/null
 }
 
 # ask: begins what the simulator is asked before any run: its options, and whether it takes the
@@ -139,12 +143,10 @@ note_shared() {
     shown=("${shared[@]}" "${shown[@]}")
 }
 
-# find_value OPTION: sets `value` to that of all rows, or to nothing if they have several.
+# find_value OPTION: sets `value`, its default, to that of all rows, or to nothing if they have
+# several.
 find_value() {
-    local i
-    for ((i = 0; i < ${#fixed[@]}; i += 2)); do
-        [ "${fixed[i]}" != "$1" ] || value=${fixed[i + 1]}
-    done
+    value=${fixed_values[$1]-$value}
     [[ " ${varied[*]} ${tied[*]} " != *" $1 "* ]] || value=
 }
 

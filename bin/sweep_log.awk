@@ -7,4 +7,4 @@ FNR == 1 { next }
 NF != 2 + options + head_count { said = "damaged"; next }
 $1 in trace_at && $2 "" != sum_of[$1] "" { said = "changed\t" $1; next }
 number_of_row() { print > file("pending") }
-END { print said > file("verdict") }
+END { print said > made("verdict") }

@@ -38,7 +38,7 @@ open_log() {
 read_log() {
     local what
     has_names || say_other_names
-    { of_grid log part=log - < "$log" && IFS= read -r what < "$work/verdict"; } 2>/dev/null ||
+    { of_grid log part=log - < "$log" && IFS= read -r what < "$work/verdict.$call"; } 2>/dev/null ||
         no_room
     case $what in
     good) ;;

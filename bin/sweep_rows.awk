@@ -3,7 +3,7 @@
 # two words for each run: `whole`, or `again` if another run of the same could end otherwise; and
 # the fault of the run, which is a hyphen if there is none. sweep_grid.awk is read before it.
 
-BEGIN { printf "" > file("rows") }
+BEGIN { printf "" > made("rows") }
 
 { take_run($1, substr($0, length($1) + 2)) }
 
@@ -95,17 +95,17 @@ function is_table() {
 }
 
 function give_table(   i) {
-    print "whole", "-" > file("verdict")
+    print "whole", "-" > made("verdict")
     for (i = 1; i <= rows; i++) give_row("whole", i, substr(line_of_table[i], length(label[i]) + 1))
 }
 
 function give_fault(how, fault,   i, hyphens) {
-    print how, fault > file("verdict")
+    print how, fault > made("verdict")
     for (i = 1; i < head_count; i++) hyphens = hyphens "-\t"
     for (i = 1; i <= rows; i++) give_row(how, i, hyphens fault)
 }
 
 function give_row(how, i, counts) {
-    if (how == "whole") print front[i], counts > file("rows")
+    if (how == "whole") print front[i], counts > made("rows")
     keep_row(front[i] "\t" counts)
 }

@@ -159,7 +159,7 @@ one_task() {
             die 4 "task $task has no whole report"
         fi
         [ "$fault" = - ] || failed=yes
-        cat "$work/rows" >> "$work/kept" || no_room
+        cat "$work/rows.$call" >> "$work/kept" || no_room
         place 644 "$work/kept" "$reports/$name"
     done
     [ -z "$failed" ] || exit 1

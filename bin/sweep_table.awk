@@ -7,9 +7,9 @@
 END {
     for (n = from; n <= cells && (n == 0 || all || n in row); n++)
         if (n > 0 && !(n in row && row[n] ~ /\t-$/)) faults++
-    print faults + 0, cells > file("lines")
+    print faults + 0, cells > made("lines")
     to = n
-    for (n = from; n < to; n++) print line_of(n) > file("lines")
+    for (n = from; n < to; n++) print line_of(n) > made("lines")
     printf "" > file("pending")
     # What is taken from an index is a text, and would be compared as one.
     for (n in row) if (n + 0 >= to) print row[n] > file("pending")

@@ -10,7 +10,7 @@ last=0
 # row and all before it are there.
 put_lines() {
     local some lines status=0
-    { IFS=$'\t' read -r some last && mapfile lines; } < "$work/lines" 2>/dev/null || no_room
+    { IFS=$'\t' read -r some last && mapfile lines; } < "$work/lines.$call" 2>/dev/null || no_room
     faults=$((faults + some))
     next=$((next + ${#lines[@]}))
     [ ${#lines[@]} -gt 0 ] || return 0
@@ -34,7 +34,7 @@ read_runs() {
         list+=$number$'\t'${run_lines[number - 1]}$'\n'
     done
     { of_grid "$1" part=run - part=rows "from=$next" "$work/pending" <<<"${list%$'\n'}" &&
-        mapfile -t verdicts < "$work/verdict" && [ ${#verdicts[@]} -eq $(($# - 1)) ]; } \
+        mapfile -t verdicts < "$work/verdict.$call" && [ ${#verdicts[@]} -eq $(($# - 1)) ]; } \
         2>/dev/null || no_room
 }
 
@@ -57,7 +57,7 @@ tell_fault() {
 take_in() {
     local number i=0
     read_runs 'rows table' "$@"
-    [ -z "$log" ] || [ ! -s "$work/rows" ] || keep "$work/rows"
+    [ -z "$log" ] || [ ! -s "$work/rows.$call" ] || keep "$work/rows.$call"
     for number; do
         { : > "$work/raw.$number"; } 2>/dev/null || true
         read_verdict "$number" "${verdicts[i++]}"

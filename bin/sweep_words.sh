@@ -2,6 +2,7 @@
 # shellcheck shell=bash disable=SC2154,SC2034  # names that sweep and its other files set, or use
 
 fixed=()
+declare -A fixed_values=()
 varied=()
 values=()
 tied=()
@@ -19,11 +20,10 @@ into=
 gather=
 
 # once OPTION: it was not given before.
+declare -A once_given=()
 once() {
-    local other
-    for other in "${fixed[@]}" "${varied[@]}" "${tied[@]}"; do
-        [ "$other" != "$1" ] || refuse "$1 is given twice"
-    done
+    [ -z "${once_given[$1]-}" ] || refuse "$1 is given twice"
+    once_given[$1]=yes
 }
 
 # take OPTION VALUES: neither has a character that a shell could take for its own.
@@ -73,6 +73,7 @@ set_word() {
         take "$1" "$2"
         [[ $2 != *,* ]] || refuse "$1 has several values, but no --vary before it"
         fixed+=("$1" "$2")
+        fixed_values[$1]=$2
         ;;
     esac
 }
