@@ -143,10 +143,14 @@ for threads in 1 2 3 4; do
 done
 
 call 'a refused size among others' 5 "$work/some" '' "$trace" "${caches[@]}" --l1-dsize 8,3,16
-call 'a required option is missing' 2 "$nothing" 'dinero_grid: command line refused, try --help
-' "$trace" "${caches[@]}"
-call 'an option of the other program' 2 "$nothing" 'dinero_grid: command line refused, try --help
-' "$trace" "${caches[@]}" --l1-dsize 8 --ring 64
+refused='dinero_grid: command line refused, try --help
+'
+call 'a required option is missing' 2 "$nothing" \
+    "dinero_grid: the following required arguments were not provided: --l1-dsize <SIZE>
+$refused" "$trace" "${caches[@]}"
+call 'an option of the other program' 2 "$nothing" \
+    "dinero_grid: unexpected argument '--ring' found
+$refused" "$trace" "${caches[@]}" --l1-dsize 8 --ring 64
 call 'an empty value' 2 "$nothing" 'dinero_grid: --l1-dsize: not a number
 ' "$trace" "${caches[@]}" --l1-dsize 8,,16
 call 'a list where there is none' 2 "$nothing" 'dinero_grid: --maxcount: not a number
@@ -156,16 +160,18 @@ call 'a bad letter in a list' 2 "$nothing" 'dinero_grid: --l1-drepl: not a lawfu
 full=(--l1-isize 1k --l1-ibsize 4 --l1-iassoc 02 --l1-dbsize 4 --l1-dwalloc n --l2-usize 32
     --l2-ubsize 8 --l2-uassoc 2 --l2-urepl f --flushcount 007)
 call 'a full table' 5 "$work/full" '' "$trace" "${full[@]}" --full --l1-dsize 8,3
-call 'a flag with a value' 2 "$nothing" 'dinero_grid: command line refused, try --help
-' "$trace" "${full[@]}" --full=yes --l1-dsize 8
+call 'a flag with a value' 2 "$nothing" \
+    "dinero_grid: unexpected value 'yes' for '--full' found; no more were expected
+$refused" "$trace" "${full[@]}" --full=yes --l1-dsize 8
 call 'too many threads' 2 "$nothing" 'dinero_grid: --threads: not a number from 0 to 1024
 ' "$trace" "${caches[@]}" --l1-dsize 8,16 --threads 1025
 call 'a list of threads' 2 "$nothing" 'dinero_grid: --threads: not a number from 0 to 1024
 ' "$trace" "${caches[@]}" --l1-dsize 8,16 --threads 1,2
 call 'a bad size and bad threads' 2 "$nothing" 'dinero_grid: --l1-dsize: not a number
 ' "$trace" "${caches[@]}" --l1-dsize 8,x --threads x
-call 'threads given twice' 2 "$nothing" 'dinero_grid: command line refused, try --help
-' "$trace" "${caches[@]}" --l1-dsize 8,16 --threads 1 --threads 2
+call 'threads given twice' 2 "$nothing" \
+    "dinero_grid: the argument '--threads <COUNT>' cannot be used multiple times
+$refused" "$trace" "${caches[@]}" --l1-dsize 8,16 --threads 1 --threads 2
 sizes=$(printf '8,%.0s' {1..64})8
 call '65 sizes by 64 ways' 2 "$nothing" 'dinero_grid: grid has more than 4096 configurations
 ' "$trace" "${caches[@]}" --l1-dsize "$sizes" --l1-dassoc "${sizes%,8}"

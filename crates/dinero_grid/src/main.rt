@@ -28,7 +28,9 @@ use crate::asked::{grid_for, has_refused};
 use crate::fault::{Fault, fault_text, status};
 use din_trace::{ByteReader, ByteWriter, FromRead, FromWrite, MAX_LIMIT, TraceFault};
 use dinero_options::WordsFault;
-use grid_options::{GridWordsFault, ParsedGrid, grid_help_text, parse_grid_words};
+use grid_options::{
+    GridWordsFault, ParsedGrid, grid_help_text, grid_refusal_text, parse_grid_words,
+};
 use grid_run::{GridFault, simulate_grid};
 use std::alloc::Global;
 use std::io::{BufWriter, ErrorKind, Read, Write};
@@ -123,6 +125,17 @@ fn words_fault_of(kind: ErrorKind) -> Fault {
     }
 }
 
+/// Prints what clap says of words that it refuses. If that cannot be printed, only the line of the
+/// fault is.
+fn explain(rt: &HostRuntime, words: &[String]) {
+    let Ok(Some(said)) = grid_refusal_text(rt.alloc(), words) else {
+        return;
+    };
+    if let Ok(line) = format!(in rt.alloc(); "dinero_grid: {said}\n") {
+        let _ = rt.stderr().write_all(line.as_bytes());
+    }
+}
+
 /// The grid that the program's arguments ask for.
 fn parse_args(rt: &HostRuntime) -> Result<ParsedGrid, Fault>
     ensures { IfOk result (λ asked. All IsBoundedPoint asked.points.items) }
@@ -138,7 +151,12 @@ fn parse_args(rt: &HostRuntime) -> Result<ParsedGrid, Fault>
     };
     match parse_grid_words(alloc, words.as_slice()) {
         Ok(asked) => Ok(asked),
-        Err(fault) => Err(Fault::Words(fault)),
+        Err(fault) => {
+            if fault == GridWordsFault::Words(WordsFault::Words) {
+                explain(rt, words.as_slice());
+            }
+            Err(Fault::Words(fault))
+        }
     }
 }
 

@@ -1,9 +1,9 @@
 //! The words of a command line that ask for a grid: many configurations, from lists of values.
 //!
 //! [`parse_grid_words`] reads the words after a program's name, and answers the grid that they ask
-//! for, or why they give none. [`grid_help_text`] is the help, and [`put_grid_words`] writes what
-//! is wrong with refused words. The options, their values and most refusals are those of the
-//! library dinero_options.
+//! for, or why they give none. [`grid_help_text`] is the help, [`put_grid_words`] writes what is
+//! wrong with refused words, and [`grid_refusal_text`] is what clap says of them. The options,
+//! their values and most refusals are those of the library dinero_options.
 //!
 //! The modules: `options` says which options it shares with the program of one configuration, and
 //! which of them may have a list; `own` has those of its own. `command` gives them to clap, and
@@ -12,7 +12,7 @@
 //! turns the words into the grid, and `refusal` has the text of each refusal.
 //!
 //! Proved: the answer to the words is the one that `specs/Grid` defines, with clap's contracts for
-//! the matches. Only tested: the text of the help.
+//! the matches. Only tested: the texts of the help and of what clap says.
 #![tactic(auto)]
 
 mod command;
@@ -28,5 +28,5 @@ mod written;
 
 pub use command::grid_help_text;
 pub use grid::{GridPoint, ParsedGrid};
-pub use refusal::put_grid_words;
+pub use refusal::{grid_refusal_text, put_grid_words};
 pub use words::{GridWordsFault, parse_grid_words};

@@ -1,11 +1,17 @@
 //! What is said of words that are refused.
 
+ghost use Rattle.std.specs.Prelude.{◌≡◌, IfOk, None, map, string_bytes, true};
+ghost use Rattle.clap.specs.Words.{takes};
 ghost use Rattle.din_trace.specs.Device.{Writes};
+ghost use Rattle.grid_options.specs.Grid.{grid_app};
 ghost use Rattle.grid_options.specs.Refusals.{grid_fault_text};
 
+use crate::command::grid_command;
 use crate::words::GridWordsFault;
+use clap::error::ErrorKind;
 use din_trace::{ByteWriter, DeviceFailed};
-use dinero_options::put_words;
+use dinero_options::{NoMemory, put_words};
+use std::alloc::{AllocError, Global};
 
 /// Writes what is wrong with the words, without the program's name. For help, this writes nothing.
 pub fn put_grid_words<W: ByteWriter>(
@@ -18,5 +24,60 @@ pub fn put_grid_words<W: ByteWriter>(
         GridWordsFault::Words(fault) => put_words(fault, writer),
         GridWordsFault::Threads => writer.put(b"--threads: not a number from 0 to 1024"),
         GridWordsFault::TooMany => writer.put(b"grid has more than 4096 configurations"),
+    }
+}
+
+/// Adds a line, with a question mark for each character that could steer a terminal.
+fn add_line(text: &mut String, line: &str) -> Result<(), AllocError> {
+    for character in line.chars() {
+        text.push(if character.is_control() {
+            '?'
+        } else {
+            character
+        })?;
+    }
+    Ok(())
+}
+
+/// The first paragraph of a text of clap, in one line.
+fn first_paragraph(alloc: Global, said: &str) -> Result<String, AllocError> {
+    let mut text = String::new(alloc);
+    for line in said.lines() {
+        if line.is_empty() {
+            return Ok(text);
+        }
+        if !text.is_empty() {
+            text.push(' ')?;
+        }
+        add_line(&mut text, line.trim_start_matches("error: ").trim())?;
+    }
+    Ok(text)
+}
+
+/// What clap says of words that it refuses, in one line and without the program's name: which
+/// option or word it is, and what is wrong with it. `None` where it takes the words, or help is
+/// asked for. The contract says nothing about the text.
+pub fn grid_refusal_text(alloc: Global, words: &[String]) -> Result<Option<String>, NoMemory>
+    ensures taken { takes grid_app (map string_bytes words.now) ≡ true
+        → IfOk result (λ text. text ≡ None) }
+{
+    let Ok(command) = grid_command(alloc) else {
+        return Err(NoMemory);
+    };
+    let Err(error) = command.try_get_matches_from(words) else {
+        return Ok(None);
+    };
+    match error.kind() {
+        ErrorKind::OutOfMemory => Err(NoMemory),
+        ErrorKind::DisplayHelp => Ok(None),
+        _ => {
+            let Ok(said) = format!(in alloc; "{error}") else {
+                return Err(NoMemory);
+            };
+            match first_paragraph(alloc, said.as_str()) {
+                Ok(text) => Ok(Some(text)),
+                Err(_) => Err(NoMemory),
+            }
+        }
     }
 }

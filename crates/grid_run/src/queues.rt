@@ -19,12 +19,12 @@ use cache_core::NoMemory;
 use stage_core::Side;
 use std::alloc::Global;
 
-/// For each second level so many requests may wait, on an average, before one thread serves them.
-/// The more there are, the longer each second level finds its own in the processor's caches; but
-/// what waits takes memory.
+/// One thread serves what waits as soon as there are so many requests for each second level, on an
+/// average. The more there are, the longer each second level finds its own in the processor's
+/// caches; but what waits takes memory.
 const MUCH_EACH: usize = 65_536;
 
-/// For all second levels of a lane, so many may wait at most.
+/// It does so, too, as soon as there are so many for all second levels of a lane.
 const MUCH: usize = 2_097_152;
 
 /// An empty queue for the second levels of a shelf.

@@ -18,11 +18,17 @@ fn add_words(alloc: Global, words: &mut Vec<String>, line: &str) -> Result<(), A
     Ok(())
 }
 
-/// The answer to the words of `OTHERS`, and then of this line.
-pub fn parsed(alloc: Global, line: &str) -> Result<Result<ParsedGrid, GridWordsFault>, AllocError> {
+/// The words of `OTHERS`, and then those of this line.
+pub fn words_of(alloc: Global, line: &str) -> Result<Vec<String>, AllocError> {
     let mut words = Vec::new(alloc);
     add_words(alloc, &mut words, OTHERS)?;
     add_words(alloc, &mut words, line)?;
+    Ok(words)
+}
+
+/// The answer to the words of `OTHERS`, and then of this line.
+pub fn parsed(alloc: Global, line: &str) -> Result<Result<ParsedGrid, GridWordsFault>, AllocError> {
+    let words = words_of(alloc, line)?;
     Ok(parse_grid_words(alloc, words.as_slice()))
 }
 

@@ -1,9 +1,9 @@
 //! Words that give no grid, and what is said of them.
 
-use super::grids::parsed;
+use super::grids::{parsed, words_of};
 use din_trace::FromWrite;
 use dinero_options::{Opt, WordsFault};
-use grid_options::{GridWordsFault, grid_help_text, put_grid_words};
+use grid_options::{GridWordsFault, grid_help_text, grid_refusal_text, put_grid_words};
 use std::alloc::{AllocError, Global};
 use std::process::Abort;
 use std::test::Fail;
@@ -179,6 +179,52 @@ fn tells_what_is_wrong_with_the_words(rt: HostRuntime) -> Result<(), Fail> {
     ];
     for (fault, text) in rows {
         assert!(rt; is_told(&rt, fault, text), "at {text}");
+    }
+    Ok(())
+}
+
+/// Whether clap says this of the words of `OTHERS` and of this line.
+fn is_said(alloc: Global, line: &str, text: Option<&str>) -> Result<bool, AllocError> {
+    let words = words_of(alloc, line)?;
+    Ok(match grid_refusal_text(alloc, words.as_slice()) {
+        Ok(Some(said)) => text == Some(said.as_str()),
+        Ok(None) => text.is_none(),
+        Err(_) => false,
+    })
+}
+
+#[test]
+fn tells_which_word_clap_refuses(rt: HostRuntime) -> Result<(), Fail> {
+    let rows = [
+        ("--l1-dsize 64", None),
+        ("--help", None),
+        (
+            "--l1-dsize 64 --l1-dways 2",
+            Some("unexpected argument '--l1-dways' found"),
+        ),
+        (
+            "--l1-dsize 64 \x1b[2Jtrace",
+            Some("unexpected argument '?[2Jtrace' found"),
+        ),
+        (
+            "",
+            Some("the following required arguments were not provided: --l1-dsize <SIZE>"),
+        ),
+        (
+            "--l1-dsize 64 --l1-dsize 32",
+            Some("the argument '--l1-dsize <SIZE>' cannot be used multiple times"),
+        ),
+        (
+            "--l1-dsize",
+            Some("a value is required for '--l1-dsize <SIZE>' but none was supplied"),
+        ),
+        (
+            "--l1-dsize 64 --full=yes",
+            Some("unexpected value 'yes' for '--full' found; no more were expected"),
+        ),
+    ];
+    for (line, text) in rows {
+        assert!(rt; is_said(rt.alloc(), line, text)?, "at {line}");
     }
     Ok(())
 }
