@@ -1,10 +1,10 @@
 //! Failing allocations. Each test passes if there is enough memory. If an allocation is refused,
 //! also one for the words themselves, it fails with the name of the refusal and nothing else.
 
-use super::grids::{has_data_caches, parsed};
+use super::grids::{has_data_caches, parsed, words_of};
 use super::refusals::{UNREAD, names_all_but_the_rings};
 use dinero_options::{Opt, WordsFault};
-use grid_options::{GridWordsFault, ParsedGrid, grid_help_text};
+use grid_options::{GridWordsFault, ParsedGrid, grid_help_text, grid_refusal_text};
 use std::process::Abort;
 use std::test::Fail;
 
@@ -82,6 +82,14 @@ fn bad_threads_are_named_or_memory_is_wanted(rt: HostRuntime) -> Result<(), Fail
 fn an_unknown_option_is_refused_or_memory_is_wanted(rt: HostRuntime) -> Result<(), Fail> {
     let answer = parsed(rt.alloc(), "--l1-dsize 16 --ring 2")?;
     Ok(is_refused(&rt, answer, UNREAD)?)
+}
+
+#[test]
+fn the_refused_word_is_told_or_memory_is_wanted(rt: HostRuntime) -> Result<(), Fail> {
+    let words = words_of(rt.alloc(), "--l1-dsize 16 --ring 2")?;
+    let said = grid_refusal_text(rt.alloc(), words.as_slice())?.expect(&rt, "a text");
+    assert_eq!(rt; said.as_str(), "unexpected argument '--ring' found");
+    Ok(())
 }
 
 #[test]
