@@ -57,7 +57,7 @@ try() {
     (run_trial "$@") || status=$?
     case $status in
     0 | 5) ;;
-    2) refuse "$(sed -n '1s/^dinero_grid: //p' "$work/told$1")" ;;
+    2) refuse "$(sed 's/^dinero_grid: //; q' "$work/told$1")" ;;
     *)
         end_where_full
         die 4 "the simulator failed with status $status: $(< "$work/told$1")"
