@@ -4,9 +4,8 @@
 # release/NAME.gz is the program NAME that the gate proved and built, and release/NAME.sums says
 # what it was built from. Where that is what the checkout holds, nothing has to be proved here.
 
-# What stands behind the name keeps the line feeds at its end.
-top=$(CDPATH='' cd -P -- "${BASH_SOURCE[0]%/*}/.." && pwd && echo .)
-top=${top%$'\n.'}
+# Each command reads this file by its whole path.
+top=${BASH_SOURCE[0]%/bin/*}
 programs=(dinero_pipe dinero_grid)
 
 # all_below CRATE: the crates that it is built from, each behind those that it uses, itself last.

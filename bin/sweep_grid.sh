@@ -202,13 +202,16 @@ furnish() {
 # furnish_work: the folder of the sweep. Its shell ends behind all that it begins.
 furnish_work() {
     trap exit TERM
-    furnish "$work" && : > "$work/pending" && mkfifo "$work/finished"
+    : > "$work/pending" && furnish "$work"
 }
 
 # make_work: the folder of the sweep, which is removed at the end. Its name has no link.
 make_work() {
-    work=$(trap '' HUP INT TERM && made=$(mktemp -d) && cd -P -- "$made" && pwd) ||
-        die 4 'no folder for temporary files'
+    work=$(
+        trap '' HUP INT TERM
+        cd -P -- "${TMPDIR:-/tmp}" 2>/dev/null && export TMPDIR=$PWD
+        exec mktemp -d
+    ) || die 4 'no folder for temporary files'
     described=$work/grid
 }
 

@@ -97,10 +97,11 @@ choose_engine() {
 # begin_runs: here or on other machines. Sets `finished` to the end of the pipe that tells of them.
 begin_runs() {
     local both
-    # It is opened for both ends first: none waits for the other, which may have been interrupted.
-    exec {both}<> "$work/finished"
+    # A pipe without a name. It is opened for both ends first: none waits for the other, which may
+    # have been interrupted.
+    exec {both}<> <(:)
     begin runs run_engine
-    exec {finished}< "$work/finished" {both}>&-
+    exec {finished}< "/dev/fd/$both" {both}>&-
 }
 
 # take_runs: takes in what each has to say, as soon as it has ended; at the end, also those that
@@ -126,7 +127,7 @@ take_runs() {
 # one has ended.
 run_engine() {
     [ -z "$log_lock" ] || exec {log_lock}>&-
-    "$engine" > "$work/finished" {both}>&-
+    "$engine" > "/dev/fd/$both" {both}>&-
 }
 
 # read_ended: waits for the end of a run, and sets `some` to its number and those of all that have

@@ -189,8 +189,9 @@ under() {
     run env TOP="$fresh" TOOLCHAIN="$1" PATH="$tools:$PATH" "${@:2}"
 }
 
-# A sweep asks the simulator while it finds out what that was built from: here that is missing, or a
-# fake one of other sources, which takes no word, has other options, or takes any word.
+# A sweep asks the simulator, and begins its runs, while it finds out what that was built from: here
+# that is missing, or a fake one of other sources, which takes no word, has other options, has a one
+# for each zero of its tables, or takes any word.
 # shellcheck disable=SC2054  # commas between values
 grid=(--vary --l1-dsize 8,16 --l1-isize 16 --l1-ibsize 4 --l1-dbsize 4 --l2-usize 32 --l2-ubsize 8)
 fake_simulator() {
@@ -212,11 +213,12 @@ is_swept 1 && grep -q '^sweep: this is the kept program' "$err"
 verdict 'a sweep without a simulator takes the kept one' $?
 sweep_there "${grid[@]}"
 check 'the next sweep says nothing' is_swept 0
-for script in 'exit 2' 'echo "      --l3-usize <SIZE>  One"'; do
+for script in 'exit 2' 'echo "      --l3-usize <SIZE>  One"' \
+    "$top/crates/dinero_grid/out/dinero_grid \"\$@\" | sed '/^[0-9]/s/0/1/g'"; do
     fake_simulator "$script"
     sweep_there "${grid[@]}"
     is_swept 1 && grep -q '^sweep: this is the kept program' "$err"
-    verdict "a sweep believes no simulator of other sources: $script" $?
+    verdict "a sweep believes no simulator of other sources: ${script##*| }" $?
 done
 fake_simulator 'exit 0'
 sweep_there --l3-usize 4 "${grid[@]}"
