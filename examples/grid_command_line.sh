@@ -211,5 +211,12 @@ fail_to_print 'dinero_grid: table write failed
 help_names skipcount maxcount flushcount threads
 "$program" --help >"$work/help"
 if grep -q -e ' --full ' "$work/help"; then pass 'help on full'; else fail 'help on full'; fi
+statuses='Exit status: 0 table or help written, 1 faulty trace, 2 command line refused, 3 no memory,
+4 trace not read or table not written, 5 table written, but some configuration refused.'
+if [ "$(tail -n 2 "$work/help")" = "$statuses" ]; then
+    pass 'help on statuses'
+else
+    fail 'help on statuses'
+fi
 
 tell

@@ -7,7 +7,8 @@
 //!
 //! Proved: `table` writes the table that the definitions give for the text of its reader and the
 //! points that are asked for, or says why not; the line and the status of a fault are those of
-//! `specs/GridFaultText`. Only tested: that `main` passes the right streams.
+//! `specs/GridFaultText`. Only tested: that `main` passes the right streams, and the line before it
+//! that names a refused option or word.
 #![tactic(auto)]
 
 mod asked;

@@ -29,5 +29,8 @@ A trace has one record a line: a label, a blank and a hexadecimal address. The l
 
 Example: data caches of three sizes, each direct mapped and with two ways, so six configurations:
   dinero_grid --l1-isize 32k --l1-ibsize 64 --l1-dsize 8k,16k,32k --l1-dbsize 64 \\
-              --l1-dassoc 1,2 --l2-usize 1M --l2-ubsize 64 --l2-uassoc 16 < program.din"
+              --l1-dassoc 1,2 --l2-usize 1M --l2-ubsize 64 --l2-uassoc 16 < program.din
+
+Exit status: 0 table or help written, 1 faulty trace, 2 command line refused, 3 no memory,
+4 trace not read or table not written, 5 table written, but some configuration refused."
 }

@@ -2,6 +2,7 @@
 use Rattle.std.proofs.Common.{◌≡◌, ℕ, ◌<◌, ◌≤◌, ◌+◌, ◌-◌, ◌++◌, ◌∷◌, List, length, map, get_or}
 use Rattle.std.proofs.Common.{take, drop, ap, sym, subst, ◌∙◌, length-append, arith}
 use Rattle.std.proofs.Math.Seq.{drop-append_seam, take-append_seam}
+use Rattle.std.specs.Global.{Vec}
 use Rattle.std.specs.List.{All, flat_map}
 use Rattle.std.proofs.lemmas.List.{get_or-append-add, get_or-map, get_or_append_left}
 use Rattle.std.proofs.lemmas.List.{length-map, map-append}
@@ -14,6 +15,7 @@ use Rattle.grid_run.specs.Banks.{HaveServed, NothingWaitsIn, WasAsked, bank_task
 use Rattle.grid_run.specs.declared.back.Back.{Back}
 use Rattle.grid_run.specs.declared.bank.Bank.{Bank}
 use Rattle.grid_run.specs.declared.queue.Queue.{Queue}
+use Rattle.grid_run.proofs.Slices.{on-items, told-items}
 
 -- banks that do the same have second levels that do the same
 pub tasks-told : (xs ys : List Bank) → map bank_task xs ≡ map bank_task ys
@@ -22,6 +24,20 @@ tasks-told xs ys told =
     sym (flat_map-map (λ (ts : List BackTask). ts) bank_task xs)
     ∙ ap (flat_map (λ (ts : List BackTask). ts)) told
     ∙ flat_map-map (λ (ts : List BackTask). ts) bank_task ys
+
+-- banks that were lent, and came back with the same to do
+module _ (banks : Vec Bank) (lent new : List Bank) (are : lent ≡ banks.items)
+    (told : map bank_task new ≡ map bank_task lent) where
+  -- what they have served, the banks have served
+  pub lent-served : HaveServed lent new
+      → HaveServed banks.items (take banks.len (new ++ drop (length new) banks.items))
+  lent-served =
+      on-items bank_task banks.items lent new banks.len HaveServed banks.ok.0 are told
+
+  -- the banks do the same
+  pub lent-told : tasks_of_banks (take banks.len (new ++ drop (length new) banks.items))
+      ≡ tasks_of_banks banks.items
+  lent-told = tasks-told _ _ (told-items bank_task banks lent new are told)
 
 -- the seats of second levels are those of what they do
 pub seats-of-bank : (b : Bank) → map seats_of_task (bank_task b) ≡ map back_seats b.backs.items

@@ -12,10 +12,12 @@ use Rattle.stage_core.specs.SecondLevel.{second_history}
 use Rattle.stage_core.proofs.Worked.{length-second_history, the_hierarchy}
 use Rattle.grid_run.specs.Backs.{AreFew, AreSeatsIn, HasNone, IsPlacedIn, RequestsFor}
 use Rattle.grid_run.specs.Backs.{queue_seats, seats_of_task, sent_behind, task_of_shelf}
+use Rattle.grid_run.specs.Banks.{WasAsked}
 use Rattle.grid_run.specs.FirstLevels.{FirstTask, WasGiven, first_task, sent_by}
 use Rattle.grid_run.specs.Fronts.{front_rules}
 use Rattle.grid_run.specs.Seats.{Table, rules_of_seat}
 use Rattle.grid_run.specs.Lanes.{HasGiven, HasTaken}
+use Rattle.grid_run.specs.declared.bank.Bank.{Bank}
 use Rattle.grid_run.specs.declared.first_levels.FirstLevels.{FirstLevels}
 use Rattle.grid_run.specs.declared.lane.Lane.{Lane}
 use Rattle.grid_run.specs.declared.plan.BackShelf.{BackShelf}
@@ -40,6 +42,17 @@ few-sent sees makes t records few = record {
         few,
       );
 }
+
+-- for few records second levels were asked for few requests, also while they are lent
+pub few-asked : SecondLevelSeesAtMostTwo → SelectionsMakeAtMostTwo → (l : Lane) (lent : List Bank)
+    (records : List DinRecord) → lent ≡ l.banks.items → length records ≤ 2 ^ 40
+    → HasTaken records l → (all : RequestsFor) × All (WasAsked all) lent × AreFew all
+few-asked sees makes l lent records are few taken =
+    let sent = sent_by (first_task l.first) taken.past in (
+      sent,
+      subst (All (WasAsked sent)) (sym are) taken.lane.asked,
+      few-sent sees makes (first_task l.first) taken.past (omega (arith, taken.some, few)),
+    )
 
 -- where second levels are behind seats of a lane, so are their queues
 pub seated : (i d : Table) (shelves : List BackShelf)

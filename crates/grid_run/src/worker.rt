@@ -73,22 +73,9 @@ impl Worker {
         self.take_part(rt, threads, &batch[taken..]);
     }
 
-    /// Serves what waits for the second levels, before it takes more.
-    fn catch_up<T: Threads + Sync>(&mut self, rt: &T, threads: usize)
-        requires room { (past : List Event) × MayHaveTaken past self.old
-            × (length past ≤ MAX_LIMIT) }
-        ensures taken { (past : List Event) → MayHaveTaken past self.old
-            → MayHaveTaken past self.new }
-        ensures task { worker_task self.new ≡ worker_task self.old }
-    {
-        if !self.failed {
-            self.failed = self.lane.catch_up(rt, threads).is_err();
-        }
-    }
-
     /// Takes records in their order. Of several workers, each waits at the end of a long batch for
-    /// the slowest one. So where they have a thread each, they let nothing wait for the next batch,
-    /// which would make them uneven.
+    /// the slowest one. So a worker with one thread lets nothing wait for the next batch, which
+    /// would make them uneven.
     pub fn take<T: Threads + Sync>(&mut self, rt: &T, threads: usize, batch: &[DinRecord])
         requires room { (past : List Event) × MayHaveTaken past self.old
             × (length past + length batch.now ≤ MAX_LIMIT) }
@@ -97,8 +84,8 @@ impl Worker {
         ensures task { worker_task self.new ≡ worker_task self.old }
     {
         self.take_parts(rt, threads, batch);
-        if threads < 2 && batch.len() > PART {
-            self.catch_up(rt, threads);
+        if threads < 2 && batch.len() > PART && !self.failed {
+            self.failed = self.lane.catch_up(rt, threads).is_err();
         }
     }
 
