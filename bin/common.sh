@@ -63,16 +63,21 @@ show_version() {
 # The names of temporary files are absolute, and so begin with no hyphen.
 [[ ${TMPDIR:-/} == /* ]] || TMPDIR=$PWD/$TMPDIR
 
-# What a command leaves in the file system for itself, and takes away at its end.
+# What a command leaves in the file system for itself, and takes away at its end, when an interrupt
+# comes too late.
 leftovers=()
 remove_leftovers() {
+    trap '' HUP INT TERM
     [ ${#leftovers[@]} -eq 0 ] || rm -rf -- "${leftovers[@]}"
 }
 
-# make_temporary: sets `temporary` to a new folder, which goes at the command's end.
+# make_temporary: sets `temporary` to a new folder, which goes at the command's end. An interrupt
+# comes before it is made, or once it is known.
 make_temporary() {
-    temporary=$(mktemp -d) || die 4 'no folder for temporary files'
-    leftovers+=("$temporary")
+    leftovers+=("$(trap '' HUP INT TERM && exec mktemp -d)") ||
+        die 4 'no folder for temporary files'
+    # shellcheck disable=SC2034  # commands use it
+    temporary=${leftovers[-1]}
 }
 
 # no_room: for the files that a command keeps for itself.
@@ -80,7 +85,9 @@ no_room() {
     die 4 "no room for temporary files in ${TMPDIR:-/tmp}"
 }
 
-# tidy_up_with FUNCTION: it is called at the command's end, also where that is an interrupt.
+# tidy_up_with FUNCTION: it is called at the command's end, also where that is an interrupt. In the
+# shell that catches it, no command has two substitutions `$(..)`: bash 5.2 loses an interrupt that
+# comes during the first of them.
 tidy_up_with() {
     # shellcheck disable=SC2064  # the function of now
     trap "$1" EXIT

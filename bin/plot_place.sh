@@ -11,6 +11,9 @@ place_anew() {
         target=$(readlink -f -- "$2" && echo .) || die 4 "$2 could not be written"
         target=${target%$'\n.'}
     fi
-    mode=$(stat -c %a -- "$target" 2>/dev/null) || printf -v mode %o $((0666 & ~$(umask)))
+    mode=$(stat -c %a -- "$target" 2>/dev/null) || {
+        mode=$(umask)
+        printf -v mode %o $((0666 & ~mode))
+    }
     place "$mode" "$1" "$target"
 }

@@ -38,6 +38,13 @@ kept_word() {
     sed -n "s/^$2 //p" "$top/release/$1.sums" 2>/dev/null
 }
 
+# has_kept_word NAME WHAT WORD: the sums of the kept program NAME say this.
+has_kept_word() {
+    local word
+    word=$(kept_word "$1" "$2")
+    [ "$3" = "$word" ]
+}
+
 # list_sources CRATE: its line of crates.txt, and the sums of its code, definitions and proofs.
 list_sources() {
     local part parts=("crates/$1/src")
@@ -71,9 +78,11 @@ find_built() {
 
 # standing NAME: the sum of a program's sources, and its own.
 standing() {
-    local built
+    local built sources program
     find_built "$1"
-    echo "$(sum_of_sources "$1") $(sum_of "$built")"
+    sources=$(sum_of_sources "$1")
+    program=$(sum_of "$built")
+    echo "$sources $program"
 }
 
 # note_standing NAME: writes it beside the program, as of a second before it was looked at. The file
@@ -95,18 +104,19 @@ is_untouched() {
 
 # is_current NAME: the program that stands there was built from what the checkout holds.
 is_current() {
-    local built
+    local built noted
     find_built "$1"
     [ -x "$built" ] && [ -f "$built.from" ] || return
     is_untouched "$built" || {
-        [ "$(standing "$1")" = "$(< "$built.from")" ] && { note_standing "$1" 2>/dev/null || true; }
+        noted=$(< "$built.from")
+        [ "$(standing "$1")" = "$noted" ] && { note_standing "$1" 2>/dev/null || true; }
     }
 }
 
 # unpack_kept NAME FILE: the kept program, if its sum is the one that was written down.
 unpack_kept() {
     gzip -dc "$top/release/$1.gz" > "$2" 2>/dev/null &&
-        [ "$(sum_of "$2")" = "$(kept_word "$1" program)" ]
+        has_kept_word "$1" program "$(sum_of "$2")"
 }
 
 # compare_kept NAME FILE: ends the command unless this is the kept program, and of these sources.
@@ -117,7 +127,7 @@ compare_kept() {
     kept=$temporary/$1
     unpack_kept "$1" "$kept" || die 1 "release/$1.gz is missing or damaged"
     cmp -s "$kept" "$2" || die 1 "the kept program $1 is not the one that was built"
-    [ "$(sum_of_sources "$1")" = "$(kept_word "$1" sources)" ] ||
+    has_kept_word "$1" sources "$(sum_of_sources "$1")" ||
         die 1 "release/$1.sums is of other sources"
     echo "release/$1.gz is, bit for bit, the program that was built"
     is_by_toolchain "$1" "$(rt version)" ||
@@ -133,7 +143,7 @@ suits() {
     lack="release/$1.sums is missing or damaged"
     [ -n "$(kept_word "$1" sources)" ] || return
     lack='it is of other sources'
-    [ "$(sum_of_sources "$1")" = "$(kept_word "$1" sources)" ] || return
+    has_kept_word "$1" sources "$(sum_of_sources "$1")" || return
     lack='another toolchain than the one here has built it'
     ! command -v rt >/dev/null || is_by_toolchain "$1" "$(rt version)"
 }

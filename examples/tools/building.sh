@@ -220,6 +220,9 @@ for script in 'exit 2' 'echo "      --l3-usize <SIZE>  One"' \
     is_swept 1 && grep -q '^sweep: this is the kept program' "$err"
     verdict "a sweep believes no simulator of other sources: ${script##*| }" $?
 done
+new_checkout
+stopped 'Ctrl-C while it is found out what a simulator is built from' sort \
+    "$fresh/bin/sweep" "${grid[@]}" -- "$top/examples/1-kinds/kinds.din"
 fake_simulator 'exit 0'
 sweep_there --l3-usize 4 "${grid[@]}"
 [ "$status" -eq 2 ] && [ ! -s "$out" ] &&
