@@ -119,16 +119,30 @@ END
     echo "$folder"
 }
 
-# stopped NAME TOOL COMMAND..: Ctrl-C while the command waits for the tool.
-stopped() {
-    local folder
-    folder=$(standing_still "$2")
+# slow_folders: a folder whose mktemp leaves a mark once it has made one, and takes long to say so.
+slow_folders() {
+    mkdir -p "$work/slow"
+    cat >"$work/slow/mktemp" <<'END'
+#!/bin/sh
+folder=$(PATH=/usr/bin:/bin mktemp "$@") && : >"$MARK" && sleep 0.5 && echo "$folder"
+END
+    chmod +x "$work/slow/mktemp"
+    echo "$work/slow"
+}
+
+# stopped_in NAME FOLDER COMMAND..: Ctrl-C once a tool of the folder has left its mark.
+stopped_in() {
     rm -f "$work/still"
-    MARK=$work/still PATH=$folder:$PATH start "${@:3}"
+    MARK=$work/still PATH=$2:$PATH start "${@:3}"
     until_true test -e "$work/still"
     kill -INT -- "-$started"
     status=0
     wait "$started" 2>/dev/null || status=$?
     [ "$status" -eq 130 ] && [ ! -s "$out" ] && grep -qx "[a-z]*: interrupted" "$err"
     verdict "$1" $?
+}
+
+# stopped NAME TOOL COMMAND..: Ctrl-C while the command waits for the tool.
+stopped() {
+    stopped_in "$1" "$(standing_still "$2")" "${@:3}"
 }

@@ -142,3 +142,5 @@ else
 fi
 
 ! has gnuplot || stopped 'plot and Ctrl-C' gnuplot "$plot" kinds kinds.tsv stopped.svg
+stopped_in 'plot and Ctrl-C while its folder is made' "$(slow_folders)" \
+    "$plot" kinds kinds.tsv stopped.svg

@@ -160,6 +160,8 @@ interrupted() {
 }
 interrupted 'sweep and Ctrl-C' INT
 interrupted 'sweep that is sent TERM' TERM
+stopped_in 'sweep and Ctrl-C while its folder is made' "$(slow_folders)" \
+    "$sweep" "${long[@]}" -- long.din
 
 # finished: the rows of a log, without their counts.
 finished() {
