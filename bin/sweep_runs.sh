@@ -14,7 +14,8 @@ run_with_xargs() {
 }
 
 # parallel logs each run as it ends, and keeps what it printed. It takes braces in the name of a
-# file for its own, and runs what stands in them; so it is given names of ours.
+# file for its own, and runs what stands in them; so it is given names of ours. Its bar shows what
+# it is given for a run: the number.
 run_with_parallel() {
     local number words=(--plain --joblog joblog --results 'raw.{#}')
     [ -z "$jobs" ] || words+=(--jobs "$jobs")
@@ -23,7 +24,9 @@ run_with_parallel() {
     cd "$work" && : > joblog || return
     # A terminal may stop who writes to it from behind, and the bar would stand still for ever.
     trap '' TTOU
-    TMPDIR=${work%/*} PARALLEL_SHELL=/bin/sh parallel "${words[@]}" < commands > /dev/null &
+    # shellcheck disable=SC2016  # the inner shell's words
+    TMPDIR=${work%/*} PARALLEL_SHELL=/bin/sh parallel "${words[@]}" \
+        'eval "$(sed -n {}p commands)"' < <(seq "$runs") > /dev/null &
     tail --pid $! -s 0.1 -n +1 -f joblog |
         while IFS=$'\t' read -r number _; do
             ! is_number "$number" || echo "$number"
@@ -44,13 +47,13 @@ choose_hosts() {
         site=$temporary
     fi
     # The list is read once, since it may be a pipe.
-    { mkdir "$site/host" && furnish "$site/host" && cat < "$hosts" > "$work/hosts"; } \
-        2>/dev/null || no_room
+    { mkdir "$site/host" && furnish "$site/host" && ln -s "$work/commands" "$site/host/commands" &&
+        cat < "$hosts" > "$work/hosts"; } 2>/dev/null || no_room
     host_words=(--sshloginfile hosts --workdir "$site/host")
     grep -qvE "^([0-9]+/)?:\$|$no_machine" "$work/hosts" || return 0
     need ssh openssh-client
     need rsync rsync
-    host_words+=(--basefile dinero_grid --cleanup --rsync-opts -rLDzR)
+    host_words+=(--basefile dinero_grid --basefile commands --cleanup --rsync-opts -rLDzR)
     for name in "${!traces[@]}"; do
         host_words+=(--basefile "$name.din")
     done
