@@ -14,7 +14,7 @@ print_script() {
     echo 'set encoding utf8'
     echo "set terminal $(terminal)"
     echo "set output 'picture'"
-    cat <<'END'
+    cat <<'END' || return
 set datafile separator tab
 set grid ytics lt 1 lc rgb '#dddddd'
 set border 3
@@ -116,10 +116,10 @@ lc rgb '${colours[i % 6]}' dt ${dashes[i % 6]} pt ${shapes[i % 7]} title $said")
 print_kinds() {
     local box="'bars' using 1:(0):(\$1-0.4):(\$1+0.4)" style='with boxxyerror lw 1'
     [ "$slot" -ge 12 ] || style='with boxxyerror lw 0.4'
-    awk '{ print NR + $1 - 2 "\t" $0 }' "$work/points" > "$work/bars"
+    awk '{ print NR + $1 - 2 "\t" $0 }' "$work/points" > "$work/bars" || return
     print_group_labels
     print_bar_tics
-    cat <<'END'
+    cat <<'END' || return
 set style fill solid 1 border lc rgb 'black'
 set xzeroaxis lt -1
 set xtics scale 0

@@ -98,8 +98,9 @@ note_standing() {
 # is_untouched PLACE: by the file system's clock, which no `touch` turns back, nothing that standing
 # looks at has changed since that time.
 is_untouched() {
-    [ -z "$(find "$1" "$top/HANDLES" "$top/crates.txt" "$top"/crates/*/{src,specs,proofs} \
-        -cnewer "$1.from" -print -quit 2>&1)" ]
+    local touched
+    touched=$(find "$1" "$top/HANDLES" "$top/crates.txt" "$top"/crates/*/{src,specs,proofs} \
+        -cnewer "$1.from" -print -quit 2>&1) && [ -z "$touched" ]
 }
 
 # is_current NAME: the program that stands there was built from what the checkout holds.

@@ -90,6 +90,16 @@ echo >>"$fresh/crates/sim_run/src/lib.rt"
 launch
 check 'a source that is older by the clock builds the program' is_built
 rm "$work/fake/date"
+# A search for sources that have changed, which ends before it finds any.
+new_checkout
+launch
+echo >>"$fresh/crates/sim_run/src/lib.rt"
+printf '#!/bin/sh\ncase $* in *-cnewer*) exit 1 ;; esac\nexec %q "$@"\n' "$(command -v find)" \
+    >"$work/fake/find"
+chmod +x "$work/fake/find"
+launch
+check 'a search that failed finds no source untouched' is_built
+rm "$work/fake/find"
 new_checkout
 launch
 rm "$fresh/crates/sim_run/specs/TraceReport.antt"
