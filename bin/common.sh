@@ -71,11 +71,14 @@ remove_leftovers() {
     [ ${#leftovers[@]} -eq 0 ] || rm -rf -- "${leftovers[@]}"
 }
 
-# make_temporary: sets `temporary` to a new folder, which goes at the command's end. An interrupt
-# comes before it is made, or once it is known.
+# make_temporary: sets `temporary` to a new folder, which goes at the command's end. Its name has no
+# link. An interrupt comes before it is made, or once it is known.
 make_temporary() {
-    leftovers+=("$(trap '' HUP INT TERM && exec mktemp -d)") ||
-        die 4 'no folder for temporary files'
+    leftovers+=("$(
+        trap '' HUP INT TERM
+        cd -P -- "${TMPDIR:-/tmp}" 2>/dev/null && export TMPDIR=$PWD
+        exec mktemp -d
+    )") || die 4 'no folder for temporary files'
     # shellcheck disable=SC2034  # commands use it
     temporary=${leftovers[-1]}
 }

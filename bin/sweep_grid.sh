@@ -205,13 +205,10 @@ furnish_work() {
     : > "$work/pending" && furnish "$work"
 }
 
-# make_work: the folder of the sweep, which is removed at the end. Its name has no link.
+# make_work: the folder of the sweep.
 make_work() {
-    work=$(
-        trap '' HUP INT TERM
-        cd -P -- "${TMPDIR:-/tmp}" 2>/dev/null && export TMPDIR=$PWD
-        exec mktemp -d
-    ) || die 4 'no folder for temporary files'
+    make_temporary
+    work=$temporary
     described=$work/grid
 }
 
