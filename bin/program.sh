@@ -182,7 +182,7 @@ launch() {
 build_where_needed() {
     ! is_current "$1" || return 0
     if suits "$1" && put_kept "$1"; then
-        complain 'this is the kept program, which the gate proved and built from these very sources; bin/prove does so here'
+        complain 'this is the kept program, proved and built from these very sources; bin/prove does so here'
     else
         complain "the kept program is not taken: $lack"
         . "$top/bin/build.sh"

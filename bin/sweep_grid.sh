@@ -228,31 +228,31 @@ plan() {
     runs=${#run_lines[@]}
 }
 
-# claim FOLDER: the folder of the reports is of this grid, from now on or since an earlier call.
+# claim FOLDER: the folder of the rows is of this grid, from now on or since an earlier call.
 claim() {
     choose_folder "$1"
-    if ! [ -f "$reports/grid" ]; then
-        make_reports 2>/dev/null || die 4 "the folder $folder could not be made"
+    if ! [ -f "$store/grid" ]; then
+        make_store 2>/dev/null || die 4 "the folder $folder could not be made"
         end_where_stuck
-        place 644 "$described" "$reports/grid"
+        place 644 "$described" "$store/grid"
     fi
-    cmp -s "$described" "$reports/grid" || refuse "$folder is of another grid"
+    cmp -s "$described" "$store/grid" || refuse "$folder is of another grid"
 }
 
-# make_reports: the folder of the reports, if it is not there. Sets `made_reports` if it makes it.
-make_reports() {
-    mkdir -p -- "${reports%/*}/" || return
-    if mkdir -- "$reports"; then
-        made_reports=yes
+# make_store: the folder of the rows, if it is not there. Sets `made_store` if it makes it.
+make_store() {
+    mkdir -p -- "${store%/*}/" || return
+    if mkdir -- "$store"; then
+        made_store=yes
     else
-        [ -d "$reports" ]
+        [ -d "$store" ]
     fi
 }
 
-# choose_folder FOLDER: of the reports. Its name is kept for what is said of it.
+# choose_folder FOLDER: of the rows. Its name is kept for what is said of it.
 choose_folder() {
     local paths
     folder=$1
     find_paths "$folder"
-    reports=${paths[0]}
+    store=${paths[0]}
 }

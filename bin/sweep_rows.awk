@@ -49,7 +49,7 @@ function is_ours(text) {
 function end_run() {
     sub(/^dinero_grid: /, "", said)
     gsub(/\t/, " ", said)
-    if (said == "" || ended == "") said = "no report"
+    if (said == "" || ended == "") said = "not simulated"
     make_rows(1)
     # A simulator that has refused the trace hears no more of it, and the unpacker is cut off.
     if (unpacked && (unpacked < 128 || is_table()))

@@ -160,11 +160,11 @@ one_task() {
         tell_fault
         if [ "$ended" != whole ]; then
             end_where_stuck
-            die 4 "task $task has no whole report"
+            die 4 "task $task has not all of its rows"
         fi
         [ "$fault" = - ] || failed=yes
         cat "$work/rows.$call" >> "$work/kept" || no_room
-        place 644 "$work/kept" "$reports/$name"
+        place 644 "$work/kept" "$store/$name"
     done
     [ -z "$failed" ] || exit 1
 }

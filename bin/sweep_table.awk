@@ -53,7 +53,7 @@ function chosen_of(name,   d) {
 function counts_of(n,   text, field, i) {
     if (!(n in row)) {
         for (i = 1; i < head_count; i++) text = text "-\t"
-        return text "no report"
+        return text "not simulated"
     }
     split(row[n], field, "\t")
     text = field[3 + options]

@@ -79,17 +79,17 @@ gather_table() {
     [ -z "$log$restarts$full$hosts$jobs$task$into${fixed[*]}${varied[*]}${tied[*]}${traces[*]}" ] ||
         refuse '--gather takes no other words'
     choose_folder "$gather"
-    described=$reports/grid
+    described=$store/grid
     [ "$({ head -n 1 "$described" | cut -f 1; } 2>/dev/null)" = counts ] ||
-        die 4 "no folder of reports: $gather"
-    for file in "$reports"/*; do
+        die 4 "no folder of rows: $gather"
+    for file in "$store"/*; do
         [[ ! ${file##*/} =~ ^[0-9]+(-[0-9]+)?$ ]] || cat "$file"
     done > "$work/pending" 2>/dev/null || no_room
     put_last_lines
     tell_faults
 }
 
-# writing_fault FOLDER: why no report can be written there, such as a full disk, if none can.
+# writing_fault FOLDER: why no rows can be written there, such as a full disk, if none can.
 writing_fault() {
     local fault probe=$1/probe.$BASHPID
     fault=$({ head -c 8192 /dev/zero > "$probe"; } 2>&1) && fault=
@@ -97,11 +97,11 @@ writing_fault() {
     echo "${fault##*: }"
 }
 
-# end_where_stuck: ends the command if no report can be written.
+# end_where_stuck: ends the command if no rows can be written.
 end_where_stuck() {
     local fault
-    fault=$(writing_fault "$reports")
-    [ -z "$fault" ] || die 4 "no report can be written to $folder: $fault"
+    fault=$(writing_fault "$store")
+    [ -z "$fault" ] || die 4 "no rows can be written to $folder: $fault"
 }
 
 # end_where_full: ends the command if what a run prints can't be kept.

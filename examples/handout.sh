@@ -49,7 +49,8 @@ write_table() {
     awk -F '\t' '
         NR == 1 {
             for (i = 1; i <= NF; i++) at[$i] = i
-            print "| Size | Ways | Accesses | Misses | Miss rate | Compulsory | Capacity | Conflict |"
+            printf "| Size | Ways | Accesses | Misses | Miss rate | Compulsory "
+            print "| Capacity (by subtraction) | Conflict (by subtraction) |"
             print "|---|---|---|---|---|---|---|---|"
             next
         }

@@ -74,7 +74,7 @@ test_slurm() {
     cp "$err" "$work/submitted"
     [ "$status" -eq 0 ] && run bin/sweep --gather lab/slurm && [ "$status" -eq 1 ] &&
         head -n 17 "$out" | cmp -s - <(head -n 17 whole) &&
-        [ "$(tail -n +18 "$out" | cut -f 37 | sort | uniq -c | tr -s ' \n' ' ')" = ' 12 no report ' ]
+        [ "$(tail -n +18 "$out" | cut -f 37 | sort | uniq -c | tr -s ' \n' ' ')" = ' 12 not simulated ' ]
     verdict 'four tasks of the Slurm script on a node' $?
     unset SLURM_CONF
 }

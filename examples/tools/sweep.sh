@@ -91,7 +91,7 @@ done >"$out" 2>"$err"
 verdict 'sweep by tasks, and --gather' $?
 rm tasks/3
 run "$sweep" --gather tasks
-[ "$status" -eq 1 ] && [ "$(rows_of 37)" = '-,-,no report,-,' ]
+[ "$status" -eq 1 ] && [ "$(rows_of 37)" = '-,-,not simulated,-,' ]
 verdict 'gathering where a report is missing' $?
 ends 'a task that the grid has not' 2 'sweep: --task: the grid has 4 configurations, and no 5; try --help' \
     "$sweep" --task 5 --into tasks "${grid[@]}" -- kinds.din
@@ -136,7 +136,7 @@ refused '--l1-drepl: not a lawful letter' --vary --l1-drepl l,x "${grid[@]}" -- 
 refused '--l2-urepl: not a lawful letter' --l2-urepl x "${grid[@]}" -- kinds.din
 ends 'sweep of a trace that is not there' 4 'sweep: no trace to read: nowhere.din' \
     "$sweep" "${grid[@]}" -- kinds.din nowhere.din
-ends 'gathering from nowhere' 4 'sweep: no folder of reports: nowhere' "$sweep" --gather nowhere
+ends 'gathering from nowhere' 4 'sweep: no folder of rows: nowhere' "$sweep" --gather nowhere
 to_full 'sweep to a full disk' 'sweep: the table could not be written' \
     "$sweep" "${long[@]}" -- long.din
 "$sweep" "${long[@]}" -- long.din 2>"$err" | head -n 1 >"$out"
@@ -260,7 +260,7 @@ test_ssh() {
     echo nowhere.invalid >machines
     run "$sweep" --hosts machines "${grid[@]}" -- kinds.din
     [ "$status" -eq 1 ] &&
-        [ "$(cut -f 37 "$out" | sort | uniq -c | tr -s ' \n' ' ')" = ' 1 fault 4 no report ' ]
+        [ "$(cut -f 37 "$out" | sort | uniq -c | tr -s ' \n' ' ')" = ' 1 fault 4 not simulated ' ]
     verdict 'sweep over a machine that is not there' $?
 }
 

@@ -137,7 +137,7 @@ test_full_tasks() {
     run "$sweep" --gather parts
     [ "$status" -eq 1 ] && whole_lines "$out" 126 &&
         cmp -s <(cut -f -20 "$out") <(cut -f -20 full.tsv) && [ "$(rows_of 56,125,126)" = \
-            '- - no report,- - no report,- - no report,- - no report,8 0 -,8 0 -,8 0 -,8 0 -,' ]
+            '- - not simulated,- - not simulated,- - not simulated,- - not simulated,8 0 -,8 0 -,8 0 -,8 0 -,' ]
     verdict 'gathering a full table where a report is missing' $?
     rm -r parts
 }

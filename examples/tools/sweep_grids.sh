@@ -107,14 +107,14 @@ sweep: 8 of 8 configurations have a fault" ] && [ "$(wc -l <failed.log)" -eq 1 ]
 }
 check 'a simulator that has no memory' \
     fails_with '{ echo "dinero_grid: no memory" >&2; exit 3; }' 'no memory'
-check 'a simulator that says nothing' fails_with '{ exit 4; }' 'no report'
+check 'a simulator that says nothing' fails_with '{ exit 4; }' 'not simulated'
 check 'a simulator whose lines stand in another order' fails_with \
-    "{ '$simulator' \"\$@\" | { IFS= read -r names; echo \"\$names\"; tac; }; exit 0; }" 'no report'
+    "{ '$simulator' \"\$@\" | { IFS= read -r names; echo \"\$names\"; tac; }; exit 0; }" 'not simulated'
 simulator=$work/failing
 noted --task 1/2 --into none "${grid[@]}" -- kinds.din
 simulator=$top/crates/dinero_grid/out/dinero_grid
 [ "$status" -eq 4 ] && [ "$(ls none)" = grid ] &&
-    [ "$(<"$err")" = $'sweep: kinds.din: no report\nsweep: task 1 has no whole report' ]
+    [ "$(<"$err")" = $'sweep: kinds.din: not simulated\nsweep: task 1 has not all of its rows' ]
 verdict 'a task whose simulator says nothing' $?
 rm -r none
 

@@ -94,6 +94,6 @@ verdict 'sweep tells why an instruction cache was refused' $?
 "$sweep" --task 1 --into cut "${one[@]}" -- kinds.din
 head -c 100 cut/1 >"$work/report" && cp "$work/report" cut/1
 run "$sweep" --gather cut
-[ "$status" -eq 1 ] && [ "$(tail -n 1 "$out" | cut -f 37)" = 'no report' ]
+[ "$status" -eq 1 ] && [ "$(tail -n 1 "$out" | cut -f 37)" = 'not simulated' ]
 verdict 'gathering a report that was cut off' $?
 rm -r cut

@@ -127,11 +127,11 @@ test_full_disk() {
 test_folders() {
     local folder
     mkdir empty
-    ends 'gathering from an empty folder' 4 'sweep: no folder of reports: empty' \
+    ends 'gathering from an empty folder' 4 'sweep: no folder of rows: empty' \
         "$sweep" --gather empty
     for folder in empty new; do
         ends "a task that can't be written into a folder that is $folder" 4 \
-            "sweep: no report can be written to $folder: File too large" \
+            "sweep: no rows can be written to $folder: File too large" \
             no_room 4 "$sweep" --task 1 --into $folder "${grid[@]}" -- kinds.din
     done
     [ ! -e new ] && rmdir empty

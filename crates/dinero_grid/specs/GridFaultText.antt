@@ -3,10 +3,10 @@ use Rattle.std.specs.Prelude.{ℕ, List, [], ◌∷◌, ◌++◌, codes, Bool, t
 use Rattle.std.specs.Prelude.{if◌then◌else◌}
 use Rattle.dinero_options.specs.Refusals.{words_status}
 use Rattle.dinero_options.specs.TraceRefusals.{trace_fault_text, trace_status}
-use Rattle.dinero_options.specs.declared.words.WordsFault.TheVariants as words
+use Rattle.dinero_options.specs.declared.fault.WordsFault.TheVariants as words
 use Rattle.grid_options.specs.Refusals.{grid_fault_text}
-use Rattle.grid_options.specs.declared.words.GridWordsFault.{GridWordsFault}
-use Rattle.grid_options.specs.declared.words.GridWordsFault.TheVariants as grid_words
+use Rattle.grid_options.specs.declared.fault.GridWordsFault.{GridWordsFault}
+use Rattle.grid_options.specs.declared.fault.GridWordsFault.TheVariants as grid_words
 use Rattle.grid_run.specs.declared.fault.GridFault.{GridFault}
 use Rattle.grid_run.specs.declared.fault.GridFault.TheVariants as run
 use Rattle.dinero_grid.specs.declared.fault.Fault.{Fault}

@@ -43,7 +43,8 @@ use std::{env, thread};
 /// how many it has.
 const THREADS: usize = 4;
 
-/// How many threads work: as many as are asked for, or if that is 0, as many as the machine has.
+/// How many threads work: as many as are asked for, or if that is 0, one for each core that the
+/// program may use.
 fn threads_for<T: Threads>(rt: &T, asked: usize) -> usize
     ensures { asked ≢ 0 → result ≡ asked }
 {

@@ -16,7 +16,7 @@ use Rattle.dinero_options.specs.Answer.{refusal_by_kind, refusal_by_option, sett
 use Rattle.dinero_options.specs.Answer.{text_of}
 use Rattle.dinero_options.specs.Options.{command_app, options}
 use Rattle.dinero_options.specs.declared.opt.Opt.{Opt}
-use Rattle.dinero_options.specs.declared.words.WordsFault.{WordsFault}
+use Rattle.dinero_options.specs.declared.fault.WordsFault.{WordsFault}
 
 -- texts that stand in the order of the options are read as the texts themselves
 pub by_place : {A : Type 0} (texts : Opt → Text) (a : A)

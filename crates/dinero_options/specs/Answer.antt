@@ -25,8 +25,8 @@ use Rattle.dinero_options.specs.declared.opt.Kind.TheVariants.{Replacement, Choi
 use Rattle.dinero_options.specs.declared.opt.Opt.{Opt}
 use Rattle.dinero_options.specs.declared.opt.Opt.TheVariants as o
 use Rattle.dinero_options.specs.declared.settings.Settings.{Settings}
-use Rattle.dinero_options.specs.declared.words.WordsFault.{WordsFault}
-use Rattle.dinero_options.specs.declared.words.WordsFault.TheVariants as fault
+use Rattle.dinero_options.specs.declared.fault.WordsFault.{WordsFault}
+use Rattle.dinero_options.specs.declared.fault.WordsFault.TheVariants as fault
 
 -- the text of an option in clap's matches: the one that was given, or its default
 abbrev pub text_of : List Row → Opt → Text

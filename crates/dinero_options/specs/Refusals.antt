@@ -7,8 +7,8 @@ use Rattle.stage_core.specs.declared.config.CacheName.TheVariants as cache
 use Rattle.stage_core.specs.declared.config.ConfigFault.{ConfigFault}
 use Rattle.stage_core.specs.declared.config.ConfigFault.TheVariants as config
 use Rattle.dinero_options.specs.Options.{name_of}
-use Rattle.dinero_options.specs.declared.words.WordsFault.{WordsFault}
-use Rattle.dinero_options.specs.declared.words.WordsFault.TheVariants as words
+use Rattle.dinero_options.specs.declared.fault.WordsFault.{WordsFault}
+use Rattle.dinero_options.specs.declared.fault.WordsFault.TheVariants as words
 
 -- the name of a cache, as in the report
 abbrev pub cache_name_text : CacheName → List ℕ

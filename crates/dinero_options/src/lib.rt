@@ -7,9 +7,9 @@
 //! The modules: `opt` has the names of the options, and `help` says what each one sets. `command`
 //! gives them to clap. `values` reads a size, a count or a letter. `texts` takes the text of each
 //! option from clap's matches, and tells which can be read. `settings` reads a text for each
-//! option, and `words` turns the words into a lawful configuration and a selection. `refusal` and
-//! `trace_refusal` have the text and the exit status of each refusal of words or of a trace, which
-//! all programs share.
+//! option, and `words` turns the words into a lawful configuration and a selection. `fault` says
+//! why they give none. `refusal` and `trace_refusal` have the text and the exit status of each
+//! refusal of words or of a trace, which all programs share.
 //!
 //! A program whose options are some of these, or that reads many texts for an option, builds on the
 //! same steps: [`add_options`], [`take_words`], [`matched_text`], [`can_read`], [`unread_fault`],
@@ -22,6 +22,7 @@
 #![tactic(auto)]
 
 mod command;
+mod fault;
 mod help;
 mod opt;
 mod refusal;
@@ -32,10 +33,11 @@ mod values;
 mod words;
 
 pub use command::{NoMemory, add_options, help_text};
+pub use fault::WordsFault;
 pub use opt::Opt;
 pub use refusal::{config_text, put_words, words_status};
 pub use settings::{Settings, settings_in};
 pub use texts::{can_read, listed_text, matched_text, unread_fault};
 pub use trace_refusal::{put_trace, trace_status};
 pub use values::{read_count, read_size};
-pub use words::{WordsFault, parse_words, take_words};
+pub use words::{parse_words, take_words};

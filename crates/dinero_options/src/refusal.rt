@@ -6,7 +6,7 @@ ghost use Rattle.dinero_options.specs.Refusals.{cache_name_text, config_fault_te
 ghost use Rattle.dinero_options.specs.Refusals.{geometry_fault_text, words_fault_text};
 ghost use Rattle.dinero_options.specs.Refusals.{words_status};
 
-use crate::words::WordsFault;
+use crate::fault::WordsFault;
 use cache_core::GeometryFault;
 use din_trace::{ByteWriter, DeviceFailed};
 use stage_core::{CacheName, ConfigFault};

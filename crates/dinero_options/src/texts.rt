@@ -6,9 +6,9 @@ ghost use Rattle.dinero_options.specs.Answer.{first_unreadable, reads_as, refusa
 ghost use Rattle.dinero_options.specs.Answer.{text_at, text_of};
 ghost use Rattle.dinero_options.specs.Options.{kind_of_option, options};
 
+use crate::fault::WordsFault;
 use crate::opt::{Kind, Opt};
 use crate::values::{read_choice, read_count, read_replacement, read_size};
-use crate::words::WordsFault;
 use clap::ArgMatches;
 use std::alloc::{AllocError, Global};
 

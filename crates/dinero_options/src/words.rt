@@ -8,33 +8,13 @@ ghost use Rattle.dinero_options.specs.Answer.{if_readable, refusal_by_kind, sett
 ghost use Rattle.dinero_options.specs.Options.{options};
 
 use crate::command::command;
-use crate::opt::Opt;
+use crate::fault::WordsFault;
 use crate::settings::{Settings, settings_in};
 use crate::texts::{first_unread, matched_texts, unread_fault};
 use clap::error::ErrorKind;
 use clap::{ArgMatches, Command};
-use stage_core::{Config, ConfigFault, Selection};
+use stage_core::{Config, Selection};
 use std::alloc::Global;
-
-/// Why the words give no configuration. If several things are wrong, a refusal of clap comes first,
-/// then the first option whose value cannot be read, then the first rule that the configuration
-/// breaks.
-#[derive(Clone, Copy, Debug, PartialEq, Eq)]
-pub enum WordsFault {
-    /// clap refused the words: an unknown option, one given twice or without a value, or one that
-    /// is required and missing.
-    Words,
-    /// The value of the option is not a size or a count.
-    Number(Opt),
-    /// The value of the option is not one of its two letters.
-    Choice(Opt),
-    /// The configuration breaks a rule.
-    Config(ConfigFault),
-    /// Help was asked for.
-    Help,
-    /// An allocation failed.
-    Memory,
-}
 
 /// The fault if clap refuses the words for this reason.
 fn refusal(kind: ErrorKind) -> WordsFault

@@ -5,7 +5,7 @@ use Rattle.run_threads.specs.declared.fault.RunFault.{RunFault}
 use Rattle.run_threads.specs.declared.fault.RunFault.TheVariants as run
 use Rattle.dinero_options.specs.Refusals.{words_fault_text, words_status}
 use Rattle.dinero_options.specs.TraceRefusals.{trace_fault_text, trace_status}
-use Rattle.dinero_options.specs.declared.words.WordsFault.TheVariants as words
+use Rattle.dinero_options.specs.declared.fault.WordsFault.TheVariants as words
 use Rattle.dinero_pipe.specs.declared.fault.Fault.{Fault}
 use Rattle.dinero_pipe.specs.declared.fault.Fault.TheVariants.{Run, Words}
 

@@ -1,23 +1,19 @@
-//! The caches of one engine that are served together: what each counts, and what each did last.
+//! The caches of one engine that are served together: what each counts, and which of them hit last.
 
 ghost use Rattle.std.specs.Prelude.{◌≡◌, ◌<◌, ◌≤◌, ◌+◌, map, nat_lt, IfOk, length, true};
 ghost use Rattle.std.specs.List.{All, list_all};
-ghost use Rattle.cache_core.specs.History.{History, is_write};
+ghost use Rattle.cache_core.specs.History.{History};
 ghost use Rattle.cache_core.specs.declared.access.Access.{Access as Accessed};
-ghost use Rattle.cache_core.specs.Parts.{outcome_of};
-ghost use Rattle.grid_core.specs.Cells.{IsPlacedOn, IsPlacedAmong, shape_rules};
-ghost use Rattle.grid_core.specs.Cells.{KnowsPrior, dirty_bytes_of, hit_at, items_of, HitsIn};
-ghost use Rattle.grid_core.specs.Cells.{sent_on_of};
+ghost use Rattle.grid_core.specs.Cells.{IsPlacedOn, IsPlacedAmong, dirty_bytes_of, hit_at};
+ghost use Rattle.grid_core.specs.Cells.{items_of, HitsIn, sent_on_of};
 ghost use Rattle.grid_core.specs.Histograms.{past_in};
 ghost use Rattle.grid_core.specs.Standing.{StandsFor, HasMoved, found_in, rules_of, written_at};
 ghost use Rattle.grid_core.specs.Standing.{IsWithinStack, told_in};
 ghost use Rattle.grid_core.specs.State.{nothing_alike, whole_counts};
 
 use crate::misses::less;
-use crate::outcome::outcome_in;
-use crate::shadows::PriorLevel;
 use crate::stack::Stack;
-use cache_core::{Counts, Geometry, MAX_EVENTS, Outcome, PerClass};
+use cache_core::{Counts, Geometry, MAX_EVENTS, PerClass};
 use std::alloc::{AllocError, Global};
 
 /// Which cache a cell is: its geometry and write policy, the rows of its number of sets, its number
@@ -84,22 +80,6 @@ pub(crate) fn all_have_hit(shapes: &Vec<Shape>, stacks: &Vec<Stack>) -> bool
         All (HasMoved h x) stacks.now.items → All (HitsIn h x) shapes.now.items }
 {
     have_hit(shapes, stacks)
-}
-
-/// What the last access did in the cache of a shape, by whether it was a write, and what was known
-/// of its block.
-pub(crate) fn answer_in(
-    shape: Shape,
-    stacks: &Vec<Stack>,
-    write: bool,
-    prior: PriorLevel,
-) -> Outcome
-    requires { IsPlacedAmong (map rules_of stacks.now.items) shape }
-    ensures { (h : History) (x : Accessed) → All (HasMoved h x) stacks.now.items →
-        KnowsPrior shape h x prior → write ≡ is_write x →
-        result ≡ outcome_of (shape_rules shape) h x }
-{
-    outcome_in(&stacks[shape.stack], shape, write, prior)
 }
 
 /// How many writes are sent on, of so many.

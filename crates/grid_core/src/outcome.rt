@@ -1,7 +1,8 @@
 //! What one access does in the cache of one cell.
 
 ghost use Rattle.std.specs.Prelude.{◌≡◌, ◌<◌, ◌≤◌, not, ◌&&◌, nat_lt, if◌then◌else◌};
-ghost use Rattle.std.specs.Prelude.{Some, None};
+ghost use Rattle.std.specs.Prelude.{Some, None, map};
+ghost use Rattle.std.specs.List.{All};
 ghost use Rattle.cache_core.specs.declared.access.MissKind.TheVariants.{Compulsory, Capacity};
 ghost use Rattle.cache_core.specs.declared.access.MissKind.TheVariants.{Conflict};
 ghost use Rattle.cache_core.specs.History.{History, is_write};
@@ -9,7 +10,7 @@ ghost use Rattle.cache_core.specs.declared.access.Access.{Access};
 ghost use Rattle.cache_core.specs.Parts.{outcome_of};
 ghost use Rattle.grid_core.specs.Ways.{with_ways};
 ghost use Rattle.grid_core.specs.Standing.{HasMoved, rules_of, found_in};
-ghost use Rattle.grid_core.specs.Cells.{IsPlacedOn, KnowsPrior, shape_rules};
+ghost use Rattle.grid_core.specs.Cells.{IsPlacedAmong, IsPlacedOn, KnowsPrior, shape_rules};
 ghost use Rattle.grid_core.specs.Hits.{hit_made};
 
 use crate::cells::Shape;
@@ -67,7 +68,7 @@ pub(crate) fn sends_on(write: bool, wback: bool) -> bool
 
 /// The outcome of the last access in the cache of this shape, by whether it was a write, and what
 /// was known of its block.
-pub(crate) fn outcome_in(stack: &Stack, shape: Shape, write: bool, prior: PriorLevel) -> Outcome
+fn outcome_in(stack: &Stack, shape: Shape, write: bool, prior: PriorLevel) -> Outcome
     requires { IsPlacedOn (rules_of stack.now) shape }
     ensures hit { result.hit ≡ nat_lt (found_in stack.now) shape.ways }
     ensures is { (h : History) (x : Access) → HasMoved h x stack.now → write ≡ is_write x →
@@ -81,6 +82,22 @@ pub(crate) fn outcome_in(stack: &Stack, shape: Shape, write: bool, prior: PriorL
         fetch: !hit,
         through: sends_on(write, stack.wback()),
     }
+}
+
+/// What the last access did in the cache of a shape, by whether it was a write, and what was known
+/// of its block.
+pub(crate) fn answer_in(
+    shape: Shape,
+    stacks: &Vec<Stack>,
+    write: bool,
+    prior: PriorLevel,
+) -> Outcome
+    requires { IsPlacedAmong (map rules_of stacks.now.items) shape }
+    ensures { (h : History) (x : Access) → All (HasMoved h x) stacks.now.items →
+        KnowsPrior shape h x prior → write ≡ is_write x →
+        result ≡ outcome_of (shape_rules shape) h x }
+{
+    outcome_in(&stacks[shape.stack], shape, write, prior)
 }
 
 /// The outcome of a hit.

@@ -7,14 +7,14 @@ use Rattle.clap.specs.Words.{Row, Text}
 use Rattle.dinero_options.specs.Answer.{AcceptsWords, RefusesWords}
 use Rattle.stage_core.specs.Events.{IsBounded}
 use Rattle.dinero_options.specs.declared.opt.Opt.{Opt}
-use Rattle.dinero_options.specs.declared.words.WordsFault.{WordsFault}
+use Rattle.dinero_options.specs.declared.fault.WordsFault.{WordsFault}
 use Rattle.grid_options.specs.Grid.{AnswersGrid, AnswersGridWords, IsPoint, grid_app, memory}
 use Rattle.grid_options.specs.Grid.{points_of, shown}
 use Rattle.grid_options.specs.Own.{is_full}
 use Rattle.grid_options.specs.declared.grid.GridPoint.{GridPoint}
 use Rattle.grid_options.specs.declared.grid.ParsedGrid.{ParsedGrid}
-use Rattle.grid_options.specs.declared.words.GridWordsFault.{GridWordsFault}
-use Rattle.grid_options.specs.declared.words.GridWordsFault.TheVariants.{Words}
+use Rattle.grid_options.specs.declared.fault.GridWordsFault.{GridWordsFault}
+use Rattle.grid_options.specs.declared.fault.GridWordsFault.TheVariants.{Words}
 
 pub answers_matches : (words : List Text) (rows : List Row) (r : Result ParsedGrid GridWordsFault)
     → AcceptsWords grid_app words rows → (r ≡ Err memory) ⊎ AnswersGrid rows r

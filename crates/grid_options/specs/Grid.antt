@@ -18,14 +18,14 @@ use Rattle.dinero_options.specs.Options.{second_level_options, selection_options
 use Rattle.dinero_options.specs.declared.opt.Opt.{Opt}
 use Rattle.dinero_options.specs.declared.opt.Opt.TheVariants.{Ring, Skipcount, Maxcount}
 use Rattle.dinero_options.specs.declared.settings.Settings.{Settings}
-use Rattle.dinero_options.specs.declared.words.WordsFault.{WordsFault}
-use Rattle.dinero_options.specs.declared.words.WordsFault.TheVariants.{Memory}
+use Rattle.dinero_options.specs.declared.fault.WordsFault.{WordsFault}
+use Rattle.dinero_options.specs.declared.fault.WordsFault.TheVariants.{Memory}
 use Rattle.grid_options.specs.Own.{full_rule, is_full, threads_of, threads_rule}
 use Rattle.grid_options.specs.Written.{written}
 use Rattle.grid_options.specs.declared.grid.GridPoint.{GridPoint}
 use Rattle.grid_options.specs.declared.grid.ParsedGrid.{ParsedGrid}
-use Rattle.grid_options.specs.declared.words.GridWordsFault.{GridWordsFault}
-use Rattle.grid_options.specs.declared.words.GridWordsFault.TheVariants.{Words, Threads, TooMany}
+use Rattle.grid_options.specs.declared.fault.GridWordsFault.{GridWordsFault}
+use Rattle.grid_options.specs.declared.fault.GridWordsFault.TheVariants.{Words, Threads, TooMany}
 
 -- the options that the program shares with that of one configuration: all but the rings
 abbrev pub shared_options : List Opt

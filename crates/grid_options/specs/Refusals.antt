@@ -1,8 +1,8 @@
 -- What is said of words that are refused.
 use Rattle.std.specs.Prelude.{ℕ, List, codes}
 use Rattle.dinero_options.specs.Refusals.{words_fault_text}
-use Rattle.grid_options.specs.declared.words.GridWordsFault.{GridWordsFault}
-use Rattle.grid_options.specs.declared.words.GridWordsFault.TheVariants.{Words, Threads, TooMany}
+use Rattle.grid_options.specs.declared.fault.GridWordsFault.{GridWordsFault}
+use Rattle.grid_options.specs.declared.fault.GridWordsFault.TheVariants.{Words, Threads, TooMany}
 
 -- the message for a refused command line; empty for help
 abbrev pub grid_fault_text : GridWordsFault → List ℕ

@@ -34,7 +34,7 @@ pub struct ParsedGrid {
     pub names: Vec<String>,
     /// The points.
     pub points: Vec<GridPoint>,
-    /// How many threads simulate, at most 1,024; 0 for as many as the machine has.
+    /// How many threads simulate, at most 1,024; 0 for one on each core that it may use.
     pub threads: usize,
     /// Whether the table is full: all options have columns, and each count those of its classes.
     pub full: bool,

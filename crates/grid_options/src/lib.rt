@@ -9,13 +9,15 @@
 //! which of them may have a list; `own` has those of its own. `command` gives them to clap, and
 //! `help` has the texts around them. `values` cuts a text into its values, `product` makes the
 //! points of the grid, and `grid` reads each. `written` writes what an option is set to. `words`
-//! turns the words into the grid, and `refusal` has the text of each refusal.
+//! turns the words into the grid, `fault` says why they give none, and `refusal` has the text of
+//! each refusal.
 //!
 //! Proved: the answer to the words is the one that `specs/Grid` defines, with clap's contracts for
 //! the matches. Only tested: the texts of the help and of what clap says.
 #![tactic(auto)]
 
 mod command;
+mod fault;
 mod grid;
 mod help;
 mod options;
@@ -27,6 +29,7 @@ mod words;
 mod written;
 
 pub use command::grid_help_text;
+pub use fault::GridWordsFault;
 pub use grid::{GridPoint, ParsedGrid};
 pub use refusal::{grid_refusal_text, put_grid_words};
-pub use words::{GridWordsFault, parse_grid_words};
+pub use words::parse_grid_words;

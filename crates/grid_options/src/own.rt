@@ -20,7 +20,7 @@ pub(crate) fn threads_argument<'a>(alloc: Global) -> Arg<'a>
     Arg::new(alloc, "threads")
         .long("threads")
         .value_name("COUNT")
-        .help("Threads that work: 1 to 1024, 0 for as many as the machine has")
+        .help("Threads that work: 1 to 1024, 0 for one on each core that it may use")
         .help_heading("Threads")
         .default_value("0")
 }

@@ -5,10 +5,10 @@ ghost use Rattle.std.specs.Prelude.{length, map, nat_lt};
 ghost use Rattle.clap.specs.Words.{found_of, rows_of};
 ghost use Rattle.grid_options.specs.Grid.{extended, memory, points_of};
 ghost use Rattle.grid_options.specs.Points.{texts_of_points};
-ghost use Rattle.grid_options.specs.declared.words.GridWordsFault.TheVariants.{TooMany};
+ghost use Rattle.grid_options.specs.declared.fault.GridWordsFault.TheVariants.{TooMany};
 
+use crate::fault::{GridWordsFault, MEMORY};
 use crate::values::values_in;
-use crate::words::{GridWordsFault, MEMORY};
 use clap::ArgMatches;
 use dinero_options::Opt;
 use std::alloc::{AllocError, Global};

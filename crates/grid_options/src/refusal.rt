@@ -7,7 +7,7 @@ ghost use Rattle.grid_options.specs.Grid.{grid_app};
 ghost use Rattle.grid_options.specs.Refusals.{grid_fault_text};
 
 use crate::command::grid_command;
-use crate::words::GridWordsFault;
+use crate::fault::GridWordsFault;
 use clap::error::ErrorKind;
 use din_trace::{ByteWriter, DeviceFailed};
 use dinero_options::{NoMemory, put_words};

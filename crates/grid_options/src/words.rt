@@ -9,29 +9,14 @@ ghost use Rattle.grid_options.specs.Grid.{points_of};
 ghost use Rattle.grid_options.specs.Own.{threads_of};
 
 use crate::command::grid_command;
+use crate::fault::{GridWordsFault, MEMORY};
 use crate::grid::{ParsedGrid, names_of, read_points};
 use crate::own::{full_in, threads_in};
 use crate::product::points_in;
 use crate::values::{first_unread, shown};
 use clap::ArgMatches;
-use dinero_options::{WordsFault, take_words, unread_fault};
+use dinero_options::{take_words, unread_fault};
 use std::alloc::{AllocError, Global};
-
-/// Why the words give no grid. If several things are wrong, a refusal of clap comes first, then the
-/// first option one of whose values cannot be read, then the number of threads, then that of the
-/// configurations.
-#[derive(Clone, Copy, Debug, PartialEq, Eq)]
-pub enum GridWordsFault {
-    /// The words are refused like those of one configuration. Never holds `WordsFault::Config`.
-    Words(WordsFault),
-    /// The value of `--threads` is no number, or above 1,024.
-    Threads,
-    /// The grid has more than 4,096 configurations.
-    TooMany,
-}
-
-/// An allocation failed.
-pub(crate) const MEMORY: GridWordsFault = GridWordsFault::Words(WordsFault::Memory);
 
 /// The grid of these points.
 fn grid_of(

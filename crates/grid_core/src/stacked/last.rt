@@ -1,7 +1,7 @@
 //! What the last access did in the caches that are served together.
 
-use crate::cells::{all_have_hit, answer_in};
-use crate::outcome::{hit_outcome, sends_on};
+use crate::cells::all_have_hit;
+use crate::outcome::{answer_in, hit_outcome, sends_on};
 use crate::stacked::Stacked;
 use cache_core::Outcome;
 

@@ -1,7 +1,7 @@
 use Rattle.std.proofs.Common.{sym, subst}
 use Rattle.grid_core.specs.Standing.{HasMoved}
 use Rattle.grid_core.proofs.Placed.{names-rows, rules-at}
-use Rattle.grid_core.proofs.cells.answer_in.Goals as goal
+use Rattle.grid_core.proofs.outcome.answer_in.Goals as goal
 
 pub outcome_in-requires : goal.outcome_in-requires
 outcome_in-requires c =
