@@ -13,7 +13,7 @@ use Rattle.cache_core.specs.Row.{shifted, row}
 use Rattle.cache_core.proofs.Cases.{by_cases}
 use Rattle.marked_list.specs.Recency.{index_of}
 use Rattle.grid_core.specs.declared.slots.Slot.{Slot}
-use Rattle.grid_core.specs.Slots.{holds, used_slot, next_slots, level_after, level_of}
+use Rattle.grid_core.specs.Slots.{holds, used_slot, next_slots, level_after, slot_level}
 use Rattle.grid_core.specs.Slots.{HaveBytes, no_slot}
 
 -- what holds of each slot of a row, and of the new front, holds of each after a pass
@@ -42,7 +42,7 @@ bytes-next n sets ways b s write xs ys fits inside before now others t below = b
     (λ e. subst (λ z. HaveBytes n (row ways z ys)) (sym (eqb-true t s e))
     (subst (HaveBytes n) (sym now)
     (all-after (λ v. v.block * n < 2 ^ 64) (holds b) (row ways s xs) (used_slot b (level_after write
-    (option_map_or level_of (find (holds b) (row ways s xs)) (length (row ways s xs)))
+    (option_map_or slot_level (find (holds b) (row ways s xs)) (length (row ways s xs)))
     (index_of (holds b) (row ways s xs)))) fits (before s inside))))
     (λ e. subst (HaveBytes n) (sym (others t (eqb-false t s e))) (before t below))
 

@@ -14,7 +14,7 @@ use Rattle.cache_core.proofs.Lawful.{sane_of}
 use Rattle.cache_core.specs.Row.{shifted}
 use Rattle.marked_list.specs.Recency.{index_of}
 use Rattle.grid_core.specs.declared.slots.Slot.{Slot}
-use Rattle.grid_core.specs.Slots.{holds, used_slot, level_of, level_after, next_slots}
+use Rattle.grid_core.specs.Slots.{holds, used_slot, slot_level, level_after, next_slots}
 
 -- no index is above the length
 pub index-le : {X : Type 0} (p : X → Bool) (xs : List X) → index_of p xs ≤ length xs
@@ -70,7 +70,7 @@ pub read-first : (b : ℕ) (xs : List Slot) → 0 ≡ index_of (holds b) xs → 
 read-first b [] e = refl
 read-first b (s ∷ xs) e = (elim (holds b s) as (λ t. holds b s ≡ t
     → 0 ≡ cond t 0 (suc (index_of (holds b) xs))
-    → used_slot b (level_after false (option_map_or level_of (cond t (Some s) (find (holds b) xs))
+    → used_slot b (level_after false (option_map_or slot_level (cond t (Some s) (find (holds b) xs))
     (suc (length xs))) (cond t 0 (suc (index_of (holds b) xs))))
     ∷ cond t xs (shifted (holds b) s xs) ≡ s ∷ xs) [
       | true ↦ λ h e. ap (λ v. v ∷ xs) (ap (used_slot b) (low-level s.level) ∙ slot-is b s h)

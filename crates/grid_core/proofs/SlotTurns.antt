@@ -22,7 +22,7 @@ use Rattle.marked_list.specs.Recency.{index_of}
 use Rattle.grid_core.specs.declared.slots.Slot.{Slot}
 use Rattle.grid_core.specs.Ways.{IsStacked, stack_distance}
 use Rattle.grid_core.specs.Levels.{dirty_level}
-use Rattle.grid_core.specs.Slots.{holds, used_slot, no_slot, level_of, level_after}
+use Rattle.grid_core.specs.Slots.{holds, used_slot, no_slot, slot_level, level_after}
 use Rattle.grid_core.specs.Slots.{next_slots, stays_in}
 use Rattle.grid_core.specs.Standing.{slot_at, slots_of}
 use Rattle.grid_core.proofs.Distances.{renews-all, distance-place}
@@ -50,7 +50,7 @@ pub stays-first : (b : ℕ) (w : Bool) (row : List Slot) (d : Slot) → 0 < leng
     → (holds b (get_or row 0 d) && (not w || eqb (get_or row 0 d).level 0)) ≡ stays_in b w row
 stays-first b w [] d some = absurd (omega arith)
 stays-first b w (s ∷ row) d some = elim (holds b s) as (λ t. (t && (not w || eqb s.level 0))
-    ≡ (eqb (cond t 0 (suc (index_of (holds b) row))) 0 && (not w || eqb (option_map_or level_of
+    ≡ (eqb (cond t 0 (suc (index_of (holds b) row))) 0 && (not w || eqb (option_map_or slot_level
     (cond t (Some s) (find (holds b) row)) (suc (length row))) 0))) [
       | true ↦ refl
       | false ↦ rw (ne_eqb (suc (index_of (holds b) row)) 0 (λ e. absurd (omega arith))) refl
@@ -127,7 +127,7 @@ module _ (r : Rules) (st : IsStacked r) (h : History) where
     there = has (take r.assoc ranks) b
 
     abbrev found : Bool → ℕ → ℕ
-    found t k = option_map_or level_of (cond t (Some (slot_at r h b)) None) k
+    found t k = option_map_or slot_level (cond t (Some (slot_at r h b)) None) k
 
     far : there ≡ false → stack_distance r h b ≡ r.assoc
     far e = distance-place r st h b ∙ ap (λ t. cond t (length (before b ranks)) r.assoc) e
@@ -144,11 +144,11 @@ module _ (r : Rules) (st : IsStacked r) (h : History) where
 
     -- the level that the code finds leads to the level after the access
     pub seen-level : (w : Bool) → level_after w
-        (option_map_or level_of (find (holds b) (slots_of r h (b % r.sets)))
+        (option_map_or slot_level (find (holds b) (slots_of r h (b % r.sets)))
         (length (slots_of r h (b % r.sets)))) (index_of (holds b) (slots_of r h (b % r.sets)))
         ≡ level_after w (dirty_level r h b) (stack_distance r h b)
     seen-level w =
-        ap (λ o. level_after w (option_map_or level_of o (length (slots_of r h (b % r.sets))))
+        ap (λ o. level_after w (option_map_or slot_level o (length (slots_of r h (b % r.sets))))
         (index_of (holds b) (slots_of r h (b % r.sets)))) (find-slots b)
         ∙ ap (λ k. level_after w (found there k)
         (index_of (holds b) (slots_of r h (b % r.sets)))) (length-slots (b % r.sets))
@@ -182,7 +182,7 @@ module _ (r : Rules) (st : IsStacked r) (h : History) where
         ∙ sym (slots-are h t)
 
     front-is : slot_at r h' b ≡ used_slot b (level_after (is_write x)
-        (option_map_or level_of (find (holds b) (slots_of r h s)) (length (slots_of r h s)))
+        (option_map_or slot_level (find (holds b) (slots_of r h s)) (length (slots_of r h s)))
         (index_of (holds b) (slots_of r h s)))
     front-is = ap (used_slot b) (level-step r st h x b (eq-eqb b b refl)
         ∙ sym (seen-level b (is_write x)))

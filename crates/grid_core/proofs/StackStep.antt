@@ -23,7 +23,7 @@ use Rattle.marked_list.specs.Recency.{index_of}
 use Rattle.grid_core.specs.declared.slots.Slot.{Slot}
 use Rattle.grid_core.specs.declared.stack.Stack.{Stack}
 use Rattle.grid_core.specs.Ways.{with_ways, IsStacked, stack_distance}
-use Rattle.grid_core.specs.Slots.{holds, next_slots, no_slot, used_slot, level_of}
+use Rattle.grid_core.specs.Slots.{holds, next_slots, no_slot, used_slot, slot_level}
 use Rattle.grid_core.specs.Slots.{HaveBytes, clean_in, level_after, level_in, lost_in, stays_in}
 use Rattle.grid_core.specs.Histograms.{clean_ways}
 use Rattle.grid_core.specs.Levels.{dirty_level}
@@ -129,7 +129,7 @@ behind-is ways s b write xs ys last n m size le long far now lost = (elim (ltb n
       | true ↦ λ e.
           let lt = ltb-true n ways e in
           let old = row ways s xs in
-          let front = used_slot b (level_after write (option_map_or level_of (find (holds b) old)
+          let front = used_slot b (level_after write (option_map_or slot_level (find (holds b) old)
           (length old)) (index_of (holds b) old)) in
           sym (get_or-drop (s * ways) ys n no_slot)
           ∙ sym (get_or-take ways (drop (s * ways) ys) n no_slot lt)

@@ -15,8 +15,8 @@ abbrev pub holds : ℕ → Slot → Bool
 holds b s = s.valid && s.block == b
 
 -- the dirty level of a slot
-abbrev pub level_of : Slot → ℕ
-level_of s = s.level
+abbrev pub slot_level : Slot → ℕ
+slot_level s = s.level
 
 -- a slot that holds block b, of this level
 abbrev pub used_slot : ℕ → ℕ → Slot
@@ -28,7 +28,7 @@ no_slot = record { block = 0; valid = false; level = 0 }
 
 -- the dirty level of block b in a row, or the length of the row if it is not there
 abbrev pub level_in : ℕ → List Slot → ℕ
-level_in b row = option_map_or level_of (find (holds b) row) (length row)
+level_in b row = option_map_or slot_level (find (holds b) row) (length row)
 
 -- an access to block b leaves the row as it is: the block is the first, and if this is a write, its
 -- level is 0

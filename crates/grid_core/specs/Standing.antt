@@ -6,12 +6,14 @@ use Rattle.std.specs.List.{All}
 use Rattle.std.specs.Option.{option_map}
 use Rattle.cache_core.specs.declared.geometry.Geometry.{Geometry}
 use Rattle.cache_core.specs.declared.access.Access.{Access}
+use Rattle.cache_core.specs.declared.policy.Repl.TheVariants.{Lru}
 use Rattle.cache_core.specs.History.{History, Rules, block_of, is_write}
 use Rattle.cache_core.specs.Residents.{hits, renewals}
 use Rattle.cache_core.specs.Parts.{outcome_of}
 use Rattle.cache_core.specs.Order.{ranked}
 use Rattle.cache_core.specs.Row.{row}
-use Rattle.cache_core.specs.Geometry.{bsize_of, assoc_of, sets_of, blocks_of}
+use Rattle.cache_core.specs.Standing.{rules_from}
+use Rattle.cache_core.specs.Geometry.{bsize_of, sets_of}
 use Rattle.grid_core.specs.declared.slots.Slot.{Slot}
 use Rattle.grid_core.specs.declared.stack.Stack.{Stack}
 use Rattle.grid_core.specs.declared.stacks.Behind.{Behind}
@@ -23,15 +25,7 @@ use Rattle.grid_core.specs.Levels.{dirty_level}
 
 -- the rules of an LRU cache of this shape that allocates at writes
 abbrev pub stack_rules : Geometry → Bool → Rules
-stack_rules g wback = record {
-  bsize = bsize_of g;
-  sets = sets_of g;
-  assoc = assoc_of g;
-  blocks = blocks_of g;
-  fifo = false;
-  wback = wback;
-  walloc = true;
-}
+stack_rules g wback = rules_from g record { repl = Lru; wback = wback; walloc = true }
 
 -- the rules of the widest cache
 unfoldable pub rules_of : Stack → Rules

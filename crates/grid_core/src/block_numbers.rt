@@ -1,6 +1,6 @@
 //! Numbers for blocks.
 
-ghost use Rattle.std.specs.Prelude.{◌≡◌, ◌≤◌, Some, IfOk, length};
+ghost use Rattle.std.specs.Prelude.{◌≡◌, Some, IfOk};
 ghost use Rattle.grid_core.specs.AtHand.{AreRight};
 ghost use Rattle.grid_core.specs.Numbers.{GoesOn, number_at};
 
@@ -23,7 +23,6 @@ pub struct BlockNumbers {
 fn number_block(blocks: &mut IndexSet<u64>, block: u64) -> Result<usize, AllocError>
     ensures number { IfOk result (λ n. number_at blocks.new.keys block ≡ Some n) }
     ensures grows { GoesOn blocks.old.keys blocks.new.keys }
-    ensures low { IfOk result (λ n. n ≤ length blocks.old.keys) }
 {
     let Ok((number, _)) = blocks.insert_full(block) else {
         return Err(AllocError);
@@ -33,7 +32,7 @@ fn number_block(blocks: &mut IndexSet<u64>, block: u64) -> Result<usize, AllocEr
 
 #[tactic(auto, unfolding(crate::specs::Numbered::blocks_in))]
 impl BlockNumbers {
-    ghost use Rattle.std.specs.Prelude.{◌≡◌, ◌<◌, [], Some, IfOk, length};
+    ghost use Rattle.std.specs.Prelude.{◌≡◌, [], Some, IfOk};
     ghost use Rattle.grid_core.specs.Numbered.{blocks_in};
     ghost use Rattle.grid_core.specs.Numbers.{GoesOn, number_at};
 
@@ -51,11 +50,7 @@ impl BlockNumbers {
     pub(crate) fn number(&mut self, block: u64) -> Result<usize, AllocError>
         ensures number { IfOk result (λ n. number_at (blocks_in self.new) block ≡ Some n) }
         ensures grows { GoesOn (blocks_in self.old) (blocks_in self.new) }
-        ensures low { IfOk result (λ n. n < usize.MAX) }
     {
-        if self.blocks.len() == usize::MAX {
-            return Err(AllocError);
-        }
         if let Some(number) = at_hand(&self.entries, block) {
             return Ok(number);
         }

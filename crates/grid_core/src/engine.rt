@@ -155,7 +155,7 @@ impl Engine {
         ensures numbers { numbered_in self.new ≡ numbered_in self.old }
         ensures rules { rules_in self.new ≡ rules_in self.old }
     {
-        if self.failed {
+        if self.failed() {
             return Err(NoMemory);
         }
         let Ok(lists) = self.caches.flush(self.alloc, &self.seats) else {

@@ -100,7 +100,6 @@ impl Marked {
     /// Numbers and places in the log have 32 bits: `u32::MAX` and more, and a log of so many uses,
     /// answer an error, as if memory were wanting.
     pub fn touch(&mut self, number: usize) -> Result<usize, AllocError>
-        requires { number < usize.MAX }
         ensures level { IfOk result (λ level.
             level ≡ level_of (marked_sizes self.old) (order_of self.old) number) }
         ensures order { OnOk result (order_of self.new ≡ brought_front number (order_of self.old)) }
