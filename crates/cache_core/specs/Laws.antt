@@ -1,15 +1,16 @@
 -- Laws: properties that follow from the definitions alone.
 use Rattle.std.specs.Prelude.{◌≡◌, ◌≢◌, ℕ, ◌+◌, ◌%◌, ◌<◌, ◌≤◌, ◌==◌}
 use Rattle.std.specs.Prelude.{true, false, List, [], ◌∷◌}
-use Rattle.std.specs.Prelude.{length, Some}
+use Rattle.std.specs.Prelude.{length, Some, is_some}
 use Rattle.std.specs.List.{list_any}
 use Rattle.cache_core.specs.declared.access.Access.{Access}
 use Rattle.cache_core.specs.declared.access.MissKind.TheVariants.{Conflict}
-use Rattle.cache_core.specs.History.{access, flush, History, Rules, is_write}
+use Rattle.cache_core.specs.History.{Event, access, flush, History, Rules, is_write}
 use Rattle.cache_core.specs.Residents.{is_resident, leaves, renewals}
 use Rattle.cache_core.specs.Order.{residents_of}
 use Rattle.cache_core.specs.Dirty.{is_dirty, dirty_blocks}
 use Rattle.cache_core.specs.Parts.{one_if, outcome_of, part_count}
+use Rattle.cache_core.specs.Counts.{counts_of}
 
 -- if the blocks of a set are ordered by last use (FIFO: by last load), the latest first, the
 -- residents of the set are the first ones, as many as it has ways
@@ -33,10 +34,23 @@ abbrev pub OneLruSetHasNoConflict : Type 0
 OneLruSetHasNoConflict = (r : Rules) → IsOneLruSet r → (h : History) (x : Access) →
     (outcome_of r h x).kind ≢ Some Conflict
 
+-- the block that an access writes back, if any, and the dirty blocks after it are together no more
+-- than the dirty blocks before it, and one more for a write
+abbrev pub WriteBacksAreOfWrites : Type 0
+WriteBacksAreOfWrites = (r : Rules) (h : History) (x : Access) →
+    one_if (is_some (outcome_of r h x).back) + length (dirty_blocks r (access x ∷ h))
+    ≤ length (dirty_blocks r h) + one_if (is_write x)
+
+-- the blocks written back so far, by accesses and flushes and by the last event itself, are no more
+-- than the writes before that event: so each write-back has an earlier write of its own
+abbrev pub WriteBacksHaveEarlierWrites : Type 0
+WriteBacksHaveEarlierWrites = (r : Rules) (h : History) (last : Event) →
+    (counts_of r (last ∷ h)).written_back ≤ (counts_of r h).fetches.write
+
 -- the parts that an access sends and the dirty blocks after it are together at most one more than
 -- the dirty blocks before it, or two more if it is a write
-abbrev pub WriteBacksAreCharged : Type 0
-WriteBacksAreCharged = (r : Rules) (h : History) (x : Access) →
+abbrev pub PartsAreCharged : Type 0
+PartsAreCharged = (r : Rules) (h : History) (x : Access) →
     part_count (outcome_of r h x) + length (dirty_blocks r (access x ∷ h))
     ≤ length (dirty_blocks r h) + (1 + one_if (is_write x))
 

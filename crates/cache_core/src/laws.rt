@@ -2,7 +2,8 @@
 
 ghost use Rattle.std.specs.Prelude.{◌≡◌, ◌^◌};
 ghost use Rattle.cache_core.specs.Examples.{WorkedExamples};
-ghost use Rattle.cache_core.specs.Laws.{WriteBacksAreCharged, AtMostOneLeaves};
+ghost use Rattle.cache_core.specs.Laws.{AtMostOneLeaves, WriteBacksAreOfWrites};
+ghost use Rattle.cache_core.specs.Laws.{WriteBacksHaveEarlierWrites, PartsAreCharged};
 ghost use Rattle.cache_core.specs.Laws.{FlushesLeaveNoneDirty, DirtyBlocksAreDirty};
 ghost use Rattle.cache_core.specs.Laws.{DirtyBlocksRise, OneLruSetHasNoConflict};
 ghost use Rattle.cache_core.specs.Laws.{OrderedWaysAreResidents};
@@ -26,10 +27,14 @@ pub fn one_lru_set_has_no_conflict()
     ensures { OneLruSetHasNoConflict }
 {}
 
-/// Each write-back can be charged to a distinct earlier write. So a cache sends at most two parts
-/// for each write and one for each other access, the write-backs of its flushes included.
+/// Each write-back, of an access or a flush, can be charged to a distinct earlier write: an access
+/// writes back and leaves dirty no more blocks than were dirty before it, and one more if it is a
+/// write. So a cache sends at most two parts for each write and one for each other access, the
+/// write-backs of its flushes included.
 pub fn write_backs_are_charged()
-    ensures accesses { WriteBacksAreCharged }
+    ensures writes { WriteBacksAreOfWrites }
+    ensures histories { WriteBacksHaveEarlierWrites }
+    ensures accesses { PartsAreCharged }
     ensures flushes { FlushesLeaveNoneDirty }
 {}
 

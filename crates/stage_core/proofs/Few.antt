@@ -11,7 +11,7 @@ use Rattle.cache_core.specs.History.{Rules, History, Event, access, flush, block
 use Rattle.cache_core.specs.Parts.{outcome_of, part_count, one_if as one_counted}
 use Rattle.cache_core.specs.Residents.{renewals}
 use Rattle.cache_core.specs.Dirty.{dirty_blocks}
-use Rattle.cache_core.specs.Laws.{WriteBacksAreCharged, FlushesLeaveNoneDirty}
+use Rattle.cache_core.specs.Laws.{PartsAreCharged, FlushesLeaveNoneDirty}
 use Rattle.din_trace.specs.declared.record.DinRecord.{DinRecord}
 use Rattle.din_trace.specs.declared.record.Label.{Label}
 use Rattle.din_trace.specs.declared.record.Label.TheVariants as label
@@ -101,7 +101,7 @@ few-history s (e ∷ es) =
       length-reverse (asked s e ++ flat_map (asked s) es),
     )
 
-module _ (accesses : WriteBacksAreCharged) (flushes : FlushesLeaveNoneDirty) where
+module _ (accesses : PartsAreCharged) (flushes : FlushesLeaveNoneDirty) where
   -- how many write-backs are still to come: one for each dirty block
   abbrev owed : Rules → History → ℕ
   owed r h = length (dirty_blocks r h)
