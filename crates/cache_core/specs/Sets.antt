@@ -9,7 +9,7 @@ use Rattle.cache_core.specs.Mapped.{flat}
 abbrev pub ways_in : Sets → List Way
 ways_in s = elim s as (λ _. List Way) [ Rows v ↦ v.items | Maps m ↦ flat m.assoc m.sets.items ]
 
--- the cache has `count` sets of `assoc` ways
+-- rows have as many ways as `count` sets of `assoc`; maps are `count` sets of `assoc` ways each
 abbrev pub has_shape : ℕ → ℕ → Sets → Bool
 has_shape count assoc s =
     elim s as (λ _. Bool) [
