@@ -1,15 +1,15 @@
 -- A step of a core leads to a sound core and to the next state of the network.
 use Rattle.std.proofs.Common.{◌≡◌, suc, ◌^◌, ◌<◌, ◌≤◌, Bool, false, cond, List, [], length, Some}
-use Rattle.std.proofs.Common.{filter, Result, Ok, Err, OnOk, is_err, sym, ap, ◌∙◌, subst, arith}
+use Rattle.std.proofs.Common.{Result, Ok, Err, OnOk, is_err, sym, ap, ◌∙◌, subst, arith}
 use Rattle.cache_core.specs.Standing.{served_of}
 use Rattle.stage_core.specs.Config.{hierarchy_of, ring_of}
 use Rattle.stage_core.specs.Standing.{cache_of, l2_cache}
 use Rattle.stage_core.specs.SecondLevel.{Parts}
 use Rattle.stage_core.specs.Merging.{Merged, merged}
 use Rattle.stage_core.specs.Network.Sides.{of_side}
-use Rattle.stage_core.specs.Network.{Network, Machine, Consistent, machines, enabled, steps_made}
+use Rattle.stage_core.specs.Network.{Network, Machine, Consistent, enabled, steps_made}
 use Rattle.stage_core.specs.Laws.{SecondLevelSeesAtMostTwo}
-use Rattle.stage_core.specs.Network.Cores.{IsConsistent, can_in, enabled_in, CoreState, MakesStep}
+use Rattle.stage_core.specs.Network.Cores.{IsConsistent, enabled_in, CoreState, MakesStep}
 use Rattle.stage_core.specs.Network.Cores.{IsSameRun, Sound, CachesStand, core_of, network_of}
 use Rattle.stage_core.specs.Network.Cores.{next_in, parts_for}
 use Rattle.stage_core.specs.declared.message.Side.{Side}
@@ -96,7 +96,7 @@ room-above few c s =
 -- if no allocation failed, the enabled machines are those of the network
 pub working : (v : CoreState) → v.failed ≡ false
     → enabled_in v ≡ enabled (parts_for v.config) (ring_of v.config) v.network
-working v ok = ap (λ b. cond b [] (filter (can_in v) machines)) ok
+working v ok = ap (λ b. cond b [] (enabled (parts_for v.config) (ring_of v.config) v.network)) ok
 
 -- a step of a core keeps it consistent, and counts as one
 pub driven : {v w : CoreState} → IsConsistent v → (m : Machine) → MakesStep m v w

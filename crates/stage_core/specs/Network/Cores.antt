@@ -1,6 +1,6 @@
 -- A core, seen as a state of the network together with what it simulates.
 use Rattle.std.specs.Prelude.{◌≡◌, ℕ, ◌<◌, ◌≤◌, ◌*◌, ◌^◌, Bool, false, List, [], drop, length}
-use Rattle.std.specs.Prelude.{Option, Some, filter, slice_get, if◌then◌else◌}
+use Rattle.std.specs.Prelude.{Option, Some, slice_get, if◌then◌else◌}
 use Rattle.cache_core.specs.Standing.{rules_of}
 use Rattle.din_trace.specs.declared.record.DinRecord.{DinRecord}
 use Rattle.stage_core.specs.SecondLevel.{Parts, Hierarchy, parts_in}
@@ -8,7 +8,7 @@ use Rattle.stage_core.specs.Merging.{merged}
 use Rattle.stage_core.specs.Config.{hierarchy_of, ring_of}
 use Rattle.stage_core.specs.Standing.{L2StandsFor, l2_cache}
 use Rattle.stage_core.specs.Network.{Network, Machine, Consistent, IsFinished, next, can, start}
-use Rattle.stage_core.specs.Network.{machines}
+use Rattle.stage_core.specs.Network.{enabled}
 use Rattle.stage_core.specs.Network.Lanes.{lane_of, TookIn}
 use Rattle.stage_core.specs.declared.config.Config.{Config}
 use Rattle.stage_core.specs.declared.message.Side.TheVariants as side
@@ -44,7 +44,7 @@ can_in c = can (parts_for c.config) (ring_of c.config) c.network
 
 -- the machines that can step, in their order; none after a failed allocation
 abbrev pub enabled_in : CoreState → List Machine
-enabled_in c = if c.failed then [] else filter (can_in c) machines
+enabled_in c = if c.failed then [] else enabled (parts_for c.config) (ring_of c.config) c.network
 
 -- the state is one that the definitions allow
 abbrev pub IsConsistent : CoreState → Type 0
