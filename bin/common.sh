@@ -37,8 +37,12 @@ show_help() {
 # shellcheck disable=SC2154  # each command sets its name
 [ "$self" = record ] || set +o posix
 
-# A closed output stays one that can't be written, but no file of the command's takes its number.
+# A closed output stays one that can't be written, and a closed input one that can't be read, but no
+# file of the command's takes its number.
 { : >&1; } 2>/dev/null || exec 1< /dev/null
+closed_input=
+# shellcheck disable=SC2034  # commands use it
+{ : <&0; } 2>/dev/null || { exec 0> /dev/null && closed_input=yes; }
 
 # What prints how many cores there are: nproc itself goes by what OpenMP is told.
 # shellcheck disable=SC2034  # commands use it
@@ -108,8 +112,9 @@ interrupt() {
 place() {
     local part=$3.part$$ fault
     leftovers+=("$part")
-    if [ -d "$3" ] && [ ! -L "$3" ]; then
-        die 4 "$3 could not be written: Is a directory"
+    if [ ! -L "$3" ]; then
+        [ ! -d "$3" ] || die 4 "$3 could not be written: Is a directory"
+        [ ! -e "$3" ] || [ -f "$3" ] || die 4 "$3 could not be written: Not a regular file"
     fi
     fault=$({
         export LC_ALL=C

@@ -4,8 +4,10 @@
 # gnuplot runs in the folder of its script, where each file has a name of ours, and the points are
 # numbers. Text from outside is no part of the script (plot_text.sh).
 
+# Its own variable for the kind of terminal is not for pictures.
 run_gnuplot() (
-    cd -- "$work" && gnuplot -d -c script "$text" 2> complaint
+    unset GNUTERM
+    cd -- "$work" && exec gnuplot -d -c script "$text" 2> complaint
 )
 
 # print_script: of the file `points`. The looks differ in lightness, so that they are told apart in

@@ -35,13 +35,14 @@ measure() {
     columns=$((${#1} + ${#wide} + (columns + 99) / 100))
 }
 
-# begin TEXT COLUMNS: sets `piece` to as much of its beginning as takes so many columns.
+# begin TEXT COLUMNS: sets `piece` to as much of its beginning as takes so many columns. No letter
+# takes more than three, so a third as many letters as there are columns too many can go at once.
 begin() {
     local LC_ALL=C.UTF-8
     piece=${1::$2}
     measure "$piece"
     while [ -n "$piece" ] && [ "$columns" -gt "$2" ]; do
-        piece=${piece%?}
+        piece=${piece::${#piece} - (columns - $2 + 2) / 3}
         measure "$piece"
     done
 }
@@ -52,7 +53,7 @@ end() {
     piece=$1
     measure "$piece"
     while [ -n "$piece" ] && [ "$columns" -gt "$2" ]; do
-        piece=${piece#?}
+        piece=${piece:(columns - $2 + 2) / 3}
         measure "$piece"
     done
 }

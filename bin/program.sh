@@ -51,7 +51,7 @@ list_sources() {
     for part in specs proofs; do
         [ ! -d "$top/crates/$1/$part" ] || parts+=("crates/$1/$part")
     done
-    grep -E "^$1( [^:]*)?:" "$top/crates.txt"
+    grep -E "^$1( [^:]*)?:" "$top/crates.txt" || return
     (cd "$top" && find "${parts[@]}" -type f -print0 | LC_ALL=C sort -z | xargs -0 sha256sum)
 }
 
@@ -60,7 +60,7 @@ sum_of_sources() {
     local name
     {
         for name in $(all_below "$1"); do
-            list_sources "$name"
+            list_sources "$name" || exit
         done
         cat "$top/HANDLES"
     } | sha256sum | cut -d ' ' -f 1
@@ -141,10 +141,12 @@ way_out='its owner can call bin/install PREFIX, which makes programs that need n
 # suits NAME: the kept program is of these sources, and the toolchain that is installed, if any is,
 # is one that built it. Else `lack` says why it is not taken.
 suits() {
+    local sources
     lack="release/$1.sums is missing or damaged"
     [ -n "$(kept_word "$1" sources)" ] || return
+    sources=$(sum_of_sources "$1") || die 70 "the sources of $1 can't be read"
     lack='it is of other sources'
-    has_kept_word "$1" sources "$(sum_of_sources "$1")" || return
+    has_kept_word "$1" sources "$sources" || return
     lack='another toolchain than the one here has built it'
     ! command -v rt >/dev/null || is_by_toolchain "$1" "$(rt version)"
 }

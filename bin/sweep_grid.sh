@@ -170,22 +170,30 @@ describe_grid() {
     done
 }
 
-# find_sums: for each trace one of its size, its time of change, and its first and last MiB.
+# state_of TRACE: its size, its time of change, and sums of its first and last MiB. Tasks may run on
+# machines that each have a copy of it: for them, a sum of all of it.
+state_of() {
+    if [ -n "$task" ]; then
+        b2sum < "$1"
+    else
+        stat -L -c '%s %.9Y' -- "$1" && head -c 1M < "$1" | sha256sum && tail -c 1M < "$1" | sha256sum
+    fi
+}
+
+# find_sums: for each trace one of its state.
 sums=()
 find_sums() {
     local trace sum
     for trace in "${traces[@]}"; do
-        sum=$({ stat -L -c '%s %.9Y' -- "$trace" && head -c 1M < "$trace" | sha256sum &&
-            tail -c 1M < "$trace" | sha256sum; } 2>/dev/null | sha256sum) ||
-            die 4 "no trace to read: $trace"
+        sum=$({ state_of "$trace" | sha256sum; } 2>/dev/null) || die 4 "no trace to read: $trace"
         sums+=("${sum::16}")
     done
 }
 
 # find_paths NAME..: sets `paths` to the whole paths of the files, in which any byte may stand.
 find_paths() {
-    mapfile -d '' -t paths < <(realpath -zm -- "$@")
-    [ ${#paths[@]} -eq $# ]
+    mapfile -d '' -t paths < <(realpath -zm -- "$@" 2>/dev/null)
+    [ ${#paths[@]} -eq $# ] || die 4 "$1 has no whole name: is the working folder gone?"
 }
 
 # furnish FOLDER: gives the program and the traces their short names in it.
@@ -214,7 +222,7 @@ make_work() {
 
 prepare() {
     check_values
-    [ -z "$log" ] || find_sums
+    [ -z "$log$task" ] || find_sums
     { describe_grid > "$described" && finish links; } 2>/dev/null || no_room
 }
 
@@ -236,17 +244,19 @@ claim() {
         end_where_stuck
         place 644 "$described" "$store/grid"
     fi
-    cmp -s "$described" "$store/grid" || refuse "$folder is of another grid"
+    cmp -s "$described" "$store/grid" ||
+        refuse "$folder is of another grid, or a trace has changed"
 }
 
 # make_store: the folder of the rows, if it is not there. Sets `made_store` if it makes it.
 make_store() {
     mkdir -p -- "${store%/*}/" || return
-    if mkdir -- "$store"; then
-        made_store=yes
-    else
+    [ ! -d "$store" ] || return 0
+    made_store=yes
+    mkdir -- "$store" || {
+        made_store=
         [ -d "$store" ]
-    fi
+    }
 }
 
 # choose_folder FOLDER: of the rows. Its name is kept for what is said of it.

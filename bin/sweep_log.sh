@@ -20,6 +20,7 @@ open_log() {
     local begins
     begins=$({ head -c 10 < "$log" | tr '\0' ' '; } 2>/dev/null) || true
     [[ $'trace\tsum\t' == "$begins"* ]] || refuse "$log is no log of a sweep"
+    [ ! "$log" -ef /dev/stdout ] || refuse "--resume: $log is where the table goes"
     { exec {log_lock}>>"$log"; } 2>/dev/null || die 4 "$log could not be written"
     flock -n "$log_lock" || die 4 "$log is written by another sweep"
     [ -z "$restarts" ] || : > "$log"

@@ -82,9 +82,12 @@ gather_table() {
     described=$store/grid
     [ "$({ head -n 1 "$described" | cut -f 1; } 2>/dev/null)" = counts ] ||
         die 4 "no folder of rows: $gather"
+    grep -q $'^trace\t' "$described" || die 4 "$described is damaged"
     for file in "$store"/*; do
-        [[ ! ${file##*/} =~ ^[0-9]+(-[0-9]+)?$ ]] || cat "$file"
-    done > "$work/pending" 2>/dev/null || no_room
+        [[ ${file##*/} =~ ^[0-9]+(-[0-9]+)?$ ]] || continue
+        [ -r "$file" ] || die 4 "$file can't be read"
+        { cat -- "$file" >> "$work/pending"; } 2>/dev/null || no_room
+    done
     put_last_lines
     tell_faults
 }

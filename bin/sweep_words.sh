@@ -208,6 +208,11 @@ find_packer() {
 check_trace() {
     local packer package
     [ ! -p "$1" ] || die 4 "$1 is a pipe, and a sweep takes files: bin/dinero_grid reads a pipe"
+    case $1 in
+    /dev/stdin | /dev/fd/* | /proc/*/fd/*)
+        die 4 "$1 is another file for each run of a sweep: give the name of the file itself"
+        ;;
+    esac
     if [ ! -f "$1" ] || [ ! -r "$1" ]; then
         die 4 "no trace to read: $1"
     fi

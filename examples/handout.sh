@@ -2,7 +2,7 @@
 # Makes the hand-out of a first course from a trace: three pictures and a table. See usage.
 set -euo pipefail
 self=handout
-here=$(CDPATH='' cd -P -- "$(dirname -- "$0")" && pwd)
+here=$(readlink -f -- "${BASH_SOURCE[0]}"); here=${here%/*}
 bin=${here%/*}/bin
 . "$bin/common.sh"
 . "$bin/plot_place.sh"

@@ -100,6 +100,15 @@ chmod +x "$work/fake/find"
 launch
 check 'a search that failed finds no source untouched' is_built
 rm "$work/fake/find"
+# Sources that can't be read are no other sources.
+new_checkout
+printf '#!/bin/sh\n[ $# -eq 0 ] || exit 1\nexec %q\n' "$(command -v sha256sum)" >"$work/fake/sha256sum"
+chmod +x "$work/fake/sha256sum"
+launch
+[ "$status" -eq 70 ] && [ ! -s "$out" ] &&
+    [ "$(<"$err")" = "dinero_pipe: the sources of dinero_pipe can't be read" ]
+verdict "a source that can't be read" $?
+rm "$work/fake/sha256sum"
 new_checkout
 launch
 rm "$fresh/crates/sim_run/specs/TraceReport.antt"

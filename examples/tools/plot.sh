@@ -125,6 +125,20 @@ test_lacking_tables() {
         "$plot" kinds kinds.tsv nowhere/none.svg
     ends 'plot where there is no room' 4 "plot: no room for temporary files in $TMPDIR" \
         no_room 4 "$plot" kinds kinds.tsv none.svg
+    "$plot" rates - none.svg <&- >"$out" 2>"$err"
+    status=$?
+    [ "$status" -eq 4 ] && [ "$(<"$err")" = 'plot: no table to read: standard input is closed' ]
+    verdict 'plot of a closed input' $?
+    mkfifo pipe.svg
+    ends 'plot into a pipe' 4 'plot: pipe.svg could not be written: Not a regular file' \
+        "$plot" kinds kinds.tsv pipe.svg
+    run env GNUTERM=qt "$plot" kinds kinds.tsv other.svg
+    [ "$status" -eq 0 ] && [ ! -s "$err" ] && cmp -s kinds.svg other.svg
+    verdict "plot with gnuplot's own variable for its terminal" $?
+    mkdir "$work/ended" && printf '#!/bin/sh\nkill -XFSZ $$\n' >"$work/ended/gnuplot"
+    chmod +x "$work/ended/gnuplot"
+    ends 'plot with a gnuplot that is ended' 4 'plot: gnuplot failed: it ended with status 153' \
+        env PATH="$work/ended:$PATH" "$plot" kinds kinds.tsv none.svg
     echo before >before.svg
     run "$plot" kinds short.tsv before.svg
     [ "$status" -eq 1 ] && [ "$(<before.svg)" = before ]

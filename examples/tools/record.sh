@@ -156,6 +156,18 @@ END
     gcc -nostdlib -static -no-pie -Wl,-Ttext=0x401000 -o parting parting.s
 }
 
+# Ctrl-C before the program is started. The trace tells of it, as of any other end.
+test_early_interrupt() {
+    MARK=$work/early PATH=$(standing_still nm):$PATH start "$record" --from main true
+    until_true test -e "$work/early"
+    kill -INT -- "-$started"
+    status=0
+    wait "$started" 2>/dev/null || status=$?
+    [ "$status" -eq 130 ] && [ "$(<"$out")" = 'record: interrupted' ] &&
+        [ "$(<"$err")" = 'record: interrupted' ]
+    verdict 'record and Ctrl-C while a function is looked for' $?
+}
+
 test_parting() {
     local input lived
     mkfifo input
@@ -244,6 +256,7 @@ verdict 'no report is made where record failed' $?
 
 if has valgrind; then
     test_record
+    ! has nm || test_early_interrupt
     if has gcc && assemble && assemble_parting; then
         test_known
         test_parting

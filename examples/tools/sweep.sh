@@ -95,13 +95,25 @@ run "$sweep" --gather tasks
 verdict 'gathering where a report is missing' $?
 ends 'a task that the grid has not' 2 'sweep: --task: the grid has 4 configurations, and no 5; try --help' \
     "$sweep" --task 5 --into tasks "${grid[@]}" -- kinds.din
-ends 'a task of another grid' 2 'sweep: tasks is of another grid; try --help' \
+ends 'a task of another grid' 2 'sweep: tasks is of another grid, or a trace has changed; try --help' \
     "$sweep" --task 1 --into tasks "${grid[@]}" -- fifo.din
 "$sweep" --task 1 --into faulty --vary --l1-dsize 8 "${rest[@]}" -- faulty.din >"$out" 2>"$err"
 status=$?
 [ "$status" -eq 1 ] && [ ! -s "$out" ] && [ "$(<"$err")" = 'sweep: faulty.din: line 2: label' ]
 verdict 'a task of a faulty trace' $?
-rm -r tasks faulty
+cp kinds.din changing.din
+"$sweep" --task 1 --into changing "${grid[@]}" -- changing.din >"$out" 2>"$err"
+touch changing.din
+"$sweep" --task 2 --into changing "${grid[@]}" -- changing.din >>"$out" 2>>"$err"
+[ ! -s "$out" ] && [ ! -s "$err" ] && [ "$(ls changing)" = $'1\n2\ngrid' ]
+verdict 'tasks of a trace that was touched' $?
+printf '2 0\n' >changing.din
+ends 'a task of a trace that has changed' 2 \
+    'sweep: changing is of another grid, or a trace has changed; try --help' \
+    "$sweep" --task 3 --into changing "${grid[@]}" -- changing.din
+head -n 3 changing/grid >changing/part && mv changing/part changing/grid
+ends 'gathering by half of a grid' 4 "sweep: $PWD/changing/grid is damaged" "$sweep" --gather changing
+rm -r tasks faulty changing changing.din
 
 # refused LINE WORD..: the words are refused so.
 refused() {
@@ -136,6 +148,9 @@ refused '--l1-drepl: not a lawful letter' --vary --l1-drepl l,x "${grid[@]}" -- 
 refused '--l2-urepl: not a lawful letter' --l2-urepl x "${grid[@]}" -- kinds.din
 ends 'sweep of a trace that is not there' 4 'sweep: no trace to read: nowhere.din' \
     "$sweep" "${grid[@]}" -- kinds.din nowhere.din
+ends 'sweep of what is at its own input' 4 \
+    'sweep: /dev/stdin is another file for each run of a sweep: give the name of the file itself' \
+    "$sweep" "${grid[@]}" -- /dev/stdin
 ends 'gathering from nowhere' 4 'sweep: no folder of rows: nowhere' "$sweep" --gather nowhere
 to_full 'sweep to a full disk' 'sweep: the table could not be written' \
     "$sweep" "${long[@]}" -- long.din

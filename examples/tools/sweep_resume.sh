@@ -139,6 +139,11 @@ test_folders() {
 }
 
 refused '--restart goes with --resume' --restart "${grid[@]}" -- kinds.din
+"$sweep" --resume same.tsv "${grid[@]}" -- kinds.din >same.tsv 2>"$err"
+status=$?
+[ "$status" -eq 2 ] && [ ! -s same.tsv ] &&
+    [ "$(<"$err")" = 'sweep: --resume: same.tsv is where the table goes; try --help' ]
+verdict 'a log where the table goes' $?
 test_full_disk
 test_folders
 test_known_traces
