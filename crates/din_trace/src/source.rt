@@ -153,6 +153,11 @@ impl<R: ByteReader> Source<R> {
             (λ fault. (fault ≢ TraceFault.Memory → l.fault ≡ Some fault)
             × HasLeft self.new later (record { records = []; fault = Some fault })
             × (fault ≡ TraceFault.Memory → (l.fault ≡ Some fault) ⊎ (l.records ≢ [])))) }
+        // So after want of memory the reader is not asked once more: it might fail then, and the
+        // answer would not say so.
+        ensures failed { (R.failures (reader_of self.new) ≡ R.failures (reader_of self.old))
+            ⊎ (result ≡ Err TraceFault.Read) }
+        ensures settled { IsSettled self.old → self.new ≡ self.old }
         ensures bound { taken_by self.new ≤ limit_of self.new + 1 }
         ensures limit { limit_of self.new ≡ limit_of self.old }
         ensures at_most { IfOk result (λ records. vec_len records ≤ room_of self.old) }

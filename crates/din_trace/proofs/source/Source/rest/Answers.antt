@@ -1,10 +1,10 @@
 use Rattle.std.proofs.Common.{◌≡◌, ◌+◌, ◌<◌, ℕ, List, [], ◌∷◌, ◌++◌, Option, Ok, refl, ap, ◌∙◌}
-use Rattle.std.proofs.Common.{subst, arith, inl, inr, vec_len}
+use Rattle.std.proofs.Common.{subst, arith, inl, inr, vec_len, sym}
 use Rattle.din_trace.specs.declared.record.DinRecord.{DinRecord}
 use Rattle.din_trace.specs.Text.{Remaining}
 use Rattle.din_trace.specs.Remaining.{Script, Fate, Open, Follows, first_answer, after_first}
 use Rattle.din_trace.specs.Source as words
-use Rattle.din_trace.specs.Source.{HasLeft, Takes, room_of}
+use Rattle.din_trace.specs.Source.{HasLeft, IsSettled, Takes, reader_of, room_of}
 use Rattle.din_trace.proofs.Calls.{Calls, calls, no_calls}
 use Rattle.din_trace.proofs.Scripts.{closes-settled, rest-record, rest-some, rest-end, rest-fault}
 use Rattle.din_trace.proofs.source.Source.rest.Goals as goal
@@ -56,10 +56,30 @@ ends g c Told tell =
           tell last before more.0 more.1 more.2 more.3,
     )
 
+-- where the last call gave no fault, the reader has not failed
+not-failed : (g : Over) (c : After-next g) (found : Option DinRecord)
+    → c.next.result ≡ Ok found
+    → g.R.ByteReader.failures (reader_of c.next.new.self)
+    ≡ g.R.ByteReader.failures (reader_of c.records.self)
+not-failed g c found is =
+    elim c.next.ensures.failed [
+      | inl same ↦ same
+      | inr failed ↦ let e = sym is ∙ failed in absurd cc
+    ]
+
+-- a source that was settled is still the same
+still : (g : Over) (c : After-next g) → IsSettled c.args.self.now
+    → c.next.new.self ≡ c.args.self.now
+still g c is =
+    let same = c.records.invariant.settled is in
+    c.next.ensures.settled (rw same is) ∙ same
+
 pub records-init : goal.records-init
 records-init g c = record {
   at_most = omega (arith, c.new-records.ensures);
   limit_same = refl;
+  no_failure = refl;
+  settled = λ _. refl;
   given = [];
   fate = Open;
   went = no_calls g.R.ByteReader.remaining g.R.ByteReader.failures c.args.self.now;
@@ -84,6 +104,8 @@ records-preserved g c =
           rw c.if-is_err.ensures.negation at c.push.ensures.len in
           omega arith;
       limit_same = c.next.ensures.limit ∙ now.limit_same;
+      no_failure = not-failed g c₁ c.in-Ok.found c.in-Ok.is ∙ now.no_failure;
+      settled = still g c₁;
       given = all.given;
       fate = all.fate;
       went = all.went;

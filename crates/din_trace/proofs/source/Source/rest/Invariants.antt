@@ -1,13 +1,16 @@
 use Rattle.std.proofs.Common.{◌≡◌, ◌++◌, ◌+◌, ◌≤◌, List, ℕ, vec_len}
 use Rattle.din_trace.specs.Text.{Remaining}
 use Rattle.din_trace.specs.Remaining.{Script, Fate, Follows}
-use Rattle.din_trace.specs.Source.{HasLeft, room_of, limit_of, Takes}
+use Rattle.din_trace.specs.Source.{HasLeft, IsSettled, reader_of, room_of, limit_of, Takes}
 use Rattle.din_trace.proofs.source.Source.rest.Given as goal
 
 abbrev pub invariant-records : goal.invariant-records
 invariant-records g l = record {
   at_most : vec_len l.records + room_of l.self ≤ room_of l.initial.self;
   limit_same : limit_of l.self ≡ limit_of l.initial.self;
+  no_failure : g.R.ByteReader.failures (reader_of l.self)
+      ≡ g.R.ByteReader.failures (reader_of l.initial.self);
+  settled : IsSettled l.initial.self → l.self ≡ l.initial.self;
   given : List ℕ;
   fate : Fate;
   went : Takes g.R.ByteReader.remaining g.R.ByteReader.failures l.initial.self l.self given fate;
