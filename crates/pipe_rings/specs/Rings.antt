@@ -25,7 +25,11 @@ module _ {T : Type 0} where
   unfoldable pub LookedForRoom : Tx T → Type 0
   LookedForRoom tx = (posted tx ≡ []) ⊎ (ring.known_free tx.end ≡ 0)
 
-  -- a receiver that slept was woken for every item that the sender moved into the ring
+  -- the sender's count of the items moved into the ring since the receiver's bell was last rung
+  abbrev pub unannounced_of : Tx T → ℕ
+  unannounced_of tx = tx.unannounced
+
+  -- the count of items moved into the ring since the receiver's bell was last rung is 0
   abbrev pub IsAnnounced : Tx T → Type 0
   IsAnnounced tx = tx.unannounced ≡ 0
 

@@ -45,9 +45,9 @@ pub struct Gone<T> {
 #[tactic(auto, unfolding(crate::specs::Rings::sent, crate::specs::Rings::posted, crate::specs::Rings::HasRoom, crate::specs::Rings::LookedForRoom))]
 impl<T: Copy> Tx<T> {
     ghost use Rattle.std.specs.Prelude.{◌≡◌, ◌<◌, [], ◌∷◌, ◌++◌, ◌↔◌, OnOk, IfErr, IsTrue, false};
-    ghost use Rattle.std.specs.Prelude.{length, ◌+◌, IfOk};
+    ghost use Rattle.std.specs.Prelude.{length, ◌+◌, ◌-◌, ◌^◌, ◌⊎◌, min, IfOk};
     ghost use Rattle.pipe_rings.specs.Rings.{sent, posted, SameTx, HasRoom, LookedForRoom};
-    ghost use Rattle.pipe_rings.specs.Rings.{IsAnnounced, outbox_for};
+    ghost use Rattle.pipe_rings.specs.Rings.{IsAnnounced, unannounced_of, outbox_for};
 
     // The sending end of a new ring, with an outbox for `outbox` items, but for at least 1 and at
     // most `OUTBOX`. It sleeps at the bell `own`, and rings the bell `peer`.
@@ -157,6 +157,13 @@ impl<T: Copy> Tx<T> {
         ensures looked { LookedForRoom self.new }
         ensures room { HasRoom self.old → HasRoom self.new }
         ensures emptied { length (posted self.new) ≡ 0 → HasRoom self.new }
+        // All is announced if items are left in the outbox, or if many were to be announced.
+        ensures told { (IsAnnounced self.new)
+            ⊎ ((length (posted self.new) ≡ 0) × (unannounced_of self.new < MOST_UNANNOUNCED)) }
+        // If not, what went into the ring is counted until it is announced.
+        ensures counted { length (posted self.new) ≡ 0
+            → unannounced_of self.old + result < MOST_UNANNOUNCED
+            → unannounced_of self.new ≡ unannounced_of self.old + result }
     {
         let count = self.move_posted();
         if count > 0 {
@@ -176,6 +183,7 @@ impl<T: Copy> Tx<T> {
         ensures looked { LookedForRoom self.new }
         ensures room { HasRoom self.old → HasRoom self.new }
         ensures emptied { length (posted self.new) ≡ 0 → HasRoom self.new }
+        ensures uncounted { self.new.unannounced ≡ self.old.unannounced }
     {
         let (moved, left) = self.end.push_partial_slice(&self.outbox[self.first..]);
         let count = moved.len();
@@ -219,6 +227,7 @@ impl<T: Copy> Tx<T> {
         ensures posted { posted self.new ≡ posted self.old }
         ensures looked { LookedForRoom self.old → LookedForRoom self.new }
         ensures room { HasRoom self.old → HasRoom self.new }
+        ensures counted { self.new.unannounced ≡ min (self.old.unannounced + count) (2 ^ 64 - 1) }
     {
         self.patience.renew();
         self.unannounced = self.unannounced.saturating_add(count);
