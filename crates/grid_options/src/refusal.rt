@@ -1,7 +1,7 @@
 //! What is said of words that are refused.
 
-ghost use Rattle.std.specs.Prelude.{◌≡◌, IfOk, None, map, string_bytes, true};
-ghost use Rattle.clap.specs.Words.{takes};
+ghost use Rattle.std.specs.Prelude.{◌≡◌, ◌⊎◌, [], IfOk, None, map, string_bytes, true};
+ghost use Rattle.clap.specs.Words.{IsAmong, fault_of, takes};
 ghost use Rattle.din_trace.specs.Device.{Writes};
 ghost use Rattle.grid_options.specs.Grid.{grid_app};
 ghost use Rattle.grid_options.specs.Refusals.{grid_fault_text};
@@ -56,10 +56,12 @@ fn first_paragraph(alloc: Global, said: &str) -> Result<String, AllocError> {
 
 /// What clap says of words that it refuses, in one line and without the program's name: which
 /// option or word it is, and what is wrong with it. `None` where it takes the words, or help is
-/// asked for. The contract says nothing about the text.
+/// asked for, and nowhere else. The contract says nothing about the text.
 pub fn grid_refusal_text(alloc: Global, words: &[String]) -> Result<Option<String>, NoMemory>
     ensures taken { takes grid_app (map string_bytes words.now) ≡ true
         → IfOk result (λ text. text ≡ None) }
+    ensures told { let kinds = fault_of grid_app (map string_bytes words.now) in
+        IfOk result (λ text. text ≡ None → (kinds ≡ []) ⊎ IsAmong ErrorKind.DisplayHelp kinds) }
 {
     let Ok(command) = grid_command(alloc) else {
         return Err(NoMemory);
