@@ -28,13 +28,13 @@ ghost use Rattle.dinero_grid.specs.AskedRows.{IsBoundedPoint, IsGridFor, has_ref
 use crate::asked::{grid_for, has_refused};
 use crate::fault::{Fault, fault_text, status};
 use din_trace::{ByteReader, ByteWriter, FromRead, FromWrite, MAX_LIMIT, TraceFault};
-use dinero_options::WordsFault;
+use dinero_options::{WordsFault, unread_arguments_fault};
 use grid_options::{
     GridWordsFault, ParsedGrid, grid_help_text, grid_refusal_text, parse_grid_words,
 };
 use grid_run::{GridFault, simulate_grid};
 use std::alloc::Global;
-use std::io::{BufWriter, ErrorKind, Read, Write};
+use std::io::{BufWriter, Read, Write};
 use std::process::ExitCode;
 use std::thread::Threads;
 use std::{env, thread};
@@ -119,14 +119,6 @@ fn write_help(rt: &HostRuntime) -> Result<bool, Fault> {
     }
 }
 
-/// The fault if the arguments cannot be read: an allocation failed, or one is not UTF-8.
-fn words_fault_of(kind: ErrorKind) -> Fault {
-    match kind {
-        ErrorKind::OutOfMemory => Fault::Words(GridWordsFault::Words(WordsFault::Memory)),
-        _ => Fault::Words(GridWordsFault::Words(WordsFault::Words)),
-    }
-}
-
 /// Prints what clap says of words that it refuses. If that cannot be printed, only the line of the
 /// fault is.
 fn explain(rt: &HostRuntime, words: &[String]) {
@@ -145,7 +137,10 @@ fn parse_args(rt: &HostRuntime) -> Result<ParsedGrid, Fault>
     let alloc = rt.alloc();
     let mut arguments = match env::args(rt) {
         Ok(arguments) => arguments,
-        Err(error) => return Err(words_fault_of(error.kind())),
+        Err(error) => {
+            let fault = unread_arguments_fault(error.kind());
+            return Err(Fault::Words(GridWordsFault::Words(fault)));
+        }
     };
     let _program = arguments.next();
     let Ok(words) = arguments.collect::<Vec<String>>(alloc) else {

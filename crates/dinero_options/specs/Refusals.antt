@@ -1,5 +1,7 @@
--- What is said of words that are refused.
+-- What is said of words that are refused, and the fault of arguments that cannot be read.
 use Rattle.std.specs.Prelude.{ℕ, List, [], ◌++◌, codes}
+use Rattle.std.specs.declared.io.ErrorKind.{ErrorKind}
+use Rattle.std.specs.declared.io.ErrorKind.TheVariants as kind
 use Rattle.cache_core.specs.declared.geometry.GeometryFault.{GeometryFault}
 use Rattle.cache_core.specs.declared.geometry.GeometryFault.TheVariants as geometry
 use Rattle.stage_core.specs.declared.config.CacheName.{CacheName}
@@ -31,6 +33,12 @@ config_fault_text (config.Geometry which fault) = cache_name_text which ++
     (codes ": " ++ geometry_fault_text fault)
 config_fault_text config.BlockOrder = codes "l2 block is shorter than an l1 block"
 config_fault_text config.Ring = codes "ring is not from 1 to 65536"
+
+-- the fault if the program's arguments cannot be read: `Memory` if an allocation failed, or else
+-- `Words`, since an argument is not UTF-8
+abbrev pub unread_arguments_fault : ErrorKind → WordsFault
+unread_arguments_fault kind.OutOfMemory = words.Memory
+unread_arguments_fault _ = words.Words
 
 -- the message for a refused command line; empty for help
 abbrev pub words_fault_text : WordsFault → List ℕ

@@ -9,7 +9,8 @@
 //! option from clap's matches, and tells which can be read. `settings` reads a text for each
 //! option, and `words` turns the words into a lawful configuration and a selection. `fault` says
 //! why they give none. `refusal` and `trace_refusal` have the text and the exit status of each
-//! refusal of words or of a trace, which all programs share.
+//! refusal of words or of a trace, which all programs share; `refusal` also has the fault of
+//! arguments that cannot be read.
 //!
 //! A program whose options are some of these, or that reads many texts for an option, builds on the
 //! same steps: [`add_options`], [`take_words`], [`matched_text`], [`can_read`], [`unread_fault`],
@@ -35,7 +36,7 @@ mod words;
 pub use command::{NoMemory, add_options, help_text};
 pub use fault::WordsFault;
 pub use opt::Opt;
-pub use refusal::{config_text, put_words, words_status};
+pub use refusal::{config_text, put_words, unread_arguments_fault, words_status};
 pub use settings::{Settings, settings_in};
 pub use texts::{can_read, listed_text, matched_text, unread_fault};
 pub use trace_refusal::{put_trace, trace_status};

@@ -1,16 +1,17 @@
-//! What is said of words that are refused.
+//! What is said of words that are refused, and the fault of arguments that cannot be read.
 
 ghost use Rattle.std.specs.Prelude.{◌≡◌, ◌++◌, IfOk, string_bytes};
 ghost use Rattle.din_trace.specs.Device.{Writes};
 ghost use Rattle.dinero_options.specs.Refusals.{cache_name_text, config_fault_text};
-ghost use Rattle.dinero_options.specs.Refusals.{geometry_fault_text, words_fault_text};
-ghost use Rattle.dinero_options.specs.Refusals.{words_status};
+ghost use Rattle.dinero_options.specs.Refusals.{geometry_fault_text, unread_arguments_fault};
+ghost use Rattle.dinero_options.specs.Refusals.{words_fault_text, words_status};
 
 use crate::fault::WordsFault;
 use cache_core::GeometryFault;
 use din_trace::{ByteWriter, DeviceFailed};
 use stage_core::{CacheName, ConfigFault};
 use std::alloc::{AllocError, Global};
+use std::io::ErrorKind;
 
 fn cache_text(name: CacheName) -> &'static str
     ensures { result.now ≡ cache_name_text name }
@@ -64,6 +65,16 @@ pub fn config_text(alloc: Global, fault: ConfigFault) -> Result<String, AllocErr
     text.push_str(then)?;
     text.push_str(last)?;
     Ok(text)
+}
+
+/// The fault if the program's arguments cannot be read: an allocation failed, or one is not UTF-8.
+pub fn unread_arguments_fault(kind: ErrorKind) -> WordsFault
+    ensures { result ≡ unread_arguments_fault kind }
+{
+    match kind {
+        ErrorKind::OutOfMemory => WordsFault::Memory,
+        _ => WordsFault::Words,
+    }
 }
 
 /// The exit status for a refused command line: 0 if help was asked for, 3 if an allocation failed,

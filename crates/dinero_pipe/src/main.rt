@@ -24,12 +24,12 @@ ghost use Rattle.sim_run.specs.TraceReport.{report_of};
 
 use crate::fault::{Fault, fault_text, status};
 use din_trace::{ByteReader, ByteWriter, FromRead, FromWrite, MAX_LIMIT, TraceFault};
-use dinero_options::{WordsFault, help_text, parse_words};
+use dinero_options::{WordsFault, help_text, parse_words, unread_arguments_fault};
 use sim_run::{OpenGate, RunFault, simulate};
 use stage_core::{Config, Selection};
 use std::alloc::Global;
 use std::env;
-use std::io::{BufWriter, ErrorKind, Read, Write};
+use std::io::{BufWriter, Read, Write};
 use std::process::ExitCode;
 use std::sync::Wait;
 use std::thread::Threads;
@@ -92,14 +92,6 @@ fn write_help(rt: &HostRuntime) -> Result<(), Fault> {
     }
 }
 
-/// The fault if the arguments cannot be read: an allocation failed, or one is not UTF-8.
-fn words_fault_of(kind: ErrorKind) -> WordsFault {
-    match kind {
-        ErrorKind::OutOfMemory => WordsFault::Memory,
-        _ => WordsFault::Words,
-    }
-}
-
 /// The configuration and the selection that the program's arguments ask for.
 fn parse_args(rt: &HostRuntime) -> Result<(Config, Selection), Fault>
     ensures { IfOk result (λ parsed. IsBounded parsed.1) }
@@ -107,7 +99,7 @@ fn parse_args(rt: &HostRuntime) -> Result<(Config, Selection), Fault>
     let alloc = rt.alloc();
     let mut arguments = match env::args(rt) {
         Ok(arguments) => arguments,
-        Err(error) => return Err(Fault::Words(words_fault_of(error.kind()))),
+        Err(error) => return Err(Fault::Words(unread_arguments_fault(error.kind()))),
     };
     let _program = arguments.next();
     let Ok(words) = arguments.collect::<Vec<String>>(alloc) else {
