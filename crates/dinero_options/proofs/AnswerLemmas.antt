@@ -1,6 +1,7 @@
 -- What clap takes and refuses, and texts that are read by their place.
 use Rattle.std.proofs.Common.{◌≡◌, ◌∙◌, Bool, true, false, List, [], map, refl, sym, ap, subst, inl}
 use Rattle.std.proofs.Common.{inr, Ok, Err, Result, Some, None}
+use Rattle.std.proofs.lemmas.Bool.{and_parts}
 use Rattle.std.specs.Option.{option_map_or}
 use Rattle.clap.specs.Words.{App, HasKind, Row, Text, fault_of, found_of, is_simple}
 use Rattle.clap.specs.Words.{is_simple_and_free, kind_of, matches_of, rows_of, subcommand_of}
@@ -39,13 +40,13 @@ module _ {A : Type 0} (texts : Opt → Text) (a : A) where
       ap (λ o. option_map_or (λ y. Err (refusal_by_option y)) o (Ok a)) (sym h)
 
 -- clap accepted the words
-pub accepts_matches : (a : App) (words : List Text) (m : ArgMatches) → is_simple a ≡ true
+pub accepts_matches : (a : App) (words : List Text) (m : ArgMatches)
     → is_simple_and_free a ≡ true
     → (is_simple a ≡ true → (rows_of (found_of m) ≡ matches_of a words)
     × (subcommand_rows_of m ≡ subcommand_of a words))
     → (is_simple_and_free a ≡ true → fault_of a words ≡ [])
     → AcceptsWords a words (rows_of (found_of m))
-accepts_matches a words m simple free matches kinds = (kinds free, (matches simple).0)
+accepts_matches a words m free matches kinds = (kinds free, (matches (and_parts _ _ free).0).0)
 
 -- clap refused the words
 pub refuses_words : (a : App) (words : List Text) (x : Error) (f : WordsFault)

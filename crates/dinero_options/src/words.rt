@@ -1,7 +1,7 @@
 //! From the words after the program's name to a configuration and a selection.
 
 ghost use Rattle.std.specs.Prelude.{◌≡◌, IfErr, IfOk, map, string_bytes, true};
-ghost use Rattle.clap.specs.Words.{app_of, found_of, is_simple, is_simple_and_free, rows_of};
+ghost use Rattle.clap.specs.Words.{app_of, found_of, is_simple_and_free, rows_of};
 ghost use Rattle.stage_core.specs.Events.{IsBounded};
 ghost use Rattle.dinero_options.specs.Answer.{AcceptsWords, AnswersWords, Follows, RefusesWords};
 ghost use Rattle.dinero_options.specs.Answer.{if_readable, refusal_by_kind, settings_at, text_at};
@@ -32,8 +32,7 @@ pub fn take_words<'a>(
     command: Command<'a>,
     words: &'a [String],
 ) -> Result<ArgMatches<'a>, WordsFault>
-    requires simple { is_simple (app_of command) ≡ true }
-    requires free { is_simple_and_free (app_of command) ≡ true }
+    requires { is_simple_and_free (app_of command) ≡ true }
     ensures ok { IfOk result (λ m.
         AcceptsWords (app_of command.entry) (map string_bytes words.now) (rows_of (found_of m))) }
     ensures err { IfErr result (λ f.

@@ -1,15 +1,12 @@
 use Rattle.std.proofs.Common.{ap, map, string_bytes, subst}
-use Rattle.clap.specs.Words.{found_of, is_simple, is_simple_and_free, rows_of}
+use Rattle.clap.specs.Words.{found_of, is_simple_and_free, rows_of}
 use Rattle.dinero_options.specs.Answer.{AcceptsWords, RefusesWords}
 use Rattle.grid_options.proofs.WordsLemmas.{answers_matches, answers_refusal, grid_bounded}
 use Rattle.grid_options.proofs.words.parse_grid_words.Goals as goal
 
--- the command is simple, so the contracts of clap say what its matches and faults are
-pub take_words-requires-clause-simple : goal.take_words-requires-clause-simple
-take_words-requires-clause-simple c = ap is_simple c.in-Ok.ensures
-
-pub take_words-requires-clause-free : goal.take_words-requires-clause-free
-take_words-requires-clause-free c = ap is_simple_and_free c.in-Ok.ensures
+-- the command is simple and free, so the contracts of clap say what its matches and faults are
+pub take_words-requires : goal.take_words-requires
+take_words-requires c = ap is_simple_and_free c.in-Ok.ensures
 
 pub returns-in-Ok-take_words-clause-answer : goal.returns-in-Ok-take_words-clause-answer
 returns-in-Ok-take_words-clause-answer c =
