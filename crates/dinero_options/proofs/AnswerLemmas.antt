@@ -75,9 +75,9 @@ answers_texts words rows texts r takes is follows =
     let settings = settings_at (text_of rows) in
     let said : AnswersTexts (text_of rows) r =
     subst (λ s. Follows s r) (by_place (text_of rows) settings) listed in
-    inr (inl (rows, takes, said))
+    inl (rows, takes, said)
 
 -- the fault of refused words is the answer to the words
 pub answers_refusal : (words : List Text) (f : WordsFault) → RefusesWords command_app words f
     → AnswersWords words (Err f)
-answers_refusal words f refuses = inr (inr (f, refuses, refl))
+answers_refusal words f refuses = inr (f, refuses, refl)

@@ -161,9 +161,9 @@ RefusesWords app words f = (f ≡ fault.Memory)
     ⊎ ((k : ErrorKind) × (takes app words ≡ false) × IsAmong k (fault_of app words)
     × (f ≡ refusal_by_kind k))
 
--- the answer to the words: `Memory`; or the answer to clap's matches, if clap accepts the words; or
--- else the fault for one of the reasons for which clap refuses them
+-- the answer to the words: the answer to clap's matches, if clap accepts the words; or else why
+-- they are refused, which may be `Memory` for any words
 abbrev pub AnswersWords : List Text → Result (Config × Selection) WordsFault → Type 0
-AnswersWords words r = (r ≡ Err fault.Memory)
-    ⊎ (((rows : List Row) × AcceptsWords command_app words rows × AnswersRows rows r)
-    ⊎ ((f : WordsFault) × RefusesWords command_app words f × (r ≡ Err f)))
+AnswersWords words r =
+    ((rows : List Row) × AcceptsWords command_app words rows × AnswersRows rows r)
+    ⊎ ((f : WordsFault) × RefusesWords command_app words f × (r ≡ Err f))

@@ -8,6 +8,7 @@ use Rattle.dinero_options.specs.Answer.{AcceptsWords, RefusesWords}
 use Rattle.stage_core.specs.Events.{IsBounded}
 use Rattle.dinero_options.specs.declared.opt.Opt.{Opt}
 use Rattle.dinero_options.specs.declared.fault.WordsFault.{WordsFault}
+use Rattle.dinero_options.specs.declared.fault.WordsFault.TheVariants.{Memory}
 use Rattle.grid_options.specs.Grid.{AnswersGrid, AnswersGridWords, IsPoint, grid_app, memory}
 use Rattle.grid_options.specs.Grid.{points_of, shown}
 use Rattle.grid_options.specs.Own.{is_full}
@@ -19,12 +20,12 @@ use Rattle.grid_options.specs.declared.fault.GridWordsFault.TheVariants.{Words}
 pub answers_matches : (words : List Text) (rows : List Row) (r : Result ParsedGrid GridWordsFault)
     → AcceptsWords grid_app words rows → (r ≡ Err memory) ⊎ AnswersGrid rows r
     → AnswersGridWords words r
-answers_matches words rows r takes (inl none) = inl none
-answers_matches words rows r takes (inr answers) = inr (inl (rows, takes, answers))
+answers_matches words rows r takes (inl none) = inr (Memory, inl refl, none)
+answers_matches words rows r takes (inr answers) = inl (rows, takes, answers)
 
 pub answers_refusal : (words : List Text) (f : WordsFault) → RefusesWords grid_app words f
     → AnswersGridWords words (Err (Words f))
-answers_refusal words f refused = inr (inr (f, refused, refl))
+answers_refusal words f refused = inr (f, refused, refl)
 
 -- the selection of each point is within its bounds
 points_bounded : (full : Bool) (xs : List Opt) (ts : List (List Text)) (ps : List GridPoint)

@@ -132,9 +132,9 @@ abbrev pub AnswersGrid : List Row → Result ParsedGrid GridWordsFault → Type 
 AnswersGrid rows (Ok g) = (grid_fault rows ≡ None) × IsGridOf rows g
 AnswersGrid rows (Err f) = grid_fault rows ≡ Some f
 
--- the answer to the words: want of memory; or the answer to clap's matches, if clap accepts the
--- words; or else the fault for one of the reasons for which clap refuses them
+-- the answer to the words: the answer to clap's matches, if clap accepts the words; or else why
+-- they are refused, which may be want of memory for any words
 abbrev pub AnswersGridWords : List Text → Result ParsedGrid GridWordsFault → Type 0
-AnswersGridWords words r = (r ≡ Err memory)
-    ⊎ (((rows : List Row) × AcceptsWords grid_app words rows × AnswersGrid rows r)
-    ⊎ ((f : WordsFault) × RefusesWords grid_app words f × (r ≡ Err (Words f))))
+AnswersGridWords words r =
+    ((rows : List Row) × AcceptsWords grid_app words rows × AnswersGrid rows r)
+    ⊎ ((f : WordsFault) × RefusesWords grid_app words f × (r ≡ Err (Words f)))
