@@ -111,7 +111,8 @@ abbrev pub words_of : Bool → List Opt → List Text → List Text
 words_of full xs texts =
     if full then map (written (settings_at (text_at texts))) xs else map (text_at texts) xs
 
--- the point has the words of these options, and what all its texts ask for
+-- the point has the words of these options, and what all its texts ask for; each number of its
+-- selection is at most 2 ^ 40
 pub record IsPoint (full : Bool) (xs : List Opt) (texts : List Text) (p : GridPoint) : Type 0 where
   pub words : map string_bytes p.words.items ≡ words_of full xs texts
   pub selection : p.selection ≡ (settings_at (text_at texts)).selection
