@@ -50,7 +50,8 @@ cache_heads columns =
     heads_of columns (codes "l1-icache")
     ++ (heads_of columns (codes "l1-dcache") ++ heads_of columns (codes "l2-ucache"))
 
--- the first line: the names of the options that vary, the columns of the three caches, the fault
+-- the first line: the names of the options that have columns, the columns of the three caches,
+-- and the fault
 unfoldable pub head_line : Columns → List (List ℕ) → List ℕ
 head_line columns names = line (names ++ cache_heads columns) (codes "fault")
 
