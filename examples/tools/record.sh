@@ -158,8 +158,11 @@ END
 
 # Ctrl-C before the program is started. The trace tells of it, as of any other end.
 test_early_interrupt() {
-    MARK=$work/early PATH=$(standing_still nm):$PATH start "$record" --from main true
-    until_true test -e "$work/early"
+    mkdir "$work/early"
+    printf '#!/bin/sh\n: >"$MARK"\nexec sleep 60\n' >"$work/early/nm"
+    chmod +x "$work/early/nm"
+    MARK=$work/early/mark PATH=$work/early:$PATH start "$record" --from main true
+    until_true test -e "$work/early/mark"
     kill -INT -- "-$started"
     status=0
     wait "$started" 2>/dev/null || status=$?

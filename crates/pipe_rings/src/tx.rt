@@ -248,6 +248,23 @@ impl<T: Copy> Tx<T> {
         }
     }
 
+    // Moves the item into the ring past the empty outbox, if there is room for it.
+    fn push_past(&mut self, item: T) -> bool
+        requires empty { length self.old.outbox.items ≡ 0 }
+        ensures ring { SameTx self.old self.new }
+        ensures pushed { IsTrue result → sent self.new ≡ sent self.old ++ item ∷ [] }
+        ensures published { posted self.new ≡ [] }
+        ensures full { result ≡ false → (sent self.new ≡ sent self.old)
+            × (self.new.unannounced ≡ self.old.unannounced) }
+        ensures counted { IsTrue result → 0 < self.new.unannounced }
+    {
+        let pushed = self.end.push(item).is_ok();
+        if pushed {
+            self.found(1);
+        }
+        pushed
+    }
+
     // Publishes the posted items, and then sends the item if there is room for it.
     fn push(&mut self, item: T) -> bool
         ensures ring { SameTx self.old self.new }
@@ -257,9 +274,8 @@ impl<T: Copy> Tx<T> {
         ensures announced { IsAnnounced self.new }
     {
         self.publish();
-        let pushed = self.outbox.is_empty() && self.end.push(item).is_ok();
+        let pushed = self.outbox.is_empty() && self.push_past(item);
         if pushed {
-            self.found(1);
             self.announce();
         }
         pushed
