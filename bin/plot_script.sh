@@ -4,6 +4,12 @@
 # gnuplot runs in the folder of its script, where each file has a name of ours, and the points are
 # numbers. Text from outside is no part of the script (plot_text.sh).
 
+# fits_argument: the system takes no longer argument.
+fits_argument() {
+    local LC_ALL=C
+    [ ${#text} -lt 131072 ]
+}
+
 # Its own variable for the kind of terminal is not for pictures.
 run_gnuplot() (
     unset GNUTERM
