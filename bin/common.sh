@@ -38,11 +38,11 @@ show_help() {
 [ "$self" = record ] || set +o posix
 
 # A closed output stays one that can't be written, and a closed input one that can't be read, but no
-# file of the command's takes its number.
-{ : >&1; } 2>/dev/null || exec 1< /dev/null
+# file of the command's takes its number. To duplicate a number to itself would always succeed.
+{ : 3>&1; } 2>/dev/null || exec 1< /dev/null
 closed_input=
 # shellcheck disable=SC2034  # commands use it
-{ : <&0; } 2>/dev/null || { exec 0> /dev/null && closed_input=yes; }
+{ : 3<&0; } 2>/dev/null || { exec 0> /dev/null && closed_input=yes; }
 
 # What prints how many cores there are: nproc itself goes by what OpenMP is told.
 # shellcheck disable=SC2034  # commands use it
