@@ -35,22 +35,22 @@ const LAST_NAP: u64 = 64_000;
 /// How a thread waits, and what it has learned about that.
 #[derive(Drop)]
 pub(crate) struct Patience {
-    // How often the thread has looked in this wait without success.
+    /// How often the thread has looked in this wait without success.
     turn: u32,
-    // How often it looks in this wait, and how often it then yields, before it sleeps.
+    /// How often it looks in this wait, and how often it then yields, before it sleeps.
     looks_now: u32,
     yields_now: u32,
-    // The mark of the other end's yields when this wait began, and how long this thread sleeps the
-    // next time at most.
+    /// The mark of the other end's yields when this wait began, and how long this thread sleeps the
+    /// next time at most.
     mark: u64,
     nap: Option<u64>,
-    // How often it looks before it sleeps, as learned.
+    /// How often it looks before it sleeps, as learned.
     looks: u32,
-    // How often in a row the thread slept after a single look, and at which number it tries the
-    // most looks again.
+    /// How often in a row the thread slept after a single look, and at which number it tries the
+    /// most looks again.
     sleeps: u32,
     trial: u32,
-    // How many waits there were.
+    /// How many waits there were.
     waits: u32,
 }
 
@@ -85,16 +85,16 @@ impl Patience {
         self.turn = 0;
     }
 
-    // The looks were enough: the thread looks twice as often the next time.
+    /// The looks were enough: the thread looks twice as often the next time.
     fn stayed_awake(&mut self) {
         self.looks = self.looks.saturating_mul(2).min(MOST_LOOKS);
         self.sleeps = 0;
         self.trial = FIRST_TRIAL;
     }
 
-    // The thread had to sleep: it looks half as often the next time. To wake a thread can take
-    // longer than a single look. So if all threads slept after one look, none would ever find
-    // anything while awake. Now and then such a thread tries the most looks.
+    /// The thread had to sleep: it looks half as often the next time. To wake a thread can take
+    /// longer than a single look. So if all threads slept after one look, none would ever find
+    /// anything while awake. Now and then such a thread tries the most looks.
     fn slept(&mut self) {
         self.looks = (self.looks / 2).max(1);
         if self.looks == 1 {
@@ -127,8 +127,8 @@ impl Patience {
         self.turn = self.turn.saturating_add(1);
     }
 
-    // Chooses what to do in the wait that begins. Now and then the thread sleeps where it could
-    // yield, to watch the other end.
+    /// Chooses what to do in the wait that begins. Now and then the thread sleeps where it could
+    /// yield, to watch the other end.
     fn plan(&mut self, own: &Yields, peer: &Yields) {
         self.waits = self.waits.wrapping_add(1);
         self.looks_now = self.looks;
@@ -143,8 +143,8 @@ impl Patience {
         }
     }
 
-    // Sleeps, longer from one time to the next. The first time tells whether the other end yields
-    // for long.
+    /// Sleeps, longer from one time to the next. The first time tells whether the other end yields
+    /// for long.
     fn rest<R: Wait>(&mut self, rt: &R, own: &Bell, peer: &Bell) {
         let slept = own.sleep(rt, self.nap);
         if self.nap == Some(FIRST_NAP) {
@@ -162,8 +162,8 @@ impl Patience {
         }
     }
 
-    // Notes what the first sleep of a wait says of the yields of the other end. They were short if
-    // some ended or began and this thread was woken in time, and long if a single one lasted.
+    /// Notes what the first sleep of a wait says of the yields of the other end. They were short if
+    /// some ended or began and this thread was woken in time, and long if a single one lasted.
     fn judge(&self, slept: Slept, peer: &Yields) {
         let same = peer.mark() == self.mark;
         match slept {

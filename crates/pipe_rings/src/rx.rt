@@ -16,13 +16,13 @@ pub(crate) const BATCH: usize = 64;
 /// The receiving end of a ring. It can move to another thread.
 pub struct Rx<T: Copy> {
     pub(crate) end: Consumer<T>,
-    // The items that came out of the ring last. There are `count` of them, and the last `left` are
-    // not received yet.
+    /// The items that came out of the ring last. There are `count` of them, and the last `left` are
+    /// not received yet.
     pub(crate) batch: Vec<T>,
     pub(crate) count: usize,
     pub(crate) left: usize,
     pub(crate) patience: Patience,
-    // The bell that wakes this end, and the one that wakes the other end.
+    /// The bell that wakes this end, and the one that wakes the other end.
     pub(crate) own: Bell,
     pub(crate) peer: Bell,
     ghost bounds: { (left ≤ count) × (count ≤ length batch.items)
@@ -41,7 +41,7 @@ impl<T: Copy> Rx<T> {
     ghost use Rattle.std.specs.Prelude.{◌≡◌, ◌<◌, [], ◌∷◌, ◌++◌, IfOk, IfSome, OnErr, IsNone};
     ghost use Rattle.pipe_rings.specs.Rings.{received, SameRx, LookedForItem};
 
-    // The receiving end of a new ring. It sleeps at the bell `own`, and rings the bell `peer`.
+    /// The receiving end of a new ring. It sleeps at the bell `own`, and rings the bell `peer`.
     pub(crate) fn new(
         alloc: Global,
         end: Consumer<T>,
@@ -114,7 +114,7 @@ impl<T: Copy> Rx<T> {
         self.look()
     }
 
-    // Receives the first item of the ring, if there is one.
+    /// Receives the first item of the ring, if there is one.
     #[inline(never)]
     fn look(&mut self) -> Option<T>
         requires { self.old.left ≡ 0 }
@@ -150,7 +150,7 @@ impl<T: Copy> Rx<T> {
         self.patience.wait(rt, &self.own, &self.peer);
     }
 
-    // Receives the next item of the batch.
+    /// Receives the next item of the batch.
     #[inline(always)]
     fn next_left(&mut self) -> T
         requires { 0 < self.old.left }
@@ -162,8 +162,8 @@ impl<T: Copy> Rx<T> {
         item
     }
 
-    // Receives the first item ever, and fills the batch with it: only now is there an item to fill
-    // it with.
+    /// Receives the first item ever, and fills the batch with it: only now is there an item to fill
+    /// it with.
     fn first(&mut self) -> Option<T>
         requires { self.old.left ≡ 0 }
         ensures ring { SameRx self.old self.new }
@@ -181,7 +181,7 @@ impl<T: Copy> Rx<T> {
         Some(item)
     }
 
-    // Notes that an item was found, and wakes the sender: the ring has free places again.
+    /// Notes that an item was found, and wakes the sender: the ring has free places again.
     fn found(&mut self)
         ensures ring { SameRx self.old self.new }
         ensures same { received self.new ≡ received self.old }
@@ -193,7 +193,7 @@ impl<T: Copy> Rx<T> {
         self.peer.ring();
     }
 
-    // Takes as many items out of the ring as the batch has room for.
+    /// Takes as many items out of the ring as the batch has room for.
     fn refill(&mut self)
         requires { self.old.left ≡ 0 }
         ensures ring { SameRx self.old self.new }

@@ -19,15 +19,15 @@ const MOST_UNANNOUNCED: usize = 512;
 /// The sending end of a ring. It can move to another thread.
 pub struct Tx<T: Copy> {
     pub(crate) end: Producer<T>,
-    // The items from `first` on were posted and are not yet in the ring.
+    /// The items from `first` on were posted and are not yet in the ring.
     pub(crate) outbox: Vec<T>,
     pub(crate) first: usize,
-    // The capacity of the outbox, in items.
+    /// The capacity of the outbox, in items.
     pub(crate) room: usize,
-    // How many items were moved into the ring since the receiver was last woken, or more.
+    /// How many items were moved into the ring since the receiver was last woken, or more.
     pub(crate) unannounced: usize,
     pub(crate) patience: Patience,
-    // The bell that wakes this end, and the one that wakes the other end.
+    /// The bell that wakes this end, and the one that wakes the other end.
     pub(crate) own: Bell,
     pub(crate) peer: Bell,
     ghost bounds: { (first ≤ length outbox.items) × (length outbox.items ≤ room) },
@@ -49,8 +49,8 @@ impl<T: Copy> Tx<T> {
     ghost use Rattle.pipe_rings.specs.Rings.{sent, posted, SameTx, HasRoom, LookedForRoom};
     ghost use Rattle.pipe_rings.specs.Rings.{IsAnnounced, unannounced_of, outbox_for};
 
-    // The sending end of a new ring, with an outbox for `outbox` items, but for at least 1 and at
-    // most `OUTBOX`. It sleeps at the bell `own`, and rings the bell `peer`.
+    /// The sending end of a new ring, with an outbox for `outbox` items, but for at least 1 and at
+    /// most `OUTBOX`. It sleeps at the bell `own`, and rings the bell `peer`.
     pub(crate) fn new(
         alloc: Global,
         end: Producer<T>,
@@ -175,7 +175,7 @@ impl<T: Copy> Tx<T> {
         count
     }
 
-    // Moves the oldest posted items into the ring, all in one call of the ring.
+    /// Moves the oldest posted items into the ring, all in one call of the ring.
     fn move_posted(&mut self) -> usize
         ensures ring { SameTx self.old self.new }
         ensures sent { sent self.new ≡ sent self.old }
@@ -220,7 +220,7 @@ impl<T: Copy> Tx<T> {
         self.patience.wait(rt, &self.own, &self.peer);
     }
 
-    // Notes that the ring had room for so many items.
+    /// Notes that the ring had room for so many items.
     fn found(&mut self, count: usize)
         ensures ring { SameTx self.old self.new }
         ensures sent { sent self.new ≡ sent self.old }
@@ -233,7 +233,7 @@ impl<T: Copy> Tx<T> {
         self.unannounced = self.unannounced.saturating_add(count);
     }
 
-    // Wakes the receiver if it sleeps and has not been woken for all items in the ring.
+    /// Wakes the receiver if it sleeps and has not been woken for all items in the ring.
     fn announce(&mut self)
         ensures ring { SameTx self.old self.new }
         ensures sent { sent self.new ≡ sent self.old }
@@ -248,7 +248,7 @@ impl<T: Copy> Tx<T> {
         }
     }
 
-    // Moves the item into the ring past the empty outbox, if there is room for it.
+    /// Moves the item into the ring past the empty outbox, if there is room for it.
     fn push_past(&mut self, item: T) -> bool
         requires empty { length self.old.outbox.items ≡ 0 }
         ensures ring { SameTx self.old self.new }
@@ -265,7 +265,7 @@ impl<T: Copy> Tx<T> {
         pushed
     }
 
-    // Publishes the posted items, and then sends the item if there is room for it.
+    /// Publishes the posted items, and then sends the item if there is room for it.
     fn push(&mut self, item: T) -> bool
         ensures ring { SameTx self.old self.new }
         ensures pushed { IsTrue result → sent self.new ≡ sent self.old ++ item ∷ [] }

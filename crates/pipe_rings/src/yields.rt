@@ -35,11 +35,11 @@ const PRICE: u64 = 3;
 /// regard to one another, and now and then a change is lost; no count or answer rests on it.
 #[derive(Drop)]
 pub(crate) struct Yields {
-    // Odd while the thread is in a yield. Each yield adds two.
+    /// Odd while the thread is in a yield. Each yield adds two.
     mark: AtomicU64,
-    // How often the thread is still to sleep before it may yield.
+    /// How often the thread is still to sleep before it may yield.
     banned: AtomicU64,
-    // How often that will be if its yields are banned again.
+    /// How often that will be if its yields are banned again.
     next: AtomicU64,
     credit: AtomicU64,
 }
@@ -109,7 +109,7 @@ impl Yields {
         }
     }
 
-    // The thread does not yield for a while, and the next ban will be longer.
+    /// The thread does not yield for a while, and the next ban will be longer.
     fn ban(&self) {
         let next = self.next.load(Ordering::Relaxed);
         self.banned.store(next, Ordering::Relaxed);

@@ -132,7 +132,7 @@ pub fn ends_of(rings: Rings) -> (SplitterEnds, StageEnds, StageEnds, MergeEnds)
     (splitter, i, d, merge)
 }
 
-// Whether every message that was sent on a ring was received.
+/// Whether every message that was sent on a ring was received.
 fn is_settled<T: Copy>(tx: &mut Tx<T>, rx: &mut Rx<T>) -> bool
     requires { AreEnds tx.old rx.old }
     ensures sender { SameTx tx.old tx.new × (sent tx.new ≡ sent tx.old) }

@@ -24,7 +24,7 @@ pub fn why_stopped<H: Threads, T: Drop, P: Promise<Result<T, Stop>>>(
     handle.join(rt).err()
 }
 
-// Joins the thread of a stage, if it was started. Answers why it stopped, if it did.
+/// Joins the thread of a stage, if it was started. Answers why it stopped, if it did.
 fn stop_of<H: Threads>(rt: &H, stage: Option<StageHandle>) -> Option<Stop>
     ensures { IsNone stage → result ≡ None }
 {

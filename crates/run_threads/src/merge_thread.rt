@@ -40,7 +40,7 @@ impl Promise<MergeEnd> for MergePromise {
 /// The merge's thread, which is still to be joined.
 pub type MergeHandle = PromisedHandle<MergeEnd, MergePromise>;
 
-// The merge takes a message of a side, and the second level serves the request in it, if any.
+/// The merge takes a message of a side, and the second level serves the request in it, if any.
 #[inline(always)]
 fn take_and_serve(merge: &mut Merge, u: &mut L2Stage, message: FromStage) -> Result<(), Stop>
     requires { (wanted merge.old ≡ want.I) ⊎ (wanted merge.old ≡ want.D) }
@@ -60,7 +60,7 @@ fn take_and_serve(merge: &mut Merge, u: &mut L2Stage, message: FromStage) -> Res
     u.on(what).or(Err(Stop::Memory))
 }
 
-// The next turn.
+/// The next turn.
 #[inline(always)]
 fn next_turn<H: Wait>(
     rt: &BodyRuntime<H>,
@@ -81,7 +81,7 @@ fn next_turn<H: Wait>(
     }
 }
 
-// The next message from a stage.
+/// The next message from a stage.
 #[inline(always)]
 fn next_from<H: Wait>(
     rt: &BodyRuntime<H>,
@@ -107,7 +107,7 @@ fn next_from<H: Wait>(
     }
 }
 
-// Receives the next message from a stage, passes the gate with it, and then serves it.
+/// Receives the next message from a stage, passes the gate with it, and then serves it.
 #[inline(always)]
 fn take_from<H: Wait, G: Gate>(
     rt: &BodyRuntime<H>,
@@ -130,7 +130,7 @@ fn take_from<H: Wait, G: Gate>(
     Ok(count)
 }
 
-// Receives messages, each from the ring that the merge wants next, until the merge is at its end.
+/// Receives messages, each from the ring that the merge wants next, until the merge is at its end.
 fn merge_all<H: Wait, G: Gate>(
     rt: &BodyRuntime<H>,
     gate: &G,

@@ -99,8 +99,8 @@ pub struct Started {
     pub merge: MergeHandle,
 }
 
-// Drops what the threads that were not started were to own, and only then joins those that were
-// started: they end when their peers are gone.
+/// Drops what the threads that were not started were to own, and only then joins those that were
+/// started: they end when their peers are gone.
 fn give_up<H: Threads, L: Drop>(
     rt: &H,
     left: L,
@@ -113,8 +113,8 @@ fn give_up<H: Threads, L: Drop>(
     wind_up(rt, i, d)
 }
 
-// Starts the three threads. If one cannot be started, all ends are dropped, so that the threads
-// that were started end too.
+/// Starts the three threads. If one cannot be started, all ends are dropped, so that the threads
+/// that were started end too.
 fn start<'s, E, T: Threads, H: Wait + Sync, G: Gate>(
     scope: &Scope<'s, E>,
     rt: &T,
@@ -148,7 +148,7 @@ fn start<'s, E, T: Threads, H: Wait + Sync, G: Gate>(
     })
 }
 
-// The result of a run, if every message that was sent was received.
+/// The result of a run, if every message that was sent was received.
 fn settle(totals: Totals, rings: Rings) -> Result<Settled, RunFault>
     requires { ArePaired rings }
     ensures settled { IfOk result (λ settled. (settled.totals ≡ totals)
@@ -164,7 +164,7 @@ fn settle(totals: Totals, rings: Rings) -> Result<Settled, RunFault>
     }
 }
 
-// Joins the threads of a run and checks its rings. `fed` is the result of the splitter.
+/// Joins the threads of a run and checks its rings. `fed` is the result of the splitter.
 fn finish<H: Threads>(
     rt: &H,
     started: Started,

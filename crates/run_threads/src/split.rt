@@ -27,8 +27,9 @@ use din_trace::{ByteReader, DinRecord, MAX_LIMIT, Source, TraceFault};
 use stage_core::{Picked, Routed, Selection, Selector, Splitter};
 use std::sync::Wait;
 
-// Publishes posted messages, until all are published or there is room for another event. Each round
-// publishes as many as fit into each of the three rings, so that no ring waits for another one.
+/// Publishes posted messages, until all are published or there is room for another event. Each
+/// round publishes as many as fit into each of the three rings, so that no ring waits for another
+/// one.
 fn publish<H: Wait>(rt: &BodyRuntime<H>, ends: &mut SplitterEnds, until: Until) -> Result<(), Stop>
     requires whole { PostedWhole ends.old }
     ensures rings { SameSplitterEnds ends.old ends.new }
@@ -55,8 +56,8 @@ fn publish<H: Wait>(rt: &BodyRuntime<H>, ends: &mut SplitterEnds, until: Until) 
     unreachable!()
 }
 
-// The next record, if the reader has to be asked. That may take long, so all posted messages have
-// to be published before.
+/// The next record, if the reader has to be asked. That may take long, so all posted messages have
+/// to be published before.
 fn ask<R: ByteReader>(
     source: &mut Source<R>,
     ends: &SplitterEnds,
@@ -75,8 +76,8 @@ fn ask<R: ByteReader>(
     source.next()
 }
 
-// Passes the gate with a record. A gate that is not open may hold this thread for long, so all
-// posted messages have to be published before.
+/// Passes the gate with a record. A gate that is not open may hold this thread for long, so all
+/// posted messages have to be published before.
 #[inline]
 fn arrive<H: Wait, G: Gate>(rt: &BodyRuntime<H>, gate: &G, ends: &SplitterEnds, nth: u64)
     requires published { (G.open gate.now ≡ true) ⊎ AllPublished ends.now }
@@ -84,7 +85,7 @@ fn arrive<H: Wait, G: Gate>(rt: &BodyRuntime<H>, gate: &G, ends: &SplitterEnds, 
     rt.arrive(gate, Who::Splitter, nth);
 }
 
-// The next record of the source, or its end or fault. Publishes all messages before a long wait.
+/// The next record of the source, or its end or fault. Publishes all messages before a long wait.
 fn next_record<H: Wait, R: ByteReader, G: Gate>(
     rt: &BodyRuntime<H>,
     gate: &G,
@@ -123,7 +124,7 @@ fn next_record<H: Wait, R: ByteReader, G: Gate>(
     Ok(ask(source, ends))
 }
 
-// Sends the messages of one event, or those of the end.
+/// Sends the messages of one event, or those of the end.
 #[inline(always)]
 fn send_routed<H: Wait>(
     rt: &BodyRuntime<H>,
@@ -145,7 +146,7 @@ fn send_routed<H: Wait>(
     Ok(())
 }
 
-// Sends the messages of the end, and publishes all messages.
+/// Sends the messages of the end, and publishes all messages.
 fn send_end<H: Wait>(
     rt: &BodyRuntime<H>,
     ends: &mut SplitterEnds,
@@ -165,8 +166,8 @@ fn send_end<H: Wait>(
     Ok(())
 }
 
-// Routes an event, if there is one, and sends its messages. The splitter counts the events, as many
-// as it has sent turns.
+/// Routes an event, if there is one, and sends its messages. The splitter counts the events, as
+/// many as it has sent turns.
 #[inline(always)]
 fn send_some<H: Wait>(
     rt: &BodyRuntime<H>,
@@ -191,7 +192,7 @@ fn send_some<H: Wait>(
     send_routed(rt, ends, splitter.route(event))
 }
 
-// Sends the messages of the events that the selection made of a record.
+/// Sends the messages of the events that the selection made of a record.
 fn send_picked<H: Wait>(
     rt: &BodyRuntime<H>,
     splitter: &mut Splitter,

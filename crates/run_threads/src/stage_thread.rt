@@ -41,7 +41,7 @@ impl Promise<StageEnd> for StagePromise {
 /// A stage's thread, which is still to be joined.
 pub type StageHandle = PromisedHandle<StageEnd, StagePromise>;
 
-// Publishes posted messages, until all are published or there is room for another one.
+/// Publishes posted messages, until all are published or there is room for another one.
 fn publish<H: Wait>(
     rt: &BodyRuntime<H>,
     stage: &L1Stage,
@@ -74,8 +74,8 @@ fn publish<H: Wait>(
     unreachable!()
 }
 
-// Passes the gate with a message. A gate that is not open may hold this thread for long, so all
-// answers have to be published before.
+/// Passes the gate with a message. A gate that is not open may hold this thread for long, so all
+/// answers have to be published before.
 #[inline]
 fn arrive<H: Wait, G: Gate>(
     rt: &BodyRuntime<H>,
@@ -92,7 +92,7 @@ fn arrive<H: Wait, G: Gate>(
     pass(rt, gate, who, received)
 }
 
-// Receives the next message.
+/// Receives the next message.
 #[inline]
 fn receive<H: Wait>(
     rt: &BodyRuntime<H>,
@@ -115,7 +115,7 @@ fn receive<H: Wait>(
     }
 }
 
-// Publishes all posted messages, and then receives the next message.
+/// Publishes all posted messages, and then receives the next message.
 #[cold]
 fn publish_and_receive<H: Wait>(
     rt: &BodyRuntime<H>,
@@ -139,7 +139,7 @@ fn publish_and_receive<H: Wait>(
     }
 }
 
-// Sends all messages of the stage's outbox. If `urgent`, all of them are published at once.
+/// Sends all messages of the stage's outbox. If `urgent`, all of them are published at once.
 fn send_outbox<H: Wait>(
     rt: &BodyRuntime<H>,
     stage: &mut L1Stage,
@@ -176,7 +176,7 @@ fn send_outbox<H: Wait>(
     Ok(())
 }
 
-// Serves the messages of the splitter and sends the answers, up to `Finish`.
+/// Serves the messages of the splitter and sends the answers, up to `Finish`.
 fn serve_all<H: Wait, G: Gate>(
     rt: &BodyRuntime<H>,
     gate: &G,

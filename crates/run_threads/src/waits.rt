@@ -121,7 +121,7 @@ pub fn await_room<H: Wait>(
     unreachable!()
 }
 
-// Waits at a ring until it has a message.
+/// Waits at a ring until it has a message.
 #[cold]
 #[inline(never)]
 fn await_item<T: Copy, H: Wait>(rt: &BodyRuntime<H>, rx: &mut Rx<T>) -> Result<T, Stop>

@@ -53,7 +53,7 @@ pub struct Config {
     ghost short_ring: { ring ≤ 65536 },
 }
 
-// The geometry of a cache, or why it is refused.
+/// The geometry of a cache, or why it is refused.
 #[tactic(auto, unfolding(crate::specs::Lawful::geometry_refusal))]
 fn geometry(which: CacheName, spec: CacheSpec) -> Result<Geometry, ConfigFault>
     ensures made { IfOk result (λ geometry. IsMadeOf geometry spec.size spec.bsize spec.assoc) }

@@ -26,7 +26,7 @@ pub struct L1Stage {
     ghost shape: { (rules_of cache).bsize ≡ bsize_of geometry },
 }
 
-// The outbox with the answer to an access whose block begins at `first`: its parts, and Done.
+/// The outbox with the answer to an access whose block begins at `first`: its parts, and Done.
 fn access_box(
     alloc: Global,
     side: Side,
@@ -42,8 +42,8 @@ fn access_box(
     Outbox::answer(place, Vec::new(alloc), outcome.back, fetch, through)
 }
 
-// Puts the answer to an access into the outbox. Most accesses have no part: for them the outbox is
-// not made anew.
+/// Puts the answer to an access into the outbox. Most accesses have no part: for them the outbox is
+/// not made anew.
 fn put_access(
     outbox: &mut Outbox,
     alloc: Global,
@@ -155,7 +155,7 @@ impl L1Stage {
         self.outbox.next()
     }
 
-    // Serves an access.
+    /// Serves an access.
     #[inline(always)]
     fn access(&mut self, place: u64, access: Access) -> Result<(), NoMemory>
         requires { served_of (cache_of self.old) < MAX_EVENTS }
@@ -177,7 +177,7 @@ impl L1Stage {
         Ok(())
     }
 
-    // Serves a flush.
+    /// Serves a flush.
     fn flush(&mut self, place: u64) -> Result<(), NoMemory>
         requires { served_of (cache_of self.old) < MAX_EVENTS }
         ensures sent { OnOk result ((h : History) → StandsFor (cache_of self.old) h →
@@ -196,7 +196,7 @@ impl L1Stage {
         Ok(())
     }
 
-    // Receives Finish. A stage that has failed refuses it too.
+    /// Receives Finish. A stage that has failed refuses it too.
     fn finish(&mut self) -> Result<(), NoMemory>
         ensures sent { OnOk result (outbox_of self.new ≡ from_stage.Finish ∷ []) }
         ensures finish { OnOk result (took_finish self.new ≡ true) }

@@ -61,7 +61,7 @@ impl L2Stage {
         self.cache.failed()
     }
 
-    // Serves an access.
+    /// Serves an access.
     fn access(&mut self, access: Access) -> Result<(), NoMemory>
         requires { served_of (l2_cache self.old) < MAX_EVENTS }
         ensures stands { OnOk result ((h : History) → StandsFor (l2_cache self.old) h →
@@ -72,7 +72,7 @@ impl L2Stage {
         Ok(())
     }
 
-    // Serves a flush.
+    /// Serves a flush.
     fn flush(&mut self) -> Result<(), NoMemory>
         requires { served_of (l2_cache self.old) < MAX_EVENTS }
         ensures stands { OnOk result ((h : History) → StandsFor (l2_cache self.old) h →

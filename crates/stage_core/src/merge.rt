@@ -7,7 +7,7 @@ ghost use Rattle.stage_core.specs.declared.message.Want.TheVariants as want;
 use crate::message::{FromStage, Turn, Want, What};
 use std::marker::Model;
 
-// The state of the merge. `Both` is a turn of both sides, with I's answer still to come.
+/// The state of the merge. `Both` is a turn of both sides, with I's answer still to come.
 #[derive(Clone, Copy)]
 enum State {
     Order,

@@ -78,7 +78,10 @@ pub enum Want {
 /// this order.
 #[derive(Clone, Copy, Debug, PartialEq, Eq)]
 pub struct Routed {
+    /// The merge's: whose answer it takes next.
     pub turn: Turn,
+    /// That of the instruction cache's stage, if there is one.
     pub i: Option<ToStage>,
+    /// That of the data cache's stage, if there is one.
     pub d: Option<ToStage>,
 }

@@ -68,7 +68,7 @@ impl Model for Core {
     ghost invariant = { λ c. c.failed ≡ false → Sound c };
 }
 
-// The lanes of the first level, and the second level.
+/// The lanes of the first level, and the second level.
 #[derive(Drop)]
 struct Levels {
     i: Lane,
@@ -83,7 +83,7 @@ impl Levels {
     ghost use Rattle.stage_core.specs.Network.Lanes.{lane_of};
     ghost use Rattle.stage_core.specs.Network.Cores.{CachesStand};
 
-    // Empty rings, and empty caches as configured.
+    /// Empty rings, and empty caches as configured.
     fn new(alloc: Global, config: &Config) -> Result<Levels, NoMemory>
         ensures i { IfOk result (λ levels. lane_of levels.i ≡ empty_lane) }
         ensures d { IfOk result (λ levels. lane_of levels.d ≡ empty_lane) }
@@ -142,7 +142,7 @@ impl Core {
         })
     }
 
-    // The machine number nth of those among these whose next step is possible.
+    /// The machine number nth of those among these whose next step is possible.
     fn nth_of(&self, machines: &[Machine], nth: u8) -> Machine
         requires works { self.now.failed ≡ false }
         requires below { nth < length (filter (can_in self.now) machines.now) }
@@ -160,7 +160,7 @@ impl Core {
         unreachable!()
     }
 
-    // How many machines can step, if no allocation has failed.
+    /// How many machines can step, if no allocation has failed.
     fn count(&self) -> u8
         requires { self.now.failed ≡ false }
         ensures { result ≡ length (enabled_in self.now) }

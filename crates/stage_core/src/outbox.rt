@@ -11,8 +11,8 @@ use crate::message::{FromStage, What};
 use std::alloc::Global;
 use std::marker::Model;
 
-// The parts that are still to be sent for one message. The write-backs of a flush are kept in the
-// list that the cache filled.
+/// The parts that are still to be sent for one message. The write-backs of a flush are kept in the
+/// list that the cache filled.
 #[derive(Drop)]
 struct Pending {
     backs: Vec<u64>,
@@ -35,7 +35,7 @@ impl Model for Pending {
 }
 
 impl Pending {
-    // No parts.
+    /// No parts.
     fn none(alloc: Global) -> Pending
         ensures { result ≡ [] }
     {
@@ -48,6 +48,7 @@ impl Pending {
         }
     }
 
+    /// The part that stands first, if one is left. It is taken out.
     fn next(&mut self) -> Option<What>
         ensures front { self.old ≡ option_to_list result ++ self.new }
         ensures none { IsNone result ↔ (self.old ≡ []) }
@@ -71,7 +72,7 @@ impl Pending {
     }
 }
 
-// What is still to be sent: `Parts` means parts, perhaps none, and then Done.
+/// What is still to be sent: `Parts` means parts, perhaps none, and then Done.
 #[derive(Clone, Copy)]
 enum Closing {
     Nothing,

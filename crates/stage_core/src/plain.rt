@@ -31,7 +31,7 @@ use cache_core::MAX_EVENTS;
 use din_trace::{DinRecord, MAX_LIMIT};
 use std::alloc::Global;
 
-// Gives a stage's whole outbox to the merge, and the requests in it to the second level.
+/// Gives a stage's whole outbox to the merge, and the requests in it to the second level.
 #[inline(always)]
 fn drain(stage: &mut L1Stage, merge: &mut Merge, u: &mut L2Stage) -> Result<(), NoMemory>
     requires wanted { AreWanted merge.old (outbox_of stage.old) }
@@ -54,7 +54,7 @@ fn drain(stage: &mut L1Stage, merge: &mut Merge, u: &mut L2Stage) -> Result<(), 
     Ok(())
 }
 
-// Gives a stage its message, if there is one, and the requests in the answer to the second level.
+/// Gives a stage its message, if there is one, and the requests in the answer to the second level.
 #[inline(always)]
 fn serve_side(
     stage: &mut L1Stage,
@@ -87,7 +87,7 @@ fn serve_side(
     drain(stage, merge, u)
 }
 
-// All machines of a run.
+/// All machines of a run.
 #[derive(Drop)]
 struct Machines {
     splitter: Splitter,
@@ -98,7 +98,7 @@ struct Machines {
 }
 
 impl Machines {
-    // Simulates the next event.
+    /// Simulates the next event.
     #[inline(always)]
     fn take(&mut self, event: DinRecord) -> Result<(), NoMemory>
         requires room { (es : List DinRecord) × Ran self.old es × (length es < 2 * MAX_LIMIT) }
@@ -114,7 +114,7 @@ impl Machines {
         Ok(())
     }
 
-    // Simulates an event, if there is one.
+    /// Simulates an event, if there is one.
     #[inline(always)]
     fn take_some(&mut self, event: Option<DinRecord>) -> Result<(), NoMemory>
         requires room { (es : List DinRecord) × Ran self.old es × (length es < 2 * MAX_LIMIT) }
@@ -128,7 +128,7 @@ impl Machines {
         self.take(event)
     }
 
-    // Simulates the selected events of these records.
+    /// Simulates the selected events of these records.
     fn run(&mut self, selection: Selection, records: &[DinRecord]) -> Result<(), NoMemory>
         requires start { Ran self.old [] }
         requires bounded { IsBounded selection }
@@ -146,7 +146,7 @@ impl Machines {
         Ok(())
     }
 
-    // The machines before the first event.
+    /// The machines before the first event.
     fn new(alloc: Global, config: &Config) -> Result<Machines, NoMemory>
         ensures ran { IfOk result (λ machines. Ran machines []) }
         ensures rules { IfOk result (λ machines. hierarchy_in machines ≡ hierarchy_of config.now) }
@@ -163,7 +163,7 @@ impl Machines {
         })
     }
 
-    // The counts so far.
+    /// The counts so far.
     fn totals(&self) -> Totals
         ensures { (es : List DinRecord) → Ran self.now es
             → result ≡ totals (hierarchy_in self.now) es }

@@ -123,7 +123,7 @@ impl Selector {
     }
 }
 
-// Adds an event, if there is one.
+/// Adds an event, if there is one.
 fn add(events: &mut Vec<DinRecord>, event: Option<DinRecord>) -> Result<(), NoMemory>
     ensures { OnOk result (events.new.items ≡ events.old.items ++ option_to_list event) }
 {

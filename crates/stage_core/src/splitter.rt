@@ -86,7 +86,7 @@ impl Splitter {
     }
 }
 
-// The messages of a data reference.
+/// The messages of a data reference.
 fn data(place: u64, class: Class, addr: u64) -> Routed
     ensures turn { result.turn ≡ turn.D }
     ensures i { result.i ≡ None }

@@ -18,7 +18,7 @@ use crate::network::ring::Ring;
 use crate::network::{Core, Machine};
 use cache_core::MAX_EVENTS;
 
-// The second level serves what a message brought, if it brought anything.
+/// The second level serves what a message brought, if it brought anything.
 fn serve_l2(u: &mut L2Stage, what: Option<What>) -> Result<(), NoMemory>
     requires { served_of (l2_cache u.old) < MAX_EVENTS }
     ensures stands { OnOk result ((before : List What) → L2StandsFor u.old before →
@@ -31,7 +31,7 @@ fn serve_l2(u: &mut L2Stage, what: Option<What>) -> Result<(), NoMemory>
     }
 }
 
-// Makes the next step of the stage of a side, if each ring has this capacity.
+/// Makes the next step of the stage of a side, if each ring has this capacity.
 fn step_of_side(side: Side, capacity: usize, i: &mut Lane, d: &mut Lane) -> Result<(), NoMemory>
     requires { MayStep capacity (of_side side i.old d.old) }
     ensures { OnOk result (OneChanges side (HasStepped capacity) i.old d.old i.new d.new) }
@@ -42,7 +42,7 @@ fn step_of_side(side: Side, capacity: usize, i: &mut Lane, d: &mut Lane) -> Resu
     }
 }
 
-// Pops the oldest message of the ring from a side.
+/// Pops the oldest message of the ring from a side.
 fn pop_of_side(side: Side, i: &mut Ring<FromStage>, d: &mut Ring<FromStage>) -> FromStage
     requires { 0 < length (of_side side i.old d.old).waiting }
     ensures { OneChanges side (λ was now. pop was ≡ Some (result, now)) i.old d.old i.new d.new }
@@ -60,7 +60,7 @@ impl Core {
     ghost use Rattle.stage_core.specs.Network.Cores.{next_in, can_in, MakesStep, IsSameRun};
     ghost use Rattle.stage_core.specs.declared.message.Want.TheVariants as want;
 
-    // Whether the splitter's next step is possible.
+    /// Whether the splitter's next step is possible.
     fn can_split(&self) -> bool
         requires { self.now.failed ≡ false }
         ensures { result ≡ can_in self.now Splitter }
@@ -74,7 +74,7 @@ impl Core {
         }
     }
 
-    // Whether the merge's next step is possible.
+    /// Whether the merge's next step is possible.
     fn can_merge(&self) -> bool
         ensures { result ≡ can_in self.now Merging }
     {
@@ -86,7 +86,7 @@ impl Core {
         }
     }
 
-    // Whether a machine's next step is possible.
+    /// Whether a machine's next step is possible.
     pub(super) fn can(&self, machine: Machine) -> bool
         requires { self.now.failed ≡ false }
         ensures { result ≡ can_in self.now machine }
@@ -99,7 +99,7 @@ impl Core {
         }
     }
 
-    // Makes the splitter's next step.
+    /// Makes the splitter's next step.
     fn split(&mut self) -> Result<(), NoMemory>
         requires works { self.old.failed ≡ false }
         requires possible { IsSome (next_in self.old Splitter) }
@@ -114,7 +114,7 @@ impl Core {
         sent
     }
 
-    // Makes the next step of the stage of a side.
+    /// Makes the next step of the stage of a side.
     fn step_stage(&mut self, side: Side) -> Result<(), NoMemory>
         requires works { self.old.failed ≡ false }
         requires possible { IsSome (next_in self.old (Stage side)) }
@@ -127,14 +127,14 @@ impl Core {
         made
     }
 
-    // Whose message the merge takes next.
+    /// Whose message the merge takes next.
     fn wants(&self) -> Want
         ensures { result ≡ wanted self.now.network.at }
     {
         self.merge.wants()
     }
 
-    // The merge takes a turn.
+    /// The merge takes a turn.
     fn take_turn(&mut self)
         requires works { self.old.failed ≡ false }
         requires wants { wanted self.old.network.at ≡ want.Order }
@@ -146,7 +146,7 @@ impl Core {
         self.merge.turn(turn);
     }
 
-    // The merge takes a message of a side.
+    /// The merge takes a message of a side.
     fn take_from(&mut self, side: Side) -> Result<(), NoMemory>
         requires works { self.old.failed ≡ false }
         requires wants { wanted self.old.network.at ≡ want_of side }
@@ -163,7 +163,7 @@ impl Core {
         served
     }
 
-    // Makes the merge's next step.
+    /// Makes the merge's next step.
     fn merge_step(&mut self) -> Result<(), NoMemory>
         requires works { self.old.failed ≡ false }
         requires possible { IsSome (next_in self.old Merging) }
@@ -182,7 +182,7 @@ impl Core {
         }
     }
 
-    // Makes a machine's next step.
+    /// Makes a machine's next step.
     pub(super) fn make(&mut self, machine: Machine) -> Result<(), NoMemory>
         requires works { self.old.failed ≡ false }
         requires possible { IsSome (next_in self.old machine) }

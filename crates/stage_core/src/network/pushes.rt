@@ -17,7 +17,7 @@ pub enum Push {
     To(Side, ToStage),
 }
 
-// Adds a push to the list.
+/// Adds a push to the list.
 fn add(pushes: &mut Vec<Push>, push: Push) -> Result<(), NoMemory>
     ensures { OnOk result (pushes.new.items ≡ pushes.old.items ++ push ∷ []) }
 {
@@ -27,7 +27,7 @@ fn add(pushes: &mut Vec<Push>, push: Push) -> Result<(), NoMemory>
     Ok(())
 }
 
-// Adds the pushes of the messages that the splitter made of an event.
+/// Adds the pushes of the messages that the splitter made of an event.
 fn add_routed(pushes: &mut Vec<Push>, routed: Routed) -> Result<(), NoMemory>
     ensures { OnOk result (pushes.new.items ≡ pushes.old.items ++ pushes_in routed) }
 {

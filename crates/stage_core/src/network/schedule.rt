@@ -18,7 +18,7 @@ use crate::totals::Totals;
 use din_trace::{DinRecord, MAX_LIMIT};
 use std::alloc::Global;
 
-// The choice for the next step: an index below the number of machines that can step.
+/// The choice for the next step: an index below the number of machines that can step.
 fn chosen(choices: &[u8], made: u64, enabled: u8) -> u8
     requires { 0 < enabled }
     ensures below { result < enabled }
@@ -30,7 +30,7 @@ fn chosen(choices: &[u8], made: u64, enabled: u8) -> u8
     }
 }
 
-// The whole run of a network from its start, by these choices.
+/// The whole run of a network from its start, by these choices.
 fn run(core: &mut Core, choices: &[u8]) -> Result<(Totals, u64), NoMemory>
     requires start { core.old ≡ started core.old.config core.old.events }
     requires short { messages (parts_for core.old.config) core.old.events ≤ 2 ^ 62 }

@@ -13,11 +13,11 @@ use stage_core::{FromStage, L1Stage, NoMemory, Side, ToStage, What};
 use std::process::Abort;
 use std::test::Fail;
 
-// A message to a stage, and all that it has to send then.
+/// A message to a stage, and all that it has to send then.
 type Row<'a> = (ToStage, &'a [FromStage]);
 
-// Receives a message and has to send exactly this. If an allocation fails, the stage has to stay
-// failed.
+/// Receives a message and has to send exactly this. If an allocation fails, the stage has to stay
+/// failed.
 fn answers(rt: &impl Abort, stage: &mut L1Stage, row: &Row<'_>) -> Result<(), NoMemory> {
     receive(rt, stage, row.0)?;
     assert!(rt; !stage.failed());
@@ -28,7 +28,7 @@ fn answers(rt: &impl Abort, stage: &mut L1Stage, row: &Row<'_>) -> Result<(), No
     Ok(())
 }
 
-// Receives messages in this way, up to the last one.
+/// Receives messages in this way, up to the last one.
 fn answers_all(rt: &impl Abort, stage: &mut L1Stage, rows: &[Row<'_>]) -> Result<(), NoMemory> {
     for row in rows {
         answers(rt, stage, row)?;

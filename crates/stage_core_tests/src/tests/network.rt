@@ -11,7 +11,7 @@ use std::alloc::Global;
 use std::process::Abort;
 use std::test::Fail;
 
-// The choices of so many steps: these two in turn.
+/// The choices of so many steps: these two in turn.
 fn choices_of(rt: &impl Abort, alloc: Global, (even, odd): (u8, u8), steps: u64) -> Vec<u8> {
     let mut choices = Vec::new(alloc);
     for k in 0..steps {
@@ -20,7 +20,7 @@ fn choices_of(rt: &impl Abort, alloc: Global, (even, odd): (u8, u8), steps: u64)
     choices
 }
 
-// A run with rings of this capacity, a flush after every `every` references, and these choices.
+/// A run with rings of this capacity, a flush after every `every` references, and these choices.
 fn run(
     rt: &impl Abort,
     alloc: Global,
@@ -38,11 +38,11 @@ fn run(
     drive(alloc, &config, &selection, records, choices)
 }
 
-// A trace, the flushes that are put in and the capacity of the rings, and the counts and the number
-// of steps that a run has to come to.
+/// A trace, the flushes that are put in and the capacity of the rings, and the counts and the
+/// number of steps that a run has to come to.
 type Run<'a> = (&'a [DinRecord], (u64, u64), Totals, u64);
 
-// The run has to come to that with these choices.
+/// The run has to come to that with these choices.
 fn is_driven(rt: &impl Abort, alloc: Global, wanted: &Run<'_>, choices: &[u8]) {
     let (records, how, totals, steps) = wanted;
     let answer = run(rt, alloc, *how, *records, choices);
@@ -55,8 +55,8 @@ fn is_driven(rt: &impl Abort, alloc: Global, wanted: &Run<'_>, choices: &[u8]) {
     );
 }
 
-// The run has to come to that, whether each step is made by the first machine that can, or by
-// another one, or by the first two in turn.
+/// The run has to come to that, whether each step is made by the first machine that can, or by
+/// another one, or by the first two in turn.
 fn is_driven_by_all(rt: &impl Abort, alloc: Global, wanted: &Run<'_>) {
     for pattern in [(0, 0), (6, 6), (0, 1)] {
         is_driven(rt, alloc, wanted, &choices_of(rt, alloc, pattern, wanted.3));
@@ -103,7 +103,7 @@ fn a_long_trace_goes_through_rings_of_one_message(rt: HostRuntime) {
     );
 }
 
-// A network with rings of one message, before its first step.
+/// A network with rings of one message, before its first step.
 fn core_of(rt: &impl Abort, alloc: Global, records: &[DinRecord]) -> Result<Core, NoMemory> {
     assert!(rt; records.len() as u64 <= MAX_LIMIT);
     let selection = Selection {
@@ -115,7 +115,7 @@ fn core_of(rt: &impl Abort, alloc: Global, records: &[DinRecord]) -> Result<Core
     Core::new(alloc, &config, &selection, records)
 }
 
-// How many machines can step, whether all have finished, and whether an allocation failed.
+/// How many machines can step, whether all have finished, and whether an allocation failed.
 fn state(core: &Core) -> (u8, bool, bool) {
     (core.enabled(), core.finished(), core.failed())
 }
@@ -130,7 +130,8 @@ fn totals(rt: &impl Abort, core: &Core) -> Totals {
     core.totals()
 }
 
-// One more step of a run that is not over. If an allocation fails, nothing may be enabled after it.
+/// One more step of a run that is not over. If an allocation fails, nothing may be enabled after
+/// it.
 fn step(rt: &impl Abort, core: &mut Core, nth: u8) -> Result<(), NoMemory> {
     let (_, finished, failed) = state(core);
     assert!(rt; !finished && !failed);
@@ -139,8 +140,8 @@ fn step(rt: &impl Abort, core: &mut Core, nth: u8) -> Result<(), NoMemory> {
     stepped
 }
 
-// A run over an empty trace. Before each step this many machines have to be able to step, and the
-// one with this number does.
+/// A run over an empty trace. Before each step this many machines have to be able to step, and the
+/// one with this number does.
 fn ends_are_sent(rt: &impl Abort, core: &mut Core) -> Result<(), NoMemory> {
     for (machines, nth) in [(1, 0), (2, 1), (1, 0)] {
         assert!(rt; state(core) == (machines, false, false));
@@ -155,7 +156,7 @@ fn the_machines_that_can_are_counted(rt: HostRuntime) -> Result<(), Fail> {
     Ok(ends_are_sent(&rt, &mut core)?)
 }
 
-// If an allocation fails, the run has to fail with the name of that.
+/// If an allocation fails, the run has to fail with the name of that.
 #[test]
 fn a_refused_run_answers_want_of_memory(rt: HostRuntime) -> Result<(), Fail> {
     let answer = run(&rt, rt.alloc(), (0, 1), &FLUSHED, &[])?;
@@ -178,7 +179,7 @@ fn runs_to_its_end(rt: &impl Abort, core: &mut Core) -> Result<(), NoMemory> {
     Ok(())
 }
 
-// If an allocation fails in a step, the test fails with the name of that.
+/// If an allocation fails in a step, the test fails with the name of that.
 #[test]
 fn a_refused_step_leaves_nothing_enabled(rt: HostRuntime) -> Result<(), Fail> {
     let mut core = core_of(&rt, rt.alloc(), &FLUSHED)?;

@@ -9,7 +9,7 @@ use stage_core::{FromStage, ToStage, Turn, What};
 use std::alloc::Global;
 use std::process::Abort;
 
-// What the five rings have to carry, and the requests that the merge has to take from them.
+/// What the five rings have to carry, and the requests that the merge has to take from them.
 struct Carried {
     order: &'static [Turn],
     to_i: &'static [ToStage],

@@ -10,12 +10,12 @@ use stage_core::What;
 use std::alloc::Global;
 use std::process::Abort;
 
-// The second level sees just this of these events.
+/// The second level sees just this of these events.
 fn is_seen(rt: &impl Abort, alloc: Global, policy: Policy, events: &[DinRecord], wanted: &[What]) {
     is_merged(rt, alloc, &streams_of(rt, alloc, policy, events), wanted);
 }
 
-// Fetches carry the first byte of the block, the highest address's too.
+/// Fetches carry the first byte of the block, the highest address's too.
 #[test]
 fn a_fetch_is_of_the_whole_block(rt: HostRuntime) {
     static EVENTS: [DinRecord; 3] = [

@@ -6,7 +6,7 @@ use stage_core::{Picked, Selection, Selector};
 use std::alloc::Global;
 use std::process::Abort;
 
-// How many are left out, how many are taken at most, and after how many a flush is inserted.
+/// How many are left out, how many are taken at most, and after how many a flush is inserted.
 type Numbers = (u64, u64, u64);
 
 fn selector_of(rt: &impl Abort, (skip, max, every): Numbers) -> Selector {
@@ -40,7 +40,7 @@ pub(super) fn events_of(
     events
 }
 
-// A selection, with the records that it is made of, and the events that it has to make of them.
+/// A selection, with the records that it is made of, and the events that it has to make of them.
 type Row<'a> = (Numbers, &'a [DinRecord], &'a [DinRecord]);
 
 static ROWS: [Row<'static>; 6] = [

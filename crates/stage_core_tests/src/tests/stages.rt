@@ -36,14 +36,14 @@ pub(super) fn sent_next(stage: &mut L1Stage) -> Option<FromStage> {
     stage.outbox_next()
 }
 
-// Gives a stage a message, for which it has to be ready.
+/// Gives a stage a message, for which it has to be ready.
 fn give(rt: &impl Abort, stage: &mut L1Stage, message: ToStage) -> Result<(), NoMemory> {
     assert!(rt; stage.ready());
     assert!(rt; stage.served() < MAX_EVENTS);
     stage.on(message)
 }
 
-// A stage has to have failed, with an empty outbox and the counts from before.
+/// A stage has to have failed, with an empty outbox and the counts from before.
 fn has_failed(rt: &impl Abort, stage: &mut L1Stage, before: (Counts, u64, bool)) {
     same(
         rt,
@@ -56,7 +56,7 @@ fn has_failed(rt: &impl Abort, stage: &mut L1Stage, before: (Counts, u64, bool))
     assert!(rt; sent_next(stage) == None);
 }
 
-// After a refusal, a stage has to have failed for good.
+/// After a refusal, a stage has to have failed for good.
 fn stays_failed(
     rt: &impl Abort,
     stage: &mut L1Stage,
@@ -99,7 +99,7 @@ pub(super) fn answer(
     }
 }
 
-// Answers a reference, and then the end.
+/// Answers a reference, and then the end.
 fn finishes(rt: &impl Abort, stage: &mut L1Stage, sent: &mut Vec<FromStage>) {
     static WANTED: [FromStage; 3] = [
         part!(1, 1, What::Fetch(Class::Read, 0)),
@@ -132,7 +132,7 @@ fn give_second(rt: &impl Abort, stage: &mut L2Stage, what: What) -> Result<(), N
     stage.on(what)
 }
 
-// After a refusal, the second level has to have failed for good, with the counts from before.
+/// After a refusal, the second level has to have failed for good, with the counts from before.
 fn second_stays_failed(
     rt: &impl Abort,
     stage: &mut L2Stage,

@@ -56,7 +56,7 @@ pub(super) struct Streams {
 }
 
 impl Streams {
-    // The rings before the first event.
+    /// The rings before the first event.
     fn new(rt: &impl Abort, alloc: Global, policy: Policy) -> Streams {
         let config = config_of(rt, policy, 2);
         Streams {
@@ -100,14 +100,14 @@ pub(super) fn streams_of(
     streams
 }
 
-// The next item of a list, which has to have one.
+/// The next item of a list, which has to have one.
 fn next_of<T: Copy>(rt: &impl Abort, list: &[T], taken: &mut usize) -> T {
     let next = list.get(*taken).expect(rt, "a message");
     *taken = taken.wrapping_add(1);
     *next
 }
 
-// How many items of the order and of both sides' messages the merge has taken.
+/// How many items of the order and of both sides' messages the merge has taken.
 #[derive(Clone, Copy)]
 struct Taken {
     turns: usize,
@@ -115,7 +115,7 @@ struct Taken {
     d: usize,
 }
 
-// Gives the merge the item that it wants. The answer is the request in that.
+/// Gives the merge the item that it wants. The answer is the request in that.
 fn give_wanted(
     rt: &impl Abort,
     merge: &mut Merge,
@@ -133,7 +133,7 @@ fn give_wanted(
     }
 }
 
-// Takes what the merge wants, at most a hundred times. The answer is the requests in that.
+/// Takes what the merge wants, at most a hundred times. The answer is the requests in that.
 fn merge_all(
     rt: &impl Abort,
     requests: &mut Vec<What>,

@@ -53,7 +53,7 @@ const MISC_0: DinRecord = record!(Misc, 0);
 
 const READ_WIDE: DinRecord = record!(Read, 0x1_0000_0000);
 
-// A block that is read, flushed and read again.
+/// A block that is read, flushed and read again.
 const LOADED_TWICE: Counts = Counts {
     compulsory: by_class!(read: 1),
     capacity: by_class!(read: 1),
