@@ -10,11 +10,12 @@ fits_argument() {
     [ ${#text} -lt 131072 ]
 }
 
-# Its own variable for the kind of terminal is not for pictures.
+# run_gnuplot: its own variable for the kind of terminal is not for pictures. What a shell says of a
+# process that a signal ended is left out.
 run_gnuplot() (
     unset GNUTERM
-    cd -- "$work" && exec gnuplot -d -c script "$text" 2> complaint
-)
+    { cd -- "$work" && gnuplot -d -c script "$text" 2> complaint; } || exit
+) 2>/dev/null
 
 # print_script: of the file `points`. The looks differ in lightness, so that they are told apart in
 # grey.
