@@ -36,6 +36,15 @@ def open_goal(function, said):
     return None
 
 
+def is_told_of(function, line):
+    """Whether the line is about the function, and not about what its proof names."""
+    found = re.match(r"(?:note: )?(src/\S+?):(\d+):\d+:", line)
+    if found:
+        return found[1] == function.path and function.first <= int(found[2]) <= function.last
+    found = UNFIT.match(line)
+    return bool(found) and found[1].startswith(function.proofs) and not NAMES.search(found[2])
+
+
 def is_proved(function, said):
     """Whether the function is said to be proved."""
     return f"fn {function.name}: proved" in said

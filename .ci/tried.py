@@ -30,15 +30,20 @@ class Tried:
         cache_home = os.environ.get("XDG_CACHE_HOME") or Path.home() / ".cache"
         self.folder = Path(cache_home) / "dinero_pipe" / "wrong-bodies"
         self.anew = given.anew
+        self.top = given.top
+        self.names = [*all_below(crates, crate), crate]
+        self.base = self.sum_now()
+
+    def sum_now(self):
         base = hashlib.sha256(toolchain().encode())
-        base.update((given.top / "HANDLES").read_bytes())
+        base.update((self.top / "HANDLES").read_bytes())
         for script in sorted(Path(__file__).parent.glob("*.py")):
             base.update(script.read_bytes())
         base.update((Path(__file__).parent / "wrong_bodies").read_bytes())
-        for name in [*all_below(crates, crate), crate]:
-            folder = given.top / "crates" / name
-            base.update(f"{lines_of(given.top)[name]}\n{sum_of_files(folder)}\n".encode())
-        self.base = base.hexdigest()
+        for name in self.names:
+            folder = self.top / "crates" / name
+            base.update(f"{lines_of(self.top)[name]}\n{sum_of_files(folder)}\n".encode())
+        return base.hexdigest()
 
     def file(self, body):
         text = f"{self.base} {body.label}\n{body.text}"
@@ -51,7 +56,10 @@ class Tried:
             return None
 
     def keep(self, body, why):
-        """Where nothing can be written, the next run tries again."""
+        """Where nothing can be written, or what was tried has changed since, the next run tries
+        again."""
+        if self.sum_now() != self.base:
+            return
         try:
             self.folder.mkdir(parents=True, exist_ok=True)
             part = self.file(body).with_suffix(f".{os.getpid()}")

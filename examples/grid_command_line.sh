@@ -184,6 +184,17 @@ lesson=$top/examples/9-whole-counts/table
 mapfile -t words <"$lesson.words"
 call 'the table of a lesson' 0 "$lesson.tsv" '' "$lesson.din" "${words[@]}"
 
+# has_rows NAME LINES REFUSED: the table has so many lines, and so many rows that were refused.
+has_rows() {
+    local refused
+    refused=$(tail -n +2 "$work/long" | grep -cv $'\t-$')
+    if [ "$(wc -l <"$work/long")" -eq "$2" ] && [ "$refused" -eq "$3" ]; then
+        pass "the rows of $1"
+    else
+        fail "the rows of $1"
+    fi
+}
+
 # A trace of three batches: the table is the same on any number of threads.
 awk 'BEGIN {
     for (i = 0; i < 200000; i++) {
@@ -193,6 +204,7 @@ awk 'BEGIN {
 }' >"$work/long.din"
 several=("${caches[@]}" --l1-dsize 4,8,16,32 --l1-dassoc 1,2 --flushcount 0,1000)
 "$program" "${several[@]}" --threads 1 <"$work/long.din" >"$work/long"
+has_rows 'two blocks of one way, twice refused' 17 2
 call 'a faulty line behind two batches' 1 "$nothing" 'dinero_grid: line 200001: label
 ' <(cat "$work/long.din" && echo 5 0) "${several[@]}"
 for threads in {0..8}; do
@@ -201,6 +213,7 @@ for threads in {0..8}; do
 done
 behind=("${first_level[@]}" --l2-usize 64,128 --l2-ubsize 4,8,16,32 --flushcount 1000)
 "$program" "${behind[@]}" --threads 1 <"$work/long.din" >"$work/long"
+has_rows 'second levels' 9 0
 for threads in {0..8}; do
     call "second levels on $threads threads" 0 "$work/long" '' "$work/long.din" "${behind[@]}" \
         --threads "$threads"

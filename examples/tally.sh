@@ -21,10 +21,10 @@ skip() {
     echo "skipped: $1, without $2"
 }
 
-# tell: the counts in one line, with a status by them.
+# tell: the counts in one line, with a status by them. With NO_SKIPS=yes no test may be skipped.
 tell() {
     local line="$passed passed, $failed failed"
     [ "$skipped" -eq 0 ] || line+=", $skipped skipped"
     echo "$line"
-    [ "$failed" -eq 0 ]
+    [ "$failed" -eq 0 ] && [[ $skipped -eq 0 || ${NO_SKIPS-} != yes ]]
 }

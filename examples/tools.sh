@@ -25,10 +25,12 @@ for program in pipe grid; do
     "$bin/dinero_$program" --help >"$out" 2>"$err" || exit
 done
 
-# In this order: a later file uses the tables and traces of those before it.
-for subject in checks names help building record sweep sweep_names sweep_words sweep_grids \
-    sweep_full sweep_resume settings slurm plot plot_points plot_words plot_names install hostile \
-    formats; do
+# In this order: a later file uses the tables and traces of those before it. No file is left out.
+subjects=(checks names help building record sweep sweep_names sweep_words sweep_grids sweep_full
+    sweep_resume settings slurm plot plot_points plot_words plot_names handout install hostile formats)
+diff <(printf '%s.sh\n' "${subjects[@]}" | sort) \
+    <(cd "$top/examples/tools" && printf '%s\n' *.sh | sort) || exit
+for subject in "${subjects[@]}"; do
     # shellcheck source=/dev/null
     . "$top/examples/tools/$subject.sh"
 done

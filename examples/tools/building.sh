@@ -240,7 +240,7 @@ for script in 'exit 2' 'echo "      --l3-usize <SIZE>  One"' \
     verdict "a sweep believes no simulator of other sources: ${script##*| }" $?
 done
 new_checkout
-stopped 'Ctrl-C while it is found out what a simulator is built from' sort \
+stopped 'a sweep whose simulator is looked at, and' sort \
     "$fresh/bin/sweep" "${grid[@]}" -- "$top/examples/1-kinds/kinds.din"
 fake_simulator 'exit 0'
 sweep_there --l3-usize 4 "${grid[@]}"

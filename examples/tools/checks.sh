@@ -96,11 +96,11 @@ whole_lines() {
 
 # without COMMAND: a folder to take as PATH, with all of this machine's commands but that one.
 without() {
-    local folder=$work/without-$1 file
+    local folder=$work/without-$1
     mkdir "$folder"
-    for file in /usr/bin/* /bin/*; do
-        [ "${file##*/}" = "$1" ] || ln -sf "$file" "$folder/${file##*/}"
-    done
+    ln -s -t "$folder" /usr/bin/*
+    [ /bin -ef /usr/bin ] || ln -sf -t "$folder" /bin/*
+    rm -f "$folder/$1"
     echo "$folder"
 }
 
@@ -108,7 +108,7 @@ without() {
 # does nothing for long.
 standing_still() {
     local folder=$work/still-$1
-    mkdir "$folder"
+    mkdir -p "$folder"
     cat >"$folder/$1" <<'END'
 #!/usr/bin/env bash
 : >"$MARK"
@@ -130,19 +130,24 @@ END
     echo "$work/slow"
 }
 
-# stopped_in NAME FOLDER COMMAND..: Ctrl-C once a tool of the folder has left its mark.
+# stopped_in NAME SIGNAL FOLDER COMMAND..: the signal is sent to the command and all that it began,
+# as a terminal does, once a tool of the folder has left its mark.
 stopped_in() {
     rm -f "$work/still"
-    MARK=$work/still PATH=$2:$PATH start "${@:3}"
+    MARK=$work/still PATH=$3:$PATH start "${@:4}"
     until_true test -e "$work/still"
-    kill -INT -- "-$started"
+    kill "-$2" -- "-$started"
     status=0
     wait "$started" 2>/dev/null || status=$?
-    [ "$status" -eq 130 ] && [ ! -s "$out" ] && grep -qx "[a-z]*: interrupted" "$err"
+    [ "$status" -eq $((128 + $(kill -l "$2"))) ] && [ ! -s "$out" ] &&
+        grep -qx "[a-z]*: interrupted" "$err"
     verdict "$1" $?
 }
 
-# stopped NAME TOOL COMMAND..: Ctrl-C while the command waits for the tool.
+# stopped NAME TOOL COMMAND..: interrupts of each kind while the command waits for the tool.
 stopped() {
-    stopped_in "$1" "$(standing_still "$2")" "${@:3}"
+    local signal
+    for signal in INT HUP TERM; do
+        stopped_in "$1 that is sent $signal" "$signal" "$(standing_still "$2")" "${@:3}"
+    done
 }

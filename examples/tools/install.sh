@@ -80,12 +80,16 @@ if has valgrind && [ -x walk ]; then
     run from_away dinero_record --from leave "$PWD/walk"
     [ "$status" -eq 0 ] && [ "$(<"$out")" = $'2 0040100a\n2 0040100f\n2 00401011' ]
     verdict 'the installed record of a program' $?
+else
+    skip 'the installed record of a program' 'valgrind and gcc'
 fi
 if has gnuplot; then
     run from_away dinero_plot kinds "$PWD/kinds.tsv" "$PWD/away.svg"
     run "$bin/plot" kinds kinds.tsv near.svg
     cmp -s near.svg away.svg
     verdict 'the installed plot of a table' $?
+else
+    skip 'the installed plot of a table' gnuplot-nox
 fi
 if has groff; then
     for name in plot record sweep; do
@@ -177,9 +181,16 @@ ends 'install --remove with a damaged list' 4 "install: $PWD/usr/lib/dinero_pipe
 verdict 'and nothing is removed' $?
 rm -r usr
 ends 'install --remove of nothing' 1 "install: nothing to remove in $PWD/usr" "$install" --remove "$PWD/usr"
-ends 'install with an unknown option' 2 "install: unknown option: '--all'; try --help" "$install" --all
+# Were these not refused, they would install into the system.
+guest=()
+if [ "$(id -u)" -eq 0 ] && setpriv --reuid 65534 test -x "$install"; then
+    guest=(env -C / setpriv --reuid 65534 --regid 65534 --clear-groups)
+fi
+ends 'install with an unknown option' 2 "install: unknown option: '--all'; try --help" \
+    "${guest[@]}" "$install" --all
 ends 'install with two folders' 2 'install: more than one folder is given; try --help' "$install" a b
-ends 'install with an empty name' 2 'install: the name of the folder is empty; try --help' "$install" ''
+ends 'install with an empty name' 2 'install: the name of the folder is empty; try --help' \
+    "${guest[@]}" "$install" ''
 mkdir damaged && cp -r "$bin" damaged/bin
 ends 'install without a version' 4 "install: $PWD/damaged/VERSION is missing or damaged" \
     damaged/bin/install usr
@@ -189,7 +200,7 @@ ends 'install with a damaged version' 4 "install: $PWD/damaged/VERSION is missin
 rm -r damaged
 ends 'install where no folder can be' 4 'install: the folder /dev/null/lib/dinero_pipe could not be made' \
     "$install" /dev/null
-stopped 'install and Ctrl-C' cp "$install" "$PWD/usr"
+stopped 'install' cp "$install" "$PWD/usr"
 [ ! -e usr ]
 verdict 'and nothing is left' $?
 ends 'install where there is no room' 4 \

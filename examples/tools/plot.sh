@@ -155,6 +155,6 @@ else
     skip 'pictures' 'gnuplot and python3 (gnuplot-nox, python3)'
 fi
 
-! has gnuplot || stopped 'plot and Ctrl-C' gnuplot "$plot" kinds kinds.tsv stopped.svg
-stopped_in 'plot and Ctrl-C while its folder is made' "$(slow_folders)" \
+! has gnuplot || stopped 'plot' gnuplot "$plot" kinds kinds.tsv stopped.svg
+stopped_in 'plot and Ctrl-C while its folder is made' INT "$(slow_folders)" \
     "$plot" kinds kinds.tsv stopped.svg

@@ -91,10 +91,10 @@ test_record() {
     status=${PIPESTATUS[0]}
     [ "$status" -eq 141 ] && [ ! -s "$err" ]
     verdict 'record whose reader goes away' $?
-    for signal in INT TERM; do
+    for signal in HUP INT TERM; do
         start "$record" sh -c 'while :; do :; done'
         until_true lines_at_least "$out" 1000
-        if [ $signal = INT ]; then kill -INT -- "-$started"; else kill -TERM "$started"; fi
+        if [ $signal = INT ]; then kill -INT -- "-$started"; else kill -$signal "$started"; fi
         wait "$started" 2>/dev/null
         status=$?
         [ "$status" -eq $((128 + $(kill -l $signal))) ] && [ -z "$(tail -c 1 "$out")" ]

@@ -162,7 +162,9 @@ verdict 'sweep whose reader goes away' $?
 # interrupted NAME SIGNAL WORD..: once the table has the lines of one trace. Ctrl-C goes to the
 # whole group.
 several=(long.din again.din third.din)
-for trace in again third; do ln -s long.din $trace.din; done
+ln -s long.din again.din
+# The last one is longer, so that an interrupt comes before its end.
+cat long.din long.din long.din long.din >third.din
 interrupted() {
     start "$sweep" "${@:3}" --jobs 1 "${long[@]}" -- "${several[@]}"
     until_true lines_at_least "$out" 7
@@ -175,7 +177,8 @@ interrupted() {
 }
 interrupted 'sweep and Ctrl-C' INT
 interrupted 'sweep that is sent TERM' TERM
-stopped_in 'sweep and Ctrl-C while its folder is made' "$(slow_folders)" \
+interrupted 'sweep that is sent HUP' HUP
+stopped_in 'sweep and Ctrl-C while its folder is made' INT "$(slow_folders)" \
     "$sweep" "${long[@]}" -- long.din
 
 # finished: the rows of a log, without their counts.

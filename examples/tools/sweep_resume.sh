@@ -73,10 +73,11 @@ test_cut_logs() {
     cp mine known
 }
 
-# killed SECONDS: a sweep of which nothing is left to tidy up, as after a power cut.
+# killed LINES: a sweep whose log has so many lines, or has just begun. Nothing is left to tidy up,
+# as after a power cut.
 killed() {
-    start "$sweep" --resume kept --jobs 2 "${long[@]}" -- "${several[@]}"
-    sleep "$1"
+    start "$sweep" --resume kept --jobs 1 "${long[@]}" -- "${several[@]}"
+    if [ "$1" -eq 0 ]; then sleep 0.05; else until_true lines_at_least kept "$1" 2>/dev/null; fi
     # shellcheck disable=SC2046  # numbers of processes
     kill -KILL $(our_processes | sed -nE 's,^/proc/([0-9]+)/.*,\1,p') 2>/dev/null
     wait "$started" 2>/dev/null
@@ -85,16 +86,18 @@ killed() {
 }
 
 test_kills() {
-    local seconds
+    local lines
     run "$sweep" "${long[@]}" -- "${several[@]}"
     cp "$out" whole
     rm -f kept
-    for seconds in 0.05 0.4 0.8 1.6 2.4; do
-        killed $seconds
+    for lines in 0 1 7 13; do
+        killed $lines
     done
+    lines_at_least kept 13 && ! lines_at_least kept 19
+    verdict 'sweep is killed before its end' $?
     run "$sweep" --resume kept "${long[@]}" -- "${several[@]}"
     [ "$status" -eq 0 ] && [ ! -s "$err" ] && cmp -s "$out" whole && [ "$(wc -l <kept)" -eq 19 ]
-    verdict 'sweep goes on after kills at five moments' $?
+    verdict 'sweep goes on after kills at four moments' $?
 }
 
 # A log of 145 lines, longer than what else a sweep and GNU parallel write.
