@@ -92,7 +92,7 @@ pub(crate) fn settle_all(banks: &mut [Bank]) -> Result<(), NoMemory>
     Ok(())
 }
 
-/// The same for two runs of banks, in two threads.
+/// Serves all requests that wait for two runs of banks, each run in a thread of its own.
 fn settle_both<T: Threads + Sync>(
     rt: &T,
     front: &mut [Bank],
@@ -118,7 +118,8 @@ fn settle_both<T: Threads + Sync>(
     other
 }
 
-/// The same for all, in two threads if so many may work.
+/// Serves all requests that wait for these banks: in two threads, if two may work and there are two
+/// banks.
 pub(crate) fn settle_on<T: Threads + Sync>(
     rt: &T,
     threads: usize,

@@ -14,10 +14,11 @@ use cache_core::NoMemory;
 use din_trace::{DinRecord, MAX_LIMIT};
 use std::thread::{Threads, join_mut};
 
-/// Of `banks` banks, for which `waiting` requests wait, how many the thread of the first levels
-/// serves before these take `records` records. With two threads, both have about as much to do
-/// then. With more, the first levels are enough for one. By instructions, a record costs the first
-/// levels a third of what a request costs a second level, and a request that they send half of it.
+/// How many of `banks` banks the thread of the first levels serves before the first levels take
+/// `records` records, while `waiting` requests wait. With two threads, both then have about as much
+/// to do. With more threads this one serves none: the first levels are work enough for it. Counted
+/// in instructions, the first levels spend on a record a third, and on a request that they send a
+/// half, of what a second level spends on a request.
 fn banks_near(records: usize, waiting: usize, banks: usize, threads: usize) -> usize
     ensures { result ≤ banks }
 {

@@ -132,7 +132,7 @@ impl FirstLevels {
         serve_side(&mut self.d, &mut self.queues, Side::D, event)
     }
 
-    /// The same for an event, if there is one.
+    /// Serves an event in all caches, if there is one.
     #[inline(always)]
     fn take_some(&mut self, event: Option<DinRecord>) -> Result<(), NoMemory>
         requires seated { AreSeated (first_task self.old) }

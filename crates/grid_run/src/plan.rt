@@ -74,7 +74,8 @@ fn find_back(
     None
 }
 
-/// The same. Where there are none, they join the others, without caches.
+/// The index of the second levels behind these seats, of this block size and policy. Where there
+/// are none, an empty shelf joins the others.
 fn back_for(
     alloc: Global,
     backs: &mut Vec<BackShelf>,

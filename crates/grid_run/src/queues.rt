@@ -19,7 +19,7 @@ use cache_core::NoMemory;
 use stage_core::Side;
 use std::alloc::Global;
 
-/// One thread serves what waits as soon as there are so many requests for each second level, on an
+/// One thread serves what waits as soon as there are so many requests for each second level, on
 /// average. The more there are, the longer each second level finds its own in the processor's
 /// caches; but what waits takes memory.
 const MUCH_EACH: usize = 65_536;

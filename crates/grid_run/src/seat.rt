@@ -10,7 +10,8 @@ use crate::shelf::Shelf;
 use cache_core::{Geometry, NoMemory, Policy};
 use std::alloc::Global;
 
-/// Which level of some, and which of its cells.
+/// Which group of caches that one engine serves, of the groups of a side or of the second levels;
+/// and which cache of the group.
 #[derive(Clone, Copy, Debug, PartialEq, Eq)]
 pub(crate) struct Seat {
     pub level: usize,
