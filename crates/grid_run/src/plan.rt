@@ -15,7 +15,7 @@ ghost use Rattle.grid_run.specs.Rows.{HasPlace, HavePlaces, IsPlaceIn, IsSound};
 use crate::grid::{Row, Setup};
 use crate::lists::add_to;
 use crate::seat::{Seat, seat_for};
-use crate::sharing::{count_groups, group_after, worker_of};
+use crate::sharing::{count_groups, group_after, portion_of};
 use crate::shelf::Shelf;
 use cache_core::{Geometry, NoMemory, Policy};
 use stage_core::{Config, Selection};
@@ -29,12 +29,12 @@ pub(crate) struct BackShelf {
     pub shelf: Shelf,
 }
 
-/// The caches of all rows of one selection and one worker.
+/// The caches of all rows of one selection and one portion of the grid.
 #[derive(Drop)]
 pub(crate) struct LanePlan {
     pub selection: Selection,
-    /// Which lane of this selection it is.
-    pub worker: usize,
+    /// Which portion.
+    pub portion: usize,
     pub i: Vec<Shelf>,
     pub d: Vec<Shelf>,
     pub backs: Vec<BackShelf>,
@@ -119,12 +119,12 @@ fn seat_behind(
     Ok(Seat { level, cell })
 }
 
-/// The index of the lane of a selection and a worker, if there is one.
-fn find_lane(lanes: &Vec<LanePlan>, selection: Selection, worker: usize) -> Option<usize>
+/// The index of the lane of a selection and a portion, if there is one.
+fn find_lane(lanes: &Vec<LanePlan>, selection: Selection, portion: usize) -> Option<usize>
     ensures { IfSome result (IsLaneFor selection lanes.now.items) }
 {
     for (index, lane) in lanes.iter().enumerate() {
-        if lane.worker == worker && lane.selection == selection {
+        if lane.portion == portion && lane.selection == selection {
             return Some(index);
         }
     }
@@ -132,26 +132,26 @@ fn find_lane(lanes: &Vec<LanePlan>, selection: Selection, worker: usize) -> Opti
 }
 
 /// A lane without caches.
-fn empty_lane(alloc: Global, selection: Selection, worker: usize) -> LanePlan
+fn empty_lane(alloc: Global, selection: Selection, portion: usize) -> LanePlan
     requires { IsBounded selection }
     ensures selection { result.selection ≡ selection }
     ensures sound { IsSound result }
 {
     LanePlan {
         selection,
-        worker,
+        portion,
         i: Vec::new(alloc),
         d: Vec::new(alloc),
         backs: Vec::new(alloc),
     }
 }
 
-/// The index of the lane of a selection and a worker. Where there is none, it joins the others.
+/// The index of the lane of a selection and a portion. Where there is none, it joins the others.
 fn lane_for(
     alloc: Global,
     lanes: &mut Vec<LanePlan>,
     selection: Selection,
-    worker: usize,
+    portion: usize,
 ) -> Result<usize, NoMemory>
     requires { IsBounded selection }
     ensures lane { IfOk result (IsLaneFor selection lanes.new.items) }
@@ -159,10 +159,10 @@ fn lane_for(
         (KeepsPlaces (map task_of_plan lanes.old.items) (map task_of_plan lanes.new.items)) }
     ensures sound { OnOk result (All IsSound lanes.old.items → All IsSound lanes.new.items) }
 {
-    if let Some(index) = find_lane(lanes, selection, worker) {
+    if let Some(index) = find_lane(lanes, selection, portion) {
         return Ok(index);
     }
-    add_to(lanes, empty_lane(alloc, selection, worker))
+    add_to(lanes, empty_lane(alloc, selection, portion))
 }
 
 #[tactic(auto, unfolding(crate::specs::Lanes::task_of_plan))]
@@ -186,12 +186,12 @@ impl LanePlan {
     }
 }
 
-/// The place of a row of this worker, if it was not refused.
+/// The place of a row of this portion, if it was not refused.
 fn place_for(
     alloc: Global,
     lanes: &mut Vec<LanePlan>,
     setup: &Setup,
-    worker: usize,
+    portion: usize,
 ) -> Result<Option<Place>, NoMemory>
     requires { IsBoundedSetup setup.now }
     ensures place { IfOk result (HasPlace (map task_of_plan lanes.new.items) setup.now) }
@@ -202,13 +202,13 @@ fn place_for(
     let Setup::Simulated(config, selection) = setup else {
         return Ok(None);
     };
-    let lane = lane_for(alloc, lanes, *selection, worker)?;
+    let lane = lane_for(alloc, lanes, *selection, portion)?;
     let place = lanes[lane].place_for(alloc, config, lane)?;
     Ok(Some(place))
 }
 
-/// The plan for the rows of a grid, whose lanes are shared out among so many workers.
-pub(crate) fn plan_for(alloc: Global, rows: &[Row], workers: usize) -> Result<Plan, NoMemory>
+/// The plan for the rows of a grid, which are divided into so many portions.
+pub(crate) fn plan_for(alloc: Global, rows: &[Row], portions: usize) -> Result<Plan, NoMemory>
     requires { All IsBoundedRow rows.now }
     ensures places { IfOk result (λ plan.
         HavePlaces (map task_of_plan plan.lanes.items) rows.now plan.places.items) }
@@ -220,8 +220,8 @@ pub(crate) fn plan_for(alloc: Global, rows: &[Row], workers: usize) -> Result<Pl
     let mut group = 0;
     for (index, row) in rows.iter().enumerate() {
         group = group_after(rows, index, group);
-        let worker = worker_of(group, groups, workers);
-        let place = place_for(alloc, &mut lanes, &row.setup, worker)?;
+        let portion = portion_of(group, groups, portions);
+        let place = place_for(alloc, &mut lanes, &row.setup, portion)?;
         if places.push(place).is_err() {
             return Err(NoMemory);
         }

@@ -1,4 +1,4 @@
-//! How the rows of a grid are shared out among workers.
+//! How the rows of a grid are divided into portions.
 
 use crate::grid::{Row, Setup};
 use cache_core::{Geometry, Policy};
@@ -44,18 +44,18 @@ pub(crate) fn count_groups(rows: &[Row]) -> usize {
     group.saturating_add(1)
 }
 
-/// The worker of a group, of so many, if `count` groups are shared out. A group is not divided:
-/// its second levels are cheaper together. Groups beside one another have more caches in common, so
-/// each worker has runs of them. It has two, one from each half of the grid: the small caches,
+/// The portion of a group, of so many, if there are `count` groups. A group is not divided: its
+/// second levels are cheaper together. Groups beside one another have more caches in common, so
+/// each portion has runs of them. It has two, one from each half of the grid: the small caches,
 /// which send most to their second levels, often stand at one end.
-pub(crate) fn worker_of(group: usize, count: usize, workers: usize) -> usize {
-    if workers == 0 || count == 0 {
+pub(crate) fn portion_of(group: usize, count: usize, portions: usize) -> usize {
+    if portions == 0 || count == 0 {
         return 0;
     }
-    let part = group.saturating_mul(2).saturating_mul(workers) / count;
-    if part < workers {
+    let part = group.saturating_mul(2).saturating_mul(portions) / count;
+    if part < portions {
         part
     } else {
-        (workers - 1).saturating_sub(part - workers)
+        (portions - 1).saturating_sub(part - portions)
     }
 }
