@@ -12,7 +12,7 @@ use Rattle.cache_core.specs.declared.policy.Policy.{Policy}
 use Rattle.grid_core.specs.Written.{no_rules}
 use Rattle.grid_core.proofs.Geometries.{ways-are}
 use Rattle.grid_run.specs.Backs.{IsSeatIn}
-use Rattle.grid_run.specs.Plans.{IsAsLarge, Suits}
+use Rattle.grid_run.specs.Plans.{IsSameShape, Suits}
 use Rattle.grid_run.specs.Seats.{IsCellOf, IsSeatOf, Keeps, KeepsCells, Table, rules_of_seat}
 use Rattle.grid_run.specs.Seats.{rules_on}
 use Rattle.grid_run.specs.declared.seat.Seat.{Seat}
@@ -41,17 +41,17 @@ pub same-from : (a b : Geometry) (p q : Policy) → a ≡ b → p ≡ q → rule
 same-from a b p q at by = ap (λ g. rules_from g p) at ∙ ap (rules_from b) by
 
 -- the cell of a geometry that is on the shelf
-pub cell-found : (s : Shelf) (g : Geometry) (index : ℕ) → IsAsLarge s.geometries.items g index
+pub cell-found : (s : Shelf) (g : Geometry) (index : ℕ) → IsSameShape s.geometries.items g index
     → bsize_of g ≡ bsize_of s.first → IsCellOf (rules_on s) (rules_from g s.policy) index
 unfolding rules_on
-cell-found s g index large bytes =
+cell-found s g index same bytes =
     let gs = s.geometries.items in
     record {
       inside = subst (λ n. index < n) (sym (length-map gs (λ d. rules_from d s.policy)))
-          large.inside;
-      rules = get_or-map (λ d. rules_from d s.policy) gs index g no_rules large.inside
+          same.inside;
+      rules = get_or-map (λ d. rules_from d s.policy) gs index g no_rules same.inside
           ∙ same-rules (get_or gs index g) g s.policy
-          (s.alike index g large.inside ∙ sym bytes) (large.blocks g) (large.sets g);
+          (s.alike index g same.inside ∙ sym bytes) (same.blocks g) (same.sets g);
     }
 
 -- the cell of a geometry that joins the others

@@ -18,7 +18,7 @@ use Rattle.grid_run.specs.declared.seat.Seat.{Seat}
 use Rattle.grid_run.specs.declared.shelf.Shelf.{Shelf}
 
 -- the geometry at the index has as many blocks, in as many sets
-pub record IsAsLarge (gs : List Geometry) (g : Geometry) (index : ℕ) : Type 0 where
+pub record IsSameShape (gs : List Geometry) (g : Geometry) (index : ℕ) : Type 0 where
   pub inside : index < length gs
   pub blocks : (d : Geometry) → blocks_of (get_or gs index d) ≡ blocks_of g
   pub sets : (d : Geometry) → sets_of (get_or gs index d) ≡ sets_of g

@@ -22,7 +22,7 @@ impl Shelf {
     ghost use Rattle.std.specs.List.{All};
     ghost use Rattle.cache_core.specs.Geometry.{bsize_of};
     ghost use Rattle.cache_core.specs.Standing.{rules_from};
-    ghost use Rattle.grid_run.specs.Plans.{IsAsLarge, Suits};
+    ghost use Rattle.grid_run.specs.Plans.{IsSameShape, Suits};
     ghost use Rattle.grid_run.specs.Seats.{IsCellOf, KeepsCells, rules_on};
 
     /// A shelf without caches, for those of this block size and policy.
@@ -46,7 +46,7 @@ impl Shelf {
 
     /// The index of the geometry of as many blocks in as many sets, if it is here.
     fn find(&self, geometry: Geometry) -> Option<usize>
-        ensures { IfSome result (IsAsLarge self.now.geometries.items geometry) }
+        ensures { IfSome result (IsSameShape self.now.geometries.items geometry) }
     {
         for (index, other) in self.geometries.iter().enumerate() {
             if other.blocks() == geometry.blocks() && other.sets() == geometry.sets() {
