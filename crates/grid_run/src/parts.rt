@@ -3,6 +3,7 @@
 ghost use Rattle.std.specs.Prelude.{◌≡◌, ◌++◌, ◌∷◌, [], OnOk, map, option_to_list};
 ghost use Rattle.stage_core.specs.SecondLevel.{back};
 
+use crate::lists::add_to;
 use cache_core::NoMemory;
 use stage_core::What;
 
@@ -10,9 +11,7 @@ use stage_core::What;
 fn ask(waiting: &mut Vec<What>, what: What) -> Result<(), NoMemory>
     ensures { OnOk result (waiting.new.items ≡ waiting.old.items ++ what ∷ []) }
 {
-    if waiting.push(what).is_err() {
-        return Err(NoMemory);
-    }
+    add_to(waiting, what)?;
     Ok(())
 }
 

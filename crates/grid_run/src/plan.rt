@@ -222,9 +222,7 @@ pub(crate) fn plan_for(alloc: Global, rows: &[Row], portions: usize) -> Result<P
         group = group_after(rows, index, group);
         let portion = portion_of(group, groups, portions);
         let place = place_for(alloc, &mut lanes, &row.setup, portion)?;
-        if places.push(place).is_err() {
-            return Err(NoMemory);
-        }
+        add_to(&mut places, place)?;
     }
     Ok(Plan { lanes, places })
 }

@@ -14,9 +14,9 @@ pub loop-index-preserved : goal.loop-index-preserved
 loop-index-preserved c =
     let i = c.loop-index.index in
     let old = c.loop-index.places.items in
-    let new = c.push.new.self.items in
+    let new = c.add_to.new.list.items in
     let v = c.in_ok-place.place in
-    let is : new ≡ old ++ v ∷ [] = rw c.if-is_err.ensures.negation at c.push.ensures.items in
+    let is : new ≡ old ++ v ∷ [] = c.in_ok-add_to.ensures.joined in
     let now = c.loop-index.invariant in
     record {
       as_many = ap length is ∙ length_push old v ∙ ap (λ n. n + 1) now.as_many;
