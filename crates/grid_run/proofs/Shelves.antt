@@ -1,6 +1,6 @@
 -- Shelves, and seats on them.
 use Rattle.std.proofs.Common.{◌≡◌, ℕ, ◌/◌, ◌<◌, [], ◌∷◌, ◌++◌, List, length, get_or, map, set}
-use Rattle.std.proofs.Common.{Bool, true, false, if◌then◌else◌, refl, ap, sym, subst, ◌∙◌}
+use Rattle.std.proofs.Common.{Result, Ok, Err, IfOk, OnErr, OnOk, refl, ap, sym, subst, ◌∙◌}
 use Rattle.std.specs.List.{All}
 use Rattle.std.proofs.lemmas.List.{get_or-map, length-map, map_push, map-set}
 use Rattle.cache_core.specs.Geometry.{assoc_of, blocks_of, bsize_of, sets_of}
@@ -54,11 +54,11 @@ cell-found s g index same bytes =
           (s.alike index g same.inside ∙ sym bytes) (same.blocks g) (same.sets g);
     }
 
--- the cell of a geometry that joins the others
-pub cell-joined : (gs gs' : List Geometry) (g : Geometry) (p : Policy) (index : ℕ)
-    → gs' ≡ gs ++ g ∷ [] → index ≡ length gs
-    → IsCellOf (map (λ d. rules_from d p) gs') (rules_from g p) index
-cell-joined gs gs' g p index is last =
+-- the cell of a geometry that has joined the others
+pub cell-joined : {E : Type 0} (gs gs' : List Geometry) (g : Geometry) (p : Policy)
+    (r : Result ℕ E) → IfOk r (λ k. k ≡ length gs) → OnOk r (gs' ≡ gs ++ g ∷ [])
+    → IfOk r (IsCellOf (map (λ d. rules_from d p) gs') (rules_from g p))
+cell-joined gs gs' g p (Ok index) last is =
     let f = λ (d : Geometry). rules_from d p in
     let joined = ap (map f) is ∙ map_push f gs g in
     let at = last ∙ sym (length-map gs f) in
@@ -66,6 +66,7 @@ cell-joined gs gs' g p index is last =
       inside = inside-last (map f gs) (map f gs') index (f g) joined at;
       rules = at-last (λ r. r ≡ f g) (map f gs) (map f gs') index (f g) no_rules joined at refl;
     }
+cell-joined gs gs' g p (Err why) last is = tt
 
 -- the other cells stay
 pub cells-joined : (gs gs' : List Geometry) (g : Geometry) (p : Policy) → gs' ≡ gs ++ g ∷ []
@@ -79,12 +80,14 @@ cells-joined gs gs' g p is = λ r cell own.
           own.rules;
     }
 
--- the shelf keeps to one block size, whether the push succeeds or not
-pub alike-pushed : (b : ℕ) (ok : Bool) (gs gs' : List Geometry) (g : Geometry)
-    → gs' ≡ (if ok then gs ++ g ∷ [] else gs) → All (λ d. bsize_of d ≡ b) gs
+-- the shelf keeps to one block size, whether the geometry joins or not
+pub alike-added : {E : Type 0} (b : ℕ) (r : Result ℕ E) (gs gs' : List Geometry) (g : Geometry)
+    → OnOk r (gs' ≡ gs ++ g ∷ []) → OnErr r (gs' ≡ gs) → All (λ d. bsize_of d ≡ b) gs
     → bsize_of g ≡ b → All (λ d. bsize_of d ≡ b) gs'
-alike-pushed b true gs gs' g is all one = all-push (λ d. bsize_of d ≡ b) gs gs' g is all one
-alike-pushed b false gs gs' g is all one = subst (All (λ d. bsize_of d ≡ b)) (sym is) all
+alike-added b (Ok index) gs gs' g is same all one =
+    all-push (λ d. bsize_of d ≡ b) gs gs' g is all one
+alike-added b (Err why) gs gs' g is same all one =
+    subst (All (λ d. bsize_of d ≡ b)) (sym same) all
 
 -- a seat by the cell of its level
 seat-of : (t : Table) (r : Rules) (s : Seat) → s.level < length t

@@ -1,6 +1,6 @@
 //! Lists that grow, while a grid is planned and its caches are made.
 
-ghost use Rattle.std.specs.Prelude.{◌≡◌, ◌++◌, ◌∷◌, [], IfOk, OnOk, length};
+ghost use Rattle.std.specs.Prelude.{◌≡◌, ◌++◌, ◌∷◌, [], IfOk, OnErr, OnOk, length};
 
 use cache_core::NoMemory;
 
@@ -8,6 +8,7 @@ use cache_core::NoMemory;
 pub(crate) fn add_to<T: Drop>(list: &mut Vec<T>, next: T) -> Result<usize, NoMemory>
     ensures last { IfOk result (λ index. index ≡ length list.old.items) }
     ensures joined { OnOk result (list.new.items ≡ list.old.items ++ next ∷ []) }
+    ensures kept { OnErr result (list.new.items ≡ list.old.items) }
 {
     let index = list.len();
     if list.push(next).is_err() {

@@ -4,6 +4,7 @@ ghost use Rattle.std.specs.Prelude.{◌≡◌};
 ghost use Rattle.std.specs.List.{All};
 ghost use Rattle.cache_core.specs.Geometry.{bsize_of};
 
+use crate::lists::add_to;
 use cache_core::{Geometry, NoMemory, Policy};
 use std::alloc::Global;
 
@@ -66,11 +67,7 @@ impl Shelf {
         if let Some(index) = self.find(geometry) {
             return Ok(index);
         }
-        let index = self.geometries.len();
-        if self.geometries.push(geometry).is_err() {
-            return Err(NoMemory);
-        }
-        Ok(index)
+        add_to(&mut self.geometries, geometry)
     }
 
     /// The block size, as that of a geometry.
