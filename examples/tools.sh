@@ -27,7 +27,8 @@ done
 
 # In this order: a later file uses the tables and traces of those before it. No file is left out.
 subjects=(checks names help building record sweep sweep_names sweep_words sweep_grids sweep_full
-    sweep_resume settings slurm plot plot_points plot_words plot_names handout install hostile formats)
+    sweep_resume settings slurm plot plot_points plot_words plot_names handout install hostile
+    formats)
 diff <(printf '%s.sh\n' "${subjects[@]}" | sort) \
     <(cd "$top/examples/tools" && printf '%s\n' *.sh | sort) || exit
 for subject in "${subjects[@]}"; do
