@@ -150,33 +150,19 @@ pub(crate) fn move_each(
 }
 
 /// Takes all marks back to the start.
-fn restart_all(marks: &mut [Mark])
-    ensures { marks.new ≡ map restarted marks.old }
+pub(crate) fn restart_each(marks: &mut Vec<Mark>)
+    ensures { marks.new.items ≡ map restarted marks.old.items }
 {
     for mark in marks.iter_mut() {
         mark.place = 0;
     }
 }
 
-/// The same for the marks of a vector.
-pub(crate) fn restart_each(marks: &mut Vec<Mark>)
-    ensures { marks.new.items ≡ map restarted marks.old.items }
-{
-    restart_all(marks);
-}
-
 /// Puts all marks where they belong if each of `used` blocks was used once.
-fn settle_all(marks: &mut [Mark], used: usize)
-    ensures { marks.new ≡ map (settled used) marks.old }
+pub(crate) fn settle_each(marks: &mut Vec<Mark>, used: usize)
+    ensures { marks.new.items ≡ map (settled used) marks.old.items }
 {
     for mark in marks.iter_mut() {
         mark.place = used.saturating_sub(mark.size);
     }
-}
-
-/// The same for the marks of a vector.
-pub(crate) fn settle_each(marks: &mut Vec<Mark>, used: usize)
-    ensures { marks.new.items ≡ map (settled used) marks.old.items }
-{
-    settle_all(marks, used);
 }
