@@ -34,7 +34,7 @@ shades_rules c = map shade_rules c.shades.items
 abbrev pub HasPlace : Caches → Place → Type 0
 HasPlace c p = IsPlace (length (together_rules c)) (length (apart_rules c)) p
 
--- they have this place of a shadow
+-- the caches have a shadow at this place
 abbrev pub HasShade : Caches → Place → Type 0
 HasShade c p = IsPlace (length (together_rules c)) (length (shades_rules c)) p
 

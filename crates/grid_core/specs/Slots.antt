@@ -65,7 +65,8 @@ module _ (bsize : ℕ) (wback : Bool) (n : ℕ) where
   dirty_bytes (s ∷ row) = if is_dirty_slot wback n s then s.block * bsize ∷ dirty_bytes row
       else dirty_bytes row
 
-  -- of the first n slots of each of the first rows, which are so many and so long
+  -- the same of the first n slots of each row, from the first row on: a row has `most` slots, and
+  -- the last number says how many rows are gone through
   abbrev pub dirty_in_rows : ℕ → List Slot → ℕ → List ℕ
   dirty_in_rows most xs zero = []
   dirty_in_rows most xs (suc k) = dirty_in_rows most xs k

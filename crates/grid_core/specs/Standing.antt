@@ -88,8 +88,8 @@ abbrev pub StayFirstFrom : ℕ → ℕ → History → Access → Type 0
 StayFirstFrom n m h x = (s : Stack) → (rules_of s).bsize ≡ n → m < (rules_of s).sets →
     StaysFirst (rules_of s) h x
 
--- after the history h the block of the access x is not among the first d of its set, or in none of
--- the ways there
+-- after the history h the block of the access x is not among the first d blocks of its set, where d
+-- counts as at most the number of ways
 abbrev pub IsBehind : ℕ → History → Access → Rules → Type 0
 IsBehind d h x r = min d r.assoc ≤ stack_distance r h (block_of r x)
 
@@ -98,7 +98,8 @@ abbrev pub AreBehind : Behind → ℕ → History → Access → Type 0
 AreBehind b n h x = (s : Stack) → (rules_of s).bsize ≡ n → (rules_of s).sets ≤ b.last_set + 1 →
     IsBehind b.places h x (rules_of s)
 
--- a cache of this geometry and write policy, of so many ways, has as many sets, and no more ways
+-- rows of the rules r serve a cache of this geometry, so many ways and this write policy: they have
+-- its block size, its number of sets and its write policy, and at least as many ways
 pub record Suits (r : Rules) (g : Geometry) (ways : ℕ) (wback : Bool) : Type 0 where
   pub same_bsize : r.bsize ≡ bsize_of g
   pub same_sets : r.sets ≡ sets_of g

@@ -1,4 +1,4 @@
-//! The numbers of blocks that were looked up lately.
+//! The numbers of blocks that were looked up recently.
 
 ghost use Rattle.std.specs.Prelude.{◌≡◌, ℕ, Option, Some, IfSome};
 ghost use Rattle.grid_core.specs.AtHand.{AreRight};
@@ -12,7 +12,8 @@ pub(crate) struct Entry {
     pub number: usize,
 }
 
-/// How many numbers are kept. The rest of a block's own number by this is its place.
+/// At most so many numbers are kept. The place of a block is the remainder when the block is divided
+/// by this.
 const PLACES: u64 = 2048;
 
 /// The place of a block.

@@ -212,8 +212,8 @@ impl Caches {
         ensures keeps { OnErr result (HaveSameCounts self.new self.old) }
         ensures rules { HaveSameRules self.new self.old }
     {
-        let own = lists_all(alloc, &self.singles)?;
-        self.clear(&own);
+        let apart = lists_all(alloc, &self.singles)?;
+        self.clear(&apart);
         Ok(())
     }
 

@@ -10,7 +10,8 @@ ghost use Rattle.grid_core.specs.Slots.{clean_in, level_in, lost_in, stays_in};
 
 use crate::slots::{Seen, Slot, empty_slot, has_block, look};
 
-/// Where the slot stands that leaves a row of this length.
+/// The last of the places that are filled when a block comes to the front of a row of this length:
+/// where it stood, or the last place of the row if it was not there.
 fn last_moved(position: usize, len: usize) -> usize
     requires { 0 < len }
     ensures { result ≡ (if nat_lt position len then position else len - 1) }

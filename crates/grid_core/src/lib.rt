@@ -4,16 +4,26 @@
 //! accesses and flushes in all these caches, and answers for each what a cache of cache_core alone
 //! would: every count, what it sends to the next level, and how often its shadow missed.
 //!
+//! Each of these caches is a *cell*. `engine` has the list of them. `plan` decides where each is
+//! served, and `places` says where each cell and its shadow is; nobody above sees it. `caches` sends
+//! each event to the caches that are served together and to those of their own.
+//!
 //! LRU caches that allocate at writes are served together (`stacked`). Those of as many sets share
 //! one row for each set, in order of last use (`stack`, `slots`): the position of a block tells for
-//! every number of ways whether it hits, and its dirty level whether it is written back. One list
-//! with a mark for each size is the shadow of all caches (`shadows`). Where blocks stood is counted
-//! once for each number of sets (`histogram`), and the counts of each cache follow from that
-//! (`cells`). The others, and those of more than 64 ways, keep their own blocks and counts
-//! (`single`). They are told which blocks were accessed, and what their shadows hold (`singles`,
-//! `shading`).
-//! `plan` decides which cache goes where, and nobody above sees it. `laws` has what the definitions
-//! say of caches of different sizes.
+//! every number of ways whether it hits, and its dirty level whether it is written back. `front` is
+//! one access to a row, and `stacks` serves the rows of all numbers of sets, which `shapes` and
+//! `parts` make. Where blocks stood is counted once for each number of sets (`histogram`), and the
+//! counts of each cache follow from that (`cells`). `outcome` tells what one access did in one of
+//! them, and `misses` adds counts. One list with a mark for each size is the shadow of all these
+//! caches (`shadows`). `block_numbers` and `at_hand` number the blocks for it, and `recent` knows the
+//! block that was used last.
+//!
+//! The others, and those of more than 64 ways, keep their own blocks and counts (`single`), and are
+//! served one after another (`singles`). They are told which blocks were accessed, and what their
+//! shadows hold (`shading`). A `shade` is a shadow of its own, for caches that do not allocate at
+//! writes; `shades` are served one after another too.
+//!
+//! `laws` has what the definitions say of caches of different sizes.
 //!
 //! Proved for every history that an engine stands for. If an allocation fails, the counts stay, and
 //! every later access or flush answers `NoMemory`.

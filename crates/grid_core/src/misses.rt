@@ -63,21 +63,11 @@ pub(crate) fn sum_from(counts: &[PerClass], index: usize) -> PerClass
 }
 
 /// Adds one in the count at an index, in the class of the access.
-fn count_one(counts: &mut [PerClass], index: usize, access: Access)
-    requires inside { index < length counts.old }
-    requires within { IsWithin (total counts.old) MAX_EVENTS }
-    ensures { counts.new ≡ set counts.old index (with_one access true
-        (get_or counts.old index none_by_class)) }
-{
-    counts[index].count(access, true);
-}
-
-/// The same for a vector.
 pub(crate) fn count_at(counts: &mut Vec<PerClass>, index: usize, access: Access)
     requires inside { index < length counts.old.items }
     requires within { IsWithin (total counts.old.items) MAX_EVENTS }
     ensures { counts.new.items ≡ set counts.old.items index (with_one access true
         (get_or counts.old.items index none_by_class)) }
 {
-    count_one(counts, index, access);
+    counts[index].count(access, true);
 }

@@ -3,8 +3,8 @@
 ghost use Rattle.std.specs.Prelude.{◌≡◌, true};
 ghost use Rattle.grid_core.specs.Recent.{IsAgain, after_use, none_recent};
 
-/// What is known of the block that was used last: its number, whether no flush came since, and
-/// whether a write is among its uses since another block was used.
+/// What is known of the block that was used last: which block it is, whether no flush came since,
+/// and whether a write is among its uses since another block was used.
 #[derive(Clone, Copy, Debug)]
 pub(crate) struct Recent {
     pub block: u64,

@@ -72,7 +72,8 @@ pub(crate) fn rank_of(sizes: &[usize], size: usize) -> usize
     sizes.len()
 }
 
-/// Whether a geometry has as many sets as another, and at least as many ways.
+/// Whether another geometry has the block size and the number of sets of this one, and at least as
+/// many ways.
 fn is_wider(geometry: Geometry, other: Geometry) -> bool
     ensures { result ≡ true → IsWider geometry other }
 {

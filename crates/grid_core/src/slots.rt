@@ -51,18 +51,11 @@ pub(crate) fn empty_slots(alloc: Global, count: usize) -> Result<Vec<Slot>, Allo
 }
 
 /// Empties all slots.
-fn clear(slots: &mut [Slot])
-    ensures { slots.new ≡ replicate (length slots.old) no_slot }
-{
-    slots.fill(empty_slot());
-}
-
-/// The same for the slots of a vector.
 pub(crate) fn clear_in(slots: &mut Vec<Slot>)
     ensures items { slots.new.items ≡ replicate (vec_len slots.old) no_slot }
     ensures len { vec_len slots.new ≡ vec_len slots.old }
 {
-    clear(slots);
+    slots.fill(empty_slot());
 }
 
 /// Whether a slot holds a block that is dirty in a cache of `ways` ways.
@@ -74,7 +67,7 @@ fn is_dirty(slot: Slot, wback: bool, ways: usize) -> bool
 }
 
 /// The first byte of the block of a slot, if it is dirty in a cache of `ways` ways.
-pub(crate) fn pushed(slot: Slot, wback: bool, ways: usize, bsize: u64) -> Option<u64>
+pub(crate) fn dirty_byte(slot: Slot, bsize: u64, wback: bool, ways: usize) -> Option<u64>
     requires { slot.block * bsize < 2 ^ 64 }
     ensures { result ≡ option_map (λ b. b * bsize) (dirty_in wback ways slot) }
 {

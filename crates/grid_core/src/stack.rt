@@ -8,7 +8,9 @@ ghost use Rattle.grid_core.specs.Slots.{HaveBytes};
 
 use crate::front::{stays, turn_in};
 use crate::histogram::Histogram;
-use crate::slots::{Slot, clear_in, count_dirty, dirty_rising, empty_slot, empty_slots, pushed};
+use crate::slots::{
+    Slot, clear_in, count_dirty, dirty_byte, dirty_rising, empty_slot, empty_slots,
+};
 use cache_core::{Access, Geometry, MAX_EVENTS, PerClass};
 use std::alloc::{AllocError, Global};
 
@@ -177,13 +179,6 @@ impl Stack {
             && ways <= self.ways
     }
 
-    /// How many sets there are.
-    pub fn sets(&self) -> u64
-        ensures { result ≡ (rules_of self.now).sets }
-    {
-        self.geometry.sets()
-    }
-
     /// Whether the caches write back.
     pub fn wback(&self) -> bool
         ensures { result ≡ (rules_of self.now).wback }
@@ -210,7 +205,7 @@ impl Stack {
     {
         let slot = self.slot_behind(ways);
         let bsize = self.geometry.bsize();
-        pushed(slot, self.wback, ways, bsize)
+        dirty_byte(slot, bsize, self.wback, ways)
     }
 
     /// The first bytes of the blocks that the cache of `ways` ways holds dirty, in rising order,
