@@ -1,4 +1,4 @@
--- The numbers of blocks that were looked up lately.
+-- The numbers of blocks that were looked up recently.
 use Rattle.std.specs.Prelude.{◌≡◌, ◌≢◌, ◌-◌, ◌^◌, ℕ, List, Option, Some}
 use Rattle.std.specs.List.{All}
 use Rattle.grid_core.specs.declared.at_hand.Entry.{Entry}

@@ -12,8 +12,8 @@ pub(crate) struct Entry {
     pub number: usize,
 }
 
-/// At most so many numbers are kept. The place of a block is the remainder when the block is divided
-/// by this.
+/// At most so many numbers are kept. The place of a block is the remainder when the block is
+/// divided by this.
 const PLACES: u64 = 2048;
 
 /// The place of a block.

@@ -5,8 +5,8 @@
 //! would: every count, what it sends to the next level, and how often its shadow missed.
 //!
 //! Each of these caches is a *cell*. `engine` has the list of them. `plan` decides where each is
-//! served, and `places` says where each cell and its shadow is; nobody above sees it. `caches` sends
-//! each event to the caches that are served together and to those of their own.
+//! served, and `places` says where each cell and its shadow is; nobody above sees it. `caches`
+//! sends each event to the caches that are served together and to those of their own.
 //!
 //! LRU caches that allocate at writes are served together (`stacked`). Those of as many sets share
 //! one row for each set, in order of last use (`stack`, `slots`): the position of a block tells for
@@ -15,8 +15,8 @@
 //! `parts` make. Where blocks stood is counted once for each number of sets (`histogram`), and the
 //! counts of each cache follow from that (`cells`). `outcome` tells what one access did in one of
 //! them, and `misses` adds counts. One list with a mark for each size is the shadow of all these
-//! caches (`shadows`). `block_numbers` and `at_hand` number the blocks for it, and `recent` knows the
-//! block that was used last.
+//! caches (`shadows`). `block_numbers` and `at_hand` number the blocks for it, and `recent` knows
+//! the block that was used last.
 //!
 //! The others, and those of more than 64 ways, keep their own blocks and counts (`single`), and are
 //! served one after another (`singles`). They are told which blocks were accessed, and what their

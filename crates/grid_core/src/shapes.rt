@@ -139,7 +139,7 @@ pub(crate) fn stack_for(
         return Ok(index);
     }
     let wide = widest(geometries, geometry);
-    let stack = Stack::new(alloc, wide, wide.assoc() as usize, levels, wback)?;
+    let stack = Stack::new(alloc, wide, levels, wback)?;
     let index = stacks.len();
     stacks.push(stack)?;
     Ok(index)

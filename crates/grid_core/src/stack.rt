@@ -60,17 +60,16 @@ impl Stack {
     pub fn new(
         alloc: Global,
         geometry: Geometry,
-        ways: usize,
         levels: usize,
         wback: bool,
     ) -> Result<Stack, AllocError>
-        requires { assoc_of geometry ≡ ways }
         ensures stands { IfOk result (λ stack. StandsFor stack []) }
         ensures counted { IfOk result (λ stack. (sizes : List ℕ) → IsCountedIn sizes [] stack) }
         ensures within { IfOk result (IsWithinStack 0) }
         ensures levels { IfOk result (λ stack. told_in stack ≡ levels) }
         ensures rules { IfOk result (λ stack. rules_of stack ≡ stack_rules geometry wback) }
     {
+        let ways = geometry.assoc() as usize;
         let sets = geometry.sets();
         let slots = empty_slots(alloc, sets as usize * ways)?;
         Ok(Stack {
