@@ -180,9 +180,12 @@ call 'a faulty line' 1 "$nothing" 'dinero_grid: line 3: label
 call 'an input that can not be read' 4 "$nothing" 'dinero_grid: trace read failed
 ' / "${caches[@]}" --l1-dsize 8,16
 
-lesson=$top/examples/9-whole-counts/table
-mapfile -t words <"$lesson.words"
-call 'the table of a lesson' 0 "$lesson.tsv" '' "$lesson.din" "${words[@]}"
+for lesson in "$top"/examples/*/*.tsv; do
+    lesson=${lesson%.tsv}
+    mapfile -t words <"$lesson.words"
+    call "the table of a lesson, ${lesson#"$top"/examples/}" 0 "$lesson.tsv" '' "$lesson.din" \
+        "${words[@]}"
+done
 
 # has_rows NAME LINES REFUSED: the table has so many lines, and so many rows that were refused.
 has_rows() {

@@ -1,7 +1,7 @@
 #!/usr/bin/env bash
 # Runs each lesson of this folder, and compares its reports with those that were worked out by hand.
 # A run has its words in RUN.words, one a line, its report in RUN.report and its trace in RUN.din;
-# the runs without a trace of their own share trace.din. A run with a table, RUN.tsv, is tried by
+# the runs without a trace of their own share trace.din. Runs with a table, RUN.tsv, are tried by
 # grid_command_line.sh. The first argument is the program; without one the launcher is taken.
 set -euo pipefail
 folder=$(CDPATH='' cd -P -- "$(dirname -- "$0")" && pwd)
@@ -18,5 +18,8 @@ for list in "$folder"/*/*.words; do
     else
         fail "${run#"$folder"/}"
     fi
+done
+for report in "$folder"/*/*.report; do
+    [ -f "${report%.report}.words" ] || fail "${report#"$folder"/} has no words"
 done
 tell
