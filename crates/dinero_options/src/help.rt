@@ -8,6 +8,7 @@ pub(crate) fn about<'a>() -> &'a str {
 trace from standard input, and writes the counts of misses of each cache to standard output."
 }
 
+/// How the program is called.
 pub(crate) fn usage<'a>() -> &'a str {
     "dinero_pipe --l1-isize <SIZE> --l1-ibsize <SIZE> --l1-dsize <SIZE> --l1-dbsize <SIZE>
                    --l2-usize <SIZE> --l2-ubsize <SIZE> [OPTIONS] < TRACE"
@@ -34,6 +35,7 @@ Exit status: 0 report or help written, 1 faulty trace, 2 command line or caches 
 3 no memory, no thread or a thread cut off, 4 trace not read or report not written."
 }
 
+/// The heading that the option stands under.
 pub(crate) fn heading<'a>(option: Opt) -> &'a str {
     match option {
         Opt::L1Isize | Opt::L1Ibsize | Opt::L1Iassoc | Opt::L1Irepl => {
@@ -56,6 +58,7 @@ pub(crate) fn heading<'a>(option: Opt) -> &'a str {
     }
 }
 
+/// What stands for the value in the help.
 pub(crate) fn value_name<'a>(option: Opt) -> &'a str {
     match option {
         Opt::L1Isize

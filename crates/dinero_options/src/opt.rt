@@ -63,6 +63,7 @@ impl Opt {
         self.long()
     }
 
+    /// As `name`, without a loan of the option.
     fn long<'a>(self) -> &'a str
         ensures { result.now ≡ name_of self }
     {

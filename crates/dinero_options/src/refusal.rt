@@ -13,6 +13,7 @@ use stage_core::{CacheName, ConfigFault};
 use std::alloc::{AllocError, Global};
 use std::io::ErrorKind;
 
+/// The name of a cache.
 fn cache_text(name: CacheName) -> &'static str
     ensures { result.now ≡ cache_name_text name }
 {
@@ -23,6 +24,7 @@ fn cache_text(name: CacheName) -> &'static str
     }
 }
 
+/// What is wrong with the geometry of a cache.
 fn geometry_text(fault: GeometryFault) -> &'static str
     ensures { result.now ≡ geometry_fault_text fault }
 {
@@ -47,6 +49,7 @@ fn config_parts(fault: ConfigFault) -> (&'static str, &'static str, &'static str
     }
 }
 
+/// Writes the text of a refused configuration.
 fn put_config<W: ByteWriter>(fault: ConfigFault, writer: &mut W) -> Result<(), DeviceFailed>
     ensures { Writes W.contents W.failures writer.old writer.new result (config_fault_text fault) }
 {

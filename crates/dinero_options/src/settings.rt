@@ -15,10 +15,15 @@ use stage_core::{CacheSpec, Selection};
 /// All settings that the words ask for. The caches and the rings may still break a rule.
 #[derive(Clone, Copy, Debug, PartialEq, Eq)]
 pub struct Settings {
+    /// The instruction cache.
     pub i: CacheSpec,
+    /// The data cache.
     pub d: CacheSpec,
+    /// The second-level cache.
     pub u: CacheSpec,
+    /// The capacity of each ring, in messages.
     pub ring: u64,
+    /// Which part of the trace.
     pub selection: Selection,
 }
 
@@ -65,6 +70,7 @@ fn write_choices_in(texts: &[&str], write: Option<(Opt, Opt)>) -> (bool, bool)
     }
 }
 
+/// The cache that the texts of its options ask for.
 fn cache_in(texts: &[&str], options: CacheOptions) -> CacheSpec
     ensures { result ≡ cache_at (text_at (map (λ t. t.now) texts.now)) options }
 {
@@ -81,6 +87,7 @@ fn cache_in(texts: &[&str], options: CacheOptions) -> CacheSpec
     }
 }
 
+/// Which part of the trace the texts ask for.
 fn selection_in(texts: &[&str]) -> Selection
     ensures value { result ≡ selection_at (text_at (map (λ t. t.now) texts.now)) }
     ensures bound { IsBounded result }

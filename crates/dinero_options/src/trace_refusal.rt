@@ -7,6 +7,7 @@ ghost use Rattle.dinero_options.specs.TraceRefusals.{trace_fault_text, trace_sta
 use din_trace::{ByteWriter, DeviceFailed, TraceFault, Why};
 use itoa::Buffer;
 
+/// The word for why a line is faulty.
 fn why_text(why: Why) -> &'static str
     ensures { result.now ≡ why_word why }
 {

@@ -43,6 +43,7 @@ fn unit(byte: u8) -> Option<u64>
     }
 }
 
+/// Whether each of the bytes is a decimal digit.
 fn are_digits(bytes: &[u8]) -> bool
     ensures { result ≡ list_all is_ascii_digit bytes.now }
 {

@@ -33,6 +33,7 @@ pub fn status(fault: &Fault) -> u8
     }
 }
 
+/// Writes the text of a run's fault.
 fn put_run<W: ByteWriter>(fault: RunFault, writer: &mut W) -> Result<(), DeviceFailed>
     ensures { Writes W.contents W.failures writer.old writer.new result (run_fault_text fault) }
 {
@@ -45,6 +46,7 @@ fn put_run<W: ByteWriter>(fault: RunFault, writer: &mut W) -> Result<(), DeviceF
     }
 }
 
+/// Writes the text of a fault.
 fn put_fault<W: ByteWriter>(fault: &Fault, writer: &mut W) -> Result<(), DeviceFailed>
     ensures { Writes W.contents W.failures writer.old writer.new result (message_of fault.now) }
 {
@@ -54,6 +56,7 @@ fn put_fault<W: ByteWriter>(fault: &Fault, writer: &mut W) -> Result<(), DeviceF
     }
 }
 
+/// Whether help was asked for.
 fn is_help(fault: &Fault) -> bool
     ensures { result ≡ asks_for_help fault.now }
 {

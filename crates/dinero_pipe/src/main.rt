@@ -82,6 +82,7 @@ fn report_through_buffer<H: Threads + Wait + Sync, R: Read + Drop, W: Write + Dr
     report(rt, alloc, config, selection, reader, &mut writer).map_err(Fault::Run)
 }
 
+/// Writes the help to standard output.
 fn write_help(rt: &HostRuntime) -> Result<(), Fault> {
     let Ok(text) = help_text(rt.alloc()) else {
         return Err(Fault::Words(WordsFault::Memory));
