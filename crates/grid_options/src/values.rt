@@ -62,12 +62,7 @@ pub(crate) fn values_in<'a>(
 fn can_read_all(option: Opt, values: &[&str]) -> bool
     ensures { result ≡ list_all (reads_as (kind_of_option option)) (map (λ t. t.now) values.now) }
 {
-    for value in values {
-        if !can_read(option, *value) {
-            return false;
-        }
-    }
-    true
+    values.iter().all(|value| can_read(option, *value))
 }
 
 /// The first option one of whose values cannot be read.

@@ -55,13 +55,8 @@ fn answer(alloc: Global, matches: &ArgMatches) -> Result<ParsedGrid, GridWordsFa
     let Some(threads) = threads_in(matches) else {
         return Err(GridWordsFault::Threads);
     };
-    match points_in(alloc, matches) {
-        Ok(points) => match grid_of(alloc, matches, points.as_slice(), threads) {
-            Ok(grid) => Ok(grid),
-            Err(_) => Err(MEMORY),
-        },
-        Err(fault) => Err(fault),
-    }
+    let points = points_in(alloc, matches)?;
+    grid_of(alloc, matches, points.as_slice(), threads).or(Err(MEMORY))
 }
 
 /// Reads the words after the program's name. Each number of a selection is at most 2^40. If an
