@@ -21,7 +21,7 @@ pub enum Fault {
 }
 
 /// The exit status for a refused command line.
-fn words_status_of(fault: GridWordsFault) -> u8
+fn grid_words_status(fault: GridWordsFault) -> u8
     ensures { result ≡ grid_words_status fault }
 {
     match fault {
@@ -41,7 +41,7 @@ pub fn status(fault: &Fault) -> u8
         Fault::Run(GridFault::Trace(fault)) => trace_status(*fault),
         Fault::Run(GridFault::Memory) => 3,
         Fault::Run(GridFault::Write) => 4,
-        Fault::Words(fault) => words_status_of(*fault),
+        Fault::Words(fault) => grid_words_status(*fault),
     }
 }
 

@@ -111,7 +111,7 @@ fn table_through_buffer<T: Threads + Sync, R: Read + Drop + Send, W: Write + Dro
 /// Writes the help to standard output.
 fn write_help(rt: &HostRuntime) -> Result<bool, Fault> {
     let Ok(text) = grid_help_text(rt.alloc()) else {
-        return Err(Fault::Run(GridFault::Memory));
+        return Err(Fault::Words(GridWordsFault::Words(WordsFault::Memory)));
     };
     match rt.stdout().write_all(text.as_bytes()) {
         Ok(()) => Ok(false),
