@@ -88,10 +88,5 @@ pub(crate) fn grid_for(alloc: Global, asked: ParsedGrid) -> Result<Grid, AllocEr
 pub(crate) fn has_refused(points: &[GridPoint]) -> bool
     ensures { result ≡ has_refused points.now }
 {
-    for point in points {
-        if point.config.is_err() {
-            return true;
-        }
-    }
-    false
+    points.iter().any(|point| point.config.is_err())
 }
