@@ -7,8 +7,8 @@ ends 'a hand-out of no trace' 4 'sweep: no trace to read: nowhere.din' "$handout
 run env -C "$top" CDPATH="$top" examples/handout.sh --help
 [ "$status" -eq 0 ] && [ ! -s "$err" ] && grep -q '^Usage: examples/handout.sh' "$out"
 verdict 'the help of a hand-out, with a CDPATH' $?
-mkdir linked && ln -s "$handout" linked/made-by
-run linked/made-by --help
+ln -s "$handout" made-by
+run ./made-by --help
 [ "$status" -eq 0 ] && [ ! -s "$err" ] && grep -q '^Usage: examples/handout.sh' "$out"
 verdict 'a hand-out by a link' $?
 ends 'a hand-out into an empty name' 2 'handout: a trace and a folder are needed; try --help' \
