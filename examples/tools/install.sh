@@ -191,6 +191,11 @@ ends 'install with an unknown option' 2 "install: unknown option: '--all'; try -
 ends 'install with two folders' 2 'install: more than one folder is given; try --help' "$install" a b
 ends 'install with an empty name' 2 'install: the name of the folder is empty; try --help' \
     "${guest[@]}" "$install" ''
+# shellcheck disable=SC2016  # the inner shell has the word
+run bash -c 'mkdir gone && cd gone && rmdir ../gone && exec "$1" relative' - "$install"
+[ "$status" -eq 4 ] &&
+    [ "$(tail -n 1 "$err")" = 'install: relative has no whole name: is the working folder gone?' ]
+verdict 'install from a folder that is gone' $?
 mkdir damaged && cp -r "$bin" damaged/bin
 ends 'install without a version' 4 "install: $PWD/damaged/VERSION is missing or damaged" \
     damaged/bin/install usr
