@@ -34,7 +34,7 @@ build() {
     local began=$SECONDS log total sources built
     find_built "$1"
     may_write "$1"
-    sources=$(sum_of_sources "$1")
+    find_sources "$1"
     command -v rt >/dev/null || die 69 "rt is missing: $1 is built by the Rattle toolchain"
     total=$(all_below "$1" | wc -l)
     complain "proving and building $1 from $total crates, once; this takes about 15 minutes on 4 cores"

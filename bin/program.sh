@@ -66,6 +66,11 @@ sum_of_sources() {
     } | sha256sum | cut -d ' ' -f 1
 }
 
+# find_sources NAME: sets `sources` to that sum.
+find_sources() {
+    sources=$(sum_of_sources "$1") || die 70 "the sources of $1 can't be read"
+}
+
 # is_by_toolchain NAME TOOLCHAIN: it is one of those that built the kept program.
 is_by_toolchain() {
     kept_word "$1" toolchain | grep -Fqx -- "$2"
@@ -123,12 +128,13 @@ unpack_kept() {
 # compare_kept NAME FILE: ends the command unless this is the kept program, and of these sources.
 # Other toolchains may have built the same bits before; what is compared is what was built here.
 compare_kept() {
-    local kept
+    local kept sources
+    find_sources "$1"
     make_temporary
     kept=$temporary/$1
     unpack_kept "$1" "$kept" || die 1 "release/$1.gz is missing or damaged"
     cmp -s "$kept" "$2" || die 1 "the kept program $1 is not the one that was built"
-    has_kept_word "$1" sources "$(sum_of_sources "$1")" ||
+    has_kept_word "$1" sources "$sources" ||
         die 1 "release/$1.sums is of other sources"
     echo "release/$1.gz is, bit for bit, the program that was built"
     is_by_toolchain "$1" "$(rt version)" ||
@@ -144,7 +150,7 @@ suits() {
     local sources
     lack="release/$1.sums is missing or damaged"
     [ -n "$(kept_word "$1" sources)" ] || return
-    sources=$(sum_of_sources "$1") || die 70 "the sources of $1 can't be read"
+    find_sources "$1"
     lack='it is of other sources'
     has_kept_word "$1" sources "$sources" || return
     lack='another toolchain than the one here has built it'
