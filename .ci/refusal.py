@@ -3,7 +3,7 @@
 import re
 
 # A goal of a function that is open, at a line of the function.
-OPEN = re.compile(r"note: (src/\S+?):(\d+):\d+: (?:it is not proved|`search` found no proof)")
+OPEN = re.compile(r"note: src/\S+?:\d+:\d+: (?:it is not proved|`search` found no proof)")
 # A proof that does not fit the function.
 UNFIT = re.compile(r"(?:\./)?(proofs/\S+?)[^/]*:\d+:\d+: error: (.*)")
 # It does not fit, but only because it names what the edit took away, or cites such a proof. The
@@ -22,18 +22,18 @@ LIMIT = re.compile(
 )
 
 
-def open_goal(function, said):
-    """The line that says which goal of the function is open, or that its proof does not fit it; it
-    is not enough that the proof names something which is gone."""
-    for line in said:
-        found = OPEN.match(line)
-        if found and found[1] == function.path:
-            if function.first <= int(found[2]) <= function.last:
-                return line
-        found = UNFIT.match(line)
-        if found and found[1].startswith(function.proofs) and not NAMES.search(found[2]):
-            return line
-    return None
+def whole_lines(text):
+    """The lines of what the prover prints. An error that is too long for one goes on in the next line,
+    behind blanks. Further lines of it explain it."""
+    lines, is_error = [], False
+    for line in text.split("\n"):
+        if is_error and line.startswith("  "):
+            lines[-1] += f" {line.strip()}"
+            is_error = False
+        else:
+            lines.append(line)
+            is_error = ": error" in line
+    return lines
 
 
 def is_told_of(function, line):
@@ -43,6 +43,13 @@ def is_told_of(function, line):
         return found[1] == function.path and function.first <= int(found[2]) <= function.last
     found = UNFIT.match(line)
     return bool(found) and found[1].startswith(function.proofs) and not NAMES.search(found[2])
+
+
+def open_goal(function, said):
+    """The line that says which goal of the function is open, or that its proof does not fit it; it
+    is not enough that the proof names something which is gone."""
+    told = (it for it in said if OPEN.match(it) or UNFIT.match(it))
+    return next((it for it in told if is_told_of(function, it)), None)
 
 
 def is_proved(function, said):

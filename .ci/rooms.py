@@ -12,6 +12,7 @@ import time
 from functools import cache
 from pathlib import Path
 
+from refusal import whole_lines
 from wrong_body import Planted
 
 PARTS = ("src", "specs", "proofs")
@@ -135,7 +136,7 @@ class Rooms:
                 self.running.add(check)
             said = check.communicate()[0]
             self.running.discard(check)
-        return check.returncode, said.split("\n")
+        return check.returncode, whole_lines(said)
 
     def furnish(self, room, crate):
         """Copies the crate, without what was made of it."""

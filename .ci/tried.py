@@ -3,6 +3,7 @@
 import hashlib
 import os
 import subprocess
+import sys
 from functools import cache
 from pathlib import Path
 
@@ -12,6 +13,13 @@ from rooms import PARTS, all_below, lines_of
 @cache
 def toolchain():
     return subprocess.run(["rt", "version"], check=True, capture_output=True, text=True).stdout
+
+
+def scripts():
+    """Those of this folder that run."""
+    named = (getattr(it, "__file__", None) for it in list(sys.modules.values()))
+    paths = {Path(it).resolve() for it in named if it}
+    return sorted(it for it in paths if it.parent == Path(__file__).resolve().parent)
 
 
 def sum_of_files(folder):
@@ -37,9 +45,8 @@ class Tried:
     def sum_now(self):
         base = hashlib.sha256(toolchain().encode())
         base.update((self.top / "HANDLES").read_bytes())
-        for script in sorted(Path(__file__).parent.glob("*.py")):
+        for script in scripts():
             base.update(script.read_bytes())
-        base.update((Path(__file__).parent / "wrong_bodies").read_bytes())
         for name in self.names:
             folder = self.top / "crates" / name
             base.update(f"{lines_of(self.top)[name]}\n{sum_of_files(folder)}\n".encode())

@@ -2,6 +2,7 @@
 
 import re
 from dataclasses import dataclass, replace
+from functools import cache
 from pathlib import Path
 
 from refusal import UNREAD
@@ -114,8 +115,9 @@ def module_of(path):
     return [it for it in path[4:-3].split("/") if it not in ("lib", "main")]
 
 
+@cache
 def types_of(folder):
-    """The modules of the types of a crate, by their names."""
+    """The modules of the types of a crate, by their names. They are read once: no run changes them."""
     found = {}
     for file in sorted((folder / "src").rglob("*.rt")):
         for name in TYPE.findall(file.read_text(encoding="utf-8")):
