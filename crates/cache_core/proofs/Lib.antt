@@ -4,6 +4,7 @@ pub mod Ascending
 pub mod AtAccess
 pub mod CacheFacts
 pub mod Cases
+pub mod EarlierWrites
 pub mod Flat
 pub mod FlushStep
 pub mod Flushed

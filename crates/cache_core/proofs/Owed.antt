@@ -1,4 +1,4 @@
--- Each block that is written back is charged to a write.
+-- At an access, each block that is written back was dirty, or is charged to the write.
 use Rattle.std.proofs.Common.{◌≡◌, ℕ, zero, suc, ◌+◌, ◌*◌, ◌%◌, ◌≤◌, Bool, true, false, cond, not}
 use Rattle.std.proofs.Common.{◌&&◌, ◌||◌, eqb, ltb, List, [], ◌∷◌, length, take, filter, Option}
 use Rattle.std.proofs.Common.{Some, None, is_some, inl, inr, refl, sym, ap, subst, ◌∙◌, arith}
@@ -6,16 +6,13 @@ use Rattle.std.specs.List.{find}
 use Rattle.std.proofs.lemmas.Bool.{eqb-true, eq-eqb, false≢true, or_left, or_right, or_cases}
 use Rattle.std.proofs.lemmas.Bool.{and_parts, and_from, ltb-true, lt-ltb, not-true}
 use Rattle.std.proofs.lemmas.Bool.{false_from_ne_true}
-use Rattle.std.proofs.Math.Bool.{and-true}
 use Rattle.cache_core.specs.declared.access.Access.{Access}
-use Rattle.cache_core.specs.History.{Rules, History, access, flush, is_write}
+use Rattle.cache_core.specs.History.{Rules, History, access}
 use Rattle.cache_core.specs.Residents.{hits, uses, renews, renewals, is_resident, leaves, victim}
 use Rattle.cache_core.specs.Dirty.{is_written, is_dirty, dirty_blocks}
-use Rattle.cache_core.specs.Parts.{one_if, dirty_victim, outcome_of, part_count}
+use Rattle.cache_core.specs.Parts.{dirty_victim, outcome_of, part_count}
 use Rattle.cache_core.specs.Order.{ranked}
-use Rattle.cache_core.specs.Counts.{tally, counts_of, flushed_back}
-use Rattle.cache_core.specs.Laws.{WriteBacksAreOfWrites, WriteBacksHaveEarlierWrites}
-use Rattle.cache_core.specs.Laws.{PartsAreCharged, FlushesLeaveNoneDirty, Rises}
+use Rattle.cache_core.specs.Laws.{Rises}
 use Rattle.cache_core.proofs.AtAccess.{at_access}
 use Rattle.cache_core.proofs.Reuse.{has, has-take}
 use Rattle.cache_core.proofs.Shift.{IsOnce}
@@ -80,7 +77,7 @@ module _ (r : Rules) (h : History) where
   dirty-once = rises-once _ (rises-rising (filter (is_dirty r h) (renewals r h)))
 
   -- a victim that is written back is one of the dirty blocks
-  victim-counts : (o : Option ℕ) → cond (is_some (dirty_victim r h o)) 1 0
+  pub victim-counts : (o : Option ℕ) → cond (is_some (dirty_victim r h o)) 1 0
       ≤ length (dirty_blocks r h)
   victim-counts None = omega arith
   victim-counts (Some v) = (elim (is_dirty r h v) as (λ t. is_dirty r h v ≡ t
@@ -276,48 +273,3 @@ module _ (r : Rules) (h : History) (x : Access) where
       + (1 + cond w 1 0)
   unfolding outcome_of
   pays = pays-made
-
--- an access writes back and leaves dirty no more blocks than were dirty, and one more for a write
-pub write_backs_of_writes : WriteBacksAreOfWrites
-unfolding outcome_of
-write_backs_of_writes r h x = backs r h x
-
--- an access sends and leaves dirty at most one block more than was dirty, or two where it writes
-pub parts_charged : PartsAreCharged
-parts_charged r h x = pays r h x
-
--- after a flush nothing is dirty
-pub flushes_leave_none_dirty : FlushesLeaveNoneDirty
-unfolding dirty_blocks renewals
-flushes_leave_none_dirty r h = refl
-
-nothing-dirty : (r : Rules) → dirty_blocks r [] ≡ []
-unfolding dirty_blocks renewals
-nothing-dirty r = refl
-
--- so a history has written back, and has left dirty, no more blocks than it has writes
-backs-and-dirty : (r : Rules) (h : History) → (counts_of r h).written_back
-    + length (dirty_blocks r h) ≤ (counts_of r h).fetches.write
-unfolding counts_of tally flushed_back
-backs-and-dirty r [] = omega (arith, ap length (nothing-dirty r))
-backs-and-dirty r (flush ∷ h) =
-    omega (arith, backs-and-dirty r h, ap length (flushes_leave_none_dirty r h))
-backs-and-dirty r (access x ∷ h) =
-    omega (
-      arith,
-      backs-and-dirty r h,
-      write_backs_of_writes r h x,
-      ap one_if (and-true (is_write x)),
-    )
-
-back-was_dirty : (r : Rules) (h : History) (x : Access)
-    → one_if (is_some (outcome_of r h x).back) ≤ length (dirty_blocks r h)
-unfolding outcome_of
-back-was_dirty r h x = victim-counts r h (victim r h x)
-
--- and what its last event writes back was dirty before that event
-pub write_backs_have_earlier_writes : WriteBacksHaveEarlierWrites
-unfolding counts_of tally flushed_back
-write_backs_have_earlier_writes r h flush = omega (arith, backs-and-dirty r h)
-write_backs_have_earlier_writes r h (access x) =
-    omega (arith, backs-and-dirty r h, back-was_dirty r h x)

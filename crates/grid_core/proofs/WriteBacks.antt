@@ -20,7 +20,8 @@ use Rattle.cache_core.proofs.Turns.{renewals-yes, renewals-no, block-fifo, block
 use Rattle.cache_core.proofs.Cases.{by_cases}
 use Rattle.cache_core.proofs.Victim.{resident-marked, only-one}
 use Rattle.cache_core.proofs.Owed.{dirty-from, dirty-has, dirty-here, dirty-once, dirty-parts}
-use Rattle.cache_core.proofs.Owed.{flushes_leave_none_dirty, has-dirty, inside, leaves-clean, owing}
+use Rattle.cache_core.proofs.EarlierWrites.{flushes_leave_none_dirty}
+use Rattle.cache_core.proofs.Owed.{has-dirty, inside, leaves-clean, owing}
 use Rattle.cache_core.proofs.Owed.{owing-length, stays-inside, victim-leaves, written-other}
 use Rattle.grid_core.specs.WriteBacks.{is_first_write, WriteBacksAreFirstWrites}
 use Rattle.grid_core.proofs.Onces.{once-length}

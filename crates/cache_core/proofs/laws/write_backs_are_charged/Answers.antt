@@ -1,5 +1,5 @@
-use Rattle.cache_core.proofs.Owed.{write_backs_of_writes, write_backs_have_earlier_writes}
-use Rattle.cache_core.proofs.Owed.{parts_charged, flushes_leave_none_dirty}
+use Rattle.cache_core.proofs.EarlierWrites.{write_backs_of_writes, write_backs_have_earlier_writes}
+use Rattle.cache_core.proofs.EarlierWrites.{parts_charged, flushes_leave_none_dirty}
 use Rattle.cache_core.proofs.laws.write_backs_are_charged.Goals as goal
 
 pub returns-clause-writes : goal.returns-clause-writes
