@@ -126,6 +126,7 @@ impl Engine {
             SendsNothing (outcome_of (rules_at (rules_in self.new) index) h x) }
         ensures served { result ≡ true → served_in self.new ≡ served_in self.old + 1 }
         ensures works { result ≡ true → has_failed self.new ≡ false }
+        ensures failed { has_failed self.old ≡ true → result ≡ false }
         ensures leaves { result ≡ false → self.new ≡ self.old }
         ensures numbers { numbered_in self.new ≡ numbered_in self.old }
         ensures rules { rules_in self.new ≡ rules_in self.old }
