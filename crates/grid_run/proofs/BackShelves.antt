@@ -28,9 +28,9 @@ module _ (xs ys : List BackShelf) (x : BackShelf) (is : ys ≡ xs ++ x ∷ []) w
       let old = map task_of_shelf xs in
       let new = map task_of_shelf ys in
       record {
-        level = inside-push old new s.level (task_of_shelf x) joined own.level;
-        back = λ other. at-push (IsCellBehind i d r s.cell) old new s.level (task_of_shelf x)
-            other joined own.level (own.back other);
+        family = inside-push old new s.family (task_of_shelf x) joined own.family;
+        back = λ other. at-push (IsCellBehind i d r s.cell) old new s.family (task_of_shelf x)
+            other joined own.family (own.back other);
       }
 
   -- all are behind seats that are there
@@ -46,8 +46,8 @@ with_shelf x s = record { i = x.i; d = x.d; shelf = s }
 
 module _ (xs : List BackShelf) (k : ℕ) (x : BackShelf) (s : Shelf) (lt : k < length xs)
     (at : x ≡ get_or xs k x) where
-  level-inside : k < length (map task_of_shelf xs)
-  level-inside = subst (λ n. k < n) (sym (length-map xs task_of_shelf)) lt
+  family-inside : k < length (map task_of_shelf xs)
+  family-inside = subst (λ n. k < n) (sym (length-map xs task_of_shelf)) lt
 
   here : (other : BackTask) → get_or (map task_of_shelf xs) k other ≡ task_of_shelf x
   here other = get_or-map task_of_shelf xs k x other lt ∙ ap task_of_shelf (sym at)
@@ -70,8 +70,8 @@ module _ (xs : List BackShelf) (k : ℕ) (x : BackShelf) (s : Shelf) (lt : k < l
       let old = map task_of_shelf xs in
       let y = task_of_shelf (with_shelf x s) in
       subst (λ (l : List BackTask). IsSeatBehind i d r l u) (sym changed) (record {
-        level = inside-set old k u.level y own.level;
-        back = λ other. at-set (IsCellBehind i d r u.cell) old k u.level y other level-inside
+        family = inside-set old k u.family y own.family;
+        back = λ other. at-set (IsCellBehind i d r u.cell) old k u.family y other family-inside
             (λ was. cell-kept keeps i d r u.cell
             (subst (IsCellBehind i d r u.cell) (here other) was)) (own.back other);
       })
@@ -80,7 +80,7 @@ module _ (xs : List BackShelf) (k : ℕ) (x : BackShelf) (s : Shelf) (lt : k < l
   pub seat-among : (i d : Seat) (g : Geometry) (p : Policy) (cell : ℕ)
       → SuitsBehind i d g p x → IsCellOf (rules_on s) (rules_from g x.shelf.policy) cell
       → IsSeatBehind i d (rules_from g p) (map task_of_shelf (set xs k (with_shelf x s)))
-      (record { level = k; cell = cell })
+      (record { family = k; cell = cell })
   unfolding task_of_shelf
   seat-among i d g p cell suits found =
       let old = map task_of_shelf xs in
@@ -88,10 +88,10 @@ module _ (xs : List BackShelf) (k : ℕ) (x : BackShelf) (s : Shelf) (lt : k < l
       let r = rules_from g p in
       let own = subst (λ (q : Policy). IsCellOf (rules_on s) (rules_from g q) cell)
       suits.shelf.policy found in
-      subst (λ (l : List BackTask). IsSeatBehind i d r l (record { level = k; cell = cell }))
+      subst (λ (l : List BackTask). IsSeatBehind i d r l (record { family = k; cell = cell }))
       (sym changed) (record {
-        level = inside-set old k k y level-inside;
-        back = λ other. at-changed (IsCellBehind i d r cell) old k y other level-inside
+        family = inside-set old k k y family-inside;
+        back = λ other. at-changed (IsCellBehind i d r cell) old k y other family-inside
             (record { on_i = suits.on_i; on_d = suits.on_d; cell = own });
       })
 
@@ -104,7 +104,7 @@ module _ (xs : List BackShelf) (k : ℕ) (x : BackShelf) (s : Shelf) (lt : k < l
       let y = task_of_shelf (with_shelf x s) in
       let was : IsPlacedIn on_i on_d (task_of_shelf x) =
       subst (IsPlacedIn on_i on_d) (here (task_of_shelf x))
-      (all k (task_of_shelf x) level-inside) in
+      (all k (task_of_shelf x) family-inside) in
       subst (All (IsPlacedIn on_i on_d)) (sym changed)
       (All-set (IsPlacedIn on_i on_d) old k y
       (record { on_i = was.on_i; on_d = was.on_d }) all)

@@ -20,14 +20,14 @@ use Rattle.grid_run.specs.declared.requests.Request.{Request}
 use Rattle.grid_run.specs.declared.seat.Seat.{Seat}
 use Rattle.grid_run.proofs.Sent.{sent-by-silent}
 
-module _ (fs : List Front) (seat : Seat) (f : Front) (at : f ≡ get_or fs seat.level f)
+module _ (fs : List Front) (seat : Seat) (f : Front) (at : f ≡ get_or fs seat.family f)
     (placed : IsSeatIn (map front_rules fs) seat) where
-  -- there are caches at the level of the seat
-  level-inside : seat.level < length fs
-  level-inside = omega (arith, placed.level, length-map fs front_rules)
+  -- there are caches at the family of the seat
+  family-inside : seat.family < length fs
+  family-inside = omega (arith, placed.family, length-map fs front_rules)
 
-  rules-there : get_or (map front_rules fs) seat.level [] ≡ front_rules f
-  rules-there = get_or-map front_rules fs seat.level f [] level-inside ∙ ap front_rules (sym at)
+  rules-there : get_or (map front_rules fs) seat.family [] ≡ front_rules f
+  rules-there = get_or-map front_rules fs seat.family f [] family-inside ∙ ap front_rules (sym at)
 
   -- and one at its cell
   cell-inside : seat.cell < length (front_rules f)
@@ -39,7 +39,7 @@ module _ (fs : List Front) (seat : Seat) (f : Front) (at : f ≡ get_or fs seat.
 
   -- what holds of all holds of the caches at the seat
   pub at-seat : (P : Front → Type 0) → All P fs → P f
-  at-seat P all = subst P (sym at) (all seat.level f level-inside)
+  at-seat P all = subst P (sym at) (all seat.family f family-inside)
 
 -- there is a first element where an index is inside
 pub some-of : {X : Type 0} (xs : List X) (k : ℕ) → k < length xs → X
@@ -51,11 +51,11 @@ pub silent-at-seat : (fs : List Front) (seat : Seat) → IsSeatIn (map front_rul
     → All IsSilent fs → (s : Side) (h : History) (q : Request) → All (HasSent h q) fs
     → parts_of (rules_of_seat (map front_rules fs) seat) s h (event_of q) ≡ []
 silent-at-seat fs seat on silent s h q sent =
-    let inside : seat.level < length fs =
-    omega (arith, on.level, length-map fs front_rules) in
-    let x = some-of fs seat.level inside in
-    let f = get_or fs seat.level x in
-    let at : f ≡ get_or fs seat.level f = get_or_default fs seat.level x f inside in
+    let inside : seat.family < length fs =
+    omega (arith, on.family, length-map fs front_rules) in
+    let x = some-of fs seat.family inside in
+    let f = get_or fs seat.family x in
+    let at : f ≡ get_or fs seat.family f = get_or_default fs seat.family x f inside in
     ap (λ (r : Rules). parts_of r s h (event_of q)) (sym (rules-seated fs seat f at on))
     ∙ sent-by-silent f h seat.cell s q (cell-inside fs seat f at on)
     (at-seat fs seat f at on IsSilent silent) (at-seat fs seat f at on (HasSent h q) sent)

@@ -1,6 +1,6 @@
 pub mod TableLemmas
 pub mod WrittenWords
-pub mod Levels
+pub mod Families
 pub mod Rooms
 pub mod Events
 pub mod Sent

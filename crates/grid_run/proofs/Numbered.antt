@@ -4,13 +4,13 @@ use Rattle.cache_core.specs.History.{History}
 use Rattle.grid_core.specs.Numbers.{GoesOn}
 use Rattle.grid_core.proofs.MoreNumbers.{engine-more}
 use Rattle.grid_run.specs.Backs.{RequestsFor, WereAsked}
-use Rattle.grid_run.specs.Levels.{LevelStandsBy}
+use Rattle.grid_run.specs.Families.{FamilyStandsBy}
 use Rattle.grid_run.specs.declared.back.Back.{Back}
-use Rattle.grid_run.specs.declared.level.Level.{Level}
+use Rattle.grid_run.specs.declared.family.Family.{Family}
 
-pub level-more : (blocks more : List ℕ) (l : Level) (h : History) → GoesOn blocks more
-    → LevelStandsBy blocks l h → LevelStandsBy more l h
-level-more blocks more l h on st = record {
+pub family-more : (blocks more : List ℕ) (l : Family) (h : History) → GoesOn blocks more
+    → FamilyStandsBy blocks l h → FamilyStandsBy more l h
+family-more blocks more l h on st = record {
   engine = engine-more blocks more l.engine h on st.engine;
 }
 
@@ -19,7 +19,7 @@ pub asked-more : (blocks more : List ℕ) (requests : RequestsFor) (b : Back) �
 asked-more blocks more requests b on asked = record {
   second = record {
     served = asked.second.served;
-    stands = level-more blocks more b.second.level _ on asked.second.stands;
+    stands = family-more blocks more b.second.family _ on asked.second.stands;
     all = asked.second.all;
   };
 }

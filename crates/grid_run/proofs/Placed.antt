@@ -76,7 +76,7 @@ served-same {i' = i'} {d = d} given es qs on_i on_d all =
 module _ (l : Lane) (c : Hierarchy) (s : Selection) (p : Place)
     (place : IsPlaceIn (lane_task l) c s p) (b : Back)
     (at : (other : BackTask)
-    → back_task b ≡ get_or (tasks_of_banks l.banks.items) p.u.level other) where
+    → back_task b ≡ get_or (tasks_of_banks l.banks.items) p.u.family other) where
   -- the second levels at the place are those of the configuration
   pub back-there : IsBackOf (back_task b) c p
   unfolding lane_task

@@ -9,13 +9,13 @@ use Rattle.stage_core.specs.SecondLevel.{back, read_as, second_history}
 use Rattle.stage_core.specs.declared.message.What.{What}
 use Rattle.stage_core.proofs.Stands.{second_history-more}
 use Rattle.stage_core.proofs.Worked.{length-second_history}
-use Rattle.grid_run.specs.Levels.{CanServe, LevelStandsBy, LevelStandsFor}
+use Rattle.grid_run.specs.Families.{CanServe, FamilyStandsBy, FamilyStandsFor}
 use Rattle.grid_run.specs.Sending.{HasRoom, NothingWaitsFor, SecondAsked, SecondServed}
-use Rattle.grid_run.specs.declared.level.Level.{Level}
+use Rattle.grid_run.specs.declared.family.Family.{Family}
 use Rattle.grid_run.specs.declared.second.Second.{Second}
 
 -- where there is room for a request, it can be served
-pub room-one : (u : Level) (w : What) (rest : List What) → HasRoom u (w ∷ rest) → CanServe u
+pub room-one : (u : Family) (w : What) (rest : List What) → HasRoom u (w ∷ rest) → CanServe u
 room-one u w rest room =
     let short = room.short in
     record {
@@ -25,7 +25,7 @@ room-one u w rest room =
     }
 
 -- where there is room for two lists, there is room for the second once the first is served
-pub room-next : (old new : Level) (a b : List What) → HasRoom old (a ++ b)
+pub room-next : (old new : Family) (a b : List What) → HasRoom old (a ++ b)
     → ((ws : List What) → SecondServed ws old → SecondServed (ws ++ a) new) → HasRoom new b
 room-next old new a b room served =
     let short = room.short in
@@ -36,18 +36,18 @@ room-next old new a b room served =
     }
 
 -- one request served at the second level
-pub served-one : (old new : Level) (w : What)
-    → ((h : History) → LevelStandsFor old h → LevelStandsFor new (read_as w ∷ h))
+pub served-one : (old new : Family) (w : What)
+    → ((h : History) → FamilyStandsFor old h → FamilyStandsFor new (read_as w ∷ h))
     → (ws : List What) → SecondServed ws old → SecondServed (ws ++ w ∷ []) new
 served-one old new w longer ws st =
-    subst (λ (h : History). LevelStandsFor new h) (sym (second_history-more ws w))
+    subst (λ (h : History). FamilyStandsFor new h) (sym (second_history-more ws w))
     (longer (second_history ws) st)
 
 -- where nothing waits, all that was asked for is served
 pub settled-served : (blocks : List ℕ) (u : Second) (ws : List What) → SecondAsked blocks ws u
-    → NothingWaitsFor u → LevelStandsBy blocks u.level (second_history ws)
+    → NothingWaitsFor u → FamilyStandsBy blocks u.family (second_history ws)
 settled-served blocks u ws asked settled =
-    subst (λ (l : List What). LevelStandsBy blocks u.level (second_history l))
+    subst (λ (l : List What). FamilyStandsBy blocks u.family (second_history l))
     (sym (asked.all ∙ ap (λ l. asked.served ++ l) settled.none ∙ append-nil asked.served))
     asked.stands
 

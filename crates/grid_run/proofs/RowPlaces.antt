@@ -23,7 +23,7 @@ pub places-grow : (t u : LaneTask) → u.selection ≡ t.selection → Keeps t.i
     → KeepsBehind t.backs u.backs → KeepsPlacesIn t u
 places-grow t u same on_i on_d behind = λ c s p own.
     let moved = behind p.i p.d c.u p.u (record {
-      level = own.level;
+      family = own.family;
       back = λ other. let b = own.back other in
           record { on_i = b.on_i; on_d = b.on_d; cell = b.cell };
     }) in
@@ -31,7 +31,7 @@ places-grow t u same on_i on_d behind = λ c s p own.
       selection = same ∙ own.selection;
       i = on_i c.i p.i own.i;
       d = on_d c.d p.d own.d;
-      level = moved.level;
+      family = moved.family;
       back = λ other. let b = moved.back other in
           record { on_i = b.on_i; on_d = b.on_d; cell = b.cell };
     }

@@ -16,16 +16,16 @@ use Rattle.stage_core.specs.declared.message.Side.{Side}
 use Rattle.stage_core.specs.declared.message.What.TheVariants as what
 use Rattle.grid_run.specs.Fronts.{HasSent, HasSentNothing, IsSilent, WasLast}
 use Rattle.grid_run.specs.Fronts.{front_rules}
-use Rattle.grid_run.specs.Levels.{HasServedLast, rules_in}
+use Rattle.grid_run.specs.Families.{HasServedLast, rules_in}
 use Rattle.grid_run.specs.Sending.{event_of}
 use Rattle.grid_run.specs.declared.front.Front.{Front}
 use Rattle.grid_run.specs.declared.front.Last.{Last}
 use Rattle.grid_run.specs.declared.front.Last.TheVariants as last
-use Rattle.grid_run.specs.declared.level.Level.{Level}
+use Rattle.grid_run.specs.declared.family.Family.{Family}
 use Rattle.grid_run.specs.declared.requests.Request.{Request}
 use Rattle.grid_run.specs.declared.requests.Request.TheVariants as request
 
-module _ (l : Level) (h : History) (lists : List (Vec ℕ)) (r : Rules) (s : Side) where
+module _ (l : Family) (h : History) (lists : List (Vec ℕ)) (r : Rules) (s : Side) where
   pub sent-access : (x : Access) (q : Request) → WasLast l h (last.Access x) lists q
       → (parts_of r s h (event_of q) ≡ parts_of r s h (access x)) × HasServedLast l h x
   sent-access x (request.Access y) (served, inl is) =
@@ -57,7 +57,7 @@ silent-parts r s h x none =
     ∙ ap (λ b. list_if b (what.Through x.addr)) none.through
 
 -- caches that were silent sent nothing
-sent-silence : (l : Level) (h : History) (lists : List (Vec ℕ)) (cell : ℕ) (s : Side)
+sent-silence : (l : Family) (h : History) (lists : List (Vec ℕ)) (cell : ℕ) (s : Side)
     (q : Request) → cell < length (rules_in l) → WasLast l h last.Silence lists q
     → parts_of (rules_at (rules_in l) cell) s h (event_of q) ≡ []
 sent-silence l h lists cell s (request.Access x) inside (served, inl is) = absurd cc
@@ -70,11 +70,11 @@ pub sent-by-silent : (f : Front) (h : History) (cell : ℕ) (s : Side) (q : Requ
     → cell < length (front_rules f) → IsSilent f → HasSent h q f
     → parts_of (rules_at (front_rules f) cell) s h (event_of q) ≡ []
 sent-by-silent f h cell s q inside is sent =
-    sent-silence f.level h f.lists.items cell s q inside
-    (subst (λ (w : Last). WasLast f.level h w f.lists.items q) is sent.last)
+    sent-silence f.family h f.lists.items cell s q inside
+    (subst (λ (w : Last). WasLast f.family h w f.lists.items q) is sent.last)
 
 -- an access that was served is what was served last, whether it sent something or not
-pub was-access : (l : Level) (h : History) (lists : List (Vec ℕ)) (x : Access) (none : Bool)
+pub was-access : (l : Family) (h : History) (lists : List (Vec ℕ)) (x : Access) (none : Bool)
     (w : Last) → w ≡ (if none then last.Silence else last.Access x)
     → (none ≡ true → HasSentNothing l h x) → HasServedLast l h x
     → WasLast l h w lists (request.Access x)

@@ -89,13 +89,13 @@ alike-added b (Ok index) gs gs' g is same all one =
 alike-added b (Err why) gs gs' g is same all one =
     subst (All (λ d. bsize_of d ≡ b)) (sym same) all
 
--- a seat by the cell of its level
-seat-of : (t : Table) (r : Rules) (s : Seat) → s.level < length t
-    → IsCellOf (get_or t s.level []) r s.cell → IsSeatOf t r s
-seat-of t r s lt own = record { level = lt; cell = own.inside; rules = own.rules }
+-- a seat by the cell of its family
+seat-of : (t : Table) (r : Rules) (s : Seat) → s.family < length t
+    → IsCellOf (get_or t s.family []) r s.cell → IsSeatOf t r s
+seat-of t r s lt own = record { family = lt; cell = own.inside; rules = own.rules }
 
 cell-of : (t : Table) (r : Rules) (s : Seat) → IsSeatOf t r s
-    → IsCellOf (get_or t s.level []) r s.cell
+    → IsCellOf (get_or t s.family []) r s.cell
 cell-of t r s own = record { inside = own.cell; rules = own.rules }
 
 -- seats stay where a shelf joins the others
@@ -104,14 +104,14 @@ pub seats-joined : (xs ys : List Shelf) (x : Shelf) → ys ≡ xs ++ x ∷ []
 seats-joined xs ys x is = λ r s own.
     let joined = ap (map rules_on) is ∙ map_push rules_on xs x in
     seat-of (map rules_on ys) r s
-    (inside-push (map rules_on xs) (map rules_on ys) s.level (rules_on x) joined own.level)
-    (at-push (λ l. IsCellOf l r s.cell) (map rules_on xs) (map rules_on ys) s.level (rules_on x) []
-    joined own.level (cell-of (map rules_on xs) r s own))
+    (inside-push (map rules_on xs) (map rules_on ys) s.family (rules_on x) joined own.family)
+    (at-push (λ l. IsCellOf l r s.cell) (map rules_on xs) (map rules_on ys) s.family (rules_on x) []
+    joined own.family (cell-of (map rules_on xs) r s own))
 
 module _ (xs : List Shelf) (i : ℕ) (x y : Shelf) (lt : i < length xs) where
   -- the caches of the shelf at an index
-  level-inside : i < length (map rules_on xs)
-  level-inside = subst (λ n. i < n) (sym (length-map xs rules_on)) lt
+  family-inside : i < length (map rules_on xs)
+  family-inside = subst (λ n. i < n) (sym (length-map xs rules_on)) lt
 
   -- seats stay where a shelf keeps its cells
   pub seats-kept : x ≡ get_or xs i x → KeepsCells (rules_on x) (rules_on y)
@@ -121,30 +121,30 @@ module _ (xs : List Shelf) (i : ℕ) (x y : Shelf) (lt : i < length xs) where
       let here : get_or t i [] ≡ rules_on x =
       get_or-map rules_on xs i x [] lt ∙ ap rules_on (sym at) in
       subst (λ (l : Table). IsSeatOf l r s) (sym (map-set rules_on xs i y))
-      (seat-of (set t i (rules_on y)) r s (inside-set t i s.level (rules_on y) own.level)
-      (at-set (λ l. IsCellOf l r s.cell) t i s.level (rules_on y) [] level-inside
+      (seat-of (set t i (rules_on y)) r s (inside-set t i s.family (rules_on y) own.family)
+      (at-set (λ l. IsCellOf l r s.cell) t i s.family (rules_on y) [] family-inside
       (λ old. keeps r s.cell (subst (λ l. IsCellOf l r s.cell) here old))
       (cell-of t r s own)))
 
   -- the seat of a cell of the shelf
   pub seat-on : (g : Geometry) (p : Policy) (cell : ℕ) → Suits g p x
       → IsCellOf (rules_on y) (rules_from g x.policy) cell
-      → IsSeatOf (map rules_on (set xs i y)) (rules_from g p) (record { level = i; cell = cell })
+      → IsSeatOf (map rules_on (set xs i y)) (rules_from g p) (record { family = i; cell = cell })
   seat-on g p cell suits found =
       let t = map rules_on xs in
       let r = rules_from g p in
       let own = subst (λ (q : Policy). IsCellOf (rules_on y) (rules_from g q) cell) suits.policy
       found in
-      subst (λ (l : Table). IsSeatOf l r (record { level = i; cell = cell }))
+      subst (λ (l : Table). IsSeatOf l r (record { family = i; cell = cell }))
       (sym (map-set rules_on xs i y))
-      (seat-of (set t i (rules_on y)) r (record { level = i; cell = cell })
-      (inside-set t i i (rules_on y) level-inside)
-      (at-changed (λ l. IsCellOf l r cell) t i (rules_on y) [] level-inside own))
+      (seat-of (set t i (rules_on y)) r (record { family = i; cell = cell })
+      (inside-set t i i (rules_on y) family-inside)
+      (at-changed (λ l. IsCellOf l r cell) t i (rules_on y) [] family-inside own))
 
 -- a seat of a cache is one of the table, and stays one
 pub seat-there : {t : Table} {r : Rules} {s : Seat} → IsSeatOf t r s → IsSeatIn t s
-seat-there own = record { level = own.level; cell = own.cell }
+seat-there own = record { family = own.family; cell = own.cell }
 
 pub seat-stays : (t u : Table) → Keeps t u → (s : Seat) → IsSeatIn t s → IsSeatIn u s
 seat-stays t u keeps s own = seat-there
-    (keeps (rules_of_seat t s) s (record { level = own.level; cell = own.cell; rules = refl }))
+    (keeps (rules_of_seat t s) s (record { family = own.family; cell = own.cell; rules = refl }))

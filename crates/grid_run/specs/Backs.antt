@@ -6,7 +6,7 @@ use Rattle.stage_core.specs.SecondLevel.{Parts, parts_of, second_level_requests,
 use Rattle.stage_core.specs.declared.message.Side.{Side}
 use Rattle.stage_core.specs.declared.message.Side.TheVariants as side
 use Rattle.stage_core.specs.declared.message.What.{What}
-use Rattle.grid_run.specs.Levels.{rules_in}
+use Rattle.grid_run.specs.Families.{rules_in}
 use Rattle.grid_run.specs.Seats.{Table, rules_of_seat, rules_on}
 use Rattle.grid_run.specs.Sending.{NothingWaitsFor, SecondAsked}
 use Rattle.grid_run.specs.declared.back.Back.{Back}
@@ -23,7 +23,7 @@ pub record BackTask : Type 0 where
 
 -- what these second levels do
 unfoldable pub back_task : Back → BackTask
-back_task b = record { i = b.seats.i; d = b.seats.d; rules = rules_in b.second.level }
+back_task b = record { i = b.seats.i; d = b.seats.d; rules = rules_in b.second.family }
 
 -- what second levels made for this shelf do
 unfoldable pub task_of_shelf : BackShelf → BackTask
@@ -43,8 +43,8 @@ queue_seats q = q.seats
 
 -- the seat is one of the table
 pub record IsSeatIn (t : Table) (s : Seat) : Type 0 where
-  pub level : s.level < length t
-  pub cell : s.cell < length (get_or t s.level [])
+  pub family : s.family < length t
+  pub cell : s.cell < length (get_or t s.family [])
 
 -- the seat on a side
 abbrev pub seat_on : Side → BothSeats → Seat

@@ -6,30 +6,30 @@ use Rattle.grid_core.specs.Cells.{items_of}
 use Rattle.cache_core.specs.Parts.{outcome_of}
 use Rattle.cache_core.specs.declared.access.Access.{Access}
 use Rattle.grid_core.specs.Written.{SendsNothing, rules_at, written_by}
-use Rattle.grid_run.specs.Levels.{HasServedLast, LevelStandsFor, rules_in}
+use Rattle.grid_run.specs.Families.{HasServedLast, FamilyStandsFor, rules_in}
 use Rattle.grid_run.specs.declared.front.Front.{Front}
 use Rattle.grid_run.specs.declared.front.Last.{Last}
 use Rattle.grid_run.specs.declared.front.Last.TheVariants as last
-use Rattle.grid_run.specs.declared.level.Level.{Level}
+use Rattle.grid_run.specs.declared.family.Family.{Family}
 use Rattle.grid_run.specs.declared.requests.Request.{Request}
 use Rattle.grid_run.specs.declared.requests.Request.TheVariants as request
 
 -- the rules of the caches
 abbrev pub front_rules : Front → List Rules
-front_rules f = rules_in f.level
+front_rules f = rules_in f.family
 
 -- the caches have served this history
 pub record FrontAt (h : History) (f : Front) : Type 0 where
-  pub stands : LevelStandsFor f.level h
+  pub stands : FamilyStandsFor f.family h
 
 -- the access x sends nothing in any of the caches, after the history h
-abbrev pub HasSentNothing : Level → History → Access → Type 0
+abbrev pub HasSentNothing : Family → History → Access → Type 0
 HasSentNothing l h x = (cell : ℕ) → cell < length (rules_in l)
     → SendsNothing (outcome_of (rules_at (rules_in l) cell) h x)
 
 -- what the caches served last is this request, after the history h; the lists are of the blocks
 -- that each of them wrote back at the last flush
-abbrev pub WasLast : Level → History → Last → List (Vec ℕ) → Request → Type 0
+abbrev pub WasLast : Family → History → Last → List (Vec ℕ) → Request → Type 0
 WasLast l h w lists (request.Access x) = HasServedLast l h x
     × ((w ≡ last.Access x) ⊎ ((w ≡ last.Silence) × HasSentNothing l h x))
 WasLast l h w lists request.Flush = (w ≡ last.Flush)
@@ -41,4 +41,4 @@ IsSilent f = f.last ≡ last.Silence
 
 -- the last request of the caches was this one, after the history h
 pub record HasSent (h : History) (q : Request) (f : Front) : Type 0 where
-  pub last : WasLast f.level h f.last f.lists.items q
+  pub last : WasLast f.family h f.last f.lists.items q

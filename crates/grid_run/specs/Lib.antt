@@ -1,6 +1,6 @@
 pub mod Table
 pub mod Grids
-pub mod Levels
+pub mod Families
 pub mod Sending
 pub mod Fronts
 pub mod Seats

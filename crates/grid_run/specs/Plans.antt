@@ -59,8 +59,8 @@ pub record IsCellBehind (i d : Seat) (r : Rules) (k : ℕ) (b : BackTask) : Type
 
 -- a seat of a cache with these rules among second levels, behind these seats
 pub record IsSeatBehind (i d : Seat) (r : Rules) (bs : List BackTask) (s : Seat) : Type 0 where
-  pub level : s.level < length bs
-  pub back : (other : BackTask) → IsCellBehind i d r s.cell (get_or bs s.level other)
+  pub family : s.family < length bs
+  pub back : (other : BackTask) → IsCellBehind i d r s.cell (get_or bs s.family other)
 
 -- each seat of a cache among second levels stays one of that cache
 abbrev pub KeepsBehind : List BackTask → List BackTask → Type 0

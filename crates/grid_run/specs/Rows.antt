@@ -31,8 +31,8 @@ pub record IsPlaceIn (t : LaneTask) (c : Hierarchy) (s : Selection) (p : Place) 
   pub selection : t.selection ≡ s
   pub i : IsSeatOf t.i c.i p.i
   pub d : IsSeatOf t.d c.d p.d
-  pub level : p.u.level < length t.backs
-  pub back : (other : BackTask) → IsBackOf (get_or t.backs p.u.level other) c p
+  pub family : p.u.family < length t.backs
+  pub back : (other : BackTask) → IsBackOf (get_or t.backs p.u.family other) c p
 
 -- the place is that of a configuration with this selection
 pub record IsPlaceOf (ts : List LaneTask) (c : Hierarchy) (s : Selection) (p : Place) : Type 0 where

@@ -1,4 +1,4 @@
--- Where caches are served: the rules of each cell of each level.
+-- Where caches are served: the rules of each cell of each family.
 use Rattle.std.specs.Prelude.{◌≡◌, ◌<◌, ℕ, List, [], length, get_or, map}
 use Rattle.cache_core.specs.History.{Rules}
 use Rattle.cache_core.specs.Standing.{rules_from}
@@ -6,7 +6,7 @@ use Rattle.grid_core.specs.Written.{rules_at}
 use Rattle.grid_run.specs.declared.seat.Seat.{Seat}
 use Rattle.grid_run.specs.declared.shelf.Shelf.{Shelf}
 
--- the rules of each cell of each level
+-- the rules of each cell of each family
 abbrev pub Table : Type 0
 Table = List (List Rules)
 
@@ -16,12 +16,12 @@ rules_on s = map (λ g. rules_from g s.policy) s.geometries.items
 
 -- the rules at a seat
 abbrev pub rules_of_seat : Table → Seat → Rules
-rules_of_seat t s = rules_at (get_or t s.level []) s.cell
+rules_of_seat t s = rules_at (get_or t s.family []) s.cell
 
 -- a seat of a cache with these rules
 pub record IsSeatOf (t : Table) (r : Rules) (s : Seat) : Type 0 where
-  pub level : s.level < length t
-  pub cell : s.cell < length (get_or t s.level [])
+  pub family : s.family < length t
+  pub cell : s.cell < length (get_or t s.family [])
   pub rules : rules_of_seat t s ≡ r
 
 -- each seat of a cache stays one of that cache

@@ -3,7 +3,7 @@
 ghost use Rattle.std.specs.Prelude.{◌≡◌, if◌then◌else◌};
 ghost use Rattle.grid_run.specs.declared.front.Last.TheVariants as last;
 
-use crate::level::Level;
+use crate::family::Family;
 use crate::parts::{ask_backs, ask_parts};
 use crate::requests::Request;
 use crate::shelf::Shelf;
@@ -25,7 +25,7 @@ pub(crate) enum Last {
 /// First-level caches of one side, of one block size and one policy.
 #[derive(Drop)]
 pub(crate) struct Front {
-    pub level: Level,
+    pub family: Family,
     last: Last,
     /// The first bytes of the blocks that each cache wrote back at the last flush.
     lists: Vec<Vec<u64>>,
@@ -60,7 +60,7 @@ impl Front {
         ensures rules { IfOk result (λ front. front_rules front ≡ rules_on shelf.now) }
     {
         Ok(Front {
-            level: Level::new(alloc, shelf)?,
+            family: Family::new(alloc, shelf)?,
             last: Last::Silence,
             lists: Vec::new(alloc),
         })
@@ -75,8 +75,8 @@ impl Front {
             HasSent h (asked.Access access) self.new) }
         ensures rules { front_rules self.new ≡ front_rules self.old }
     {
-        self.level.access(access)?;
-        self.last = last_of(access, self.level.sent_nothing());
+        self.family.access(access)?;
+        self.last = last_of(access, self.family.sent_nothing());
         Ok(())
     }
 
@@ -92,7 +92,7 @@ impl Front {
         ensures leaves { result ≡ false → self.new ≡ self.old }
         ensures rules { front_rules self.new ≡ front_rules self.old }
     {
-        if !self.level.again(access) {
+        if !self.family.again(access) {
             return false;
         }
         self.last = Last::Silence;
@@ -108,7 +108,7 @@ impl Front {
             HasSent h asked.Flush self.new) }
         ensures rules { front_rules self.new ≡ front_rules self.old }
     {
-        self.lists = self.level.flush()?;
+        self.lists = self.family.flush()?;
         self.last = Last::Flush;
         Ok(())
     }
@@ -146,8 +146,8 @@ impl Front {
         match self.last {
             Last::Silence => Ok(()),
             Last::Access(access) => {
-                let outcome = self.level.outcome(cell);
-                let block = self.level.first_byte(access.addr);
+                let outcome = self.family.outcome(cell);
+                let block = self.family.first_byte(access.addr);
                 let fetch = fetch_part(side, outcome.fetch, block);
                 let through = through_part(outcome.through, access.addr);
                 ask_parts(waiting, back_part(outcome.back), fetch, through)

@@ -149,9 +149,9 @@ impl Lane {
             IsPlaceIn (lane_task self.now) c s place.now → HasSettled past self.now →
             result ≡ figures_of c (events s past) }
     {
-        let i = &self.first.i[place.i.level].level;
-        let d = &self.first.d[place.d.level].level;
-        let u = &back_at(&self.banks, place.u.level).second.level;
+        let i = &self.first.i[place.i.family].family;
+        let d = &self.first.d[place.d.family].family;
+        let u = &back_at(&self.banks, place.u.family).second.family;
         Figures {
             totals: Totals {
                 i: i.counts(place.i.cell),

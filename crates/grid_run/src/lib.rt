@@ -5,8 +5,8 @@
 //! [`write_counted`] and [`write_refused`] write the lines of a table from given figures.
 //!
 //! What rows have in common is done once. All rows of one selection share a `lane`. In it, the
-//! first-level caches of a side that have one block size and one policy are served together by an
-//! engine of grid_core (`level`, `front`, `fronts`), and what each pair of them sends waits in a
+//! first-level caches of a side that have one block size and one policy are a `family`, which an
+//! engine of grid_core serves (`front`, `fronts`), and what each pair of them sends waits in a
 //! queue (`queue`, `queues`, `parts`): these are the `first_levels`. Behind each queue are second
 //! levels (`second`, `back`), which take it over and serve what waits. Some of them, a `bank`,
 //! share the numbers of blocks, so that different threads can serve the `banks` of a lane. `beside`
@@ -31,6 +31,7 @@ mod bank;
 mod banks;
 mod beside;
 mod crew;
+mod family;
 mod fault;
 mod figures;
 mod first_levels;
@@ -38,7 +39,6 @@ mod front;
 mod fronts;
 mod grid;
 mod lane;
-mod level;
 mod lists;
 mod numbers;
 mod parts;

@@ -114,9 +114,9 @@ fn seat_behind(
     ensures placed { OnOk result (KeepsPlaced i d (map task_of_shelf backs.old.items)
         (map task_of_shelf backs.new.items)) }
 {
-    let level = back_for(alloc, backs, i, d, geometry, policy)?;
-    let cell = backs[level].shelf.cell_for(geometry)?;
-    Ok(Seat { level, cell })
+    let family = back_for(alloc, backs, i, d, geometry, policy)?;
+    let cell = backs[family].shelf.cell_for(geometry)?;
+    Ok(Seat { family, cell })
 }
 
 /// The index of the lane of a selection and a portion, if there is one.

@@ -57,6 +57,6 @@ impl Queue {
         ensures seats { self.new.seats ≡ self.old.seats }
     {
         let seat = self.seat(side);
-        fronts[seat.level].send(seat.cell, side, &mut self.waiting)
+        fronts[seat.family].send(seat.cell, side, &mut self.waiting)
     }
 }

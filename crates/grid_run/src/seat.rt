@@ -1,4 +1,4 @@
-//! Where a cache is served, among the levels of one side.
+//! Where a cache is served, among the families of one side.
 
 ghost use Rattle.std.specs.Prelude.{IfOk, IfSome, OnOk, map};
 ghost use Rattle.cache_core.specs.Standing.{rules_from};
@@ -10,11 +10,11 @@ use crate::shelf::Shelf;
 use cache_core::{Geometry, NoMemory, Policy};
 use std::alloc::Global;
 
-/// Which group of caches that one engine serves, of the groups of a side or of the second levels;
-/// and which cache of the group.
+/// Which family, of those of a side or of the second levels, and which cache of it. A family is the
+/// caches of one block size and one policy that one engine serves together.
 #[derive(Clone, Copy, Debug, PartialEq, Eq)]
 pub(crate) struct Seat {
-    pub level: usize,
+    pub family: usize,
     pub cell: usize,
 }
 
@@ -67,7 +67,7 @@ pub(crate) fn seat_for(
     ensures keeps { OnOk result
         (Keeps (map rules_on shelves.old.items) (map rules_on shelves.new.items)) }
 {
-    let level = shelf_for(alloc, shelves, geometry, policy)?;
-    let cell = shelves[level].cell_for(geometry)?;
-    Ok(Seat { level, cell })
+    let family = shelf_for(alloc, shelves, geometry, policy)?;
+    let cell = shelves[family].cell_for(geometry)?;
+    Ok(Seat { family, cell })
 }

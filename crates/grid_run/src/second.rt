@@ -3,10 +3,10 @@
 ghost use Rattle.std.specs.Prelude.{◌≡◌, ◌++◌, List, OnOk};
 ghost use Rattle.stage_core.specs.declared.message.What.{What as Sent};
 ghost use Rattle.grid_core.specs.Numbers.{GoesOn};
-ghost use Rattle.grid_run.specs.Levels.{numbered_on, rules_in};
+ghost use Rattle.grid_run.specs.Families.{numbered_on, rules_in};
 ghost use Rattle.grid_run.specs.Sending.{HasRoom, SecondServed};
 
-use crate::level::Level;
+use crate::family::Family;
 use crate::shelf::Shelf;
 use cache_core::NoMemory;
 use grid_core::BlockNumbers;
@@ -18,20 +18,20 @@ use std::mem::swap;
 /// in one go: while it does, what these caches need stays in the processor's own caches.
 #[derive(Drop)]
 pub(crate) struct Second {
-    pub level: Level,
+    pub family: Family,
     waiting: Vec<What>,
 }
 
 /// Serves requests in their order.
-fn serve_each(level: &mut Level, requests: &[What]) -> Result<(), NoMemory>
-    requires room { HasRoom level.old requests.now }
-    ensures served { OnOk result ((ws : List Sent) → SecondServed ws level.old →
-        SecondServed (ws ++ requests.now) level.new) }
-    ensures numbers { GoesOn (numbered_on level.old) (numbered_on level.new) }
-    ensures rules { rules_in level.new ≡ rules_in level.old }
+fn serve_each(family: &mut Family, requests: &[What]) -> Result<(), NoMemory>
+    requires room { HasRoom family.old requests.now }
+    ensures served { OnOk result ((ws : List Sent) → SecondServed ws family.old →
+        SecondServed (ws ++ requests.now) family.new) }
+    ensures numbers { GoesOn (numbered_on family.old) (numbered_on family.new) }
+    ensures rules { rules_in family.new ≡ rules_in family.old }
 {
     for what in requests {
-        level.serve(*what)?;
+        family.serve(*what)?;
     }
     Ok(())
 }
@@ -41,7 +41,7 @@ impl Second {
     ghost use Rattle.stage_core.specs.declared.message.What.{What as Sent};
     ghost use Rattle.grid_core.specs.Numbered.{blocks_in};
     ghost use Rattle.grid_core.specs.Numbers.{GoesOn};
-    ghost use Rattle.grid_run.specs.Levels.{rules_in};
+    ghost use Rattle.grid_run.specs.Families.{rules_in};
     ghost use Rattle.grid_run.specs.Seats.{rules_on};
     ghost use Rattle.grid_run.specs.Sending.{NothingWaitsFor, SecondAsked};
 
@@ -49,10 +49,10 @@ impl Second {
     pub fn new(alloc: Global, shelf: &Shelf) -> Result<Second, NoMemory>
         ensures asked { IfOk result (λ second. (blocks : List ℕ) → SecondAsked blocks [] second) }
         ensures settled { IfOk result NothingWaitsFor }
-        ensures rules { IfOk result (λ second. rules_in second.level ≡ rules_on shelf.now) }
+        ensures rules { IfOk result (λ second. rules_in second.family ≡ rules_on shelf.now) }
     {
         Ok(Second {
-            level: Level::new(alloc, shelf)?,
+            family: Family::new(alloc, shelf)?,
             waiting: Vec::new(alloc),
         })
     }
@@ -63,7 +63,7 @@ impl Second {
         ensures asked { (blocks : List ℕ) (ws : List Sent) → SecondAsked blocks ws self.old →
             SecondAsked blocks (ws ++ waiting.old.items) self.new }
         ensures none { waiting.new.items ≡ [] }
-        ensures level { self.new.level ≡ self.old.level }
+        ensures family { self.new.family ≡ self.old.family }
     {
         swap(&mut self.waiting, waiting);
     }
@@ -84,11 +84,11 @@ impl Second {
             SecondAsked (blocks_in numbers.new) ws self.new) }
         ensures grows { GoesOn (blocks_in numbers.old) (blocks_in numbers.new) }
         ensures settled { OnOk result (NothingWaitsFor self.new) }
-        ensures rules { rules_in self.new.level ≡ rules_in self.old.level }
+        ensures rules { rules_in self.new.family ≡ rules_in self.old.family }
     {
-        self.level.swap_numbers(numbers);
-        let served = serve_each(&mut self.level, &self.waiting);
-        self.level.swap_numbers(numbers);
+        self.family.swap_numbers(numbers);
+        let served = serve_each(&mut self.family, &self.waiting);
+        self.family.swap_numbers(numbers);
         served?;
         self.waiting.clear();
         Ok(())

@@ -13,8 +13,8 @@ serve-requires c =
     let xs = c.args.requests.now in
     let i = c.loop-what.what-index in
     record {
-      room = room-one c.loop-what.level (get_or xs i what.FlushAll) (drop (i + 1) xs)
-          (subst (HasRoom c.loop-what.level)
+      room = room-one c.loop-what.family (get_or xs i what.FlushAll) (drop (i + 1) xs)
+          (subst (HasRoom c.loop-what.family)
           (requests-from xs i what.FlushAll c.loop-what-test.true)
           c.loop-what.invariant.room);
     }
@@ -23,7 +23,7 @@ pub loop-what-preserved : goal.loop-what-preserved
 loop-what-preserved c =
     let xs = c.args.requests.now in
     let i = c.loop-what.what-index in
-    let old = c.loop-what.level in
+    let old = c.loop-what.family in
     let lt = c.loop-what-test.true in
     let one = served-one old c.serve.new.self _ c.in_ok-serve.ensures.stands in
     record {
@@ -39,5 +39,5 @@ loop-what-preserved c =
 pub returns-clause-served : goal.returns-clause-served
 returns-clause-served c = λ ws st.
     let xs = c.args.requests.now in
-    subst (λ (l : List What). SecondServed (ws ++ l) c.loop-what.level)
+    subst (λ (l : List What). SecondServed (ws ++ l) c.loop-what.family)
     (take_all c.loop-what.what-index xs c.loop-what-test.false) (c.loop-what.invariant.served ws st)

@@ -3,11 +3,11 @@ use Rattle.std.proofs.Common.{append-nil, arith}
 use Rattle.std.proofs.lemmas.Result.{on_ok_weaker}
 use Rattle.grid_core.specs.Written.{rules_at}
 use Rattle.grid_run.specs.Fronts.{WasLast}
-use Rattle.grid_run.specs.Levels.{rules_in}
+use Rattle.grid_run.specs.Families.{rules_in}
 use Rattle.grid_run.specs.declared.front.Last.{Last}
 use Rattle.grid_run.proofs.Events.{access-parts, flush-parts}
 use Rattle.grid_run.proofs.Sent.{sent-access, sent-by-silent, sent-flush}
-use Rattle.grid_run.proofs.Levels.{list-at, list-inside}
+use Rattle.grid_run.proofs.Families.{list-at, list-inside}
 use Rattle.grid_run.proofs.front.Front.send.Goals as goal
 
 pub returns-in-Silence : goal.returns-in-Silence
@@ -18,14 +18,14 @@ returns-in-Silence c = λ h q sent.
 
 pub returns-in-Access : goal.returns-in-Access
 returns-in-Access c =
-    let level = c.args.self.now.level in
-    let r = rules_at (rules_in level) c.args.cell in
+    let family = c.args.self.now.family in
+    let r = rules_at (rules_in family) c.args.cell in
     let x = c.in-Access.access in
     let ws = c.args.waiting.now.items in
     on_ok_weaker c.ask_parts.result (λ longer h q last.
     let lists = c.args.self.now.lists.items in
-    let was = subst (λ (w : Last). WasLast level h w lists q) c.in-Access.is last.last in
-    let sent = sent-access level h lists r c.args.side x q was in
+    let was = subst (λ (w : Last). WasLast family h w lists q) c.in-Access.is last.last in
+    let sent = sent-access family h lists r c.args.side x q was in
     let parts = access-parts r c.args.side h x c.outcome-outcome.result
     c.first_byte-block.result _ _ _ (c.outcome-outcome.ensures h x sent.1)
     (c.first_byte-block.ensures c.args.cell c.requires.inside)
@@ -34,31 +34,31 @@ returns-in-Access c =
 
 pub index-requires : goal.index-requires
 index-requires c =
-    let level = c.args.self.now.level in
-    let r = rules_at (rules_in level) c.args.cell in
+    let family = c.args.self.now.family in
+    let r = rules_at (rules_in family) c.args.cell in
     let h = c.requires.last.0 in
     let q = c.requires.last.1 in
     let v = c.args.self.now.lists in
-    let was = subst (λ (w : Last). WasLast level h w v.items q) c.in-Flush.is
+    let was = subst (λ (w : Last). WasLast family h w v.items q) c.in-Flush.is
     c.requires.last.2.last in
-    let sent = sent-flush level h v.items r c.args.side q was in
+    let sent = sent-flush family h v.items r c.args.side q was in
     omega (
       arith,
-      list-inside h (rules_in level) v.items sent.1 c.args.cell c.requires.inside,
+      list-inside h (rules_in family) v.items sent.1 c.args.cell c.requires.inside,
       v.ok.0,
     )
 
 pub returns-in-Flush : goal.returns-in-Flush
 returns-in-Flush c =
-    let level = c.args.self.now.level in
-    let r = rules_at (rules_in level) c.args.cell in
+    let family = c.args.self.now.family in
+    let r = rules_at (rules_in family) c.args.cell in
     let v = c.args.self.now.lists in
     let ws = c.args.waiting.now.items in
     on_ok_weaker c.ask_backs.result (λ longer h q last.
-    let was = subst (λ (w : Last). WasLast level h w v.items q) c.in-Flush.is last.last in
-    let sent = sent-flush level h v.items r c.args.side q was in
+    let was = subst (λ (w : Last). WasLast family h w v.items q) c.in-Flush.is last.last in
+    let sent = sent-flush family h v.items r c.args.side q was in
     let backs = c.deref.ensures.value
-    ∙ list-at h (rules_in level) v.items sent.1 c.args.cell c.index.result.now c.requires.inside
+    ∙ list-at h (rules_in family) v.items sent.1 c.args.cell c.index.result.now c.requires.inside
     c.index.ensures in
     let parts = flush-parts r c.args.side h c.deref.result.now
     (option_to_list c.flush_part.result) backs c.flush_part.ensures in

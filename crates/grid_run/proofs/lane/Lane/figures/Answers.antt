@@ -16,7 +16,7 @@ use Rattle.grid_run.specs.Banks.{NothingWaitsIn, WasAsked, tasks_of_banks}
 use Rattle.grid_run.specs.FirstLevels.{HasServed, first_task, sent_by}
 use Rattle.grid_run.specs.Fronts.{FrontAt, front_rules}
 use Rattle.grid_run.specs.Lanes.{lane_task}
-use Rattle.grid_run.specs.Levels.{LevelStandsBy}
+use Rattle.grid_run.specs.Families.{FamilyStandsBy}
 use Rattle.grid_run.specs.Rows.{IsPlaceIn}
 use Rattle.grid_run.specs.declared.back.Back.{Back}
 use Rattle.grid_run.specs.declared.bank.Bank.{Bank}
@@ -43,10 +43,10 @@ same-figures p q r p' q' r' = cc
 -- the place is one of the banks of the lane
 place-inside : (l : Lane) (c : Hierarchy) (s : Selection) (p : Place)
     → IsPlaceIn (lane_task l) c s p → (banks : List Bank) → banks ≡ l.banks.items
-    → p.u.level < length (tasks_of_banks banks)
+    → p.u.family < length (tasks_of_banks banks)
 unfolding lane_task
 place-inside l c s p place banks is = subst (λ (bs : List Bank).
-    p.u.level < length (tasks_of_banks bs)) (sym is) place.level
+    p.u.family < length (tasks_of_banks bs)) (sym is) place.family
 
 -- the second levels that were found in them are those of the lane at this index
 told-there : (banks items : List Bank) → banks ≡ items → (b : Back) (k : ℕ)
@@ -66,7 +66,7 @@ counts-requires-3 c =
     cell-there c.args.self.now c.requires.0 c.requires.1 c.args.place.now c.requires.2
     c.back_at.result.now
     (told-there c.deref.result.now c.args.self.now.banks.items c.deref.ensures.value
-    c.back_at.result.now c.args.place.now.u.level c.back_at.ensures.task)
+    c.back_at.result.now c.args.place.now.u.family c.back_at.ensures.task)
 
 pub shadow_misses-requires-3 : goal.shadow_misses-requires-3
 unfolding back_task
@@ -74,7 +74,7 @@ shadow_misses-requires-3 c =
     cell-there c.args.self.now c.requires.0 c.requires.1 c.args.place.now c.requires.2
     c.back_at.result.now
     (told-there c.deref.result.now c.args.self.now.banks.items c.deref.ensures.value
-    c.back_at.result.now c.args.place.now.u.level c.back_at.ensures.task)
+    c.back_at.result.now c.args.place.now.u.family c.back_at.ensures.task)
 
 pub returns : goal.returns
 unfolding lane_task back_task first_task
@@ -98,7 +98,7 @@ returns c = λ rules chosen past place taken.
     let st-i = at-seat f.i.items p.i fi c.index.ensures on-i (FrontAt h-i) served.i in
     let st-d = at-seat f.d.items p.d fd c.index-2.ensures on-d (FrontAt h-d) served.d in
     let are = c.deref.ensures.value in
-    let at = told-there c.deref.result.now l.banks.items are b p.u.level
+    let at = told-there c.deref.result.now l.banks.items are b p.u.family
     c.back_at.ensures.task in
     let there = back-there l rules chosen p place b at in
     let were = c.back_at.ensures.asked _
@@ -107,7 +107,7 @@ returns c = λ rules chosen past place taken.
     (sent_behind (map front_rules f.i.items) (map front_rules f.d.items) rs) b) sel were.1 in
     let settled = c.back_at.ensures.settled
     (subst (All NothingWaitsIn) (sym are) taken.idle) in
-    let st-u = subst (λ (ws : List What). LevelStandsBy were.0 b.second.level
+    let st-u = subst (λ (ws : List What). FamilyStandsBy were.0 b.second.family
     (second_history ws))
     (requests-there l rules chosen p place b at es)
     (settled-served _ b.second _ asked.second settled) in

@@ -29,7 +29,7 @@ returns-clause-place c =
           c.in_ok-i.i) i c.in_ok-i.ensures.seat;
       d = subst (λ (r : Rules). IsSeatOf (map rules_on c.seat_for-2.new.shelves.items) r
           c.in_ok-d.d) d c.in_ok-d.ensures.seat;
-      level = behind.level;
+      family = behind.family;
       back = λ other. let b = behind.back other in
           record { on_i = b.on_i; on_d = b.on_d; cell = b.cell };
     }

@@ -1,11 +1,11 @@
 use Rattle.std.proofs.Common.{◌++◌, [], sym, ap}
-use Rattle.grid_run.proofs.Numbered.{level-more}
+use Rattle.grid_run.proofs.Numbered.{family-more}
 use Rattle.grid_run.proofs.second.Second.new.Goals as goal
 
 pub returns-clause-asked : goal.returns-clause-asked
 returns-clause-asked c = λ blocks. record {
   served = [];
-  stands = level-more _ blocks c.in_ok-new.field-0 [] (
+  stands = family-more _ blocks c.in_ok-new.field-0 [] (
     blocks,
     ap (λ l. l ++ blocks)
         (sym c.in_ok-new.ensures.numbers),

@@ -6,8 +6,8 @@ use Rattle.cache_core.specs.History.{Rules}
 use Rattle.cache_core.specs.Standing.{rules_from}
 use Rattle.cache_core.specs.declared.geometry.Geometry.{Geometry}
 use Rattle.cache_core.specs.declared.policy.Policy.{Policy}
-use Rattle.grid_run.specs.Levels.{rules_in}
-use Rattle.grid_run.proofs.level.Level.new.Goals as goal
+use Rattle.grid_run.specs.Families.{rules_in}
+use Rattle.grid_run.proofs.family.Family.new.Goals as goal
 
 pub new-requires : goal.new-requires
 new-requires c =

@@ -14,14 +14,14 @@ use std::alloc::Global;
 
 /// The caches of a shelf, as the cells of an engine.
 #[derive(Drop)]
-pub(crate) struct Level {
+pub(crate) struct Family {
     first: Geometry,
     engine: Engine,
     ghost alike: { All (λ (r : Kept). r.bsize ≡ bsize_of first) (rules_served engine) },
 }
 
-#[tactic(auto, unfolding(crate::specs::Levels::rules_in))]
-impl Level {
+#[tactic(auto, unfolding(crate::specs::Families::rules_in))]
+impl Family {
     ghost use Rattle.std.specs.Prelude.{◌≡◌, ◌<◌, ◌*◌, ◌/◌, ◌∷◌, [], List, ℕ, IfOk, OnOk};
     ghost use Rattle.std.specs.Prelude.{length, map, true, false};
     ghost use Rattle.cache_core.specs.History.{History, access as accessed, flush as flushed};
@@ -34,19 +34,19 @@ impl Level {
     ghost use Rattle.grid_core.specs.Numbers.{GoesOn};
     ghost use Rattle.grid_core.specs.Written.{SendsNothing, rules_at, written_by};
     ghost use Rattle.stage_core.specs.SecondLevel.{read_as};
-    ghost use Rattle.grid_run.specs.Levels.{CanServe, HasServedLast, LevelStandsBy};
-    ghost use Rattle.grid_run.specs.Levels.{LevelStandsFor, numbered_on, rules_in};
+    ghost use Rattle.grid_run.specs.Families.{CanServe, HasServedLast, FamilyStandsBy};
+    ghost use Rattle.grid_run.specs.Families.{FamilyStandsFor, numbered_on, rules_in};
     ghost use Rattle.grid_run.specs.Seats.{rules_on};
 
     /// The empty caches of a shelf.
-    pub fn new(alloc: Global, shelf: &Shelf) -> Result<Level, NoMemory>
-        ensures stands { IfOk result (λ level. LevelStandsFor level []) }
-        ensures numbers { IfOk result (λ level. numbered_on level ≡ []) }
-        ensures rules { IfOk result (λ level. rules_in level ≡ rules_on shelf.now) }
+    pub fn new(alloc: Global, shelf: &Shelf) -> Result<Family, NoMemory>
+        ensures stands { IfOk result (λ family. FamilyStandsFor family []) }
+        ensures numbers { IfOk result (λ family. numbered_on family ≡ []) }
+        ensures rules { IfOk result (λ family. rules_in family ≡ rules_on shelf.now) }
     {
         let first = shelf.first();
         let engine = Engine::new(alloc, shelf.geometries(), first, shelf.policy())?;
-        Ok(Level { first, engine })
+        Ok(Family { first, engine })
     }
 
     /// The address of the first byte of the block that holds an address.
@@ -61,10 +61,10 @@ impl Level {
     /// Serves an access.
     pub fn access(&mut self, access: Access) -> Result<(), NoMemory>
         requires room { CanServe self.old }
-        ensures last { OnOk result ((h : History) → LevelStandsFor self.old h →
+        ensures last { OnOk result ((h : History) → FamilyStandsFor self.old h →
             HasServedLast self.new h access) }
-        ensures stands { OnOk result ((h : History) → LevelStandsFor self.old h →
-            LevelStandsFor self.new (accessed access ∷ h)) }
+        ensures stands { OnOk result ((h : History) → FamilyStandsFor self.old h →
+            FamilyStandsFor self.new (accessed access ∷ h)) }
         ensures numbers { GoesOn (numbered_on self.old) (numbered_on self.new) }
         ensures rules { rules_in self.new ≡ rules_in self.old }
     {
@@ -76,13 +76,13 @@ impl Level {
     #[inline(always)]
     pub fn again(&mut self, access: Access) -> bool
         requires room { CanServe self.old }
-        ensures last { result ≡ true → (h : History) → LevelStandsFor self.old h →
+        ensures last { result ≡ true → (h : History) → FamilyStandsFor self.old h →
             HasServedLast self.new h access }
-        ensures silent { result ≡ true → (h : History) → LevelStandsFor self.old h →
+        ensures silent { result ≡ true → (h : History) → FamilyStandsFor self.old h →
             (cell : ℕ) → cell < length (rules_in self.new) →
             SendsNothing (outcome_of (rules_at (rules_in self.new) cell) h access) }
-        ensures stands { result ≡ true → (h : History) → LevelStandsFor self.old h →
-            LevelStandsFor self.new (accessed access ∷ h) }
+        ensures stands { result ≡ true → (h : History) → FamilyStandsFor self.old h →
+            FamilyStandsFor self.new (accessed access ∷ h) }
         ensures leaves { result ≡ false → self.new ≡ self.old }
         ensures rules { rules_in self.new ≡ rules_in self.old }
     {
@@ -93,10 +93,10 @@ impl Level {
     /// back, in ascending order.
     pub fn flush(&mut self) -> Result<Vec<Vec<u64>>, NoMemory>
         requires room { CanServe self.old }
-        ensures backs { IfOk result (λ lists. (h : History) → LevelStandsFor self.old h →
+        ensures backs { IfOk result (λ lists. (h : History) → FamilyStandsFor self.old h →
             map items_of lists.items ≡ map (written_by h) (rules_in self.old)) }
-        ensures stands { OnOk result ((h : History) → LevelStandsFor self.old h →
-            LevelStandsFor self.new (flushed ∷ h)) }
+        ensures stands { OnOk result ((h : History) → FamilyStandsFor self.old h →
+            FamilyStandsFor self.new (flushed ∷ h)) }
         ensures numbers { numbered_on self.new ≡ numbered_on self.old }
         ensures rules { rules_in self.new ≡ rules_in self.old }
     {
@@ -106,8 +106,8 @@ impl Level {
     /// Serves a request of the first level.
     pub fn serve(&mut self, what: What) -> Result<(), NoMemory>
         requires room { CanServe self.old }
-        ensures stands { OnOk result ((h : History) → LevelStandsFor self.old h →
-            LevelStandsFor self.new (read_as what ∷ h)) }
+        ensures stands { OnOk result ((h : History) → FamilyStandsFor self.old h →
+            FamilyStandsFor self.new (read_as what ∷ h)) }
         ensures numbers { GoesOn (numbered_on self.old) (numbered_on self.new) }
         ensures rules { rules_in self.new ≡ rules_in self.old }
     {
@@ -123,8 +123,8 @@ impl Level {
 
     /// Exchanges the numbers of the blocks.
     pub fn swap_numbers(&mut self, numbers: &mut BlockNumbers)
-        ensures stands { (blocks : List ℕ) (h : History) → LevelStandsBy blocks self.old h →
-            LevelStandsBy blocks self.new h }
+        ensures stands { (blocks : List ℕ) (h : History) → FamilyStandsBy blocks self.old h →
+            FamilyStandsBy blocks self.new h }
         ensures taken { numbered_on self.new ≡ blocks_in numbers.old }
         ensures given { blocks_in numbers.new ≡ numbered_on self.old }
         ensures rules { rules_in self.new ≡ rules_in self.old }
@@ -153,7 +153,7 @@ impl Level {
     /// The counts of one cache.
     pub fn counts(&self, cell: usize) -> Counts
         requires { cell < length (rules_in self.now) }
-        ensures { (blocks : List ℕ) (h : History) → LevelStandsBy blocks self.now h →
+        ensures { (blocks : List ℕ) (h : History) → FamilyStandsBy blocks self.now h →
             result ≡ counts_of (rules_at (rules_in self.now) cell) h }
     {
         self.engine.counts(cell)
@@ -162,7 +162,7 @@ impl Level {
     /// How often the shadow of one cache missed.
     pub fn shadow_misses(&self, cell: usize) -> PerClass
         requires { cell < length (rules_in self.now) }
-        ensures { (blocks : List ℕ) (h : History) → LevelStandsBy blocks self.now h →
+        ensures { (blocks : List ℕ) (h : History) → FamilyStandsBy blocks self.now h →
             result ≡ shadow_misses (rules_at (rules_in self.now) cell) h }
     {
         self.engine.shadow_misses(cell)
