@@ -1,6 +1,6 @@
 //! How one thread wakes another that sleeps at its end of a ring.
 
-use crate::NoMemory;
+use crate::memory::NoMemory;
 use crate::yields::Yields;
 use std::alloc::Global;
 use std::sync::atomic::{AtomicU64, Ordering};

@@ -22,6 +22,7 @@
 #![tactic(auto)]
 
 mod bell;
+mod memory;
 mod patience;
 mod rx;
 mod tx;
@@ -32,14 +33,11 @@ ghost use Rattle.pipe_rings.specs.Rings.{sent, received, capacity_of, outbox_of,
 ghost use Rattle.pipe_rings.specs.Rings.{AreEnds, SameTx, SameRx, IsBehindBy, IsAnnounced};
 
 pub use bell::Bell;
+pub use memory::NoMemory;
 use rtrb::RingBuffer;
 pub use rx::{Rx, SenderGone};
 use std::alloc::Global;
 pub use tx::{Gone, OUTBOX, Tx};
-
-/// An allocation failed.
-#[derive(Debug, Clone, Copy, PartialEq, Eq)]
-pub struct NoMemory;
 
 /// Makes a ring with room for `capacity` items, and returns its two ends. The outbox has room for
 /// [`OUTBOX`] items. All memory of the ring is allocated here.

@@ -3,8 +3,8 @@
 ghost use Rattle.std.specs.Prelude.{◌≡◌, ◌-◌, ◌≤◌, length, take, drop};
 ghost use Rattle.rtrb.specs.Ring as ring;
 
-use crate::NoMemory;
 use crate::bell::Bell;
+use crate::memory::NoMemory;
 use crate::patience::Patience;
 use rtrb::Consumer;
 use std::alloc::Global;

@@ -1,11 +1,7 @@
 //! Lets a caller hold the threads of a run, for tests.
 
-ghost use Rattle.std.specs.Prelude.{◌≡◌, ◌+◌, ◌<◌, ◌≤◌, Bool, true, false, IsTrue, IfOk, IfErr};
-ghost use Rattle.run_threads.specs.declared.fault.Stop.{Stop};
+ghost use Rattle.std.specs.Prelude.{◌≡◌, Bool, true, false, IsTrue};
 
-use crate::fault::Stop;
-use crate::waits::BodyRuntime;
-use cache_core::MAX_EVENTS;
 use std::sync::Wait;
 
 /// One of the four threads of a run.
@@ -52,25 +48,4 @@ impl Gate for OpenGate {
     fn is_open(&self) -> bool {
         true
     }
-}
-
-/// Counts one more message and passes the gate with it. The contract of a thread does not say how
-/// many messages it will receive, so the thread stops if the count would reach `MAX_EVENTS`.
-#[inline]
-pub fn pass<H: Wait, G: Gate>(
-    rt: &BodyRuntime<H>,
-    gate: &G,
-    who: Who,
-    received: u64,
-) -> Result<u64, Stop>
-    ensures counted { IfOk result (λ nth. nth ≡ received + 1) }
-    ensures below { IfOk result (λ nth. nth < MAX_EVENTS) }
-    ensures cut { IfErr result (λ why. (why ≡ Stop.Cut) × (MAX_EVENTS ≤ received + 1)) }
-{
-    if received >= MAX_EVENTS - 1 {
-        return Err(Stop::Cut);
-    }
-    let nth = received + 1;
-    rt.arrive(gate, who, nth);
-    Ok(nth)
 }

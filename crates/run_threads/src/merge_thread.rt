@@ -15,8 +15,8 @@ ghost use Rattle.run_threads.specs.Waits.{MergeUsed, OnlyFrom, end_from};
 
 use crate::ends::MergeEnds;
 use crate::fault::{NoThread, Stop};
-use crate::gate::{Gate, Who, pass};
-use crate::waits::{BodyRuntime, await_from, await_turn};
+use crate::gate::{Gate, Who};
+use crate::waits::{BodyRuntime, await_from, await_turn, pass};
 use cache_core::MAX_EVENTS;
 use stage_core::{FromStage, L2Stage, Merge, Side, Turn, Want};
 use std::snapshot::Snapshot;

@@ -16,8 +16,8 @@ ghost use Rattle.run_threads.specs.declared.waits.Until.TheVariants as Until;
 
 use crate::ends::{BETWEEN_OFFERS, StageEnds};
 use crate::fault::{NoThread, Stop};
-use crate::gate::{Gate, Who, pass};
-use crate::waits::{BodyRuntime, Until, await_message, await_room};
+use crate::gate::{Gate, Who};
+use crate::waits::{BodyRuntime, Until, await_message, await_room, pass};
 use cache_core::MAX_EVENTS;
 use stage_core::{L1Stage, ToStage};
 use std::snapshot::Snapshot;

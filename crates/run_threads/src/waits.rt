@@ -3,9 +3,10 @@
 //! `await_item` is private: the two of the merge wait in it.
 //!
 //! The body of a thread has no runtime, only a [`BodyRuntime`], whose runtime no other module can
-//! reach. Without a runtime no end of a ring can be asked to wait.
+//! reach. Without a runtime no end of a ring can be asked to wait. By [`pass`] a body passes its
+//! gate, which may hold it too.
 
-ghost use Rattle.std.specs.Prelude.{◌≡◌, ◌<◌, [], ◌∷◌, ◌++◌, length, OnOk, IfOk, IfErr};
+ghost use Rattle.std.specs.Prelude.{◌≡◌, ◌+◌, ◌<◌, ◌≤◌, [], ◌∷◌, ◌++◌, length, OnOk, IfOk, IfErr};
 ghost use Rattle.pipe_rings.specs.Rings.{sent, posted, received, SameTx, SameRx};
 ghost use Rattle.pipe_rings.specs.Rings.{LookedForRoom, LookedForItem, IsAnnounced};
 ghost use Rattle.stage_core.specs.Merging.{wanted, want_of};
@@ -19,6 +20,7 @@ ghost use Rattle.run_threads.specs.Waits.{AllAnnounced, AnswersPublished, OnlyFr
 use crate::ends::{MergeEnds, SplitterEnds, StageEnds};
 use crate::fault::Stop;
 use crate::gate::{Gate, Who};
+use cache_core::MAX_EVENTS;
 use pipe_rings::Rx;
 use stage_core::{FromStage, L1Stage, Merge, Side, ToStage, Turn};
 use std::sync::{Forever, Wait};
@@ -51,6 +53,27 @@ impl<H: Wait> BodyRuntime<H> {
     pub(crate) fn arrive<G: Gate>(&self, gate: &G, who: Who, nth: u64) {
         gate.arrive(&self.rt, who, nth);
     }
+}
+
+/// Counts one more message and passes the gate with it. The contract of a thread does not say how
+/// many messages it will receive, so the thread stops if the count would reach `MAX_EVENTS`.
+#[inline]
+pub fn pass<H: Wait, G: Gate>(
+    rt: &BodyRuntime<H>,
+    gate: &G,
+    who: Who,
+    received: u64,
+) -> Result<u64, Stop>
+    ensures counted { IfOk result (λ nth. nth ≡ received + 1) }
+    ensures below { IfOk result (λ nth. nth < MAX_EVENTS) }
+    ensures cut { IfErr result (λ why. (why ≡ Stop.Cut) × (MAX_EVENTS ≤ received + 1)) }
+{
+    if received >= MAX_EVENTS - 1 {
+        return Err(Stop::Cut);
+    }
+    let nth = received + 1;
+    rt.arrive(gate, who, nth);
+    Ok(nth)
 }
 
 /// How far to publish posted messages.
