@@ -4,6 +4,7 @@
 //! Words: `read`, the trace.
 
 use crate::trace;
+use anyhow::bail;
 use din_trace::{MAX_LIMIT, Source};
 use std::env::Args;
 
@@ -19,10 +20,7 @@ pub fn measure(rt: &HostRuntime, words: &mut Args) -> anyhow::Result<()> {
                 addresses = addresses.wrapping_add(record.addr);
             }
             Ok(None) => break,
-            Err(fault) => {
-                println!(rt; "{fault:?}")?;
-                break;
-            }
+            Err(fault) => bail!("{fault:?}"),
         }
     }
     println!(rt; "{records} records, addresses add up to {addresses}")?;

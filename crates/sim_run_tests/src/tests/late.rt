@@ -15,17 +15,17 @@ use std::sync::atomic::{AtomicU64, Ordering};
 use std::thread::{self, Threads};
 use std::time::{Clock, Duration};
 
-/// A gate that shows a sign when the awaited message comes. It holds no thread; `open` is what its
-/// `is_open` answers.
+/// A gate that shows a sign when the awaited message comes. It holds no thread; `is_open` is
+/// what it answers.
 #[derive(Drop)]
 struct Notes {
     awaited: (Who, u64),
-    open: bool,
+    is_open: bool,
     sign: Sign,
 }
 
 impl Gate for Notes {
-    ghost open = { λ gate. gate.open };
+    ghost open = { λ gate. gate.is_open };
 
     fn arrive<H: Wait>(&self, _rt: &H, who: Who, nth: u64) {
         if who == self.awaited.0 && nth == self.awaited.1 {
@@ -34,7 +34,7 @@ impl Gate for Notes {
     }
 
     fn is_open(&self) -> bool {
-        self.open
+        self.is_open
     }
 }
 
@@ -69,11 +69,11 @@ fn run_late<H: Threads + Wait + Abort + Sync>(
     first: &[u8],
     then: &[u8],
     awaited: (Who, u64),
-    open: bool,
+    is_open: bool,
 ) {
     let gate = Notes {
         awaited,
-        open,
+        is_open,
         sign: Sign::new(),
     };
     let reader = Late {

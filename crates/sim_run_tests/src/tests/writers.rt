@@ -1,8 +1,8 @@
 //! Writers that fail, and when a writer is flushed.
 
 use super::layout::ONE_WRITE_BACK;
-use super::{NO_TOTALS, fault_of_both};
-use din_trace::FromWrite;
+use super::{NO_TOTALS, bad, fault_of_both};
+use din_trace::{FromWrite, Why};
 use expected_counts::NO_COUNTS;
 use sim_run::{RunFault, write_block, write_report};
 use std::alloc::Global;
@@ -137,6 +137,6 @@ fn totals_are_flushed_and_a_block_is_not(rt: HostRuntime) -> Result<(), Fail> {
 fn a_faulty_trace_leaves_the_writer_alone(rt: HostRuntime) {
     let mut writer = with_room(10_000, true);
     let fault = fault_of(&rt, rt.alloc(), b"5 0\n", &mut writer);
-    assert!(rt; fault.is_some());
+    assert_eq!(rt; fault, Some(bad(1, Why::Label)));
     assert_eq!(rt; writer.told(), (0, 0, 0));
 }
