@@ -1,6 +1,6 @@
 //! The records of a trace.
 
-/// What a reference does.
+/// What a record asks for.
 #[derive(Clone, Copy, Debug, PartialEq, Eq)]
 pub enum Label {
     /// Digit 0: a data read.
@@ -15,11 +15,11 @@ pub enum Label {
     Flush,
 }
 
-/// One reference of a trace: what a line with a record holds.
+/// One record of a trace: what a line holds.
 #[derive(Clone, Copy, Debug, PartialEq, Eq)]
 pub struct DinRecord {
-    /// What the reference does.
+    /// What it asks for.
     pub label: Label,
-    /// The address of the byte that it touches. A flush has an address too, which has no effect.
+    /// The address of the byte that a reference touches. A flush has one too, without effect.
     pub addr: u64,
 }
