@@ -226,14 +226,20 @@ function keep_points(   i, place, x) {
     }
 }
 
-# rank_groups(): finds the place of each group in the picture. Numbers are in their order.
+# rank_groups(): finds the place of each group in the picture.
 function rank_groups(   i, j) {
     for (i = 1; i <= groups; i++) {
         rank[i] = 1
-        for (j = 1; j <= groups; j++)
-            if (has_words ? j < i : value_of[j] + 0 < value_of[i] + 0) rank[i]++
+        for (j = 1; j <= groups; j++) if (goes_before(j, i)) rank[i]++
         ranked[rank[i]] = i
     }
+}
+
+# goes_before(J, I): numbers are in their order. Words, and numbers that are equal, such as 1 and 01,
+# are in that of the table.
+function goes_before(j, i,   apart) {
+    apart = has_words ? 0 : value_of[j] - value_of[i]
+    return apart < 0 || (apart == 0 && j < i)
 }
 
 END {

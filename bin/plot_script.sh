@@ -33,7 +33,7 @@ END
     echo "set bmargin at screen $bottom./$height"
     print_title
     print_key
-    print_axes
+    print_axes || return
     "print_$kind"
 }
 
@@ -100,7 +100,7 @@ print_axes() {
     [ "$columns" -ge 23 ] || gap='\n'
     echo "set ylabel \"$what$gap(% of accesses)\""
     [[ $picture != *.svg ]] || echo 'set xtics offset 0,0.4'
-    print_height_tics
+    print_height_tics || return
     for i in "${!axis_lines[@]}"; do
         put_text "${axis_lines[i]}" 'graph 0.5' $((bottom - (30 + (group_rows + i) * 14) * em / 10))
     done
@@ -110,7 +110,8 @@ print_rates() {
     local lines=() i colours=('#08306b' '#2171b5' '#6baed6' '#00441b' '#41ab5d' '#969696')
     local dashes=(1 2 1 4 1 3) shapes=(7 5 9 13 11 4 6) dot=$em/12.
     [[ $picture == *.png ]] || dot=$em/16.
-    awk '$1 != group && NR > 1 { print "\n" } { group = $1; print }' "$work/points" > "$work/lines"
+    awk '$1 != group && NR > 1 { print "\n" } { group = $1; print }' "$work/points" > "$work/lines" ||
+        return
     for i in "${!labels[@]}"; do
         say "${labels[i]}"
         lines+=("'lines' index $i using 2:3 with linespoints lw 2*$em/12. ps $dot \

@@ -133,7 +133,7 @@ print_height_tics() {
                 if ((highest - lowest) / step <= rows * 5) { step *= 5; break }
             }
             printf "set ytics %.10g\n", step
-            printf "set yrange [%s:%s]\n", lowest < 0 ? "*" : "0", highest == 1 ? "1" : "*"
+            printf "set yrange [%s:%s]\n", (lowest < 0 ? "*" : "0"), (highest == 1 ? "1" : "*")
         }' "$work/points"
 }
 

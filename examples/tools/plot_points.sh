@@ -119,6 +119,26 @@ test_another_awk() {
     ln -s "$(command -v original-awk)" "$work/another/awk"
     PATH=$work/another:$PATH keeps rates points.tsv points.svg --over l1-dassoc
     gives 'points of another awk' points $'1\t1\t50.000000\n1\t2\t25.000000\n2\t1\t20.000000'
+    tells 'the axis of another awk' 'set ytics 5' 'set yrange [0:*]'
+}
+
+# Where numbers have a comma, as in Turkish, gnuplot is given points all the same.
+test_commas() {
+    keeps kinds points.tsv points.svg --whole-counts
+    rm -rf "$work/plain" && cp -r "$work/kept" "$work/plain"
+    # shellcheck disable=SC2154  # settings.sh sets it
+    run "${turkish[@]}" KEPT="$work/kept" PATH="$work/keeping:$PATH" \
+        "$plot" kinds points.tsv points.svg --whole-counts
+    [ "$status" -eq 0 ] && [ ! -s "$err" ] && diff -r "$work/kept" "$work/plain" >/dev/null
+    verdict 'plot in Turkish' $?
+}
+
+# A trace named 1 and one named 01 have a line each.
+test_equal_numbers() {
+    sized_traces 01 1 >numbers.tsv
+    keeps rates numbers.tsv points.svg --by trace
+    gives 'traces of equal numbers' points $'1\t1024\t50.000000\n1\t2048\t50.000000
+2\t1024\t50.000000\n2\t2048\t50.000000'
 }
 
 # In 336 pixels an axis has room for 34 letters, so for five names of four letters and two blanks.
@@ -215,4 +235,12 @@ test_builds
 test_widths
 test_options
 test_places
+test_equal_numbers
+ends 'plot without awk' 69 'plot: awk is missing: install the package mawk' \
+    env PATH="$(without awk)" "$plot" rates points.tsv points.svg
 if has original-awk; then test_another_awk; else skip 'points of another awk' original-awk; fi
+if [ -e "$work/locales/tr_TR.UTF-8" ]; then
+    test_commas
+else
+    skip 'plot in Turkish' 'the sources of locales (locales)'
+fi
