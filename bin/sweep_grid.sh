@@ -196,10 +196,11 @@ find_paths() {
     [ ${#paths[@]} -eq $# ] || die 4 "$1 has no whole name: is the working folder gone?"
 }
 
-# furnish FOLDER: gives the program and the traces their short names in it.
+# furnish FOLDER: gives the program and the traces their short names in it. The link leads to the
+# file that this shell has opened, also where another one is put in its place meanwhile.
 furnish() {
     local i path
-    ln -s "$program" "$1/dinero_grid" || return
+    ln -s "/proc/$$/fd/$opened" "$1/dinero_grid" || return
     for i in "${!traces[@]}"; do
         path=${traces[i]}
         [[ $path == /* ]] || path=$PWD/$path
@@ -210,7 +211,28 @@ furnish() {
 # furnish_work: the folder of the sweep. Its shell ends behind all that it begins.
 furnish_work() {
     trap exit TERM
-    : > "$work/pending" && furnish "$work"
+    : > "$work/pending" && furnish "$work" && { (list_traces) > "$work/begun" || true; }
+}
+
+# list_traces: becomes what prints a line for each that is there, by which it is known whether it is
+# still the file that it was.
+list_traces() {
+    local i names=()
+    for i in "${!traces[@]}"; do
+        names+=("$work/$i.din")
+    done
+    exec stat -L -c '%d %i %s %.9Y' -- "${names[@]}"
+}
+
+# check_traces: ends the command where one is not what it was before the first run. Then it is not
+# known what has been counted.
+begun=()
+check_traces() {
+    local i now
+    mapfile -t now < <(list_traces 2>/dev/null)
+    for i in "${!traces[@]}"; do
+        [ "${now[i]-}" = "${begun[i]}" ] || die 4 "${traces[i]} has changed while it was read"
+    done
 }
 
 # make_work: the folder of the sweep.
@@ -220,10 +242,16 @@ make_work() {
     described=$work/grid
 }
 
+# prepare: what the log or the rows of a task are of is found out after what the runs are held to.
 prepare() {
+    local i
     check_values
+    { finish links && mapfile -t begun < "$work/begun"; } 2>/dev/null || no_room
+    for i in "${!traces[@]}"; do
+        [ -e "$work/$i.din" ] || die 4 "no trace to read: ${traces[i]}"
+    done
     [ -z "$log$task" ] || find_sums
-    { describe_grid > "$described" && finish links; } 2>/dev/null || no_room
+    { describe_grid > "$described"; } 2>/dev/null || no_room
 }
 
 # plan PROGRAMS WORD..: the runs that are left to make. The words say how to cut the grid. Sets

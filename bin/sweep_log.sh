@@ -18,14 +18,15 @@ log_names() {
 # open_log: it is kept from another call that would go on with it.
 open_log() {
     local begins
+    need flock util-linux
     begins=$({ head -c 10 < "$log" | tr '\0' ' '; } 2>/dev/null) || true
     [[ $'trace\tsum\t' == "$begins"* ]] || refuse "$log is no log of a sweep"
     [ ! "$log" -ef /dev/stdout ] || refuse "--resume: $log is where the table goes"
     { exec {log_lock}>>"$log"; } 2>/dev/null || die 4 "$log could not be written"
     flock -n "$log_lock" || die 4 "$log is written by another sweep"
     [ -z "$restarts" ] || : > "$log"
-    # A machine that was shut down may have left half of the last line.
-    [ -z "$(tail -c 1 < "$log")" ] || truncate -s "-$(tail -n 1 < "$log" | wc -c)" -- "$log"
+    # A machine that was shut down may have left half of the last line, or zeros.
+    [ -z "$(tail -c 1 < "$log" | tr '\0' 0)" ] || truncate -s "-$(tail -n 1 < "$log" | wc -c)" -- "$log"
     log_names > "$work/names" || no_room
     if [ -s "$log" ]; then
         read_log

@@ -155,6 +155,7 @@ one_task() {
     for ((number = 1; number <= runs; number++)); do
         (cd "$work" && exec sh -c "$one_run" run "$number" "${commands[number - 1]}") > /dev/null ||
             true
+        check_traces
         read_runs rows "$number"
         read_verdict "$number" "${verdicts[0]}"
         tell_fault

@@ -56,6 +56,7 @@ tell_fault() {
 # take_in N..: runs that have ended. Only what another run would say again is kept in the log.
 take_in() {
     local number i=0
+    check_traces
     read_runs 'rows table' "$@"
     [ -z "$log" ] || [ ! -s "$work/rows.$call" ] || keep "$work/rows.$call"
     for number; do
@@ -85,7 +86,7 @@ gather_table() {
     grep -q $'^trace\t' "$described" || die 4 "$described is damaged"
     for file in "$store"/*; do
         [[ ${file##*/} =~ ^[0-9]+(-[0-9]+)?$ ]] || continue
-        [ -r "$file" ] || die 4 "$file can't be read"
+        { [ -f "$file" ] && [ -r "$file" ]; } || die 4 "$file can't be read"
         { cat -- "$file" >> "$work/pending"; } 2>/dev/null || no_room
     done
     put_last_lines

@@ -70,7 +70,39 @@ test_cut_logs() {
     done
     [ "$cut" -ge "$size" ]
     verdict 'sweep goes on from a log that was cut off anywhere' $?
+    { head -c $((size - 20)) mine && head -c 40 /dev/zero; } >known
+    with_log
+    [ "$status" -eq 0 ] && [ ! -s "$err" ] && cmp -s "$out" whole && cmp -s <(sort known) <(sort mine)
+    verdict 'sweep goes on from a log that ends in zeros' $?
     cp mine known
+}
+
+# changed_midway NAME COMMAND..: a trace grows while a run reads it, and no row of that is told or
+# kept. What the runs call is not the place of the program, in which there may be another one.
+changed_midway() {
+    local called
+    yes '0 0' | head -n 4000000 >growing.din
+    start "${@:2}" --l1-isize 1k --l1-ibsize 16 --l1-dbsize 16 --l2-usize 4k --l2-ubsize 16 \
+        --vary --l1-dsize 1k,2k -- growing.din
+    until_true compgen -G "$TMPDIR/*/raw.*" >/dev/null
+    called=$(readlink "$TMPDIR"/*/dinero_grid)
+    echo '0 0' >>growing.din
+    status=0
+    wait "$started" || status=$?
+    [ "$status" -eq 4 ] && [ "$(wc -l <"$out")" -le 1 ] && [[ $called == /proc/*/fd/* ]] &&
+        [ "$(<"$err")" = 'sweep: growing.din has changed while it was read' ]
+    verdict "$1" $?
+}
+
+test_changes() {
+    changed_midway 'sweep of a trace that grows' "$sweep" --jobs 1
+    changed_midway 'sweep of a trace that grows, with a log' "$sweep" --jobs 1 --resume grown
+    [ "$(wc -l <grown)" -eq 1 ]
+    verdict 'the log has no row of it' $?
+    changed_midway 'a task with a trace that grows' "$sweep" --task 1/1 --into tasks
+    [ "$(ls tasks)" = grid ]
+    verdict 'the task has no row' $?
+    rm -r growing.din grown tasks
 }
 
 # killed LINES: a sweep whose log has so many lines, or has just begun. Nothing is left to tidy up,
@@ -151,6 +183,11 @@ test_full_disk
 test_folders
 test_known_traces
 test_cut_logs
+test_changes
 test_kills
+ends 'sweep without awk' 69 'sweep: awk is missing: install the package mawk' \
+    env PATH="$(without awk)" "$sweep" "${grid[@]}" -- kinds.din
+ends 'sweep with a log, without flock' 69 'sweep: flock is missing: install the package util-linux' \
+    env PATH="$(without flock)" "$sweep" --resume no-lock "${grid[@]}" -- kinds.din
 with_log && cp "$out" whole
 test_full_log
