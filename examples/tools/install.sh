@@ -205,6 +205,18 @@ ends 'install with a damaged version' 4 "install: $PWD/damaged/VERSION is missin
 rm -r damaged
 ends 'install where no folder can be' 4 'install: the folder /dev/null/lib/dinero_pipe could not be made' \
     "$install" /dev/null
+# What another call is changing.
+mkdir -p usr/lib/dinero_pipe
+exec {held}<usr/lib/dinero_pipe
+flock "$held"
+ends 'install where another call does' 4 "install: $PWD/usr is being changed by another call" \
+    "$install" "$PWD/usr"
+ends 'install --remove where another call installs' 4 \
+    "install: $PWD/usr is being changed by another call" "$install" --remove "$PWD/usr"
+exec {held}<&-
+[ "$(find usr)" = $'usr\nusr/lib\nusr/lib/dinero_pipe' ]
+verdict 'and nothing is placed' $?
+rm -r usr
 stopped 'install' cp "$install" "$PWD/usr"
 [ ! -e usr ]
 verdict 'and nothing is left' $?
