@@ -32,10 +32,11 @@ show_help() {
     exit 0
 }
 
-# Where POSIXLY_CORRECT is set, a file that can't be opened would end the shell without a word. The
-# program of record keeps what the caller has set.
+# Where POSIXLY_CORRECT is set, a file that can't be opened would end the shell without a word. What
+# SHELLOPTS may hold would leave a star a star, or take words for variables. The program of record
+# keeps what the caller has set.
 # shellcheck disable=SC2154  # each command sets its name
-[ "$self" = record ] || set +o posix
+[ "$self" = record ] || set +fk +o posix
 
 # A closed output stays one that can't be written, and a closed input one that can't be read, but no
 # file of the command's takes its number. To duplicate a number to itself would always succeed.

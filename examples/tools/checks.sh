@@ -97,22 +97,26 @@ whole_lines() {
 # without COMMAND: a folder to take as PATH, with all of this machine's commands but that one.
 without() {
     local folder=$work/without-$1
-    mkdir "$folder"
-    ln -s -t "$folder" /usr/bin/*
-    [ /bin -ef /usr/bin ] || ln -sf -t "$folder" /bin/*
-    rm -f "$folder/$1"
+    if [ ! -d "$folder" ]; then
+        mkdir "$folder"
+        ln -s -t "$folder" /usr/bin/*
+        [ /bin -ef /usr/bin ] || ln -sf -t "$folder" /bin/*
+        rm -f "$folder/$1"
+    fi
     echo "$folder"
 }
 
-# standing_still TOOL: a folder whose TOOL leaves a mark and half of its last word's file, and then
-# does nothing for long.
+# standing_still TOOL: a folder whose TOOL leaves a mark and half of its last word's file, if that
+# is one of these tests, and then does nothing for long.
 standing_still() {
     local folder=$work/still-$1
     mkdir -p "$folder"
     cat >"$folder/$1" <<'END'
 #!/usr/bin/env bash
 : >"$MARK"
-echo half >"${@: -1}"
+case $(realpath -m -- "${@: -1}") in
+"${MARK%/*}"/*) echo half >"${@: -1}" ;;
+esac
 exec sleep 60
 END
     chmod +x "$folder/$1"
@@ -130,17 +134,21 @@ END
     echo "$work/slow"
 }
 
-# stopped_in NAME SIGNAL FOLDER COMMAND..: the signal is sent to the command and all that it began,
-# as a terminal does, once a tool of the folder has left its mark.
-stopped_in() {
+# signalled SIGNAL FOLDER COMMAND..: the signal is sent to the command and all that it began, as a
+# terminal does, once a tool of the folder has left its mark. Was that how the command ended?
+signalled() {
     rm -f "$work/still"
-    MARK=$work/still PATH=$3:$PATH start "${@:4}"
+    MARK=$work/still PATH=$2:$PATH start "${@:3}"
     until_true test -e "$work/still"
-    kill "-$2" -- "-$started"
+    kill "-$1" -- "-$started"
     status=0
     wait "$started" 2>/dev/null || status=$?
-    [ "$status" -eq $((128 + $(kill -l "$2"))) ] && [ ! -s "$out" ] &&
-        grep -qx "[a-z]*: interrupted" "$err"
+    [ "$status" -eq $((128 + $(kill -l "$1"))) ] && grep -qx "[a-z]*: interrupted" "$err"
+}
+
+# stopped_in NAME SIGNAL FOLDER COMMAND..: a command without output, as in `signalled`.
+stopped_in() {
+    signalled "${@:2}" && [ ! -s "$out" ]
     verdict "$1" $?
 }
 

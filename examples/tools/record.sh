@@ -158,17 +158,16 @@ END
 
 # Ctrl-C before the program is started. The trace tells of it, as of any other end.
 test_early_interrupt() {
-    mkdir "$work/early"
-    printf '#!/bin/sh\n: >"$MARK"\nexec sleep 60\n' >"$work/early/nm"
-    chmod +x "$work/early/nm"
-    MARK=$work/early/mark PATH=$work/early:$PATH start "$record" --from main true
-    until_true test -e "$work/early/mark"
-    kill -INT -- "-$started"
-    status=0
-    wait "$started" 2>/dev/null || status=$?
-    [ "$status" -eq 130 ] && [ "$(<"$out")" = 'record: interrupted' ] &&
-        [ "$(<"$err")" = 'record: interrupted' ]
+    signalled INT "$(standing_still nm)" "$record" --from main true &&
+        [ "$(<"$out")" = 'record: interrupted' ]
     verdict 'record and Ctrl-C while a function is looked for' $?
+}
+
+# Without a folder for its own files valgrind runs nothing.
+test_no_folder() {
+    run env TMPDIR=/missing "$record" true
+    [ "$status" -eq 70 ] && [ "$(<"$out")" = 'record: true was not run: valgrind made no reference' ]
+    verdict 'record where valgrind has no folder' $?
 }
 
 test_parting() {
@@ -259,6 +258,7 @@ verdict 'no report is made where record failed' $?
 
 if has valgrind; then
     test_record
+    test_no_folder
     ! has nm || test_early_interrupt
     if has gcc && assemble && assemble_parting; then
         test_known

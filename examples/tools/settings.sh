@@ -37,6 +37,14 @@ else
     skip 'the commands in Turkish' 'the sources of locales (locales)'
 fi
 
+# What SHELLOPTS of the caller says of stars and words.
+"$sweep" --task 1/1 --into stars "${grid[@]}" -- kinds.din fifo.din
+for option in noglob keyword; do
+    run env SHELLOPTS=$option "$sweep" --gather stars
+    check "sweep --gather with $option" is_table_of_rows
+done
+rm -r stars
+
 # What is installed is for all users.
 (umask 077 && exec "$bin/install" a/prefix) >"$out" 2>"$err"
 status=$?
