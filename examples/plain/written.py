@@ -50,8 +50,9 @@ def report(texts, trace):
     try:
         values = {it: value_of(it, texts.get(it, default_of(it))) for it in OPTIONS}
         settings = Settings(values)
-        if settings.broken():
-            raise Fault(settings.broken(), 2)
+        broken = settings.broken()
+        if broken:
+            raise Fault(broken, 2)
         caches = simulate(settings, records_of(trace))
     except Fault as fault:
         line, status = fault.args
