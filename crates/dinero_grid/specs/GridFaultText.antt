@@ -1,6 +1,6 @@
 -- The line and the exit status of each fault.
 use Rattle.std.specs.Prelude.{ℕ, List, [], ◌∷◌, ◌++◌, codes, Bool, true, false}
-use Rattle.std.specs.Prelude.{if◌then◌else◌}
+use Rattle.std.specs.Prelude.{if◌then◌else◌, Result, Ok, Err}
 use Rattle.dinero_options.specs.Refusals.{words_status}
 use Rattle.dinero_options.specs.TraceRefusals.{trace_fault_text, trace_status}
 use Rattle.dinero_options.specs.declared.fault.WordsFault.TheVariants as words
@@ -50,3 +50,9 @@ grid_words_status grid_words.TooMany = 2
 abbrev pub status_of : Fault → ℕ
 status_of (Run fault) = run_status fault
 status_of (Words fault) = grid_words_status fault
+
+-- the exit status after a run: 0, or 5 if some configuration was refused; or that of its fault
+abbrev pub status_after : Result Bool Fault → ℕ
+status_after (Ok false) = 0
+status_after (Ok true) = 5
+status_after (Err fault) = status_of fault

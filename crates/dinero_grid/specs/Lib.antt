@@ -1,2 +1,3 @@
 pub mod AskedRows
 pub mod GridFaultText
+pub mod GridRuns

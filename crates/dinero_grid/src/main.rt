@@ -5,29 +5,33 @@
 //! `asked` makes the rows of the table from the points that the words ask for. `fault` has the line
 //! and the exit status of each fault.
 //!
-//! Proved: `table` writes the table that the definitions give for the text of its reader and the
-//! points that are asked for, or says why not; the line and the status of a fault are those of
-//! `specs/GridFaultText`. Only tested: that `main` passes the right streams, and the line before it
-//! that names a refused option or word.
+//! Proved: `run` writes the table that the definitions give for the text of its reader and the
+//! words after the program's name, or says why not; the line and the status of a fault are those of
+//! `specs/GridFaultText`. Only tested: that `main` passes the right words and streams, and the line
+//! before it that names a refused option or word.
 #![tactic(auto)]
 
 mod asked;
 mod fault;
 
-ghost use Rattle.std.specs.Prelude.{◌≡◌, ◌≢◌, ℕ, List, Some, None, OnOk, IfOk, IfErr};
+ghost use Rattle.std.specs.Prelude.{◌≡◌, ◌≢◌, ℕ, List, Some, None, Result, Ok, Err, OnOk, IfOk};
+ghost use Rattle.std.specs.Prelude.{IfErr, map, string_bytes};
 ghost use Rattle.std.specs.List.{All};
 ghost use Rattle.std.specs.Io.KnownBytes.{Appends};
-ghost use Rattle.din_trace.specs.Device.{once_more};
+ghost use Rattle.din_trace.specs.Device.{Writes, once_more};
 ghost use Rattle.din_trace.specs.Line.{ADDRESS_MAX};
 ghost use Rattle.din_trace.specs.Text.{fault};
 ghost use Rattle.din_trace.specs.Faults.{IsFaultOf};
+ghost use Rattle.grid_options.specs.Grid.{AnswersGridWords};
 ghost use Rattle.grid_run.specs.Grids.{table_of};
 ghost use Rattle.grid_run.specs.declared.grid.Grid.{Grid};
 ghost use Rattle.dinero_grid.specs.AskedRows.{IsBoundedPoint, IsGridFor, has_refused};
+ghost use Rattle.dinero_grid.specs.GridFaultText.{fault_line, status_after};
+ghost use Rattle.dinero_grid.specs.GridRuns.{AreAccepted, HasTable};
 
 use crate::asked::{grid_for, has_refused};
 use crate::fault::{Fault, fault_text, status};
-use din_trace::{ByteReader, ByteWriter, FromRead, FromWrite, MAX_LIMIT, TraceFault};
+use din_trace::{ByteReader, ByteWriter, DeviceFailed, FromRead, FromWrite, MAX_LIMIT, TraceFault};
 use dinero_options::{WordsFault, unread_arguments_fault};
 use grid_options::{
     GridWordsFault, ParsedGrid, grid_help_text, grid_refusal_text, parse_grid_words,
@@ -90,22 +94,55 @@ fn table<T: Threads + Sync, R: ByteReader + Drop + Send, W: ByteWriter>(
     Ok(some_refused)
 }
 
-/// As `table`, from any reader to any writer, through a buffer.
-fn table_through_buffer<T: Threads + Sync, R: Read + Drop + Send, W: Write + Drop>(
+/// Reads the trace that the reader gives once, and writes the table of the grid that the words
+/// after the program's name ask for. Answers whether some configuration was refused.
+fn run<T: Threads + Sync, R: ByteReader + Drop + Send, W: ByteWriter>(
     rt: &T,
     alloc: Global,
-    asked: ParsedGrid,
+    words: &[String],
+    reader: R,
+    writer: &mut W,
+) -> Result<bool, Fault>
+    ensures table { (text : List ℕ) → R.remaining reader ≡ Some text → IfOk result (λ some.
+        (fault ADDRESS_MAX text MAX_LIMIT ≡ None) × HasTable (map string_bytes words.now) text some
+        (W.contents writer.old) (W.contents writer.new)) }
+    ensures words { (why : GridWordsFault) → result ≡ Err (Fault.Words why)
+        → AnswersGridWords (map string_bytes words.now) (Err why) }
+    ensures accepted { (why : GridFault) → result ≡ Err (Fault.Run why)
+        → AreAccepted (map string_bytes words.now) }
+    ensures trace { (text : List ℕ) → R.remaining reader ≡ Some text
+        → (why : TraceFault) → result ≡ Err (Fault.Run (GridFault.Trace why))
+        → IsFaultOf R.remaining R.failures reader text MAX_LIMIT why }
+    ensures memory { result ≢ Err (Fault.Run (GridFault.Trace TraceFault.Memory)) }
+    ensures sound { OnOk result (W.failures writer.new ≡ W.failures writer.old) }
+    ensures write { result ≡ Err (Fault.Run GridFault.Write)
+        → W.failures writer.new ≡ once_more (W.failures writer.old) }
+    ensures unwritten { IfErr result (λ why. why ≢ Fault.Run GridFault.Write
+        → writer.new ≡ writer.old) }
+{
+    let asked = match parse_grid_words(alloc, words) {
+        Ok(asked) => asked,
+        Err(fault) => return Err(Fault::Words(fault)),
+    };
+    match table(rt, alloc, asked, reader, writer) {
+        Ok(some_refused) => Ok(some_refused),
+        Err(fault) => Err(Fault::Run(fault)),
+    }
+}
+
+/// As `run`, from any reader to any writer, through a buffer.
+fn run_through_buffer<T: Threads + Sync, R: Read + Drop + Send, W: Write + Drop>(
+    rt: &T,
+    alloc: Global,
+    words: &[String],
     input: R,
     output: W,
-) -> Result<bool, Fault>
-    requires { All IsBoundedPoint asked.points.items }
-{
+) -> Result<bool, Fault> {
     let Ok(output) = BufWriter::new(alloc, output) else {
         return Err(Fault::Run(GridFault::Memory));
     };
     let mut writer = FromWrite::new(output);
-    let reader = FromRead::new(input);
-    table(rt, alloc, asked, reader, &mut writer).map_err(Fault::Run)
+    run(rt, alloc, words, FromRead::new(input), &mut writer)
 }
 
 /// Writes the help to standard output.
@@ -130,11 +167,8 @@ fn explain(rt: &HostRuntime, words: &[String]) {
     }
 }
 
-/// The grid that the program's arguments ask for.
-fn parse_args(rt: &HostRuntime) -> Result<ParsedGrid, Fault>
-    ensures { IfOk result (λ asked. All IsBoundedPoint asked.points.items) }
-{
-    let alloc = rt.alloc();
+/// The words after the program's name.
+fn words_of(rt: &HostRuntime) -> Result<Vec<String>, Fault> {
     let mut arguments = match env::args(rt) {
         Ok(arguments) => arguments,
         Err(error) => {
@@ -143,40 +177,49 @@ fn parse_args(rt: &HostRuntime) -> Result<ParsedGrid, Fault>
         }
     };
     let _program = arguments.next();
-    let Ok(words) = arguments.collect::<Vec<String>>(alloc) else {
+    let Ok(words) = arguments.collect::<Vec<String>>(rt.alloc()) else {
         return Err(Fault::Words(GridWordsFault::Words(WordsFault::Memory)));
     };
-    match parse_grid_words(alloc, words.as_slice()) {
-        Ok(asked) => Ok(asked),
-        Err(fault) => {
-            if fault == GridWordsFault::Words(WordsFault::Words) {
-                explain(rt, words.as_slice());
-            }
-            Err(Fault::Words(fault))
-        }
-    }
-}
-
-/// Prints the line of a fault to standard error, and returns its exit status. If the line cannot be
-/// printed, the status is the same.
-fn refuse(rt: &HostRuntime, fault: Fault) -> ExitCode {
-    let mut errors = FromWrite::new(rt.stderr());
-    let _ = fault_text(&fault, &mut errors);
-    ExitCode::from(status(&fault))
+    Ok(words)
 }
 
 /// The exit status of a run that has written its table, in which some configuration was refused.
 const SOME_REFUSED: u8 = 5;
 
+/// Returns the exit status of a run that has ended, in which some configuration may have been
+/// refused. If the run failed, this writes the line of its fault. If the line cannot be written,
+/// the status is the same.
+fn conclude<W: ByteWriter>(ended: Result<bool, Fault>, errors: &mut W) -> u8
+    ensures status { result ≡ status_after ended }
+    ensures line { IfErr ended (λ fault. (told : Result Unit DeviceFailed)
+        × Writes W.contents W.failures errors.old errors.new told (fault_line fault)) }
+    ensures silent { OnOk ended (errors.new ≡ errors.old) }
+{
+    match ended {
+        Ok(false) => 0,
+        Ok(true) => SOME_REFUSED,
+        Err(fault) => {
+            let _ = fault_text(&fault, errors);
+            status(&fault)
+        }
+    }
+}
+
 fn main(rt: HostRuntime) -> ExitCode {
-    let ended = match parse_args(&rt) {
-        Ok(asked) => table_through_buffer(&rt, rt.alloc(), asked, rt.stdin(), rt.stdout()),
-        Err(Fault::Words(GridWordsFault::Words(WordsFault::Help))) => write_help(&rt),
+    let ran = match words_of(&rt) {
+        Ok(words) => {
+            let words = words.as_slice();
+            let ran = run_through_buffer(&rt, rt.alloc(), words, rt.stdin(), rt.stdout());
+            if ran == Err(Fault::Words(GridWordsFault::Words(WordsFault::Words))) {
+                explain(&rt, words);
+            }
+            ran
+        }
         Err(fault) => Err(fault),
     };
-    match ended {
-        Ok(true) => ExitCode::from(SOME_REFUSED),
-        Ok(false) => ExitCode::SUCCESS,
-        Err(fault) => refuse(&rt, fault),
-    }
+    let ended = match ran {
+        Err(Fault::Words(GridWordsFault::Words(WordsFault::Help))) => write_help(&rt),
+        ran => ran,
+    };
+    ExitCode::from(conclude(ended, &mut FromWrite::new(rt.stderr())))
 }

@@ -1,6 +1,6 @@
 -- The line and the exit status of each fault.
 use Rattle.std.specs.Prelude.{ℕ, List, [], ◌∷◌, ◌++◌, codes, Bool, true, false}
-use Rattle.std.specs.Prelude.{if◌then◌else◌}
+use Rattle.std.specs.Prelude.{if◌then◌else◌, Result, Ok, Err}
 use Rattle.run_threads.specs.declared.fault.RunFault.{RunFault}
 use Rattle.run_threads.specs.declared.fault.RunFault.TheVariants as run
 use Rattle.dinero_options.specs.Refusals.{words_fault_text, words_status}
@@ -45,3 +45,8 @@ run_status run.Write = 4
 abbrev pub status_of : Fault → ℕ
 status_of (Run fault) = run_status fault
 status_of (Words fault) = words_status fault
+
+-- the exit status after a run: 0, or that of its fault
+abbrev pub status_after : Result Unit Fault → ℕ
+status_after (Ok ended) = 0
+status_after (Err fault) = status_of fault

@@ -4,26 +4,30 @@
 //! The library dinero_options reads the words. `fault` has the line and the exit status of each
 //! fault.
 //!
-//! Proved: `report` writes the report that the definitions give for the text of its reader, or says
-//! why not; the line and the status of a fault are those of `specs/FaultText`. Only tested: that
-//! `main` passes the right streams.
+//! Proved: `run` writes the report that the definitions give for the text of its reader and the
+//! words after the program's name, or says why not; the line and the status of a fault are those of
+//! `specs/FaultText`. Only tested: that `main` passes the right words and streams.
 #![tactic(auto)]
 
 mod fault;
 #[cfg(test)]
 mod tests;
 
-ghost use Rattle.std.specs.Prelude.{◌≡◌, ◌≢◌, ℕ, List, Some, None, OnOk, IfOk, IfErr};
+ghost use Rattle.std.specs.Prelude.{◌≡◌, ◌≢◌, ℕ, List, Some, None, Result, Err, OnOk, IfErr};
+ghost use Rattle.std.specs.Prelude.{map, string_bytes};
 ghost use Rattle.std.specs.Io.KnownBytes.{Appends};
-ghost use Rattle.din_trace.specs.Device.{once_more};
+ghost use Rattle.din_trace.specs.Device.{Writes, once_more};
 ghost use Rattle.din_trace.specs.Line.{ADDRESS_MAX};
 ghost use Rattle.din_trace.specs.Text.{fault};
 ghost use Rattle.din_trace.specs.Faults.{IsFaultOf};
 ghost use Rattle.stage_core.specs.Events.{IsBounded};
 ghost use Rattle.sim_run.specs.TraceReport.{report_of};
+ghost use Rattle.dinero_options.specs.Answer.{AnswersWords};
+ghost use Rattle.dinero_pipe.specs.FaultText.{fault_line, status_after};
+ghost use Rattle.dinero_pipe.specs.Runs.{AreAccepted, HasReport};
 
 use crate::fault::{Fault, fault_text, status};
-use din_trace::{ByteReader, ByteWriter, FromRead, FromWrite, MAX_LIMIT, TraceFault};
+use din_trace::{ByteReader, ByteWriter, DeviceFailed, FromRead, FromWrite, MAX_LIMIT, TraceFault};
 use dinero_options::{WordsFault, help_text, parse_words, unread_arguments_fault};
 use sim_run::{OpenGate, RunFault, simulate};
 use stage_core::{Config, Selection};
@@ -63,23 +67,55 @@ fn report<H: Threads + Wait + Sync, R: ByteReader + Drop, W: ByteWriter>(
     Ok(())
 }
 
-/// As `report`, from any reader to any writer, in one write through a buffer.
-fn report_through_buffer<H: Threads + Wait + Sync, R: Read + Drop, W: Write + Drop>(
+/// Simulates the trace that the reader gives in the caches that the words after the program's name
+/// ask for, and writes its report.
+fn run<H: Threads + Wait + Sync, R: ByteReader + Drop, W: ByteWriter>(
     rt: &H,
     alloc: Global,
-    config: &Config,
-    selection: &Selection,
+    words: &[String],
+    reader: R,
+    writer: &mut W,
+) -> Result<(), Fault>
+    ensures report { (text : List ℕ) → R.remaining reader ≡ Some text → OnOk result
+        ((fault ADDRESS_MAX text MAX_LIMIT ≡ None) × HasReport (map string_bytes words.now) text
+        (W.contents writer.old) (W.contents writer.new)) }
+    ensures words { (why : WordsFault) → result ≡ Err (Fault.Words why)
+        → AnswersWords (map string_bytes words.now) (Err why) }
+    ensures accepted { (why : RunFault) → result ≡ Err (Fault.Run why)
+        → AreAccepted (map string_bytes words.now) }
+    ensures trace { (text : List ℕ) → R.remaining reader ≡ Some text
+        → (why : TraceFault) → result ≡ Err (Fault.Run (RunFault.Trace why))
+        → IsFaultOf R.remaining R.failures reader text MAX_LIMIT why }
+    ensures memory { result ≢ Err (Fault.Run (RunFault.Trace TraceFault.Memory)) }
+    ensures sound { OnOk result (W.failures writer.new ≡ W.failures writer.old) }
+    ensures write { result ≡ Err (Fault.Run RunFault.Write)
+        → W.failures writer.new ≡ once_more (W.failures writer.old) }
+    ensures unwritten { IfErr result (λ why. why ≢ Fault.Run RunFault.Write
+        → writer.new ≡ writer.old) }
+{
+    let (config, selection) = match parse_words(alloc, words) {
+        Ok(asked) => asked,
+        Err(fault) => return Err(Fault::Words(fault)),
+    };
+    match report(rt, alloc, &config, &selection, reader, writer) {
+        Ok(()) => Ok(()),
+        Err(fault) => Err(Fault::Run(fault)),
+    }
+}
+
+/// As `run`, from any reader to any writer, in one write through a buffer.
+fn run_through_buffer<H: Threads + Wait + Sync, R: Read + Drop, W: Write + Drop>(
+    rt: &H,
+    alloc: Global,
+    words: &[String],
     input: R,
     output: W,
-) -> Result<(), Fault>
-    requires { IsBounded selection.now }
-{
+) -> Result<(), Fault> {
     let Ok(output) = BufWriter::new(alloc, output) else {
         return Err(Fault::Run(RunFault::Memory));
     };
     let mut writer = FromWrite::new(output);
-    let reader = FromRead::new(input);
-    report(rt, alloc, config, selection, reader, &mut writer).map_err(Fault::Run)
+    run(rt, alloc, words, FromRead::new(input), &mut writer)
 }
 
 /// Writes the help to standard output.
@@ -93,45 +129,44 @@ fn write_help(rt: &HostRuntime) -> Result<(), Fault> {
     }
 }
 
-/// The configuration and the selection that the program's arguments ask for.
-fn parse_args(rt: &HostRuntime) -> Result<(Config, Selection), Fault>
-    ensures { IfOk result (λ parsed. IsBounded parsed.1) }
-{
-    let alloc = rt.alloc();
+/// The words after the program's name.
+fn words_of(rt: &HostRuntime) -> Result<Vec<String>, Fault> {
     let mut arguments = match env::args(rt) {
         Ok(arguments) => arguments,
         Err(error) => return Err(Fault::Words(unread_arguments_fault(error.kind()))),
     };
     let _program = arguments.next();
-    let Ok(words) = arguments.collect::<Vec<String>>(alloc) else {
+    let Ok(words) = arguments.collect::<Vec<String>>(rt.alloc()) else {
         return Err(Fault::Words(WordsFault::Memory));
     };
-    parse_words(alloc, words.as_slice()).map_err(Fault::Words)
+    Ok(words)
 }
 
-/// Prints the line of a fault to standard error, and returns its exit status. If the line cannot be
-/// printed, the status is the same.
-fn refuse(rt: &HostRuntime, fault: Fault) -> ExitCode {
-    let mut errors = FromWrite::new(rt.stderr());
-    let _ = fault_text(&fault, &mut errors);
-    ExitCode::from(status(&fault))
+/// Returns the exit status of a run that has ended. If it failed, this writes the line of its
+/// fault. If the line cannot be written, the status is the same.
+fn conclude<W: ByteWriter>(ended: Result<(), Fault>, errors: &mut W) -> u8
+    ensures status { result ≡ status_after ended }
+    ensures line { IfErr ended (λ fault. (told : Result Unit DeviceFailed)
+        × Writes W.contents W.failures errors.old errors.new told (fault_line fault)) }
+    ensures silent { OnOk ended (errors.new ≡ errors.old) }
+{
+    match ended {
+        Ok(()) => 0,
+        Err(fault) => {
+            let _ = fault_text(&fault, errors);
+            status(&fault)
+        }
+    }
 }
 
 fn main(rt: HostRuntime) -> ExitCode {
-    let ended = match parse_args(&rt) {
-        Ok((config, selection)) => report_through_buffer(
-            &rt,
-            rt.alloc(),
-            &config,
-            &selection,
-            rt.stdin(),
-            rt.stdout(),
-        ),
-        Err(Fault::Words(WordsFault::Help)) => write_help(&rt),
+    let ran = match words_of(&rt) {
+        Ok(words) => run_through_buffer(&rt, rt.alloc(), words.as_slice(), rt.stdin(), rt.stdout()),
         Err(fault) => Err(fault),
     };
-    match ended {
-        Ok(()) => ExitCode::SUCCESS,
-        Err(fault) => refuse(&rt, fault),
-    }
+    let ended = match ran {
+        Err(Fault::Words(WordsFault::Help)) => write_help(&rt),
+        ran => ran,
+    };
+    ExitCode::from(conclude(ended, &mut FromWrite::new(rt.stderr())))
 }
