@@ -5,6 +5,17 @@ import re
 
 from files import lines_of
 
+
+def prose_of(top, path):
+    """The lines of a document outside its blocks of code, with their numbers."""
+    fenced = False
+    for number, line in enumerate(lines_of(top, path), 1):
+        if line.lstrip().startswith("```"):
+            fenced = not fenced
+        if not fenced:
+            yield number, line
+
+
 # Links
 
 
@@ -32,12 +43,7 @@ def check_links(top, paths):
     for path in paths:
         if path.suffix != ".md":
             continue
-        fenced = False
-        for number, line in enumerate(lines_of(top, path), 1):
-            if line.lstrip().startswith("```"):
-                fenced = not fenced
-            if fenced:
-                continue
+        for number, line in prose_of(top, path):
             bare = re.sub(r"`[^`]*`", "", line)
             targets = re.findall(r"\]\(([^)\s]+)\)", bare) + re.findall(r'src="([^"]+)"', bare)
             for target in targets:
@@ -95,11 +101,8 @@ def check_names(top, paths):
     for path in paths:
         if path.suffix != ".md" or path.name == "CHANGELOG.md":
             continue
-        fenced = False
-        for number, line in enumerate(lines_of(top, path), 1):
-            if line.lstrip().startswith("```"):
-                fenced = not fenced
-            for span in re.findall(r"`([^`]+)`", "" if fenced else line):
+        for number, line in prose_of(top, path):
+            for span in re.findall(r"`([^`]+)`", line):
                 for name in names_in(span):
                     if name not in known:
                         yield path, number, f"nothing has the name {name}"
