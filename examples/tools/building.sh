@@ -118,6 +118,18 @@ new_checkout
 sed -i 's/^din_trace:/din_trace: itoa/' "$fresh/crates.txt"
 launch
 check 'a change of what a crate uses builds the program' is_built
+# Changes of what has long been there, and was looked at since.
+# shellcheck disable=SC2016  # a dollar of sed's
+for change in '$a# changed HANDLES' 's/^din_trace:/din_trace: itoa/ crates.txt' \
+    '$a-- changed crates/sim_run/src/lib.rt'; do
+    new_checkout
+    launch
+    sleep 2
+    launch
+    sed -i "${change% *}" "$fresh/${change##* }"
+    launch
+    check "a later change of ${change##* } builds the program" is_built
+done
 new_checkout
 launch 'another toolchain'
 check 'another toolchain builds the program' is_built 'another toolchain than the one here has built it'
@@ -239,6 +251,11 @@ for script in 'exit 2' 'echo "      --l3-usize <SIZE>  One"' \
     is_swept 1 && grep -q '^sweep: this is the kept program' "$err"
     verdict "a sweep believes no simulator of other sources: ${script##*| }" $?
 done
+fake_simulator "$top/crates/dinero_grid/out/dinero_grid \"\$@\" |
+    sed 's/^ *--l1-isize <.*/&\\n      --l0-isize <SIZE>  One more [default: 1]/'"
+sweep_there --resume "$work/there.log" "${grid[@]}"
+is_swept 1 && [ "$(wc -l <"$work/there.log")" -eq 3 ] && ! grep -q l0-isize "$work/there.log"
+verdict 'nor does it begin a log by what that one says' $?
 new_checkout
 stopped 'a sweep whose simulator is looked at, and' sort \
     "$fresh/bin/sweep" "${grid[@]}" -- "$top/examples/1-kinds/kinds.din"

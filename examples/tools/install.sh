@@ -76,6 +76,9 @@ verdict 'the installed plot, by a link' $?
 run env PATH="$PWD/a b/bin:$PATH" bash dinero_plot --help
 [ "$status" -eq 0 ] && grep -q '^Usage: dinero_plot KIND' "$out"
 verdict 'the installed plot, found by PATH' $?
+run env -C 'a b/bin' sh dinero_plot --help
+[ "$status" -eq 0 ] && grep -q '^Usage: dinero_plot KIND' "$out"
+verdict 'the installed plot, by its name from its own folder' $?
 if has valgrind && [ -x walk ]; then
     run from_away dinero_record --from leave "$PWD/walk"
     [ "$status" -eq 0 ] && [ "$(<"$out")" = $'2 0040100a\n2 0040100f\n2 00401011' ]
@@ -113,6 +116,10 @@ for name in grid pipe plot record sweep; do
     verdict "the version of dinero_$name" $?
 done
 mv 'a b' usr
+mv usr/lib/dinero_pipe/dinero_grid .
+ends 'the installed sweep without its simulator' 69 \
+    'sweep: dinero_grid is missing: install it again' usr/bin/dinero_sweep "${grid[@]}" -- kinds.din
+mv dinero_grid usr/lib/dinero_pipe
 run "$install" --remove usr
 [ "$status" -eq 0 ] && [ ! -s "$err" ] && [ ! -e usr ]
 verdict 'install --remove' $?
@@ -173,12 +180,15 @@ run "$install" --remove usr
 [ "$status" -eq 0 ] && [ "$(<"$out")" = "$PWD/$program"$'\n'"$PWD/$page" ] && [ -z "$(find usr -type f)" ]
 verdict 'install --remove of an installation without a list' $?
 mkdir -p usr/lib/dinero_pipe
-printf '%s\n' 'file bin/dinero_pipe' 'file ../kinds.din' >usr/lib/dinero_pipe/installed
 touch "$program"
-ends 'install --remove with a damaged list' 4 "install: $PWD/usr/lib/dinero_pipe/installed is damaged" \
-    "$install" --remove usr
-[ -e "$program" ] && [ -e kinds.din ]
-verdict 'and nothing is removed' $?
+mkdir usr/bin/x
+for line in 'file ../kinds.din' 'file bin/x/../../../kinds.din' 'file bin/x /' 'folder bin/x'; do
+    printf '%s\n' 'file bin/dinero_pipe' "$line" >usr/lib/dinero_pipe/installed
+    ends "install --remove with a damaged list: $line" 4 \
+        "install: $PWD/usr/lib/dinero_pipe/installed is damaged" "$install" --remove usr
+    [ -e "$program" ] && [ -e kinds.din ] && [ -e usr/bin/x ]
+    verdict 'and nothing is removed' $?
+done
 rm -r usr
 ends 'install --remove of nothing' 1 "install: nothing to remove in $PWD/usr" "$install" --remove "$PWD/usr"
 # Were these not refused, they would install into the system.
@@ -225,6 +235,16 @@ ends 'install where there is no room' 4 \
     no_room 100 "$install" "$PWD/usr"
 [ ! -e usr ]
 verdict 'and no part of it is left' $?
+# What is installed already stays, also as a link that leads nowhere, until it is removed.
+"$install" usr >"$out"
+ln -sf nowhere usr/bin/dinero_plot
+run no_room 100 "$install" usr
+[ "$status" -eq 4 ] && [ -L usr/bin/dinero_plot ] &&
+    files_of usr | grep -v /dinero_plot$ | cmp -s - <(grep -v /dinero_plot$ "$work/files")
+verdict 'install once more where there is no room' $?
+run "$install" --remove usr
+[ "$status" -eq 0 ] && [ ! -s "$err" ] && [ ! -e usr ]
+verdict 'and --remove' $?
 ends 'install where there is no room for a list' 4 "install: no room for temporary files in $TMPDIR" \
     no_room 4 "$install" "$PWD/usr"
 

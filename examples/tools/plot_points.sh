@@ -57,8 +57,10 @@ test_points() {
     gives 'points of the kinds' points $'1\t8192\t10.000000\t15.000000\t25.000000
 1\t16384\t10.000000\t5.000000\t5.000000
 2\t8192\t10.000000\t10.000000\t5.000000'
+    [ "$(grep -o 'at first [^,]*' "$work/kept/script" | tr '\n' ,)" = 'at first 0.5,at first 3,' ]
+    verdict 'names of groups are below their middle' $?
     tells 'the key of the kinds' 'set key title "each miss\nby its own kind"' \
-        "set xtics scale 1,0.6 ('8' 0,'16' 1,'8' 3)"
+        "set xtics scale 1,0.6 ('8' 0,'16' 1,'8' 3)" 'set xrange [-1:4]'
     keeps kinds points.tsv points.svg --whole-counts
     gives 'points of whole counts' points $'1\t8192\t10.000000\t20.000000\t20.000000
 1\t16384\t10.000000\t5.000000\t5.000000
@@ -93,6 +95,9 @@ test_places() {
     mkdir linked && ln -s linked/real.svg link.svg
     keeps rates points.tsv link.svg && [ -L link.svg ] && [ "$(<linked/real.svg)" = '</svg>' ]
     verdict 'a picture that is a link' $?
+    chmod 600 linked/real.svg
+    keeps rates points.tsv link.svg && [ "$(stat -c %a linked/real.svg)" = 600 ]
+    verdict 'and the mode of what it leads to' $?
     ln -s nowhere/none.svg lost.svg
     PATH=$work/keeping:$PATH KEPT=$work/kept ends 'a picture that is a link to no folder' 4 \
         'plot: lost.svg could not be written' "$plot" rates points.tsv lost.svg
@@ -163,6 +168,16 @@ test_axes() {
     keeps rates to_1m.tsv points.svg --size 336x250 --linear
     tells 'a linear axis with longer names between its ends' \
         "set xtics scale 1,0.6 ('0' 0,'256k' 262144,'512k' 524288,'768k' 786432,'1M' 1048576)"
+    head -n 17 sizes.tsv >to_2m.tsv
+    keeps rates to_2m.tsv points.svg --size 336x250 --linear
+    tells 'and one that has more than a MiB between them' "set xtics scale 1,0.6 \
+('0' 0,'512k' 524288,'1M' 1048576,'1536k' 1572864,'2M' 2097152)"
+    sed '1s/l1-dbsize/maxcount/; 2s/\t32\t/\t300\t/; 3s/\t32\t/\t400\t/' points.tsv >counts.tsv
+    keeps rates counts.tsv points.svg --over maxcount --cache l1-dcache --by l1-dassoc \
+        --only maxcount 300 --only maxcount 400
+    tells 'a linear axis that does not begin at 0' 'set xrange [300-0.03*100:400+0.03*100]'
+    keeps rates points.tsv points.svg --only l1-dsize 16k
+    tells 'marks at a height of 2' 'set ytics 2' 'set yrange [0:*]'
     sed 's/\t32\tl$/\t0\tl/' points.tsv >zero.tsv
     ends 'plot of nothing on a logarithmic axis' 1 \
         'plot: zero.tsv: 0 has no place on a logarithmic axis: take --linear' \

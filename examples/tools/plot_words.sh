@@ -44,6 +44,7 @@ lacks 'the table varies several sizes: choose by --cache one of l1-dcache l2-uca
 lacks 'line 3: l1-dcache-fetches is no number: 2e2' '3s/200/2e2/' rates
 lacks 'line 4: l1-dcache-compulsory is no number: -1' '4s/\t20\t30/\t-1\t30/' kinds
 lacks 'line 4: more misses than accesses of l1-dcache' '4s/\t100\t/\t201\t/' rates
+lacks 'line 3: more misses than accesses of l1-dcache' '3s/\t10\t10\t32/\t10\t171\t32/' kinds
 lacks 'line 3: fewer fully associative misses than compulsory ones of l1-dcache' \
     '3s/\t30\t/\t19\t/' kinds --whole-counts
 lacks 'the table has no column l1-dcache-misses' '1s/l1-dcache-misses/misses/' rates
@@ -99,8 +100,42 @@ test_capitals() {
     verdict 'and they are broken behind a mark' $?
 }
 
+# stand_for NAME LINES WORD..: the bars or points of the picture stand for this.
+stand_for() {
+    run "$plot" "${@:3}"
+    [ "$status" -eq 0 ] && python3 "$top/examples/tools/svg_marks.py" marks.svg >"$out" 2>"$err" &&
+        [ "$(<"$out")" = "$2" ]
+    verdict "$1" $?
+}
+
+# Bars stand on one another, but for what is below zero. In per cent of 200 accesses.
+test_marks() {
+    stand_for 'the bars of the kinds' 'compulsory, 8, 1 way, 0, 10
+compulsory, 16, 1 way, 0, 10
+compulsory, 8, 2 ways, 0, 10
+capacity, 8, 1 way, 10, 25
+capacity, 16, 1 way, 10, 15
+capacity, 8, 2 ways, 10, 20
+conflict, 8, 1 way, 25, 50
+conflict, 16, 1 way, 15, 20
+conflict, 8, 2 ways, 20, 25' kinds points.tsv marks.svg
+    stand_for 'the bars of whole counts' 'compulsory, 8, 1 way, 0, 10
+compulsory, 16, 1 way, 0, 10
+compulsory, 8, 2 ways, 0, 10
+capacity, 8, 1 way, 10, 30
+capacity, 16, 1 way, 10, 15
+capacity, 8, 2 ways, 10, 30
+conflict, 8, 1 way, 30, 50
+conflict, 16, 1 way, 15, 20
+conflict, 8, 2 ways, -5, 0' kinds points.tsv marks.svg --whole-counts
+    stand_for 'the points of the rates' '1 way, 8, 50, 50
+1 way, 16, 20, 20
+2 ways, 8, 25, 25' rates points.tsv marks.svg
+}
+
 if has gnuplot && has python3; then
     test_apart
+    test_marks
 else
-    skip 'labels apart' 'gnuplot and python3 (gnuplot-nox, python3)'
+    skip 'labels apart, and what marks stand for' 'gnuplot and python3 (gnuplot-nox, python3)'
 fi

@@ -18,8 +18,10 @@ for value in 0 3 -64 8192 64k 0x40 ' 64' 18446744073709551680; do
         "record: --split: not a power of two from 1 to 4096: '$value'; try --help" \
         "$record" --split "$value" true
 done
-fails 'record with an option twice' 2 'record: --split is given twice; try --help' \
-    "$record" --split 16 --split=16 true
+for option in --split --from --until; do
+    fails "record with $option twice" 2 "record: $option is given twice; try --help" \
+        "$record" $option 16 $option=16 true
+done
 fails 'record with an empty function' 2 'record: --from has no value; try --help' \
     "$record" --from= true
 fails 'record with an option without a value' 2 'record: --until has no value; try --help' \
@@ -103,10 +105,12 @@ test_record() {
 }
 
 # A program whose references are known, but for where its stack stands. In `pass`, the first
-# instruction and its load straddle blocks of 64 bytes, and the `incl` one of 16.
+# instruction and its load straddle blocks of 64 bytes, and the `incl` one of 16. One of its
+# functions is weak, and one is seen in this file alone.
 assemble() {
     cat >walk.s <<'END'
-        .globl _start, pass, leave, never
+        .globl _start, never
+        .weak pass
 _start: call pass
         call pass
 leave:  mov $60, %eax

@@ -71,6 +71,15 @@ noted --jobs 1 --vary --skipcount 0,1 "${grid[@]}" -- kinds.din
     [ "$(calls_of --l1-dsize)" = '8,16 8,16 ' ] && [ "$(rows_of 2-4)" = \
     '0 8 1,0 8 2,0 16 1,0 16 2,1 8 1,1 8 2,1 16 1,1 16 2,' ]
 verdict 'an option that takes no list cuts the grid' $?
+power='l1-dcache: size is not a power of two'
+noted --jobs 1 --vary --maxcount 0,3 "${grid[@]}" -- kinds.din
+[ "$status" -eq 0 ] && [ "$(calls_of --maxcount)" = '0 3 ' ] && [ "$(rows_of 2-5)" = \
+    '0 8 1 0,0 8 2 0,0 16 1 0,0 16 2 0,3 8 1 0,3 8 2 0,3 16 1 0,3 16 2 0,' ]
+verdict 'and so does the other one' $?
+run "$sweep" --vary --skipcount 0,1 --vary --l1-dsize 24,16 "${rest[@]}" -- kinds.din
+[ "$status" -eq 1 ] && [ "$(<"$err")" = 'sweep: 2 of 4 configurations have a fault' ] &&
+    [ "$(rows_of 2,3,37)" = "0 24 $power,0 16 -,1 24 $power,1 16 -," ]
+verdict 'and its first configuration may be refused' $?
 # Each run has every second row of a trace, and waits with them for the other.
 several_rows=(--vary --l1-dsize 8,16,32 --vary --l1-dassoc 1,2 --vary --skipcount 0,1)
 noted --jobs 1 "${several_rows[@]}" "${rest[@]}" -- kinds.din fifo.din
@@ -133,6 +142,11 @@ verdict 'no configuration is simulated that is not asked for' $?
 run "$sweep" --with l1-isize=l1-dsize "${step[@]}" -- kinds.din fifo.din
 cmp -s "$out" "$work/diagonal"
 verdict 'their names without hyphens' $?
+run "$sweep" "${grid[@]::6}" --with l1-iassoc=l1-dassoc --with l1-isize=l1-dsize "${rest[@]:2}" \
+    -- kinds.din
+[ "$status" -eq 0 ] && [ "$(rows_of 2-5)" = '8 1 1 8,8 2 2 8,16 1 1 16,16 2 2 16,' ] &&
+    [ "$(head -n 1 "$out" | cut -f 2-5)" = $'l1-dsize\tl1-dassoc\tl1-iassoc\tl1-isize' ]
+verdict 'each in step with its own' $?
 refused '--with: --l2-usize is not varied' --with --l1-isize=--l2-usize "${step[@]}" -- kinds.din
 refused '--l1-dassoc is given twice' --with --l1-dassoc=--l1-dsize "${step[@]}" -- kinds.din
 refused 'unknown option: --l1-csize' --with --l1-csize=--l1-dsize --l1-isize 8 "${step[@]}" \
@@ -157,6 +171,16 @@ noted --jobs 1 --resume grown.log --vary --l1-dsize 8,16,32,64 --l1-dassoc 2 "${
     -- kinds.din
 [ "$status" -eq 0 ] && [ "$(calls_of --l1-dsize)" = '64 ' ] && lines_at_least "$out" 5
 verdict 'only what is new is simulated' $?
+
+# A log of every second one of 600 configurations.
+rm -f half.log
+run "$sweep" --resume half.log --vary --flushcount "$(seq -s , 1 2 599)" --l1-dsize 8 "${rest[@]}" \
+    -- kinds.din
+noted --jobs 1 --resume half.log --vary --flushcount "$(seq -s , 600)" --l1-dsize 8 "${rest[@]}" \
+    -- kinds.din
+[ "$status" -eq 0 ] && [ "$(calls_of --flushcount)" = "$(seq -s , 2 2 600) " ] &&
+    [ "$(rows_of 2)" = "$(seq -s , 600)," ] && [ "$(wc -l <half.log)" -eq 601 ]
+verdict 'nor is more of a large grid' $?
 
 # By tasks: each part of the grid once, and the same table.
 run "$sweep" "${grid[@]}" -- kinds.din fifo.din

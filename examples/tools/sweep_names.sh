@@ -96,4 +96,25 @@ head -c 100 cut/1 >"$work/report" && cp "$work/report" cut/1
 run "$sweep" --gather cut
 [ "$status" -eq 1 ] && [ "$(tail -n 1 "$out" | cut -f 37)" = 'not simulated' ]
 verdict 'gathering a report that was cut off' $?
+# What stands in the next file is none of its columns.
 rm -r cut
+for number in 1 2; do "$sweep" --task $number --into cut "${grid[@]}" -- kinds.din; done
+head -c -10 cut/1 >"$work/report" && cp "$work/report" cut/1
+run "$sweep" --gather cut
+[ "$status" -eq 1 ] && [ "$(sed -n 2p "$out" | cut -f 4,37)" = $'-\tnot simulated' ]
+verdict 'gathering a report whose last columns were cut off' $?
+rm -r cut
+# What else stands there is no report, but what is called as one has to be one.
+"$sweep" --task 1/1 --into cut "${grid[@]}" -- kinds.din fifo.din
+mkdir cut/others
+run "$sweep" --gather cut
+check 'gathering where a folder stands among the reports' is_table_of_rows
+mkdir cut/2
+ends 'gathering where a folder stands for a report' 4 "sweep: $PWD/cut/2 can't be read" \
+    "$sweep" --gather cut
+rm -r cut
+# Folders that stand in one another, none of which was there.
+"$sweep" --task 1 --into new/in/it "${one[@]}" -- kinds.din
+run "$sweep" --gather new/in/it
+check 'a task into a folder of folders that are made' is_row_of kinds.din
+rm -r new

@@ -77,7 +77,16 @@ test_cut_logs() {
     cp mine known
 }
 
-# changed_midway NAME COMMAND..: a trace grows while a run reads it, and no row of that is told or
+# What happens to a trace while a run reads it.
+change=grow
+grow() {
+    echo '0 0' >>growing.din
+}
+write_over() {
+    printf 1 | dd of=growing.din conv=notrunc status=none
+}
+
+# changed_midway NAME COMMAND..: a trace changes while a run reads it, and no row of that is told or
 # kept. What the runs call is not the place of the program, in which there may be another one.
 changed_midway() {
     local called
@@ -86,7 +95,7 @@ changed_midway() {
         --vary --l1-dsize 1k,2k -- growing.din
     until_true compgen -G "$TMPDIR/*/raw.*" >/dev/null
     called=$(readlink "$TMPDIR"/*/dinero_grid)
-    echo '0 0' >>growing.din
+    "$change"
     status=0
     wait "$started" || status=$?
     [ "$status" -eq 4 ] && [ "$(wc -l <"$out")" -le 1 ] && [[ $called == /proc/*/fd/* ]] &&
@@ -102,7 +111,82 @@ test_changes() {
     changed_midway 'a task with a trace that grows' "$sweep" --task 1/1 --into tasks
     [ "$(ls tasks)" = grid ]
     verdict 'the task has no row' $?
+    change=write_over
+    changed_midway 'sweep of a trace whose size stays' "$sweep" --jobs 1
     rm -r growing.din grown tasks
+}
+
+# A row whose options are not in step is of no configuration of a grid in which they are.
+test_steps() {
+    # shellcheck disable=SC2054  # commas between values
+    local step=(--vary --l1-dsize 8,16 "${rest[@]:2}")
+    run "$sweep" --with l1-isize=l1-dsize "${step[@]}" -- kinds.din
+    cp "$out" whole
+    rm -f step.log
+    run "$sweep" --resume step.log --l1-isize 16 "${step[@]}" -- kinds.din
+    run "$sweep" --resume step.log --with l1-isize=l1-dsize "${step[@]}" -- kinds.din
+    [ "$status" -eq 0 ] && cmp -s "$out" whole &&
+        [ "$(tail -n +2 step.log | cut -f 3,7 | sort | tr '\t\n' ' ,')" = '16 16,16 8,8 8,' ]
+    verdict 'sweep goes on with options in step from a log of others' $?
+}
+
+# A trace of more than two MiB, by a link. Its first record, its last one or its time of change is
+# then another one, and nothing else.
+test_long_trace() {
+    local changed='known.din has changed since known was begun; --restart begins anew'
+    local time='2001-01-01 00:00:00'
+    rm -f known known.din
+    yes '0 0' | head -n 600000 >behind.din
+    touch -d "$time.1" behind.din
+    ln -s behind.din known.din
+    with_log
+    [ "$status" -eq 0 ] && lines_at_least known 5
+    verdict 'sweep of a long trace by a link' $?
+    sed -i '1s/^0/1/' behind.din && touch -d "$time.1" behind.din
+    is_refused 'a long trace that has another first record' "$changed"
+    sed -i '1s/^1/0/; $s/^0/1/' behind.din && touch -d "$time.1" behind.din
+    is_refused 'a long trace that has another last record' "$changed"
+    sed -i '$s/^1/0/' behind.din && touch -d "$time.2" behind.din
+    is_refused 'a trace of another part of a second' "$changed"
+    touch -d "$time.1" behind.din
+    with_log
+    [ "$status" -eq 0 ] && [ "$(wc -l <known)" -eq 5 ]
+    verdict 'and as it was it is known again' $?
+    rm known behind.din known.din && cp -p kinds.din known.din
+}
+
+# A task knows its trace by all of its bytes.
+test_long_task() {
+    yes '0 0' | head -n 900000 >behind.din
+    "$sweep" --task 1/2 --into long "${grid[@]}" -- behind.din
+    sed -i '450000s/^0/1/' behind.din
+    ends 'a task of a trace that has another record in its midst' 2 \
+        'sweep: long is of another grid, or a trace has changed; try --help' \
+        "$sweep" --task 2/2 --into long "${grid[@]}" -- behind.din
+    rm -r behind.din long
+}
+
+# The log of another sweep is not emptied.
+test_lock() {
+    local lock
+    with_log
+    cp known before
+    exec {lock}<known
+    flock "$lock"
+    ends 'a log in use that is to be begun anew' 4 'sweep: known is written by another sweep' \
+        "$sweep" --resume known --restart "${grid[@]}" -- known.din
+    exec {lock}<&-
+    cmp -s known before && [ -s known ]
+    verdict 'it is left to the other sweep' $?
+}
+
+# end_all: of a sweep, as after a power cut.
+end_all() {
+    # shellcheck disable=SC2046  # numbers of processes
+    kill -KILL $(our_processes | sed -nE 's,^/proc/([0-9]+)/.*,\1,p') 2>/dev/null
+    wait "$started" 2>/dev/null
+    until_true all_have_ended
+    rm -rf "${TMPDIR:?}"/*
 }
 
 # killed LINES: a sweep whose log has so many lines, or has just begun. Nothing is left to tidy up,
@@ -110,11 +194,7 @@ test_changes() {
 killed() {
     start "$sweep" --resume kept --jobs 1 "${long[@]}" -- "${several[@]}"
     if [ "$1" -eq 0 ]; then sleep 0.05; else until_true lines_at_least kept "$1" 2>/dev/null; fi
-    # shellcheck disable=SC2046  # numbers of processes
-    kill -KILL $(our_processes | sed -nE 's,^/proc/([0-9]+)/.*,\1,p') 2>/dev/null
-    wait "$started" 2>/dev/null
-    until_true all_have_ended
-    rm -rf "${TMPDIR:?}"/*
+    end_all
 }
 
 test_kills() {
@@ -150,6 +230,12 @@ test_full_log() {
 test_full_disk() {
     ends 'sweep on a full disk' 4 "sweep: no room for temporary files in $TMPDIR" \
         no_room 1 "$sweep" "${grid[@]}" -- kinds.din
+    # The lines of 60 configurations have room without counts, and not with those of a long trace.
+    run no_room 7 "$sweep" --jobs 1 --vary --flushcount "$(seq -s , 60)" --l1-dsize 1k \
+        "${long[@]:3}" -- long.din
+    [ "$status" -eq 4 ] && [ "$(wc -l <"$out")" -eq 1 ] &&
+        [ "$(<"$err")" = "sweep: no room for temporary files in $TMPDIR" ]
+    verdict 'sweep whose run fills the disk' $?
     "$sweep" --task 1 --into full "${grid[@]}" -- kinds.din
     ends 'a task on a full disk' 4 "sweep: no room for temporary files in $TMPDIR" \
         no_room 1 "$sweep" --task 2 --into full "${grid[@]}" -- kinds.din
@@ -171,6 +257,11 @@ test_folders() {
     done
     [ ! -e new ] && rmdir empty
     verdict 'an empty folder stays, and a new one does not' $?
+    # shellcheck disable=SC2016  # the inner shell has the word
+    run bash -c 'mkdir gone && cd gone && rmdir ../gone && exec "$1" --gather relative' - "$sweep"
+    [ "$status" -eq 4 ] &&
+        [ "$(tail -n 1 "$err")" = 'sweep: relative has no whole name: is the working folder gone?' ]
+    verdict 'gathering from a folder that is gone' $?
 }
 
 refused '--restart goes with --resume' --restart "${grid[@]}" -- kinds.din
@@ -182,7 +273,11 @@ verdict 'a log where the table goes' $?
 test_full_disk
 test_folders
 test_known_traces
+test_steps
+test_long_trace
+test_long_task
 test_cut_logs
+test_lock
 test_changes
 test_kills
 ends 'sweep without awk' 69 'sweep: awk is missing: install the package mawk' \

@@ -20,7 +20,25 @@ refused '--vary has no values' --vary l1-dsize
 refused "--l1-dsize: no such value: ''" --vary l1-dsize= "${rest[@]}" -- kinds.din
 refused 'unknown option: --quick' --vary quick=1 "${rest[@]}" -- kinds.din
 
+refused "--jobs: not a number of runs: '0'" --jobs 0 "${grid[@]}" -- kinds.din
+for words in '--jobs 2' '--resume 1' '--hosts 1'; do
+    # shellcheck disable=SC2086  # several words
+    refused '--task runs here and alone' --task 1 --into 1 $words "${grid[@]}" -- kinds.din
+done
+ends 'sweep of a trace whose name has a tab' 2 \
+    'sweep: the name of a trace has a tab or a line feed; try --help' \
+    "$sweep" "${grid[@]}" -- $'x\ty.din'
+
 # Nothing but files is read several times.
+exec {opened}<kinds.din
+for name in /dev/fd/$opened /proc/self/fd/$opened; do
+    ends "sweep of ${name%/*}" 4 \
+        "sweep: $name is another file for each run of a sweep: give the name of the file itself" \
+        "$sweep" "${grid[@]}" -- "$name"
+done
+exec {opened}<&-
+ends 'sweep of a folder' 4 "sweep: no trace to read: $work" \
+    "$sweep" "${grid[@]}" -- kinds.din "$work"
 mkfifo pipe.din
 ends 'sweep of a pipe' 4 \
     'sweep: pipe.din is a pipe, and a sweep takes files: bin/dinero_grid reads a pipe' \
@@ -70,6 +88,12 @@ run env GZIP=-9 "$sweep" --vary --l1-dsize 8,16 "${rest[@]}" -- bad.din.gz
 [ "$status" -eq 1 ] && [ "$(rows_of 36)" = 'line 2: label,line 2: label,' ]
 verdict 'the fault of a trace whose unpacker warns' $?
 rm bad.din.gz
+cp faulty.din also-faulty.din
+run "$sweep" --jobs 1 --vary --l1-dsize 8 "${rest[@]}" -- also-faulty.din faulty.din
+[ "$status" -eq 1 ] && [ "$(<"$err")" = 'sweep: also-faulty.din: line 2: label
+sweep: faulty.din: line 2: label
+sweep: 2 of 2 configurations have a fault' ]
+verdict 'the faults of traces of which one ends in the name of the other' $?
 
 # closed COMMAND..: its output is closed.
 closed() {
