@@ -19,6 +19,21 @@ function is_amount(name) {
     return is_size(name) || is_ways(name)
 }
 
+# is_interval(OPTION): it counts references, and its 0 means that they never come to an end.
+function is_interval(option) {
+    return option == "flushcount" || option == "maxcount"
+}
+
+# is_endless(OPTION, VALUE): it is that 0.
+function is_endless(option, value) {
+    return is_interval(option) && value ~ /^0+$/
+}
+
+# endless(OPTION): what that 0 is called.
+function endless(option) {
+    return option == "flushcount" ? "never" : "all"
+}
+
 # cache_of(OPTION): the cache that it is of, or nothing.
 function cache_of(option) {
     if (option ~ /^l1-i/) return "l1-icache"
@@ -61,7 +76,7 @@ function label(option, value,   text) {
     else if (option ~ /bsize$/ && is_size(option)) text = blocks_of(value)
     else if (is_size(option)) text = sized(value)
     else text = cache_of(option) == "" ? "" : policy(option, value)
-    if (text == "") return option " " value
+    if (text == "") return option " " (is_endless(option, value) ? endless(option) : value)
     return (cache_of(option) == cache ? "" : cache_of(option) " ") text
 }
 
@@ -96,8 +111,12 @@ function common(option) {
     return label(option, is_amount(option) ? amount(option) : $at[option])
 }
 
-# note_place(X): on the axis.
+# note_place(X): on the axis. What is endless stands behind all others, wherever they end.
 function note_place(x) {
+    if (x == far_away) {
+        far = endless(over)
+        return
+    }
     if (least == "" || x < least) least = x
     if (most == "" || x > most) most = x
     if (x % 1024) is_in_bytes = 1

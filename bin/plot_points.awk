@@ -2,14 +2,17 @@
 # program are KIND CACHE OVER BY and then those of --only, each OPTION=VALUE. KIND is `rates`,
 # `kinds`, or `whole` for kinds by whole counts; CACHE, OVER and BY are empty where none was given.
 #
-# Prints the title, and the label of the axis; on a line what is on the axis, `size`, `ways` or
-# `other`, the bytes of its unit, the least and the most place on it, and the number of groups; the
-# name of each group on a line of its own; and then a line for each point: its group, its place on
-# the axis, and as percentages of the accesses its misses or their three kinds. If it fails, it
-# prints why and nothing else. plot_names.awk is read before it.
+# Prints the title, and the label of the axis; on a line what is on the axis, `size`, `ways`,
+# `interval` or `other`, the bytes of its unit, the least and the most place on it, the name of the
+# place behind all others, or `-`, and the number of groups; the name of each group on a line of its
+# own; and then a line for each point: its group, its place on the axis, which is 9 * 10^18 for the
+# one behind all others, and as percentages of the accesses its misses or their three kinds. If it
+# fails, it prints why and nothing else. plot_names.awk is read before it.
 
 BEGIN {
     FS = "\t"
+    far_away = 9e18
+    far = "-"
     kind = ARGV[1]
     cache = ARGV[2]
     over = ARGV[3]
@@ -213,10 +216,15 @@ function tell_apart(i, j,   k, first, several, which) {
         (several == 1 ? ", or take --by " which : ""))
 }
 
+# place_of(OPTION, VALUE): among its other values.
+function place_of(option, value) {
+    return is_endless(option, value) ? far_away : value
+}
+
 function keep_points(   i, place, x) {
     for (i = 1; i <= lines; i++) {
         read_line(i)
-        x = amount(over)
+        x = place_of(over, amount(over))
         group_at[i] = group_of_line()
         place = group_at[i] SUBSEP sprintf("%.0f", x)
         if (place in taken) tell_apart(taken[place], i)
@@ -224,6 +232,12 @@ function keep_points(   i, place, x) {
         point[i] = sprintf("%.0f\t%s", x, shares())
         note_place(x)
     }
+}
+
+# class(): of what is on the axis.
+function class() {
+    if (is_interval(over)) return "interval"
+    return is_size(over) ? "size" : is_ways(over) ? "ways" : "other"
 }
 
 # rank_groups(): finds the place of each group in the picture.
@@ -238,7 +252,7 @@ function rank_groups(   i, j) {
 # goes_before(J, I): numbers are in their order. Words, and numbers that are equal, such as 1 and 01,
 # are in that of the table.
 function goes_before(j, i,   apart) {
-    apart = has_words ? 0 : value_of[j] - value_of[i]
+    apart = has_words ? 0 : place_of(by, value_of[j]) - place_of(by, value_of[i])
     return apart < 0 || (apart == 0 && j < i)
 }
 
@@ -253,8 +267,7 @@ END {
     rank_groups()
     print title()
     print axis()
-    class = is_size(over) ? "size" : is_ways(over) ? "ways" : "other"
-    printf "%s %d %.0f %.0f %d\n", class, unit, least, most, groups
+    printf "%s %d %.0f %.0f %s %d\n", class(), unit, least, most, far, groups
     for (i = 1; i <= groups; i++) print (by == "" ? "" : label(by, value_of[ranked[i]]))
     for (i = 1; i <= lines; i++) print rank[group_at[i]] "\t" point[i]
 }

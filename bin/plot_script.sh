@@ -110,15 +110,23 @@ print_rates() {
     local lines=() i colours=('#08306b' '#2171b5' '#6baed6' '#00441b' '#41ab5d' '#969696')
     local dashes=(1 2 1 4 1 3) shapes=(7 5 9 13 11 4 6) dot=$em/12.
     [[ $picture == *.png ]] || dot=$em/16.
-    awk '$1 != group && NR > 1 { print "\n" } { group = $1; print }' "$work/points" > "$work/lines" ||
-        return
+    print_rate_tics
+    put_lines || return
     for i in "${!labels[@]}"; do
         say "${labels[i]}"
         lines+=("'lines' index $i using 2:3 with linespoints lw 2*$em/12. ps $dot \
 lc rgb '${colours[i % 6]}' dt ${dashes[i % 6]} pt ${shapes[i % 7]} title $said")
     done
-    if is_logarithmic; then print_log_tics; else print_linear_tics; fi
     join_lines "${lines[@]}"
+}
+
+# put_lines: the points of each group, apart from those of the others.
+put_lines() {
+    awk -v OFS='\t' -v "far_place=$far_place" -v "far_away=$far_away" '
+        $1 != group && NR > 1 { print "\n" }
+        { group = $1 }
+        $2 == far_away "" { $2 = far_place }
+        { print }' "$work/points" > "$work/lines"
 }
 
 # print_kinds: the bars of a group stand side by side, and a gap is between two groups. What is

@@ -5,7 +5,8 @@
 list_options() {
     cat <<'END'
   --over OPTION         what is on the axis: an option of the table whose values are numbers
-                        [default: the size of the cache]
+                        [default: the size of the cache]. A flushcount of 0 stands behind all
+                        others, as `never`, and a maxcount of 0 as `all`
   --by OPTION           draw a line, or a group of bars, for each value of this option; `trace` is
                         one too [default: the ways of the cache, or its size if --over is its ways]
   --only OPTION VALUE   draw only the lines of the table in which the option has this value, or one
@@ -19,7 +20,7 @@ list_options() {
                         column CACHE-fully-associative-misses. Without it, each miss counts by its
                         own kind
   --linear              rates on a linear axis; without it, the axis of sizes and of ways is
-                        logarithmic, with base 2
+                        logarithmic, with base 2, and that of flushcount and maxcount with base 10
   --title TEXT          [default: the trace, the cache, its size, ways, blocks and policies, as far
                         as the table has them and they are the same in all that is drawn]
   --size WxH            pixels, 96 of them to the inch in a PDF, from 200x150 to 10000x10000
