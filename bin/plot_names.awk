@@ -92,17 +92,26 @@ function trace_name(trace,   other, short, several) {
     return several > 1 ? trace : short
 }
 
-# title(): what all points have in common, as far as the table knows it.
-function title(   options, count, i, prefix, text, option) {
+# title(): what all points have in common, as far as the table knows it: the trace and the cache with
+# its options, and what else was chosen. Lines with a fault are never drawn.
+function title(   options, count, i, prefix, text, is_told) {
     text = common("trace")
     text = (text == "" ? "" : text ", ") cache
     prefix = substr(cache, 1, 4)
     count = split("size assoc bsize repl wback walloc", options, " ")
-    for (i = 1; i <= count; i++) {
-        option = common(prefix options[i])
-        if (option != "") text = text ", " option
-    }
+    for (i = 1; i <= count; i++) text = text in_title(prefix options[i], is_told)
+    is_told["trace"]
+    is_told["fault"]
+    for (i = 1; i <= choices; i++) text = text in_title(choice[i], is_told)
     return text
+}
+
+# in_title(OPTION, IS_TOLD): its part of the title, unless it is told there before.
+function in_title(option, is_told,   text) {
+    if (option in is_told) return ""
+    is_told[option]
+    text = common(option)
+    return text == "" ? "" : ", " text
 }
 
 # common(OPTION): its label, if it has one value in all points.

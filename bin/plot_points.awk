@@ -17,7 +17,7 @@ BEGIN {
     cache = ARGV[2]
     over = ARGV[3]
     by = ARGV[4]
-    for (i = 5; i < ARGC; i++) only[i] = ARGV[i]
+    for (i = 5; i < ARGC; i++) only[++conditions] = ARGV[i]
     ARGC = 1
 }
 
@@ -44,12 +44,13 @@ function column_of(option,   bare) {
     return !(option in at) && sub(/^--/, "", bare) && bare in at ? bare : option
 }
 
-# choose_lines(): by the words of --only.
+# choose_lines(): by the words of --only. Each of their columns is a choice.
 function choose_lines(   i, split_at, column) {
-    for (i in only) {
+    for (i = 1; i <= conditions; i++) {
         split_at = index(only[i], "=")
         column = column_of(substr(only[i], 1, split_at - 1))
         need_column(column)
+        if (!(column in is_chosen)) choice[++choices] = column
         is_chosen[column]
         wanted[column, plain(column, substr(only[i], split_at + 1))] = only[i]
     }
@@ -124,11 +125,12 @@ function amount(column,   text) {
 }
 
 # varies(COLUMN): it has several values in the lines that were chosen.
-function varies(column,   i, first) {
+function varies(column,   i, first, value) {
     for (i = 1; i <= lines; i++) {
         read_line(i)
-        if (i == 1) first = $at[column] ""
-        else if ($at[column] "" != first) return 1
+        value = plain(column, $at[column])
+        if (i == 1) first = value ""
+        else if (value "" != first) return 1
     }
     return 0
 }

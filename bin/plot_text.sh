@@ -19,7 +19,7 @@ say() {
 show() {
     local LC_ALL=C.UTF-8
     shown=$1
-    [ ${#shown} -le 200 ] || shown=${shown::199}…
+    [ ${#shown} -le 400 ] || shown=${shown::399}…
     shown=${shown//[![:print:]]/?}
 }
 
