@@ -227,6 +227,10 @@ test_known() {
     [ "$status" -eq 65 ] && [ "$(<"$err")" = 'record: --until: never was not reached' ] &&
         [ "$(tail -n 1 "$out")" = "$(<"$err")" ] && [ "$(wc -l <"$out")" -eq 4 ]
     verdict 'record --until a function that is not reached' $?
+    run "$record" --from leave --until leave ./walk
+    [ "$status" -eq 65 ] && [ "$(<"$err")" = 'record: --until: leave was not reached again' ] &&
+        [ "$(<"$out")" = $'2 0040100a\n2 0040100f\n2 00401011\n'"$(<"$err")" ]
+    verdict 'record of one call of a function that is called once' $?
 }
 
 # fake_valgrind COMMANDS: what stands in for it writes one reference, and does this.
