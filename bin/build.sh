@@ -24,7 +24,7 @@ may_write() {
     local name
     for name in $(all_below "$1"); do
         can_hold "$top/crates/$name/out" ||
-            die 70 "the program is missing or older than its sources, and $top/crates/$name/out can't be written; $way_out"
+            die 70 "$1 is missing or older than its sources, and $top/crates/$name/out can't be written; $way_out"
     done
 }
 

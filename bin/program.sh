@@ -142,7 +142,7 @@ compare_kept() {
 }
 
 # What somebody can do to whom the checkout is closed.
-way_out='its owner can call bin/install PREFIX, which makes programs that need no checkout'
+way_out='its owner can call this once, or bin/install PREFIX, which makes programs that need no checkout'
 
 # suits NAME: the kept program is of these sources, and the toolchain that is installed, if any is,
 # is one that built it. Else `lack` says why it is not taken.
@@ -164,7 +164,7 @@ put_kept() {
     part=$built.part$$
     leftovers+=("$part")
     { mkdir -p -- "${built%/*}" && : > "$part"; } 2>/dev/null ||
-        die 70 "the kept program can't be put into ${built%/*}; $way_out"
+        die 70 "the kept $1 can't be put into ${built%/*}; $way_out"
     lack="release/$1.gz is missing or damaged"
     if unpack_kept "$1" "$part"; then
         lack="it does not run in ${built%/*}"
@@ -190,9 +190,10 @@ launch() {
 build_where_needed() {
     ! is_current "$1" || return 0
     if suits "$1" && put_kept "$1"; then
-        complain 'this is the kept program, proved and built from these very sources; bin/prove does so here'
+        complain "unpacked the kept $1, which was proved and built from these very sources; \
+bin/prove proves and builds it here"
     else
-        complain "the kept program is not taken: $lack"
+        complain "the kept $1 is not taken: $lack"
         . "$top/bin/build.sh"
         build "$1"
     fi

@@ -36,15 +36,21 @@ is_report() {
     [ "$status" -eq 0 ] && cmp -s "$out" "$top/examples/1-kinds/kinds.report"
 }
 
+# kept_words PROGRAM: what a command says when it takes the kept one.
+kept_words() {
+    echo "unpacked the kept $1, which was proved and built from these very sources; \
+bin/prove proves and builds it here"
+}
+
 # is_kept: it ran the kept program, and said so in one line.
 is_kept() {
-    is_report && [ "$(wc -l <"$err")" -eq 1 ] && grep -q '^dinero_pipe: this is the kept program' "$err"
+    is_report && [ "$(<"$err")" = "dinero_pipe: $(kept_words dinero_pipe)" ]
 }
 
 # is_built [WHY]: it began to prove, and said why it does not take the kept program.
 is_built() {
     [ "$status" -eq 70 ] && [ ! -s "$out" ] &&
-        [[ $(head -n 1 "$err") == "dinero_pipe: the kept program is not taken: ${1-}"* ]] &&
+        [[ $(head -n 1 "$err") == "dinero_pipe: the kept dinero_pipe is not taken: ${1-}"* ]] &&
         grep -q '^dinero_pipe: proving and building dinero_pipe from 9 crates' "$err" &&
         grep -q '^rt lib: nothing is proved here' "$err"
 }
@@ -240,7 +246,7 @@ is_swept() {
 }
 new_checkout
 sweep_there "${grid[@]}"
-is_swept 1 && grep -q '^sweep: this is the kept program' "$err"
+is_swept 1 && [ "$(<"$err")" = "sweep: $(kept_words dinero_grid)" ]
 verdict 'a sweep without a simulator takes the kept one' $?
 sweep_there "${grid[@]}"
 check 'the next sweep says nothing' is_swept 0
@@ -248,7 +254,7 @@ for script in 'exit 2' 'echo "      --l3-usize <SIZE>  One"' \
     "$top/crates/dinero_grid/out/dinero_grid \"\$@\" | sed '/^[0-9]/s/0/1/g'"; do
     fake_simulator "$script"
     sweep_there "${grid[@]}"
-    is_swept 1 && grep -q '^sweep: this is the kept program' "$err"
+    is_swept 1 && [ "$(<"$err")" = "sweep: $(kept_words dinero_grid)" ]
     verdict "a sweep believes no simulator of other sources: ${script##*| }" $?
 done
 fake_simulator "$top/crates/dinero_grid/out/dinero_grid \"\$@\" |
@@ -290,19 +296,19 @@ as_other "$fresh/bin/release"
 verdict 'and names it alone for other sources' $?
 tools=$work/fake
 
-way_out='its owner can call bin/install PREFIX, which makes programs that need no checkout'
+way_out='its owner can call this once, or bin/install PREFIX, which makes programs that need no checkout'
 
 # can_not_write CRATE: it says so, and does not begin to prove.
 can_not_write() {
     [ "$status" -eq 70 ] && [ "$(wc -l <"$err")" -eq 2 ] &&
-        grep -q '^dinero_pipe: the kept program is not taken: ' "$err" &&
-        [ "$(tail -n 1 "$err")" = "dinero_pipe: the program is missing or older than its sources, and $fresh/crates/$1/out can't be written; $way_out" ]
+        grep -q '^dinero_pipe: the kept dinero_pipe is not taken: ' "$err" &&
+        [ "$(tail -n 1 "$err")" = "dinero_pipe: dinero_pipe is missing or older than its sources, and $fresh/crates/$1/out can't be written; $way_out" ]
 }
 
 # can_not_put: it says in one line that the kept program has no place.
 can_not_put() {
     [ "$status" -eq 70 ] && [ "$(<"$err")" = \
-        "dinero_pipe: the kept program can't be put into $fresh/crates/dinero_pipe/out; $way_out" ]
+        "dinero_pipe: the kept dinero_pipe can't be put into $fresh/crates/dinero_pipe/out; $way_out" ]
 }
 
 for crate in dinero_pipe sim_run; do

@@ -72,7 +72,7 @@ checkout_hostile() {
     mkdir -- "./$1" bin
     tar -C "$top" --exclude=out --exclude=.git --exclude=lab -cf - . | tar -C "./$1" -xf -
     run env -C "./$1" CDPATH="$PWD" bin/dinero_pipe "${words[@]}"
-    [ "$status" -eq 0 ] && [ "$(wc -l <"$err")" -eq 1 ] && grep -q ': this is the kept program' "$err"
+    [ "$status" -eq 0 ] && [ "$(<"$err")" = "dinero_pipe: $(kept_words dinero_pipe)" ]
     unharmed "a checkout in a folder called ${1@Q}" $?
     echo >>"./$1/crates/sim_run/src/lib.rt"
     run env TOOLCHAIN="$toolchain" PATH="$work/fake:$PATH" "./$1/bin/dinero_pipe" --help
