@@ -17,6 +17,22 @@ run_gnuplot() (
     { cd -- "$work" && gnuplot -d -c script "$text" 2> complaint; } || exit
 ) 2>/dev/null
 
+# finish_svg: the picture on standard input gets its title as the name that a browser shows, or no
+# name. gnuplot names it Gnuplot, takes no other name but of letters, and leaves a `]]>` in a text,
+# where XML has none.
+finish_svg() {
+    local name=${title//'&'/'&amp;'}
+    name=${name//'<'/'&lt;'}
+    name=${name//'>'/'&gt;'}
+    NAME=$name awk '
+        $0 == "<title>Gnuplot</title>" && !named++ {
+            if (ENVIRON["NAME"] != "") print "<title>" ENVIRON["NAME"] "</title>"
+            next
+        }
+        { gsub(/\]\]>/, "]]\\&gt;") }
+        { print }'
+}
+
 # print_script: of the file `points`. The looks differ in lightness, so that they are told apart in
 # grey.
 print_script() {

@@ -67,11 +67,56 @@ test_long_titles() {
     verdict 'and it is whole where there is room' $?
 }
 
+# is_named PICTURE NAME: it is the one that a browser shows.
+is_named() {
+    [ "$(python3 "$top/examples/tools/svg_texts.py" --name "$1" 2>"$err")" = "$2" ]
+}
+
+# names_picture NAME: the title of a picture is its name too, and a text of it.
+names_picture() {
+    run "$plot" rates chosen.tsv named.svg --cache l1-dcache "${chosen[@]}" --only flushcount 0 \
+        --title "$1"
+    [ "$status" -eq 0 ] && [ ! -s "$err" ] && is_named named.svg "${1//$'\n'/?}" &&
+        shows named.svg "${1//$'\n'/?}"
+}
+
+# What could end the element of a name, or be taken for another one.
+test_names() {
+    at_all_names 'names of pictures' names_picture "${hostile_paths[@]}" '<title>Gnuplot</title>' \
+        '</title><script>x</script>' 'a &amp; b &lt; &#65; &' '<![CDATA[x]]> ]]]]>>' \
+        '\n\\&\0 %s' 'é 語 "'
+    sed -n '1p; 2s,a/x,<\&>]]>,p' chosen.tsv >named.tsv
+    run "$plot" rates named.tsv named.svg --cache l1-dcache
+    [ "$status" -eq 0 ] && is_named named.svg '<&>]]>.din, l1-dcache, FIFO' &&
+        shows named.svg '<&>]]>.din, l1-dcache, FIFO'
+    verdict 'and of one without a title of ours' $?
+    run "$plot" rates named.tsv named.svg --cache l1-dcache --title ''
+    [ "$status" -eq 0 ] && is_named named.svg '' && ! grep -q 'Gnuplot' named.svg
+    verdict 'a picture without a title has no name' $?
+}
+
+# A name of 400 letters that XML writes as five each is 1993 bytes longer than that of gnuplot, so
+# the next whole number of KiB has room for gnuplot's picture alone.
+test_name_without_room() {
+    local ampersands size
+    printf -v ampersands '%400s' ''
+    ampersands=${ampersands// /'&'}
+    run "$plot" rates chosen.tsv named.svg --cache l1-dcache "${chosen[@]}" --only flushcount 0 \
+        --title "$ampersands"
+    check 'a long name' is_named named.svg "$ampersands"
+    size=$(stat -c %s named.svg)
+    ends 'and one without room' 4 "plot: no room for temporary files in $TMPDIR" \
+        no_room $(((size - 1993 + 1023) / 1024)) "$plot" rates chosen.tsv none.svg \
+        --cache l1-dcache "${chosen[@]}" --only flushcount 0 --title "$ampersands"
+}
+
 test_titles
 test_untitled
 test_title_of_one_size
 if has gnuplot && has python3; then
     test_long_titles
+    test_names
+    test_name_without_room
 else
-    skip 'long titles' 'gnuplot and python3 (gnuplot-nox, python3)'
+    skip 'long titles, and names of pictures' 'gnuplot and python3 (gnuplot-nox, python3)'
 fi

@@ -1,6 +1,7 @@
 """The words of a picture in SVG, as gnuplot writes it.
 
     svg_texts.py PICTURE           prints each text on a line
+    svg_texts.py --name PICTURE    prints the names that a browser shows for the picture
     svg_texts.py --apart PICTURE   checks that no two texts meet, and that none is cut off
 
 Letters are taken to be as wide as those of a wide font: six tenths of its height, seven for a
@@ -59,6 +60,9 @@ def meetings(root):
 def main():
     root = tree.parse(sys.argv[-1]).getroot()
     assert root.tag == SVG + "svg"
+    if sys.argv[1] == "--name":
+        print(*(title.text for title in root.findall(SVG + "title")), sep="\n")
+        return 0
     if sys.argv[1] != "--apart":
         for entry in texts(root):
             print(entry[0])
