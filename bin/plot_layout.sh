@@ -110,22 +110,93 @@ shorten_labels() {
     check_labels "${labels[@]}"
 }
 
-# place_groups BARS: below the bars of each group stands its label.
+# place_groups BARS: below the bars of each group stands its label. It is broken inside a word only
+# where it would meet the next one.
 place_groups() {
-    local group count least_count=$1 wide slots=$(($1 + ${#labels[@]}))
+    local group across slots=$(($1 + ${#labels[@]})) middles=() rooms=() widths=() shortened=()
     slot=$((plot_width / slots))
     [ -n "${labels[0]}" ] || return 0
-    while read -r count; do
-        [ "$count" -ge "$least_count" ] || least_count=$count
-    done < <(cut -f 1 "$work/points" | uniq -c | sed 's/^ *//; s/ .*//')
-    in_columns $((plot_width * (least_count + 1) / slots))
-    wide=$((columns - 1))
-    [ "$wide" -ge 2 ] || no_room_in_picture
-    shorten_labels $((wide * 3))
+    in_columns "$plot_width"
+    across=$columns
+    find_middles
+    find_rooms
     for group in "${!labels[@]}"; do
-        wrap "${labels[group]}" "$wide" 3
-        [ ${#wrapped[@]} -le "$group_rows" ] || group_rows=${#wrapped[@]}
-        group_lines[group]=$(printf '%s\n' "${wrapped[@]}")
+        break_label "$group" "${rooms[group]}"
     done
+    for group in "${!labels[@]}"; do
+        widest_word "${labels[group]}"
+        [ "$columns" -le "${rooms[group]}" ] || ! has_room "$group" "$columns" ||
+            break_label "$group" "$columns"
+    done
+    for group in "${!labels[@]}"; do
+        mapfile -t wrapped <<<"${group_lines[group]}"
+        [ ${#wrapped[@]} -le "$group_rows" ] || group_rows=${#wrapped[@]}
+    done
+    check_labels "${shortened[@]}"
     check_labels "${group_lines[@]}"
+}
+
+# find_middles: sets `middles` to where each group has its middle, in hundredths of the columns that
+# go `across` the plot. Between two groups is a gap of a bar, and half of one at each end.
+find_middles() {
+    local count before=0
+    while read -r count; do
+        middles+=($((across * 100 * (2 * before + count + 1) / (2 * slots))))
+        before=$((before + count + 1))
+    done < <(cut -f 1 "$work/points" | uniq -c | sed 's/^ *//; s/ .*//')
+}
+
+# space_beside GROUP: sets `left` and `right` to how far it is to the middles of the groups beside
+# it, or to twice as far as its label may reach: the height of four letters to the left of the plot,
+# and that of one to the right.
+space_beside() {
+    left=$((2 * (middles[$1] + 4 * 10000 / 62)))
+    right=$((2 * (across * 100 + 10000 / 62 - middles[$1])))
+    [ "$1" -eq 0 ] || left=$((middles[$1] - middles[$1 - 1]))
+    [ "$1" -eq $((${#middles[@]} - 1)) ] || right=$((middles[$1 + 1] - middles[$1]))
+}
+
+# find_rooms: sets `rooms` to the columns that each label may take, if those beside it take
+# as many as they may.
+find_rooms() {
+    local group left right
+    for group in "${!labels[@]}"; do
+        space_beside "$group"
+        rooms[group]=$(((left < right ? left : right) / 100 - 1))
+        [ "${rooms[group]}" -ge 2 ] || no_room_in_picture
+    done
+}
+
+# has_room GROUP COLUMNS: a label that wide does not meet those beside it.
+has_room() {
+    local left right last=$((${#middles[@]} - 1)) before=$2 behind=$2
+    space_beside "$1"
+    [ "$1" -eq 0 ] || before=${widths[$1 - 1]}
+    [ "$1" -eq "$last" ] || behind=${widths[$1 + 1]}
+    [ $((($2 + before + 2) * 50)) -le "$left" ] && [ $((($2 + behind + 2) * 50)) -le "$right" ]
+}
+
+# widest_word TEXT: sets `columns` to what the widest of its words takes.
+widest_word() {
+    local word words widest=0
+    IFS=' ' read -r -a words <<<"$1"
+    for word in "${words[@]}"; do
+        measure "$word"
+        [ "$columns" -le "$widest" ] || widest=$columns
+    done
+    columns=$widest
+}
+
+# break_label GROUP COLUMNS: into lines.
+break_label() {
+    local line
+    shorten "${labels[$1]}" $(($2 * 3))
+    shortened[$1]=$piece
+    wrap "$piece" "$2" 3
+    group_lines[$1]=$(printf '%s\n' "${wrapped[@]}")
+    widths[$1]=0
+    for line in "${wrapped[@]}"; do
+        measure "$line"
+        [ "$columns" -le "${widths[$1]}" ] || widths[$1]=$columns
+    done
 }

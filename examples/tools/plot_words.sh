@@ -133,9 +133,49 @@ conflict, 8, 2 ways, -5, 0' kinds points.tsv marks.svg --whole-counts
 2 ways, 8, 25, 25' rates points.tsv marks.svg
 }
 
+# bars_of TRACE COUNT..: a table with so many sizes of each trace.
+bars_of() {
+    local size
+    printf '%s\n' trace l1-dsize l1-dcache-{fetches,compulsory,capacity,conflict} | paste -s -d '\t'
+    while [ $# -gt 0 ]; do
+        for ((size = 1; size < 1 << $2; size *= 2)); do
+            printf '%s\t' "$1" ${size}k 10 1 2
+            echo 3
+        done
+        shift 2
+    done
+}
+
+# groups NAME TEXT..: the picture of the table has these texts below its groups, in this order, and
+# no two texts meet.
+groups() {
+    apart "$1" kinds bars.tsv apart.svg --by trace --size 336x250 --title ''
+    python3 "$top/examples/tools/svg_texts.py" apart.svg >"$work/texts" 2>"$err" &&
+        [ "$(sed -n '/^size of/,/^misses$/{//!p}' "$work/texts" | paste -s -d ' ')" = "${*:2}" ]
+    verdict "$1, in these lines" $?
+}
+
+# There is room for 34 letters. From the middle of one bar to that of seven beside it, it is 17, and
+# names of 9 and 11 letters take eleven, with a blank between them. It is 11 between groups of two
+# bars: names of 11 and 5 letters take nine, and those of 12 and 11 twelve and a half. It is 6
+# between five groups of three bars, and names of 9 and 5 letters take eight.
+test_groups() {
+    bars_of blocked.din 1 naive.din 7 >bars.tsv
+    groups 'a label wider than its bar' blocked.din naive.din
+    bars_of naive.din 7 blocked.din 1 >bars.tsv
+    groups 'and one that would reach beyond the picture' naive.din blocked. din
+    bars_of a.din 2 blocked.din 2 b.din 2 >bars.tsv
+    groups 'a label beside shorter ones' a.din blocked.din b.din
+    bars_of blocked.din 2 unrolled.din 2 b.din 2 >bars.tsv
+    groups 'a label beside one that has no room' blocked.din unrolled. din b.din
+    bars_of a.din 3 naive.din 3 tiled.din 3 b.din 3 c.din 3 >bars.tsv
+    groups 'labels without room' a.din naive .din tiled .din b.din c.din
+}
+
 if has gnuplot && has python3; then
     test_apart
     test_marks
+    test_groups
 else
     skip 'labels apart, and what marks stand for' 'gnuplot and python3 (gnuplot-nox, python3)'
 fi
