@@ -120,18 +120,6 @@ function common(option) {
     return label(option, is_amount(option) ? amount(option) : $at[option])
 }
 
-# note_place(X): on the axis. What is endless stands behind all others, wherever they end.
-function note_place(x) {
-    if (x == far_away) {
-        far = endless(over)
-        return
-    }
-    if (least == "" || x < least) least = x
-    if (most == "" || x > most) most = x
-    if (x % 1024) is_in_bytes = 1
-    if (x % 1048576) is_in_kib = 1
-}
-
 # axis(): its label. Sizes have a unit.
 function axis(   text) {
     unit = 1

@@ -7,7 +7,7 @@
 # place behind all others, or `-`, and the number of groups; the name of each group on a line of its
 # own; and then a line for each point: its group, its place on the axis, which is 9 * 10^18 for the
 # one behind all others, and as percentages of the accesses its misses or their three kinds. If it
-# fails, it prints why and nothing else. plot_names.awk is read before it.
+# fails, it prints why and nothing else. plot_names.awk and plot_places.awk are read before it.
 
 BEGIN {
     FS = "\t"
@@ -162,11 +162,17 @@ function choose_columns(   prefix) {
     if (by == "" && over != prefix "assoc" && (prefix "assoc") in at) by = prefix "assoc"
     if (by == "" && over != prefix "size" && (prefix "size") in at) by = prefix "size"
     if (by == over) fail(over " can't be both the axis and the groups")
-    need_column(cache "-fetches")
-    if (kind != "kinds") need_column(cache "-misses")
-    if (kind != "rates") need_column(cache "-compulsory")
-    if (kind == "kinds") { need_column(cache "-capacity"); need_column(cache "-conflict") }
-    if (kind == "whole") need_column(cache "-fully-associative-misses")
+    draw_count("-fetches")
+    if (kind != "kinds") draw_count("-misses")
+    if (kind != "rates") draw_count("-compulsory")
+    if (kind == "kinds") { draw_count("-capacity"); draw_count("-conflict") }
+    if (kind == "whole") draw_count("-fully-associative-misses")
+}
+
+# draw_count(COUNT): the table has it of the cache, and the picture depends on it.
+function draw_count(count) {
+    need_column(cache count)
+    drawn[cache count]
 }
 
 # share(COUNT): of the accesses, as a percentage.
@@ -205,37 +211,6 @@ function group_of_line(   value) {
     return group[value]
 }
 
-# tell_apart(I, J): two lines have one place in the picture; says why.
-function tell_apart(i, j,   k, first, several, which) {
-    split(line[i], first, FS)
-    read_line(j)
-    for (k = 1; k <= columns; k++)
-        if (!is_count(name[k]) && name[k] != over && name[k] != by && first[k] != $k) {
-            which = which (several++ ? " and " : "") name[k]
-        }
-    if (!several) fail("lines " number_of[i] " and " number_of[j] " are of one configuration")
-    fail("lines " number_of[i] " and " number_of[j] " differ in " which ": choose by --only" \
-        (several == 1 ? ", or take --by " which : ""))
-}
-
-# place_of(OPTION, VALUE): among its other values.
-function place_of(option, value) {
-    return is_endless(option, value) ? far_away : value
-}
-
-function keep_points(   i, place, x) {
-    for (i = 1; i <= lines; i++) {
-        read_line(i)
-        x = place_of(over, amount(over))
-        group_at[i] = group_of_line()
-        place = group_at[i] SUBSEP sprintf("%.0f", x)
-        if (place in taken) tell_apart(taken[place], i)
-        taken[place] = i
-        point[i] = sprintf("%.0f\t%s", x, shares())
-        note_place(x)
-    }
-}
-
 # class(): of what is on the axis.
 function class() {
     if (is_interval(over)) return "interval"
@@ -271,5 +246,5 @@ END {
     print axis()
     printf "%s %d %.0f %.0f %s %d\n", class(), unit, least, most, far, groups
     for (i = 1; i <= groups; i++) print (by == "" ? "" : label(by, value_of[ranked[i]]))
-    for (i = 1; i <= lines; i++) print rank[group_at[i]] "\t" point[i]
+    for (i = 1; i <= lines; i++) if (i in point) print rank[group_at[i]] "\t" point[i]
 }

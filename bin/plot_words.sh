@@ -11,7 +11,9 @@ list_options() {
                         one too [default: the ways of the cache, or its size if --over is its ways]
   --only OPTION VALUE   draw only the lines of the table in which the option has this value, or one
                         of its values if the option is given again; `--only OPTION=VALUE` does so
-                        too. Needed where lines differ in further options
+                        too. Needed where lines differ in further options. Those of another cache
+                        are none for one of the first level: lines with the same counts of it are
+                        one point
   --cache NAME          l1-icache, l1-dcache or l2-ucache [default: the one of --over, or the one
                         whose size is varied]
   --whole-counts        kinds by Hill and Smith's subtraction: capacity is the misses of a fully
