@@ -4,35 +4,47 @@
 # list_options: their part of the help.
 list_options() {
     cat <<'END'
-  --over OPTION         what is on the axis: an option of the table whose values are numbers
-                        [default: the size of the cache]. A flushcount of 0 stands behind all
+  --over OPTION         what is on the axis: an option of the table whose
+                        values are numbers [default: the size of the
+                        cache]. A flushcount of 0 stands behind all
                         others, as `never`, and a maxcount of 0 as `all`
-  --by OPTION           draw a line, or a group of bars, for each value of this option; `trace` is
-                        one too [default: the ways of the cache, or its size if --over is its ways]
-  --only OPTION VALUE   draw only the lines of the table in which the option has this value, or one
-                        of its values if the option is given again; `--only OPTION=VALUE` does so
-                        too. Needed where lines differ in further options. Those of another cache
-                        are none for one of the first level: lines with the same counts of it are
-                        one point
-  --cache NAME          l1-icache, l1-dcache or l2-ucache [default: the one of --over, or the one
-                        whose size is varied]
-  --whole-counts        kinds by Hill and Smith's subtraction: capacity is the misses of a fully
-                        associative cache less the compulsory ones, and conflict all misses less
-                        those of the fully associative cache, which can be below zero. Needs the
-                        column CACHE-fully-associative-misses. Without it, each miss counts by its
-                        own kind
-  --linear              rates on a linear axis; without it, the axis of sizes and of ways is
-                        logarithmic, with base 2, and that of flushcount and maxcount with base 10
-  --title TEXT          [default: the trace, the cache, its size, ways, blocks and policies, as far
-                        as the table has them and they are the same in all that is drawn, and each
-                        other option of which --only chose one value]
-  --size WxH            pixels, 96 of them to the inch in a PDF, from 200x150 to 10000x10000
-                        [default: 720x460, or more if there is much to draw]
-  --font NAME[,SIZE]    the SIZE is in points, from 4 to 200 [default: sans-serif, with 9 at
-                        720x460, and at another --size more or less, but 8 at least]
+  --by OPTION           draw a line, or a group of bars, for each value
+                        of this option; `trace` is one too [default: the
+                        ways of the cache, or its size if --over is its
+                        ways]
+  --only OPTION VALUE   draw only the lines of the table in which the
+                        option has this value, or one of its values if
+                        the option is given again; `--only OPTION=VALUE`
+                        does so too. Needed where lines differ in further
+                        options. Of a cache of the first level, lines
+                        that differ in options of other caches alone are
+                        one point, if its counts are the same in them
+  --cache NAME          l1-icache, l1-dcache or l2-ucache [default: the
+                        one of --over, or the one whose size is varied]
+  --whole-counts        kinds by Hill and Smith's subtraction: capacity
+                        is the misses of a fully associative cache less
+                        the compulsory ones, and conflict all misses less
+                        those of the fully associative cache, which can
+                        be below zero. Needs the column
+                        CACHE-fully-associative-misses. Without it, each
+                        miss counts by its own kind
+  --linear              rates on a linear axis; without it, the axis of
+                        sizes and of ways is logarithmic, with base 2,
+                        and that of flushcount and maxcount with base 10
+  --title TEXT          [default: the trace, the cache, its size, ways,
+                        blocks and policies, as far as the table has them
+                        and they are the same in all that is drawn, and
+                        each other option of which --only chose one
+                        value]
+  --size WxH            pixels, 96 of them to the inch in a PDF, from
+                        200x150 to 10000x10000 [default: 720x460, or more
+                        if there is much to draw]
+  --font NAME[,SIZE]    the SIZE is in points, from 4 to 200 [default:
+                        sans-serif, with 9 at 720x460, and at another
+                        --size more or less, but 8 at least]
   --version             as the first word: print the name and the version
-  --                    all that follows is a kind, a table or a picture, also where its name begins
-                        with a hyphen
+  --                    all that follows is a kind, a table or a picture,
+                        also where its name begins with a hyphen
 END
 }
 
