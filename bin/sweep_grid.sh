@@ -185,7 +185,7 @@ sums=()
 find_sums() {
     local trace sum
     for trace in "${traces[@]}"; do
-        sum=$({ state_of "$trace" | sha256sum; } 2>/dev/null) || die 4 "no trace to read: $trace"
+        sum=$({ state_of "$trace" | sha256sum; } 2>/dev/null) || no_trace "$trace"
         sums+=("${sum::16}")
     done
 }
@@ -248,7 +248,7 @@ prepare() {
     check_values
     { finish links && mapfile -t begun < "$work/begun"; } 2>/dev/null || no_room
     for i in "${!traces[@]}"; do
-        [ -e "$work/$i.din" ] || die 4 "no trace to read: ${traces[i]}"
+        [ -e "$work/$i.din" ] || no_trace "${traces[i]}"
     done
     [ -z "$log$task" ] || find_sums
     { describe_grid > "$described"; } 2>/dev/null || no_room

@@ -1,18 +1,27 @@
 # Makes lines of the table from whole rows, which come in any order. The names of the columns are
-# line 0. The file `lines` has how many of those that it makes have a fault, and how many lines the
-# grid has; then the lines, from number `from` on, as far as there is a row for each, or with `all`
-# to the end of the grid. The rows that are left go to the file `pending`. sweep_grid.awk is read
-# before it.
+# line 0. The file `lines` has how many of those that it makes have a fault, how many lines the grid
+# has, and of the first fault its line in the table and its text, if there is one; then the lines,
+# from number `from` on, as far as there is a row for each, or with `all` to the end of the grid. The
+# rows that are left go to the file `pending`. sweep_grid.awk is read before it.
+
+BEGIN { missing = "not simulated" }
 
 END {
     for (n = from; n <= cells && (n == 0 || all || n in row); n++)
-        if (n > 0 && !(n in row && row[n] ~ /\t-$/)) faults++
-    print faults + 0, cells > made("lines")
+        if (n > 0 && !(n in row && row[n] ~ /\t-$/)) note_fault(n)
+    print faults + 0, cells, first_fault > made("lines")
     to = n
     for (n = from; n < to; n++) print line_of(n) > made("lines")
     printf "" > file("pending")
     # What is taken from an index is a text, and would be compared as one.
     for (n in row) if (n + 0 >= to) print row[n] > file("pending")
+}
+
+function note_fault(n,   text) {
+    if (faults++) return
+    text = n in row ? row[n] : missing
+    sub(/^.*\t/, "", text)
+    first_fault = n + 1 OFS text
 }
 
 function line_of(n) {
@@ -53,7 +62,7 @@ function chosen_of(name,   d) {
 function counts_of(n,   text, field, i) {
     if (!(n in row)) {
         for (i = 1; i < head_count; i++) text = text "-\t"
-        return text "not simulated"
+        return text missing
     }
     split(row[n], field, "\t")
     text = field[3 + options]

@@ -1,17 +1,21 @@
 # The table of a sweep. Read by sweep.
 # shellcheck shell=bash disable=SC2154,SC2034  # names that sweep and its other files set, or use
 
-# The number of the next line, how many lines have a fault, and how many the grid has.
+# The number of the next line, how many lines have a fault, the first of them and its fault, and how
+# many lines the grid has.
 next=0
 faults=0
+first_fault=
 last=0
 
 # put_lines: those that sweep_table.awk has made: each that can follow the last one, as soon as its
 # row and all before it are there.
 put_lines() {
-    local some lines status=0
-    { IFS=$'\t' read -r some last && mapfile lines; } < "$work/lines.$call" 2>/dev/null || no_room
+    local some first lines status=0
+    { IFS=$'\t' read -r some last first && mapfile lines; } < "$work/lines.$call" 2>/dev/null ||
+        no_room
     faults=$((faults + some))
+    [ -n "$first_fault" ] || first_fault=$first
     next=$((next + ${#lines[@]}))
     [ ${#lines[@]} -gt 0 ] || return 0
     (printf %s "${lines[@]}") 2>/dev/null || status=$?
@@ -68,10 +72,11 @@ take_in() {
     put_lines
 }
 
-# tell_faults: how many configurations have one, if any has.
+# tell_faults: how many configurations have one, if any has, and which one is the first.
 tell_faults() {
+    local first="line ${first_fault%%$'\t'*}: ${first_fault#*$'\t'}"
     [ "$faults" -gt 0 ] || return 0
-    complain "$faults of $last configurations have a fault"
+    complain "$faults of $last configurations have a fault, the first in $first (column fault)"
     exit 1
 }
 

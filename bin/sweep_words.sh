@@ -78,7 +78,22 @@ set_word() {
     esac
 }
 
+# need_value OPTION WORD..: a value stands behind it. A word with two hyphens in front is no value but
+# the next option, unless an option is wanted, or it is joined to this one by an equals sign.
+need_value() {
+    local next=${2-"--"} last=${3-"--"}
+    case $1 in
+    --vary)
+        [[ $next == *=* ]] || [[ $next != -- && $last != --* ]] ||
+            refuse '--vary has no values'
+        ;;
+    --with) [ "$next" != -- ] || refuse "$1 has no value" ;;
+    *) [ -n "$is_joined" ] || [[ $next != --* ]] || refuse "$1 has no value" ;;
+    esac
+}
+
 parse() {
+    local is_joined=
     while [ $# -gt 0 ]; do
         case $1 in
         -h | --help) show_help ;;
@@ -90,14 +105,15 @@ parse() {
         --full) full=--full && shift && continue ;;
         --*=*)
             set -- "${1%%=*}" "${1#*=}" "${@:2}"
+            is_joined=yes
             continue
             ;;
-        --*) [ $# -ge 2 ] || refuse "$1 has no value" ;;
+        --*) need_value "$@" ;;
         *) refuse "unknown word: $1 (traces stand behind --)" ;;
         esac
+        is_joined=
         if [ "$1" = --vary ]; then
-            [[ ${2-} != *=* ]] || set -- --vary "${2%%=*}" "${2#*=}" "${@:3}"
-            [ $# -ge 3 ] || refuse '--vary has no values'
+            [[ $2 != *=* ]] || set -- --vary "${2%%=*}" "${2#*=}" "${@:3}"
             [[ $2 == -* ]] || set -- --vary "--$2" "${@:3}"
             vary "$2" "$3"
             shift
@@ -203,6 +219,20 @@ find_packer() {
     esac
 }
 
+# no_trace TRACE: it can't be read, and why.
+no_trace() {
+    local fault
+    [ "$1" != - ] || die 4 '- is no file, and a sweep takes files: bin/dinero_grid reads a pipe'
+    if [ -d "$1" ]; then
+        fault='Is a directory'
+    elif [ -e "$1" ] && [ ! -f "$1" ]; then
+        fault='Not a regular file'
+    else
+        fault=$({ : < "$1"; } 2>&1) || true
+    fi
+    die 4 "no trace to read: $1${fault:+: ${fault##*: }}"
+}
+
 # check_trace TRACE: sets `unpacker` to the command that unpacks it, by the ending of its name, or
 # to a hyphen.
 check_trace() {
@@ -214,7 +244,7 @@ check_trace() {
         ;;
     esac
     if [ ! -f "$1" ] || [ ! -r "$1" ]; then
-        die 4 "no trace to read: $1"
+        no_trace "$1"
     fi
     find_packer "$1"
     case $1 in

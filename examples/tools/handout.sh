@@ -3,7 +3,8 @@
 
 handout=$top/examples/handout.sh
 ends 'a hand-out without words' 2 'handout: a trace and a folder are needed; try --help' "$handout"
-ends 'a hand-out of no trace' 4 'sweep: no trace to read: nowhere.din' "$handout" nowhere.din made
+ends 'a hand-out of no trace' 4 \
+    'sweep: no trace to read: nowhere.din: No such file or directory' "$handout" nowhere.din made
 run env -C "$top" CDPATH="$top" examples/handout.sh --help
 [ "$status" -eq 0 ] && [ ! -s "$err" ] && grep -q '^Usage: examples/handout.sh' "$out"
 verdict 'the help of a hand-out, with a CDPATH' $?

@@ -72,15 +72,16 @@ verdict "sweep's lines stand in the grid's order" $?
 rm first.din
 
 run "$sweep" --vary --l1-dsize 16,24,32 --vary --l1-dassoc 4,8 "${rest[@]}" -- kinds.din
-[ "$status" -eq 1 ] && [ "$(<"$err")" = 'sweep: 3 of 6 configurations have a fault' ] &&
-    whole_lines "$out" $fields && [ "$(rows_of 2,3,37)" = \
+[ "$status" -eq 1 ] && [ "$(<"$err")" = "sweep: 3 of 6 configurations have a fault, the first in \
+line 3: l1-dcache: associativity is too large (column fault)" ] && whole_lines "$out" $fields && [ "$(rows_of 2,3,37)" = \
     '16 4 -,16 8 l1-dcache: associativity is too large,24 4 l1-dcache: size is not a power of two,24 8 l1-dcache: size is not a power of two,32 4 -,32 8 -,' ]
 verdict 'sweep goes on behind a refused configuration' $?
 
 printf '2 0\n9 0\n' >faulty.din
 run "$sweep" --vary --l1-dsize 8 "${rest[@]}" -- faulty.din kinds.din
 [ "$status" -eq 1 ] && [ "$(rows_of 1,36)" = 'faulty.din line 2: label,kinds.din -,' ] &&
-    [ "$(<"$err")" = $'sweep: faulty.din: line 2: label\nsweep: 1 of 2 configurations have a fault' ]
+    [ "$(<"$err")" = "sweep: faulty.din: line 2: label
+sweep: 1 of 2 configurations have a fault, the first in line 2: line 2: label (column fault)" ]
 verdict 'sweep of a faulty trace' $?
 
 for number in 4 1 3 2; do
@@ -91,7 +92,8 @@ done >"$out" 2>"$err"
 verdict 'sweep by tasks, and --gather' $?
 rm tasks/3
 run "$sweep" --gather tasks
-[ "$status" -eq 1 ] && [ "$(rows_of 37)" = '-,-,not simulated,-,' ]
+[ "$status" -eq 1 ] && [ "$(rows_of 37)" = '-,-,not simulated,-,' ] && [ "$(<"$err")" = \
+    'sweep: 1 of 4 configurations have a fault, the first in line 4: not simulated (column fault)' ]
 verdict 'gathering where a report is missing' $?
 ends 'a task that the grid has not' 2 'sweep: --task: the grid has 4 configurations, and no 5; try --help' \
     "$sweep" --task 5 --into tasks "${grid[@]}" -- kinds.din
@@ -146,8 +148,6 @@ refused '--l1-dsize: 8 stands there twice' --vary --l1-dsize 8,16,8 "${rest[@]}"
 refused 'the trace kinds.din is given twice' "${grid[@]}" -- kinds.din fifo.din kinds.din
 refused '--l1-drepl: not a lawful letter' --vary --l1-drepl l,x "${grid[@]}" -- kinds.din
 refused '--l2-urepl: not a lawful letter' --l2-urepl x "${grid[@]}" -- kinds.din
-ends 'sweep of a trace that is not there' 4 'sweep: no trace to read: nowhere.din' \
-    "$sweep" "${grid[@]}" -- kinds.din nowhere.din
 ends 'sweep of what is at its own input' 4 \
     'sweep: /dev/stdin is another file for each run of a sweep: give the name of the file itself' \
     "$sweep" "${grid[@]}" -- /dev/stdin

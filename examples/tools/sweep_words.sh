@@ -9,6 +9,29 @@ done
 [ ! -e 1 ]
 verdict 'no log is begun' $?
 
+# What stands behind an option is no value of it where it is the next option, or ends the options.
+for word in --jobs --resume --hosts --task --into --gather --l1-isize; do
+    refused "$word has no value" "${grid[@]:0:6}" "$word"
+    refused "$word has no value" "${grid[@]:0:6}" "$word" -- kinds.din
+    refused "$word has no value" "$word" --vary l1-dsize=8,16 "${rest[@]}" -- kinds.din
+    refused "$word has no value" "$word" --full "${grid[@]}" -- kinds.din
+done
+for words in --vary '--vary -- kinds.din' '--vary --l1-dsize -- kinds.din' '--vary=l1-dsize' \
+    '--vary l1-dsize --jobs 2 -- kinds.din' '--vary=l1-dsize --jobs 2 -- kinds.din'; do
+    # shellcheck disable=SC2086  # several words
+    refused '--vary has no values' $words
+done
+refused '--with has no value' "${grid[@]}" --with -- kinds.din
+refused '--with has no value' "${grid[@]}" --with
+refused "--with: not OPTION=OPTION: '--jobs'" --with --jobs 2 "${grid[@]}" -- kinds.din
+# Where an equals sign joins the two, it is one.
+run "$sweep" --resume=--log "${grid[@]}" -- kinds.din fifo.din
+is_table_of_rows && [ "$(wc -l <./--log)" -eq 9 ]
+verdict 'a log whose name is like an option' $?
+rm ./--log
+[ -z "$(find . -name '-*')" ]
+verdict 'no file has the name of an option' $?
+
 # An option that is varied, in the forms that --with takes.
 for words in '--vary l1-dsize 8,16 --vary l1-dassoc 1,2' \
     '--vary --l1-dsize=8,16 --vary --l1-dassoc=1,2' '--vary=l1-dsize=8,16 --vary l1-dassoc=1,2'; do
@@ -28,6 +51,36 @@ done
 ends 'sweep of a trace whose name has a tab' 2 \
     'sweep: the name of a trace has a tab or a line feed; try --help' \
     "$sweep" "${grid[@]}" -- $'x\ty.din'
+# lacks REASON TRACE: it can't be read, and the reason is told.
+lacks() {
+    ends "sweep of no trace: $1" 4 "sweep: no trace to read: $2: $1" \
+        "$sweep" "${grid[@]}" -- kinds.din "$2"
+}
+lacks 'No such file or directory' nowhere.din
+lacks 'No such file or directory' 'nowhere: a.din'
+lacks 'Not a directory' kinds.din/kinds.din
+lacks 'Is a directory' "$work/here"
+lacks 'Not a regular file' /dev/null
+ends 'sweep of a hyphen' 4 \
+    'sweep: - is no file, and a sweep takes files: bin/dinero_grid reads a pipe' \
+    "$sweep" "${grid[@]}" -- kinds.din -
+
+# test_private COMMAND..: a trace that nobody may read. Root may read all, so the command makes another
+# user of it.
+test_private() {
+    cp kinds.din private.din && chmod 0 private.din && chmod a+rx "$work" && chmod a+rwx "$TMPDIR"
+    ends 'sweep of no trace: Permission denied' 4 \
+        'sweep: no trace to read: private.din: Permission denied' \
+        "$@" "$sweep" "${grid[@]}" -- private.din
+    chmod 755 "$TMPDIR" && rm -f private.din
+}
+if [ "$(id -u)" -ne 0 ]; then
+    test_private env
+elif setpriv --reuid 65534 test -x "$sweep"; then
+    test_private setpriv --reuid 65534 --regid 65534 --clear-groups
+else
+    skip 'a trace that nobody may read' 'the rights of root'
+fi
 
 # Nothing but files is read several times.
 exec {opened}<kinds.din
@@ -37,8 +90,6 @@ for name in /dev/fd/$opened /proc/self/fd/$opened; do
         "$sweep" "${grid[@]}" -- "$name"
 done
 exec {opened}<&-
-ends 'sweep of a folder' 4 "sweep: no trace to read: $work" \
-    "$sweep" "${grid[@]}" -- kinds.din "$work"
 mkfifo pipe.din
 ends 'sweep of a pipe' 4 \
     'sweep: pipe.din is a pipe, and a sweep takes files: bin/dinero_grid reads a pipe' \
