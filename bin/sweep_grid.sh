@@ -258,7 +258,7 @@ prepare() {
 # `run_lines` and `commands` to a line for each run and the line of shell that makes it, and `runs`
 # to how many there are.
 plan() {
-    of_grid "$1" part=rows "${@:2}" "$work/pending" 2>/dev/null || no_room
+    of_grid "$1" "${@:2}" part=rows "$work/pending" 2>/dev/null || no_room
     mapfile -t run_lines < "$work/runs"
     mapfile -t commands < "$work/commands"
     runs=${#run_lines[@]}

@@ -25,8 +25,7 @@ open_log() {
     { exec {log_lock}>>"$log"; } 2>/dev/null || die 4 "$log could not be written"
     flock -n "$log_lock" || die 4 "$log is written by another sweep"
     [ -z "$restarts" ] || : > "$log"
-    # A machine that was shut down may have left half of the last line, or zeros.
-    [ -z "$(tail -c 1 < "$log" | tr '\0' 0)" ] || truncate -s "-$(tail -n 1 < "$log" | wc -c)" -- "$log"
+    end_last_line
     log_names > "$work/names" || no_room
     if [ -s "$log" ]; then
         read_log
@@ -34,6 +33,22 @@ open_log() {
         keep "$work/names"
     fi
     keeps_log=yes
+}
+
+# end_last_line: a machine that was shut down may have left half of it, or zeros.
+end_last_line() {
+    [ -z "$(tail -c 1 < "$log" | tr '\0' 0)" ] || truncate -s "-$(tail -n 1 < "$log" | wc -c)" -- "$log"
+}
+
+# find_kept: sets `kept` to how many configurations of the grid are in the log, and what that is
+# good for, if it can still be found out.
+find_kept() {
+    local rows cells
+    { end_last_line && of_grid log part=log - < "$log" &&
+        { read -r && IFS=$'\t' read -r rows cells; } < "$work/verdict.$call"; } 2>/dev/null || return 0
+    kept="none of the $cells configurations is in $log"
+    [ "$rows" -eq 0 ] ||
+        kept="$rows of $cells configurations are in $log; the same call goes on from there"
 }
 
 # read_log: its rows are those of this simulator, and of the traces as they stand.

@@ -1,7 +1,9 @@
 # Cuts a grid into runs. For each, the file `runs` has a line, and `commands` the line of shell that
 # makes it. A configuration whose whole row was read needs no run. With `task` and `tasks`, these
-# are the runs of one part of so many; with `slots`, so many can be made at once. sweep_grid.awk is
-# read before it, and sweep_commands.awk beside it.
+# are the runs of one part of so many; with `slots`, so many can be made at once. With `part=sizes`,
+# whose lines have the sizes of the traces in bytes as their third words, the runs are for a log, and
+# sweep_parts.awk cuts them further. sweep_grid.awk is read before it, and sweep_parts.awk and
+# sweep_commands.awk beside it.
 
 # What one call of dinero_grid takes.
 BEGIN { most = 4096 }
@@ -59,6 +61,7 @@ function plan_rest(   i, number, left, parts) {
     parts = parts_of_trace(cover_all())
     for (i = 1; i <= boxes; i++) left[box_trace[i]] += size[i]
     for (i = 1; i <= boxes; i++) cut(box[i], int(parts * size[i] / left[box_trace[i]] + 0.5))
+    if (for_log) cut_for_log()
     for (i = 1; i <= runs; i++) put_run(found[i])
 }
 
@@ -135,6 +138,7 @@ function cut(line, parts,   word, one, d, n, half, share) {
 # values share least; but of the options of the same cache one whose values make so many equal
 # parts, if there is any. It is 0 if no option has several values.
 function dimension_to_cut(word, parts,   d, n, one, first) {
+    if (cuts_for_log) first = dimension_above(word)
     for (d = 1; d <= dimensions; d++) {
         n = split(word[d + 1], one, ",")
         if (n == 1) continue

@@ -150,7 +150,7 @@ one_task() {
     local number name=$task failed=
     [ "$tasks" -eq "$cells" ] || name=$task-$tasks
     claim "$into"
-    plan 'plan commands' "task=$task" "tasks=$tasks"
+    plan 'plan parts commands' "task=$task" "tasks=$tasks"
     : > "$work/kept"
     for ((number = 1; number <= runs; number++)); do
         (cd "$work" && exec sh -c "$one_run" run "$number" "${commands[number - 1]}") > /dev/null ||

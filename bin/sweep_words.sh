@@ -78,8 +78,8 @@ set_word() {
     esac
 }
 
-# need_value OPTION WORD..: a value stands behind it. A word with two hyphens in front is no value but
-# the next option, unless an option is wanted, or it is joined to this one by an equals sign.
+# need_value OPTION WORD..: a value stands behind it. A word with two hyphens in front is no value
+# but the next option, unless an option is wanted, or it is joined to this one by an equals sign.
 need_value() {
     local next=${2-"--"} last=${3-"--"}
     case $1 in

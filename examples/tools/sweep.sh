@@ -72,8 +72,10 @@ verdict "sweep's lines stand in the grid's order" $?
 rm first.din
 
 run "$sweep" --vary --l1-dsize 16,24,32 --vary --l1-dassoc 4,8 "${rest[@]}" -- kinds.din
-[ "$status" -eq 1 ] && [ "$(<"$err")" = "sweep: 3 of 6 configurations have a fault, the first in \
-line 3: l1-dcache: associativity is too large (column fault)" ] && whole_lines "$out" $fields && [ "$(rows_of 2,3,37)" = \
+first='line 3: l1-dcache: associativity is too large'
+[ "$status" -eq 1 ] && whole_lines "$out" $fields &&
+    [ "$(<"$err")" = "sweep: 3 of 6 configurations have a fault, the first in $first (column fault)" ] &&
+    [ "$(rows_of 2,3,37)" = \
     '16 4 -,16 8 l1-dcache: associativity is too large,24 4 l1-dcache: size is not a power of two,24 8 l1-dcache: size is not a power of two,32 4 -,32 8 -,' ]
 verdict 'sweep goes on behind a refused configuration' $?
 

@@ -95,7 +95,7 @@ noted --jobs 1 --vary --flushcount "$many" --vary --l1-dassoc "$others" --l1-dsi
 [ "$status" -eq 1 ] && [ "$(wc -l <"$out")" -eq 4161 ] && [ "$(wc -l <"$work/calls")" -eq 2 ] &&
     [ "$(calls_of --l1-dassoc)" = "$others $others " ] &&
     [ "$(<"$err")" = "sweep: 4160 of 4160 configurations have a fault, the first in line 2: \
-l1-dcache: associativity is too large (column fault)" ]
+l1-dcache: associativity is not a power of two (column fault)" ]
 verdict 'a grid that is too large for one call' $?
 
 # fails_with COMMAND LINE: a simulator that ends so whenever it reads a trace. Its rows say so, and
@@ -111,7 +111,8 @@ fails_with() {
     [ "$status" -eq 1 ] && [ "$(rows_of 37 | tr -s ,)" = "$(printf "$2,%.0s" {1..8})" ] &&
         [ "$(<"$err")" = "sweep: kinds.din: $2
 sweep: fifo.din: $2
-sweep: 8 of 8 configurations have a fault, the first in line 2: $2 (column fault)" ] && [ "$(wc -l <failed.log)" -eq 1 ] || return
+sweep: 8 of 8 configurations have a fault, the first in line 2: $2 (column fault)" ] &&
+        [ "$(wc -l <failed.log)" -eq 1 ] || return
     run "$sweep" --resume failed.log "${grid[@]}" -- kinds.din fifo.din
     is_table_of_rows
 }

@@ -65,8 +65,8 @@ ends 'sweep of a hyphen' 4 \
     'sweep: - is no file, and a sweep takes files: bin/dinero_grid reads a pipe' \
     "$sweep" "${grid[@]}" -- kinds.din -
 
-# test_private COMMAND..: a trace that nobody may read. Root may read all, so the command makes another
-# user of it.
+# test_private COMMAND..: a trace that nobody may read. Root may read all, so the command makes
+# another user of it.
 test_private() {
     cp kinds.din private.din && chmod 0 private.din && chmod a+rx "$work" && chmod a+rwx "$TMPDIR"
     ends 'sweep of no trace: Permission denied' 4 \

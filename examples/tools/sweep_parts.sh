@@ -1,0 +1,142 @@
+# Tests that bin/sweep cuts a long grid of one trace into parts where it keeps a log, and that an
+# interrupt leaves those in the log that have ended. Read by tools.sh.
+# shellcheck shell=bash disable=SC2016,SC2054,SC2154  # names that tools.sh and its other files set
+
+# A trace of 1 GiB, of which the disk holds nothing. In place of it, this simulator reads kinds.din.
+# It stops before the run of the number $STOP.
+truncate -s 1G huge.din
+cat >"$work/stopping" <<'END'
+#!/usr/bin/env bash
+if [ "$1" != --help ] && ! [ /dev/stdin -ef /dev/null ]; then
+    [ "$(wc -l <"$CALLS")" -ne "${STOP:-0}" ] || exec sleep 60
+    exec <"$SHORT"
+fi
+exec "$REAL" "$@"
+END
+chmod +x "$work/stopping"
+export SHORT=$PWD/kinds.din REAL=$simulator
+simulator=$work/stopping
+
+sizes=(--vary --l1-dsize 8,16,32,64,128,256,512)
+# 28 configurations, each with a data cache of its own.
+wide=("${sizes[@]}" --vary --l1-drepl l,f --vary --l1-dwback a,n "${rest[@]:0:10}")
+
+# sizes_of_calls: how many configurations each call has, the largest first.
+sizes_of_calls() {
+    awk '{ n = 1; for (i = 1; i <= NF; i++) n *= split($i, one, ","); print n }' "$work/calls" |
+        sort -nr | tr '\n' ' '
+}
+
+# each_once LOG COUNT: it has so many configurations, each once.
+each_once() {
+    [ "$(tail -n +2 "$1" | wc -l)" -eq "$2" ] && [ -z "$(cut -f 1-21 "$1" | sort | uniq -d)" ]
+}
+
+# whole_of WORD..: the table of a grid from one run of the real simulator is in the file `whole`.
+whole_of() {
+    run "$sweep" --jobs 1 "$@" -- kinds.din
+    sed '2,$s/^kinds\.din/huge.din/' "$out" >whole
+}
+
+# cut_as NAME WANTED TRACE WORD..: the sizes of the calls are those that are wanted, and with a log
+# the table is that of one run.
+cut_as() {
+    rm -f parts.log
+    noted --resume parts.log "${@:4}" -- "$3"
+    [ "$status" -eq 0 ] && [ ! -s "$err" ] && cmp -s <(sed 1d "$out" | cut -f 2-) \
+        <(sed 1d whole | cut -f 2-) && [ "$(sizes_of_calls)" = "$2 " ] &&
+        each_once parts.log $(($(wc -l <whole) - 1))
+    verdict "$1" $?
+}
+
+# A run of n configurations with first levels of their own has the work n + n/10, and 2 for what
+# each part has anew. So two parts in place of a run of 6 cost (4 + 6.6) / (2 + 6.6) = 1.23 times as
+# much, and of a run of 4 1.31 times, which is more than a fourth. Of all 28, four parts cost 1.18
+# times as much, and eight 1.43 times.
+test_cuts() {
+    local below=(--vary --l2-usize 512,1k,2k,4k "${sizes[@]}" "${rest[@]:0:6}" --l2-ubsize 8)
+    whole_of "${wide[@]}"
+    noted --jobs 4 "${wide[@]}" -- huge.din
+    [ "$status" -eq 0 ] && cmp -s "$out" whole && [ "$(sizes_of_calls)" = '8 8 6 6 ' ]
+    verdict 'a long grid without a log: as many parts as jobs' $?
+    cut_as 'with a log: twice as many' '4 4 4 4 3 3 3 3' huge.din --jobs 4 "${wide[@]}"
+    cut_as 'and no more where the trace is short' '8 8 6 6' kinds.din --jobs 4 "${wide[@]}"
+    cut_as 'by one job: four, but not eight' '8 8 6 6' huge.din --jobs 1 "${wide[@]}"
+    cut_as 'by three jobs: 8, 8 and 12, each in two' '6 6 4 4 4 4' huge.din --jobs 3 "${wide[@]}"
+    cut_as 'by five: 8, 6, 6, 4 and 4, the last two whole' '4 4 4 4 3 3 3 3' huge.din \
+        --jobs 5 "${wide[@]}"
+    cut_as 'by more jobs than configurations' "$(printf '1 %.0s' {1..27})1" huge.din \
+        --jobs 28 "${wide[@]}"
+    # Its second level is varied first. To cut it there would simulate each first level anew.
+    whole_of "${below[@]}"
+    cut_as 'where the second level is varied first' '16 12' huge.din --jobs 1 "${below[@]}"
+    [ "$(calls_of --l2-usize)" = '512,1k,2k,4k 512,1k,2k,4k ' ] &&
+        [ "$(calls_of --l1-dsize)" = '128,256,512 8,16,32,64 ' ]
+    verdict 'each part has all of it' $?
+}
+
+# A grid that has grown by odd numbers: what is left of it is cut, too.
+test_growth() {
+    whole_of "${wide[@]}"
+    rm -f parts.log
+    noted --jobs 2 --resume parts.log --vary --l1-dsize 16,128,512 "${wide[@]:3}" -- huge.din
+    [ "$status" -eq 0 ] && each_once parts.log 12
+    verdict 'a part of a grid in a log' $?
+    noted --jobs 3 --resume parts.log "${wide[@]}" -- huge.din
+    [ "$status" -eq 0 ] && [ ! -s "$err" ] && cmp -s "$out" whole && each_once parts.log 28 &&
+        [ "$(sizes_of_calls)" = '4 4 4 4 ' ]
+    verdict 'and the rest of it' $?
+}
+
+# stopped_at RUN SIGNAL LINES WORD..: the simulator stands still in the run of this number. Once the
+# log has so many lines, the signal is sent as a terminal does.
+stopped_at() {
+    : >"$work/calls"
+    start env STOP="$1" CALLS="$work/calls" GRID="$simulator" "$noting/sweep" "${@:4}" \
+        "${wide[@]}" -- huge.din
+    until_true lines_at_least "$work/calls" "$1"
+    [ "$3" -eq 0 ] || until_true lines_at_least parts.log "$3"
+    kill "-$2" -- "-$started"
+    status=0
+    wait "$started" 2>/dev/null || status=$?
+    [ "$status" -eq $((128 + $(kill -l "$2"))) ]
+}
+
+# says_kept COUNT: an interrupt, of the log.
+says_kept() {
+    [ "$(<"$err")" = "sweep: interrupted: $1 of 28 configurations are in parts.log; \
+the same call goes on from there" ]
+}
+
+# The parts of one job have 8, 8, 6 and 6 configurations.
+test_interrupts() {
+    local signal
+    whole_of "${wide[@]}"
+    for signal in INT TERM HUP; do
+        rm -f parts.log
+        stopped_at 3 $signal 17 --jobs 1 --resume parts.log && says_kept 16 &&
+            each_once parts.log 16 && lines_at_least "$out" 1 && cmp -s "$out" <(head -n "$(wc -l <"$out")" whole)
+        verdict "sweep of one trace with a log that is sent $signal" $?
+    done
+    cp parts.log before
+    stopped_at 2 INT 23 --jobs 1 --resume parts.log && says_kept 22 && each_once parts.log 22 &&
+        head -n 17 parts.log | cmp -s - before
+    verdict 'and again' $?
+    noted --jobs 3 --resume parts.log "${wide[@]}" -- huge.din
+    [ "$status" -eq 0 ] && [ ! -s "$err" ] && cmp -s "$out" whole && each_once parts.log 28 &&
+        [ "$(sizes_of_calls)" = '2 2 2 ' ]
+    verdict 'it goes on, and its table is that of a sweep without an interrupt' $?
+    rm -f parts.log
+    stopped_at 1 INT 1 --jobs 1 --resume parts.log && each_once parts.log 0 &&
+        [ "$(<"$err")" = 'sweep: interrupted: none of the 28 configurations is in parts.log' ]
+    verdict 'sweep that is interrupted before its first part has ended' $?
+    stopped_at 1 INT 0 --jobs 1 && [ "$(<"$err")" = 'sweep: interrupted' ]
+    verdict 'sweep without a log promises nothing' $?
+}
+
+test_cuts
+test_growth
+test_interrupts
+simulator=$REAL
+unset SHORT REAL
+rm huge.din parts.log before
