@@ -148,8 +148,8 @@ refused '--threads: each run has one thread, and --jobs says how many run at onc
     --threads 2 "${grid[@]}" -- kinds.din
 refused '--l1-dsize: 8 stands there twice' --vary --l1-dsize 8,16,8 "${rest[@]}" -- kinds.din
 refused 'the trace kinds.din is given twice' "${grid[@]}" -- kinds.din fifo.din kinds.din
-refused '--l1-drepl: not a lawful letter' --vary --l1-drepl l,x "${grid[@]}" -- kinds.din
-refused '--l2-urepl: not a lawful letter' --l2-urepl x "${grid[@]}" -- kinds.din
+refused "--l1-drepl: not a lawful letter: 'x'" --vary --l1-drepl l,x "${grid[@]}" -- kinds.din
+refused "--l2-urepl: not a lawful letter: 'x'" --l2-urepl x "${grid[@]}" -- kinds.din
 ends 'sweep of what is at its own input' 4 \
     'sweep: /dev/stdin is another file for each run of a sweep: give the name of the file itself' \
     "$sweep" "${grid[@]}" -- /dev/stdin
