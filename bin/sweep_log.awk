@@ -1,16 +1,34 @@
-# Puts the rows of a log that are of the grid into the file `pending`. The first line of the file
-# `verdict` is what is to be said of the log: `good`, `damaged`, or `changed` and the name of a trace;
-# and the second has how many configurations of the grid the log has, and how many the grid has. The
-# first line of the log has the names. sweep_grid.awk is read before it.
+# Puts the rows of a log that are of the grid into the file `pending`. With `forgets`, all of the
+# log but the rows of those traces of the grid that have changed goes to the file `left`. The file
+# `verdict` has a line for what is to be said of the log: `good`, `damaged`, or `changed` and the
+# name of a trace. Its second line has how many configurations of the grid are in the log, how many
+# the grid has, and how many rows are of no trace that has changed, and how many are. The first line
+# of the log has the names. sweep_grid.awk is read before it.
 
-BEGIN { said = "good" }
-FNR == 1 { next }
-NF != 2 + options + head_count { said = "damaged"; next }
-$1 in trace_at && $2 "" != sum_of[$1] "" { said = "changed\t" $1; next }
-{ number = number_of_row() }
-number && !(number in row) { rows++ }
-number { print > file("pending"); row[number] = 1 }
+BEGIN {
+    said = "good"
+    found = left = gone = 0
+}
+
+FNR == 1 {
+    if (forgets) print > made("left")
+    next
+}
+
+NF != 2 + options + head_count { is_damaged = 1; next }
+$1 in trace_at && $2 "" != sum_of[$1] "" { said = "changed" OFS $1; gone++; next }
+
+{
+    left++
+    if (forgets) print > made("left")
+    number = number_of_row()
+    if (!number) next
+    if (!(number in row)) found++
+    row[number] = 1
+    print > file("pending")
+}
+
 END {
-    print said > made("verdict")
-    print rows + 0, cells > made("verdict")
+    print (is_damaged ? "damaged" : said) > made("verdict")
+    print found, cells, left, gone > made("verdict")
 }

@@ -24,9 +24,9 @@ open_log() {
     [ ! "$log" -ef /dev/stdout ] || refuse "--resume: $log is where the table goes"
     { exec {log_lock}>>"$log"; } 2>/dev/null || die 4 "$log could not be written"
     flock -n "$log_lock" || die 4 "$log is written by another sweep"
-    [ -z "$restarts" ] || : > "$log"
     end_last_line
     log_names > "$work/names" || no_room
+    [ -z "$restarts" ] || [ ! -s "$log" ] || restart_log
     if [ -s "$log" ]; then
         read_log
     else
@@ -40,28 +40,69 @@ end_last_line() {
     [ -z "$(tail -c 1 < "$log" | tr '\0' 0)" ] || truncate -s "-$(tail -n 1 < "$log" | wc -c)" -- "$log"
 }
 
+# judge_log WORD..: sets `what` to what is to be said of the log, and `counted` to the numbers that
+# sweep_log.awk has found.
+judge_log() {
+    {
+        of_grid log "$@" part=log - < "$log" &&
+            { IFS= read -r what && IFS=$'\t' read -ra counted; } < "$work/verdict.$call"
+    } 2>/dev/null
+}
+
 # find_kept: sets `kept` to how many configurations of the grid are in the log, and what that is
 # good for, if it can still be found out.
 find_kept() {
-    local rows cells
-    { end_last_line && of_grid log part=log - < "$log" &&
-        { read -r && IFS=$'\t' read -r rows cells; } < "$work/verdict.$call"; } 2>/dev/null || return 0
-    kept="none of the $cells configurations is in $log"
-    [ "$rows" -eq 0 ] ||
-        kept="$rows of $cells configurations are in $log; the same call goes on from there"
+    local what counted
+    { end_last_line && judge_log; } 2>/dev/null || return 0
+    kept="none of the ${counted[1]} configurations is in $log"
+    [ "${counted[0]}" -gt 0 ] || return 0
+    kept="${counted[0]} of ${counted[1]} configurations are in $log"
+    kept+='; the same call goes on from there'
 }
 
 # read_log: its rows are those of this simulator, and of the traces as they stand.
 read_log() {
-    local what
+    local what counted
     has_names || say_other_names
-    { of_grid log part=log - < "$log" && IFS= read -r what < "$work/verdict.$call"; } 2>/dev/null ||
-        no_room
+    judge_log || no_room
     case $what in
     good) ;;
     damaged) refuse "$log is no log of a sweep" ;;
-    *) die 2 "${what#*$'\t'} has changed since $log was begun; --restart begins anew" ;;
+    *) die 2 "${what#*$'\t'} has changed since $log was begun; --restart forgets its rows" ;;
     esac
+}
+
+# restart_log: forgets the rows of the traces that have changed, or all of a log that is of other
+# options or damaged.
+restart_log() {
+    local what=damaged counted left=0 gone
+    ! has_names || judge_log forgets=yes || no_room
+    if [ "$what" = damaged ]; then
+        gone=$(($(wc -l < "$log") - 1))
+        : > "$log"
+        : > "$work/pending"
+    else
+        left=${counted[2]} gone=${counted[3]}
+        [ "$gone" -eq 0 ] || replace_log "$work/left.$call"
+    fi
+    complain "$log: $left rows are kept, and $gone are forgotten"
+}
+
+# replace_log FILE: puts it into the place of the log, which is whole at any time. No other call
+# gets between: the old file stays locked to the end, and the new one is so before it has the name.
+replace_log() {
+    local paths part fault
+    find_paths "$log"
+    part=${paths[0]}.part$$
+    leftovers+=("$part")
+    fault=$({
+        exec 2>&1
+        cp --attributes-only --preserve=mode,ownership -- "$log" "$part" && cat -- "$1" > "$part"
+    }) || die 4 "$log could not be written: ${fault##*: }"
+    { exec {log_lock}>>"$part"; } 2>/dev/null || die 4 "$log could not be written"
+    flock -n "$log_lock" || die 4 "$log is written by another sweep"
+    fault=$(mv -fT -- "$part" "${paths[0]}" 2>&1) ||
+        die 4 "$log could not be written: ${fault##*: }"
 }
 
 # has_names: the log begins with the names of this sweep.

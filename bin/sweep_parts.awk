@@ -1,10 +1,10 @@
-# Cuts runs further for a log, so that at an interrupt the parts that have ended are kept: the runs of
-# a grid would else all end at nearly one time. Each part reads the trace anew. sweep_grid.awk is read
-# before it, and sweep_plan.awk beside it.
+# Cuts runs further for a log, so that at an interrupt the parts that have ended are kept: the runs
+# of a grid would else all end at nearly one time. Each part reads the trace anew. sweep_grid.awk is
+# read before it, and sweep_plan.awk beside it.
 
 # Work is counted in bytes of the trace that a cache of the first level takes in; a second or so is
-# 300 million of these. A part has no less than `least`, and the parts of a run have at most `worst`
-# times the work of the run. How long an unpacked trace is, can only be guessed.
+# 300 million of these. The parts of a run have at least `least` each, by their mean, and together
+# at most `worst` times the work of the run. By how much a trace is packed is a guess.
 BEGIN {
     least = 250000000
     worst = 1.25
@@ -40,8 +40,8 @@ function parts_of_run(line,   before, whole, parts, work, some) {
     return parts
 }
 
-# work_of(LINE): of a run. To read the trace takes about as long as one cache of the first level, and
-# what only a row has, its second level, a tenth. Values that belong to no cache are of all of them.
+# work_of(LINE): of a run. To read the trace takes about as long as one cache of the first level,
+# and what only a row has, its second level, a tenth. Values that belong to no cache are of all.
 function work_of(line,   word, one, d, rows, caches) {
     split(line, word, "\t")
     rows = caches["l1-i"] = caches["l1-d"] = caches["l2-u"] = caches["all"] = 1
@@ -52,8 +52,8 @@ function work_of(line,   word, one, d, rows, caches) {
     return bytes[word[1]] * (1 + caches["all"] * (caches["l1-i"] + caches["l1-d"]) + rows / 10)
 }
 
-# dimension_above(WORD): the first option with several values that is none of the second level, since
-# parts that differ in that alone share their first levels.
+# dimension_above(WORD): the first option with several values that is none of the second level,
+# since parts that differ in that alone have the same first levels.
 function dimension_above(word,   d, one) {
     for (d = 1; d <= dimensions; d++)
         if (split(word[d + 1], one, ",") > 1 && cache_of(d) != "l2-u") return d

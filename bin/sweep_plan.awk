@@ -1,8 +1,8 @@
 # Cuts a grid into runs. For each, the file `runs` has a line, and `commands` the line of shell that
 # makes it. A configuration whose whole row was read needs no run. With `task` and `tasks`, these
 # are the runs of one part of so many; with `slots`, so many can be made at once. With `part=sizes`,
-# whose lines have the sizes of the traces in bytes as their third words, the runs are for a log, and
-# sweep_parts.awk cuts them further. sweep_grid.awk is read before it, and sweep_parts.awk and
+# whose lines have the sizes of the traces in bytes as their third words, the runs are for a log,
+# and sweep_parts.awk cuts them further. sweep_grid.awk is read before it, and sweep_parts.awk and
 # sweep_commands.awk beside it.
 
 # What one call of dinero_grid takes.

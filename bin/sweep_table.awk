@@ -1,8 +1,8 @@
 # Makes lines of the table from whole rows, which come in any order. The names of the columns are
 # line 0. The file `lines` has how many of those that it makes have a fault, how many lines the grid
 # has, and of the first fault its line in the table and its text, if there is one; then the lines,
-# from number `from` on, as far as there is a row for each, or with `all` to the end of the grid. The
-# rows that are left go to the file `pending`. sweep_grid.awk is read before it.
+# from number `from` on, as far as there is a row for each, or with `all` to the end of the grid.
+# The rows that are left go to the file `pending`. sweep_grid.awk is read before it.
 
 BEGIN { missing = "not simulated" }
 
@@ -17,6 +17,7 @@ END {
     for (n in row) if (n + 0 >= to) print row[n] > file("pending")
 }
 
+# note_fault(N): counts it. The first line of the table has the names.
 function note_fault(n,   text) {
     if (faults++) return
     text = n in row ? row[n] : missing

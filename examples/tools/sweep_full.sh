@@ -113,7 +113,9 @@ test_full_log() {
     cmp -s plain.log before
     verdict 'it, too, is left as it was' $?
     run "$sweep" --full --resume plain.log --restart "${grid[@]}" -- kinds.din fifo.din
-    is_full && [ "$(wc -l <plain.log)" -eq 9 ]
+    [ "$status" -eq 0 ] && [ "$(<"$err")" = \
+        'sweep: plain.log: 0 rows are kept, and 8 are forgotten' ] && cmp -s "$out" full.tsv &&
+        [ "$(wc -l <plain.log)" -eq 9 ]
     verdict 'and is begun anew with --restart' $?
     sed '1s/l1-dsize/l1-csize/' full.log >plain.log
     ends 'a full log of another simulator' 2 \

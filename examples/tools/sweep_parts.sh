@@ -1,6 +1,6 @@
 # Tests that bin/sweep cuts a long grid of one trace into parts where it keeps a log, and that an
 # interrupt leaves those in the log that have ended. Read by tools.sh.
-# shellcheck shell=bash disable=SC2016,SC2054,SC2154  # names that tools.sh and its other files set
+# shellcheck shell=bash disable=SC2054,SC2154  # names that tools.sh and its other files set
 
 # A trace of 1 GiB, of which the disk holds nothing. In place of it, this simulator reads kinds.din.
 # It stops before the run of the number $STOP.
@@ -115,7 +115,8 @@ test_interrupts() {
     for signal in INT TERM HUP; do
         rm -f parts.log
         stopped_at 3 $signal 17 --jobs 1 --resume parts.log && says_kept 16 &&
-            each_once parts.log 16 && lines_at_least "$out" 1 && cmp -s "$out" <(head -n "$(wc -l <"$out")" whole)
+            each_once parts.log 16 && lines_at_least "$out" 1 &&
+            cmp -s "$out" <(head -n "$(wc -l <"$out")" whole)
         verdict "sweep of one trace with a log that is sent $signal" $?
     done
     cp parts.log before

@@ -25,7 +25,7 @@ is_refused() {
 }
 
 test_known_traces() {
-    local changed='known.din has changed since known was begun; --restart begins anew'
+    local changed='known.din has changed since known was begun; --restart forgets its rows'
     rm -f known
     cp -p kinds.din known.din
     with_log && cp "$out" first && with_log
@@ -37,7 +37,8 @@ test_known_traces() {
     replace_trace && cp other.din known.din && touch -r kinds.din known.din
     is_refused 'a trace of the same size and time' "$changed"
     with_log --restart
-    [ "$status" -eq 0 ] && cmp -s "$out" whole && [ "$(wc -l <known)" -eq 5 ]
+    [ "$status" -eq 0 ] && cmp -s "$out" whole && [ "$(wc -l <known)" -eq 5 ] &&
+        [ "$(<"$err")" = 'sweep: known: 0 rows are kept, and 4 are forgotten' ]
     verdict 'sweep begins anew with the trace of now' $?
     echo '0 0' >>known.din
     is_refused 'a trace that has grown' "$changed"
@@ -52,6 +53,100 @@ test_known_traces() {
         "$sweep" --resume no-log --restart "${grid[@]}" -- kinds.din
     cmp -s no-log kinds.din
     verdict 'it is left as it was' $?
+}
+
+# restarted KEPT FORGOTTEN: the sweep says how many rows of the log `many` there were.
+restarted() {
+    [ "$status" -eq 0 ] && [ "$(<"$err")" = \
+        "sweep: many: $1 rows are kept, and $2 are forgotten" ] && cmp -s "$out" whole
+}
+
+# A log of three traces with four rows each, one of which changes.
+test_restart() {
+    local three=(a.din b.din c.din) name
+    for name in "${three[@]}"; do
+        cp kinds.din "$name"
+    done
+    rm -f many real-log
+    ln -s real-log many
+    run "$sweep" --resume many "${grid[@]}" -- "${three[@]}"
+    chmod 640 real-log
+    cp "$out" whole && cp many before
+    run "$sweep" --resume many --restart "${grid[@]}" -- "${three[@]}"
+    restarted 12 0 && cmp -s many before
+    verdict 'no row is forgotten where no trace has changed' $?
+    cp fifo.din b.din
+    ends 'one of three traces has changed' 2 \
+        'sweep: b.din has changed since many was begun; --restart forgets its rows' \
+        "$sweep" --resume many "${grid[@]}" -- "${three[@]}"
+    run "$sweep" --resume many "${grid[@]}" -- c.din a.din
+    [ "$status" -eq 0 ] && [ ! -s "$err" ] && cmp -s many before
+    verdict 'the others are taken' $?
+    run "$sweep" "${grid[@]}" -- b.din c.din
+    cp "$out" whole
+    no_room_to_restart
+    noted --jobs 1 --resume many --restart "${grid[@]}" -- b.din c.din
+    restarted 8 4 && [ "$(sed 's/.*--l1-dsize //; s/ .*//' "$work/calls")" = 8,16 ] &&
+        [ "$(grep -vc '^b' before)" -eq 9 ] && head -n 9 many | cmp -s - <(grep -v '^b' before) &&
+        [ "$(tail -n +10 many | cut -f 1 | uniq -c | tr -s ' ')" = ' 4 b.din' ]
+    verdict 'its rows alone are forgotten, and simulated again' $?
+    [ -L many ] && [ "$(stat -c %a real-log)" = 640 ] && [ -z "$(find . -name '*.part*')" ]
+    verdict 'the log has its place and its mode' $?
+    echo damaged >>many
+    ends 'a damaged log' 2 'sweep: many is no log of a sweep; try --help' \
+        "$sweep" --resume many "${grid[@]}" -- b.din c.din
+    run "$sweep" --resume many --restart "${grid[@]}" -- b.din c.din
+    restarted 0 13 && [ "$(cut -f 1 many | sort | uniq -c | tr -s ' ' | tr '\n' ,)" = \
+        ' 4 b.din, 4 c.din, 1 trace,' ]
+    verdict 'it is begun anew' $?
+    rm many real-log "${three[@]}"
+}
+
+# A log that is longer than the disk has room for, as it is read.
+no_room_to_restart() {
+    local sizes=8,16,32,64,128,256,512,1k,2k,4k,8k,16k
+    cp many mine
+    run "$sweep" --resume many --vary --l1-dsize $sizes --vary --l1-isize $sizes --l1-ibsize 4 \
+        --l1-dbsize 4 --l2-usize 64 --l2-ubsize 8 -- a.din
+    cp many before
+    ends 'no room to forget rows' 4 "sweep: no room for temporary files in $TMPDIR" \
+        no_room 16 "$sweep" --resume many --restart "${grid[@]}" -- b.din c.din
+    [ "$(wc -c <before)" -gt 16384 ] && cmp -s many before
+    verdict 'none is forgotten' $?
+    cp mine before
+    cat mine >many
+}
+
+# A log from which rows were forgotten is still kept from another call.
+test_restarted_lock() {
+    rm -f known
+    with_log
+    echo '0 0' >>known.din
+    cat >"$work/waiting" <<'END'
+#!/usr/bin/env bash
+if [ "$1" != --help ] && ! [ /dev/stdin -ef /dev/null ]; then
+    : >"$MARK"
+    exec sleep 60
+fi
+exec "$REAL" "$@"
+END
+    chmod +x "$work/waiting"
+    rm -f "$work/still"
+    start env MARK="$work/still" REAL="$simulator" CALLS="$work/calls" GRID="$work/waiting" \
+        "$noting/sweep" --resume known --restart --jobs 1 "${grid[@]}" -- known.din
+    until_true test -e "$work/still"
+    "$sweep" --resume known "${grid[@]}" -- known.din >"$work/other" 2>&1
+    [ $? -eq 4 ] && [ "$(<"$work/other")" = 'sweep: known is written by another sweep' ] &&
+        [ "$(wc -l <known)" -eq 1 ]
+    status=$?
+    kill -INT -- "-$started"
+    wait "$started" 2>/dev/null
+    [ "$status" -eq 0 ] && [ "$(<"$err")" = "sweep: known: 0 rows are kept, and 4 are forgotten
+sweep: interrupted: none of the 4 configurations is in known" ]
+    verdict 'a log from which rows were forgotten, in use' $?
+    with_log
+    [ "$status" -eq 0 ] && [ ! -s "$err" ] && [ "$(wc -l <known)" -eq 5 ]
+    verdict 'it is free again' $?
 }
 
 # A log that ends at any byte, as one may after a kill or on a full disk: the same table, and each
@@ -276,6 +371,8 @@ test_known_traces
 test_steps
 test_long_trace
 test_long_task
+test_restart
+test_restarted_lock
 test_cut_logs
 test_lock
 test_changes
