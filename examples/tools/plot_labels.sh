@@ -17,11 +17,11 @@ test_levels() {
     gives 'points of sizes in other forms' points \
         $'1\t65536\t50.000000\n1\t1048576\t20.000000\n1\t4194304\t0.000000'
     gives 'a name of another cache, and a title of policies' words ' a.din, l2-ucache, FIFO, '\
-'write-through, no write allocatesize of l2-ucache (KiB)l1-dcache 8 KiB'
+'write-through, no write allocate, l1-dcache write-throughsize of l2-ucache (KiB)l1-dcache 8 KiB'
     keeps rates levels.tsv points.svg --cache l2-ucache --by l1-dsize --only l1-dwback n \
         --only l2-usize 1M --only l2-usize 4096k
     gives 'an axis of large sizes' words ' a.din, l2-ucache, FIFO, '\
-'write-through, no write allocatesize of l2-ucache (MiB)l1-dcache 8 KiB'
+'write-through, no write allocate, l1-dcache write-throughsize of l2-ucache (MiB)l1-dcache 8 KiB'
     tells 'and its marks' "set xtics scale 1,0.6 ('1' 1048576,'2' 2097152,'4' 4194304)"
     sed 's/\tf\tn\tn/\tl\ta\ta/' levels.tsv >others.tsv
     keeps rates others.tsv points.svg --cache l2-ucache --over l1-dsize --only l2-usize 64k \

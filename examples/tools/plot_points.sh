@@ -172,9 +172,9 @@ test_axes() {
     keeps rates to_2m.tsv points.svg --size 336x250 --linear
     tells 'and one that has more than a MiB between them' "set xtics scale 1,0.6 \
 ('0' 0,'512k' 524288,'1M' 1048576,'1536k' 1572864,'2M' 2097152)"
-    sed '1s/l1-dbsize/maxcount/; 2s/\t32\t/\t300\t/; 3s/\t32\t/\t400\t/' points.tsv >counts.tsv
-    keeps rates counts.tsv points.svg --over maxcount --cache l1-dcache --by l1-dassoc \
-        --only maxcount 300 --only maxcount 400
+    sed '1s/l1-dbsize/skipcount/; 2s/\t32\t/\t300\t/; 3s/\t32\t/\t400\t/' points.tsv >counts.tsv
+    keeps rates counts.tsv points.svg --over skipcount --cache l1-dcache --by l1-dassoc \
+        --only skipcount 300 --only skipcount 400
     tells 'a linear axis that does not begin at 0' 'set xrange [300-0.03*100:400+0.03*100]'
     keeps rates points.tsv points.svg --only l1-dsize 16k
     tells 'marks at a height of 2' 'set ytics 2' 'set yrange [0:*]'

@@ -77,7 +77,9 @@ noted --jobs 1 --vary --maxcount 0,3 "${grid[@]}" -- kinds.din
     '0 8 1 0,0 8 2 0,0 16 1 0,0 16 2 0,3 8 1 0,3 8 2 0,3 16 1 0,3 16 2 0,' ]
 verdict 'and so does the other one' $?
 run "$sweep" --vary --skipcount 0,1 --vary --l1-dsize 24,16 "${rest[@]}" -- kinds.din
-[ "$status" -eq 1 ] && [ "$(<"$err")" = 'sweep: 2 of 4 configurations have a fault' ] &&
+first="line 2: $power"
+[ "$status" -eq 1 ] &&
+    [ "$(<"$err")" = "sweep: 2 of 4 configurations have a fault, the first in $first (column fault)" ] &&
     [ "$(rows_of 2,3,37)" = "0 24 $power,0 16 -,1 24 $power,1 16 -," ]
 verdict 'and its first configuration may be refused' $?
 # Each run has every second row of a trace, and waits with them for the other.

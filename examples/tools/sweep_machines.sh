@@ -62,9 +62,10 @@ chmod +x "$work/cut-off/zcat"
 gzip -k kinds.din
 rm -f packed.log
 run env PATH="$work/cut-off:$PATH" "$sweep" --resume packed.log "${grid[@]}" -- kinds.din.gz
-[ "$status" -eq 1 ] && [ "$(<"$err")" = 'sweep: kinds.din.gz: zcat ended with status 137
-sweep: 4 of 4 configurations have a fault' ] &&
-    [ "$(rows_of 4,37 | tr , '\n' | sort -u)" = '- zcat ended with status 137' ] &&
+reason='zcat ended with status 137'
+[ "$status" -eq 1 ] && [ "$(<"$err")" = "sweep: kinds.din.gz: $reason
+sweep: 4 of 4 configurations have a fault, the first in line 2: $reason (column fault)" ] &&
+    [ "$(rows_of 4,37 | tr , '\n' | sort -u)" = "- $reason" ] &&
     [ "$(wc -l <packed.log)" -eq 1 ]
 verdict 'sweep of a trace whose unpacker is killed' $?
 run "$sweep" --resume packed.log "${grid[@]}" -- kinds.din.gz
@@ -108,7 +109,7 @@ noted --jobs 1 "${grid[@]}" -- kinds.din fifo.din
 simulator=$good
 [ "$status" -eq 1 ] && [ "$(tail -n 3 "$err")" = 'sweep: kinds.din: not simulated
 sweep: fifo.din: not simulated
-sweep: 8 of 8 configurations have a fault' ] &&
+sweep: 8 of 8 configurations have a fault, the first in line 2: not simulated (column fault)' ] &&
     [ "$(rows_of 37 | tr , '\n' | sort -u)" = 'not simulated' ]
 verdict 'sweep whose first run is killed' $?
 

@@ -228,7 +228,7 @@ test_steps() {
 # A trace of more than two MiB, by a link. Its first record, its last one or its time of change is
 # then another one, and nothing else.
 test_long_trace() {
-    local changed='known.din has changed since known was begun; --restart begins anew'
+    local changed='known.din has changed since known was begun; --restart forgets its rows'
     local time='2001-01-01 00:00:00'
     rm -f known known.din
     yes '0 0' | head -n 600000 >behind.din
