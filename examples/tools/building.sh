@@ -23,8 +23,13 @@ echo "$TOOLCHAIN"
 END
 chmod +x "$work/fake/rt"
 
+# take_toolchain FOLDER: what is called from now on finds the one that is in it.
+take_toolchain() {
+    tools=$work/$1
+}
+
 # launch: a run of the first lesson in that checkout, with the toolchain in the folder $tools.
-tools=$work/fake
+take_toolchain fake
 mapfile -t words <"$top/examples/1-kinds/kinds.words"
 launch() {
     status=0
@@ -198,7 +203,7 @@ run)
 esac
 END
 chmod +x "$work/builds/rt"
-tools=$work/builds
+take_toolchain builds
 # launch_new: of a checkout whose sources are not those of the kept program.
 launch_new() {
     new_checkout
@@ -225,122 +230,3 @@ verdict 'the next call builds it again' $?
 under() {
     run env TOP="$fresh" TOOLCHAIN="$1" PATH="$tools:$PATH" "${@:2}"
 }
-
-# A sweep asks the simulator, and begins its runs, while it finds out what that was built from: here
-# that is missing, or a fake one of other sources, which takes no word, has other options, has a one
-# for each zero of its tables, or takes any word.
-# shellcheck disable=SC2054  # commas between values
-grid=(--vary --l1-dsize 8,16 --l1-isize 16 --l1-ibsize 4 --l1-dbsize 4 --l2-usize 32 --l2-ubsize 8)
-fake_simulator() {
-    mkdir -p "$fresh/crates/dinero_grid/out"
-    printf '#!/bin/sh\n%s\n' "$1" >"$fresh/crates/dinero_grid/out/dinero_grid"
-    chmod +x "$fresh/crates/dinero_grid/out/dinero_grid"
-}
-sweep_there() {
-    under "$toolchain" "$fresh/bin/sweep" "$@" -- "$top/examples/1-kinds/kinds.din"
-}
-run "$bin/sweep" "${grid[@]}" -- "$top/examples/1-kinds/kinds.din"
-cp "$out" "$work/table"
-is_swept() {
-    [ "$status" -eq 0 ] && cmp -s "$out" "$work/table" && [ "$(wc -l <"$err")" -eq "$1" ]
-}
-new_checkout
-sweep_there "${grid[@]}"
-is_swept 1 && [ "$(<"$err")" = "sweep: $(kept_words dinero_grid)" ]
-verdict 'a sweep without a simulator takes the kept one' $?
-sweep_there "${grid[@]}"
-check 'the next sweep says nothing' is_swept 0
-for script in 'exit 2' 'echo "      --l3-usize <SIZE>  One"' \
-    "$top/crates/dinero_grid/out/dinero_grid \"\$@\" | sed '/^[0-9]/s/0/1/g'"; do
-    fake_simulator "$script"
-    sweep_there "${grid[@]}"
-    is_swept 1 && [ "$(<"$err")" = "sweep: $(kept_words dinero_grid)" ]
-    verdict "a sweep believes no simulator of other sources: ${script##*| }" $?
-done
-fake_simulator "$top/crates/dinero_grid/out/dinero_grid \"\$@\" |
-    sed 's/^ *--l1-isize <.*/&\\n      --l0-isize <SIZE>  One more [default: 1]/'"
-sweep_there --resume "$work/there.log" "${grid[@]}"
-is_swept 1 && [ "$(wc -l <"$work/there.log")" -eq 3 ] && ! grep -q l0-isize "$work/there.log"
-verdict 'nor does it begin a log by what that one says' $?
-new_checkout
-stopped 'a sweep whose simulator is looked at, and' sort \
-    "$fresh/bin/sweep" "${grid[@]}" -- "$top/examples/1-kinds/kinds.din"
-fake_simulator 'exit 0'
-sweep_there --l3-usize 4 "${grid[@]}"
-[ "$status" -eq 2 ] && [ ! -s "$out" ] &&
-    [ "$(tail -n 1 "$err")" = 'sweep: unknown option: --l3-usize; try --help' ]
-verdict 'nor does it refuse a word by what that one says' $?
-echo >>"$fresh/crates/grid_run/src/lib.rt"
-sweep_there "${grid[@]}"
-is_swept 11 && grep -q '^sweep: proved and built dinero_grid' "$err"
-verdict 'a sweep of sources that were changed builds the simulator' $?
-
-# as_other COMMAND..: by a toolchain of another name.
-as_other() {
-    under 'one more' "$@"
-}
-new_checkout
-as_other "$fresh/bin/prove"
-[ "$status" -eq 0 ] && grep -q 'does not name the toolchain that built it here' "$out"
-verdict 'prove says that the toolchain is another' $?
-as_other "$fresh/.ci/kept_programs"
-[ "$status" -eq 0 ] && grep -q 'does not name the toolchain that built it here' "$out"
-verdict 'and so does the gate, which takes the same bits' $?
-as_other "$fresh/bin/release"
-[ "$status" -eq 0 ] && [ "$(toolchains "$fresh")" = "$(
-    { toolchains "$top"; echo 'one more'; } | LC_ALL=C sort)" ]
-verdict 'release adds a toolchain that builds the same program' $?
-echo >>"$fresh/crates/sim_run/src/lib.rt"
-as_other "$fresh/bin/release"
-[ "$status" -eq 0 ] && [ "$(toolchains "$fresh")" = 'one more' ]
-verdict 'and names it alone for other sources' $?
-tools=$work/fake
-
-way_out='its owner can call this once, or bin/install PREFIX, which makes programs that need no checkout'
-
-# can_not_write CRATE: it says so, and does not begin to prove.
-can_not_write() {
-    [ "$status" -eq 70 ] && [ "$(wc -l <"$err")" -eq 2 ] &&
-        grep -q '^dinero_pipe: the kept dinero_pipe is not taken: ' "$err" &&
-        [ "$(tail -n 1 "$err")" = "dinero_pipe: dinero_pipe is missing or older than its sources, and $fresh/crates/$1/out can't be written; $way_out" ]
-}
-
-# can_not_put: it says in one line that the kept program has no place.
-can_not_put() {
-    [ "$status" -eq 70 ] && [ "$(<"$err")" = \
-        "dinero_pipe: the kept dinero_pipe can't be put into $fresh/crates/dinero_pipe/out; $way_out" ]
-}
-
-for crate in dinero_pipe sim_run; do
-    rm -rf "$fresh/crates/$crate/out"
-    : >"$fresh/crates/$crate/out"
-    launch
-    check "a stale checkout where crates/$crate can not be written" can_not_write $crate
-    rm "$fresh/crates/$crate/out"
-done
-
-# A checkout of somebody else's, who has the program or not, which then is stale.
-chmod a+rx "$work"
-as_guest() {
-    run setpriv --reuid 65534 --regid 65534 --clear-groups \
-        "$fresh/bin/dinero_pipe" "${words[@]}"
-}
-if [ "$(id -u)" -eq 0 ] && setpriv --reuid 65534 test -r "$fresh/crates.txt"; then
-    new_checkout
-    as_guest
-    check 'a checkout of another user, without the program' can_not_put
-    launch
-    as_guest
-    [ "$status" -eq 0 ] && grep -q '^l1-dcache' "$out" && [ ! -s "$err" ]
-    verdict 'a checkout of another user, with the program' $?
-    echo >>"$fresh/crates/sim_run/src/lib.rt"
-    as_guest
-    check 'a stale checkout of another user' can_not_write pipe_rings
-    mkdir -p "$fresh/crates/dinero_pipe/out"
-    chmod a+rwx "$fresh/crates/dinero_pipe/out"
-    as_guest
-    check 'a stale checkout of another user, but for one folder' can_not_write pipe_rings
-else
-    skip 'a checkout of another user' 'the rights of root'
-fi
-rm -rf "$fresh"

@@ -1,5 +1,4 @@
-# Tests that a log knows its traces, that it goes on from wherever it was left, and that a full disk
-# is told. Read by tools.sh.
+# Tests that a log knows its traces, and that it goes on from wherever it was left. Read by tools.sh.
 # shellcheck shell=bash disable=SC2154  # names that tools.sh and its other files set
 
 # with_log WORD..: the grid of one trace, with a log.
@@ -53,100 +52,6 @@ test_known_traces() {
         "$sweep" --resume no-log --restart "${grid[@]}" -- kinds.din
     cmp -s no-log kinds.din
     verdict 'it is left as it was' $?
-}
-
-# restarted KEPT FORGOTTEN: the sweep says how many rows of the log `many` there were.
-restarted() {
-    [ "$status" -eq 0 ] && [ "$(<"$err")" = \
-        "sweep: many: $1 rows are kept, and $2 are forgotten" ] && cmp -s "$out" whole
-}
-
-# A log of three traces with four rows each, one of which changes.
-test_restart() {
-    local three=(a.din b.din c.din) name
-    for name in "${three[@]}"; do
-        cp kinds.din "$name"
-    done
-    rm -f many real-log
-    ln -s real-log many
-    run "$sweep" --resume many "${grid[@]}" -- "${three[@]}"
-    chmod 640 real-log
-    cp "$out" whole && cp many before
-    run "$sweep" --resume many --restart "${grid[@]}" -- "${three[@]}"
-    restarted 12 0 && cmp -s many before
-    verdict 'no row is forgotten where no trace has changed' $?
-    cp fifo.din b.din
-    ends 'one of three traces has changed' 2 \
-        'sweep: b.din has changed since many was begun; --restart forgets its rows' \
-        "$sweep" --resume many "${grid[@]}" -- "${three[@]}"
-    run "$sweep" --resume many "${grid[@]}" -- c.din a.din
-    [ "$status" -eq 0 ] && [ ! -s "$err" ] && cmp -s many before
-    verdict 'the others are taken' $?
-    run "$sweep" "${grid[@]}" -- b.din c.din
-    cp "$out" whole
-    no_room_to_restart
-    noted --jobs 1 --resume many --restart "${grid[@]}" -- b.din c.din
-    restarted 8 4 && [ "$(sed 's/.*--l1-dsize //; s/ .*//' "$work/calls")" = 8,16 ] &&
-        [ "$(grep -vc '^b' before)" -eq 9 ] && head -n 9 many | cmp -s - <(grep -v '^b' before) &&
-        [ "$(tail -n +10 many | cut -f 1 | uniq -c | tr -s ' ')" = ' 4 b.din' ]
-    verdict 'its rows alone are forgotten, and simulated again' $?
-    [ -L many ] && [ "$(stat -c %a real-log)" = 640 ] && [ -z "$(find . -name '*.part*')" ]
-    verdict 'the log has its place and its mode' $?
-    echo damaged >>many
-    ends 'a damaged log' 2 'sweep: many is no log of a sweep; try --help' \
-        "$sweep" --resume many "${grid[@]}" -- b.din c.din
-    run "$sweep" --resume many --restart "${grid[@]}" -- b.din c.din
-    restarted 0 13 && [ "$(cut -f 1 many | sort | uniq -c | tr -s ' ' | tr '\n' ,)" = \
-        ' 4 b.din, 4 c.din, 1 trace,' ]
-    verdict 'it is begun anew' $?
-    rm many real-log "${three[@]}"
-}
-
-# A log that is longer than the disk has room for, as it is read.
-no_room_to_restart() {
-    local sizes=8,16,32,64,128,256,512,1k,2k,4k,8k,16k
-    cp many mine
-    run "$sweep" --resume many --vary --l1-dsize $sizes --vary --l1-isize $sizes --l1-ibsize 4 \
-        --l1-dbsize 4 --l2-usize 64 --l2-ubsize 8 -- a.din
-    cp many before
-    ends 'no room to forget rows' 4 "sweep: no room for temporary files in $TMPDIR" \
-        no_room 16 "$sweep" --resume many --restart "${grid[@]}" -- b.din c.din
-    [ "$(wc -c <before)" -gt 16384 ] && cmp -s many before
-    verdict 'none is forgotten' $?
-    cp mine before
-    cat mine >many
-}
-
-# A log from which rows were forgotten is still kept from another call.
-test_restarted_lock() {
-    rm -f known
-    with_log
-    echo '0 0' >>known.din
-    cat >"$work/waiting" <<'END'
-#!/usr/bin/env bash
-if [ "$1" != --help ] && ! [ /dev/stdin -ef /dev/null ]; then
-    : >"$MARK"
-    exec sleep 60
-fi
-exec "$REAL" "$@"
-END
-    chmod +x "$work/waiting"
-    rm -f "$work/still"
-    start env MARK="$work/still" REAL="$simulator" CALLS="$work/calls" GRID="$work/waiting" \
-        "$noting/sweep" --resume known --restart --jobs 1 "${grid[@]}" -- known.din
-    until_true test -e "$work/still"
-    "$sweep" --resume known "${grid[@]}" -- known.din >"$work/other" 2>&1
-    [ $? -eq 4 ] && [ "$(<"$work/other")" = 'sweep: known is written by another sweep' ] &&
-        [ "$(wc -l <known)" -eq 1 ]
-    status=$?
-    kill -INT -- "-$started"
-    wait "$started" 2>/dev/null
-    [ "$status" -eq 0 ] && [ "$(<"$err")" = "sweep: known: 0 rows are kept, and 4 are forgotten
-sweep: interrupted: none of the 4 configurations is in known" ]
-    verdict 'a log from which rows were forgotten, in use' $?
-    with_log
-    [ "$status" -eq 0 ] && [ ! -s "$err" ] && [ "$(wc -l <known)" -eq 5 ]
-    verdict 'it is free again' $?
 }
 
 # A log that ends at any byte, as one may after a kill or on a full disk: the same table, and each
@@ -261,20 +166,6 @@ test_long_task() {
     rm -r behind.din long
 }
 
-# The log of another sweep is not emptied.
-test_lock() {
-    local lock
-    with_log
-    cp known before
-    exec {lock}<known
-    flock "$lock"
-    ends 'a log in use that is to be begun anew' 4 'sweep: known is written by another sweep' \
-        "$sweep" --resume known --restart "${grid[@]}" -- known.din
-    exec {lock}<&-
-    cmp -s known before && [ -s known ]
-    verdict 'it is left to the other sweep' $?
-}
-
 # end_all: of a sweep, as after a power cut.
 end_all() {
     # shellcheck disable=SC2046  # numbers of processes
@@ -307,79 +198,20 @@ test_kills() {
     verdict 'sweep goes on after kills at four moments' $?
 }
 
-# A log of 145 lines, longer than what else a sweep and GNU parallel write.
-test_full_log() {
-    local sizes=8,16,32,64,128,256,512,1k,2k,4k,8k,16k
-    rm -f known
-    run "$sweep" --resume known --vary --l1-dsize $sizes --vary --l1-isize $sizes \
-        --l1-ibsize 4 --l1-dbsize 4 --l2-usize 64 --l2-ubsize 8 -- known.din
-    run no_room 16 "$sweep" --resume known "${grid[@]}" -- known.din
-    [ "$status" -eq 4 ] && [ "$(<"$err")" = 'sweep: known could not be written: File too large' ] &&
-        [ "$(wc -c <known)" -gt 16384 ] && lines_at_least "$out" 1
-    verdict 'sweep with a log on a full disk' $?
-    with_log
-    [ "$status" -eq 0 ] && whole_lines "$out" "$fields" && cmp -s "$out" whole
-    verdict 'it goes on once there is room' $?
-}
-
-test_full_disk() {
-    ends 'sweep on a full disk' 4 "sweep: no room for temporary files in $TMPDIR" \
-        no_room 1 "$sweep" "${grid[@]}" -- kinds.din
-    # The lines of 60 configurations have room without counts, and not with those of a long trace.
-    run no_room 7 "$sweep" --jobs 1 --vary --flushcount "$(seq -s , 60)" --l1-dsize 1k \
-        "${long[@]:3}" -- long.din
-    [ "$status" -eq 4 ] && [ "$(wc -l <"$out")" -eq 1 ] &&
-        [ "$(<"$err")" = "sweep: no room for temporary files in $TMPDIR" ]
-    verdict 'sweep whose run fills the disk' $?
-    "$sweep" --task 1 --into full "${grid[@]}" -- kinds.din
-    ends 'a task on a full disk' 4 "sweep: no room for temporary files in $TMPDIR" \
-        no_room 1 "$sweep" --task 2 --into full "${grid[@]}" -- kinds.din
-    [ -s full/1 ] && [ "$(ls full)" = $'1\ngrid' ]
-    verdict 'it leaves nothing there' $?
-    rm -r full
-}
-
-# A folder of the user's stays, though a task leaves nothing in it, and one that it made does not.
-test_folders() {
-    local folder
-    mkdir empty
-    ends 'gathering from an empty folder' 4 'sweep: no folder of rows: empty' \
-        "$sweep" --gather empty
-    for folder in empty new; do
-        ends "a task that can't be written into a folder that is $folder" 4 \
-            "sweep: no rows can be written to $folder: File too large" \
-            no_room 4 "$sweep" --task 1 --into $folder "${grid[@]}" -- kinds.din
-    done
-    [ ! -e new ] && rmdir empty
-    verdict 'an empty folder stays, and a new one does not' $?
-    # shellcheck disable=SC2016  # the inner shell has the word
-    run bash -c 'mkdir gone && cd gone && rmdir ../gone && exec "$1" --gather relative' - "$sweep"
-    [ "$status" -eq 4 ] &&
-        [ "$(tail -n 1 "$err")" = 'sweep: relative has no whole name: is the working folder gone?' ]
-    verdict 'gathering from a folder that is gone' $?
-}
-
-refused '--restart goes with --resume' --restart "${grid[@]}" -- kinds.din
-"$sweep" --resume same.tsv "${grid[@]}" -- kinds.din >same.tsv 2>"$err"
+log=same.tsv
+"$sweep" --resume "$log" "${grid[@]}" -- kinds.din >same.tsv 2>"$err"
 status=$?
 [ "$status" -eq 2 ] && [ ! -s same.tsv ] &&
     [ "$(<"$err")" = 'sweep: --resume: same.tsv is where the table goes; try --help' ]
 verdict 'a log where the table goes' $?
-test_full_disk
-test_folders
 test_known_traces
 test_steps
 test_long_trace
 test_long_task
-test_restart
-test_restarted_lock
 test_cut_logs
-test_lock
 test_changes
 test_kills
 ends 'sweep without awk' 69 'sweep: awk is missing: install the package mawk' \
     env PATH="$(without awk)" "$sweep" "${grid[@]}" -- kinds.din
 ends 'sweep with a log, without flock' 69 'sweep: flock is missing: install the package util-linux' \
     env PATH="$(without flock)" "$sweep" --resume no-lock "${grid[@]}" -- kinds.din
-with_log && cp "$out" whole
-test_full_log

@@ -1,0 +1,60 @@
+# Tests bin/sweep on a full disk, and with folders that can't be used. Read by tools.sh, behind
+# sweep_resume.sh.
+# shellcheck shell=bash disable=SC2154  # names that tools.sh and its other files set
+
+# A log of 145 lines, longer than what else a sweep and GNU parallel write.
+test_full_log() {
+    local sizes=8,16,32,64,128,256,512,1k,2k,4k,8k,16k
+    rm -f known
+    run "$sweep" --resume known --vary --l1-dsize $sizes --vary --l1-isize $sizes \
+        --l1-ibsize 4 --l1-dbsize 4 --l2-usize 64 --l2-ubsize 8 -- known.din
+    run no_room 16 "$sweep" --resume known "${grid[@]}" -- known.din
+    [ "$status" -eq 4 ] && [ "$(<"$err")" = 'sweep: known could not be written: File too large' ] &&
+        [ "$(wc -c <known)" -gt 16384 ] && lines_at_least "$out" 1
+    verdict 'sweep with a log on a full disk' $?
+    with_log
+    [ "$status" -eq 0 ] && whole_lines "$out" "$fields" && cmp -s "$out" whole
+    verdict 'it goes on once there is room' $?
+}
+
+test_full_disk() {
+    ends 'sweep on a full disk' 4 "sweep: no room for temporary files in $TMPDIR" \
+        no_room 1 "$sweep" "${grid[@]}" -- kinds.din
+    # The lines of 60 configurations have room without counts, and not with those of a long trace.
+    run no_room 7 "$sweep" --jobs 1 --vary --flushcount "$(seq -s , 60)" --l1-dsize 1k \
+        "${long[@]:3}" -- long.din
+    [ "$status" -eq 4 ] && [ "$(wc -l <"$out")" -eq 1 ] &&
+        [ "$(<"$err")" = "sweep: no room for temporary files in $TMPDIR" ]
+    verdict 'sweep whose run fills the disk' $?
+    "$sweep" --task 1 --into full "${grid[@]}" -- kinds.din
+    ends 'a task on a full disk' 4 "sweep: no room for temporary files in $TMPDIR" \
+        no_room 1 "$sweep" --task 2 --into full "${grid[@]}" -- kinds.din
+    [ -s full/1 ] && [ "$(ls full)" = $'1\ngrid' ]
+    verdict 'it leaves nothing there' $?
+    rm -r full
+}
+
+# A folder of the user's stays, though a task leaves nothing in it, and one that it made does not.
+test_folders() {
+    local folder
+    mkdir empty
+    ends 'gathering from an empty folder' 4 'sweep: no folder of rows: empty' \
+        "$sweep" --gather empty
+    for folder in empty new; do
+        ends "a task that can't be written into a folder that is $folder" 4 \
+            "sweep: no rows can be written to $folder: File too large" \
+            no_room 4 "$sweep" --task 1 --into $folder "${grid[@]}" -- kinds.din
+    done
+    [ ! -e new ] && rmdir empty
+    verdict 'an empty folder stays, and a new one does not' $?
+    # shellcheck disable=SC2016  # the inner shell has the word
+    run bash -c 'mkdir gone && cd gone && rmdir ../gone && exec "$1" --gather relative' - "$sweep"
+    [ "$status" -eq 4 ] &&
+        [ "$(tail -n 1 "$err")" = 'sweep: relative has no whole name: is the working folder gone?' ]
+    verdict 'gathering from a folder that is gone' $?
+}
+
+with_log && cp "$out" whole
+test_full_log
+test_full_disk
+test_folders
