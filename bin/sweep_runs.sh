@@ -2,9 +2,11 @@
 # shellcheck shell=bash disable=SC2154,SC2034  # names that sweep and its other files set, or use
 
 # What a shell does, in the folder of the sweep, to make a run, whose number and line of shell it is
-# given. It leaves what the run prints in the file `raw.N`, and says the number at the end.
+# given. It leaves what the run prints in the file `raw.N`, and says the number at the end. The run
+# has a shell of its own: if that is killed, this one goes on, since xargs makes no other run behind
+# one that a signal has ended. Without `|| :`, dash would forget the first of both redirections.
 # shellcheck disable=SC2016  # the inner shell's words
-one_run='{ { eval "$2"; } > "raw.$1"; } 2>/dev/null; echo "$1"'
+one_run='{ (eval "$2") > "raw.$1" || :; } 2>/dev/null; echo "$1"'
 
 run_with_xargs() {
     local number
@@ -147,7 +149,7 @@ read_ended() {
 
 # one_task: its rows are kept as soon as a run of it has ended.
 one_task() {
-    local number name=$task failed=
+    local number name=$task
     [ "$tasks" -eq "$cells" ] || name=$task-$tasks
     claim "$into"
     plan 'plan parts commands' "task=$task" "tasks=$tasks"
@@ -158,14 +160,14 @@ one_task() {
         check_traces
         read_runs rows "$number"
         read_verdict "$number" "${verdicts[0]}"
+        [ "$ended" = whole ] || end_where_full "raw.$number"
         tell_fault
         if [ "$ended" != whole ]; then
             end_where_stuck
             die 4 "task $task has not all of its rows"
         fi
-        [ "$fault" = - ] || failed=yes
         cat "$work/rows.$call" >> "$work/kept" || no_room
         place 644 "$work/kept" "$store/$name"
     done
-    [ -z "$failed" ] || exit 1
+    tell_faults_of_task
 }

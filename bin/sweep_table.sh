@@ -64,9 +64,9 @@ take_in() {
     read_runs 'rows table' "$@"
     [ -z "$log" ] || [ ! -s "$work/rows.$call" ] || keep "$work/rows.$call"
     for number; do
-        { : > "$work/raw.$number"; } 2>/dev/null || true
         read_verdict "$number" "${verdicts[i++]}"
-        [ "$ended" = whole ] || end_where_full
+        [ "$ended" = whole ] || end_where_full "raw.$number"
+        { : > "$work/raw.$number"; } 2>/dev/null || true
         tell_fault
     done
     put_lines
@@ -78,6 +78,31 @@ tell_faults() {
     [ "$faults" -gt 0 ] || return 0
     complain "$faults of $last configurations have a fault, the first in $first (column fault)"
     exit 1
+}
+
+# tell_faults_of_task: the same of its rows.
+tell_faults_of_task() {
+    local rows row
+    mapfile -t rows < "$work/kept"
+    for row in "${rows[@]}"; do
+        [[ $row != *$'\t-' ]] || continue
+        faults=$((faults + 1))
+        [ -n "$first_fault" ] || first_fault=${row##*$'\t'}
+    done
+    [ "$faults" -gt 0 ] || return 0
+    complain "$faults of ${#rows[@]} configurations of task $task have a fault, \
+the first: $first_fault"
+    exit 1
+}
+
+# gather_rows FILE: its lines. What stands behind the last line feed is a part of a row, as a copy
+# that was cut off may have it, and is left out.
+gather_rows() {
+    local lines last
+    mapfile lines < "$1"
+    last=$((${#lines[@]} - 1))
+    [ "$last" -lt 0 ] || [[ ${lines[last]} == *$'\n' ]] || unset "lines[last]"
+    { (printf %s "${lines[@]}") >> "$work/pending"; } 2>/dev/null || no_room
 }
 
 gather_table() {
@@ -92,28 +117,30 @@ gather_table() {
     for file in "$store"/*; do
         [[ ${file##*/} =~ ^[0-9]+(-[0-9]+)?$ ]] || continue
         { [ -f "$file" ] && [ -r "$file" ]; } || die 4 "$file can't be read"
-        { cat -- "$file" >> "$work/pending"; } 2>/dev/null || no_room
+        gather_rows "$file"
     done
     put_last_lines
     tell_faults
 }
 
-# writing_fault FOLDER: why no rows can be written there, such as a full disk, if none can.
+# writing_fault FILE: why it can't grow, such as a full disk, if it can't.
 writing_fault() {
-    local fault probe=$1/probe.$BASHPID
-    fault=$({ head -c 8192 /dev/zero > "$probe"; } 2>&1) && fault=
-    rm -f -- "$probe"
+    local fault
+    fault=$({ head -c 8192 /dev/zero >> "$1"; } 2>&1) && fault=
     echo "${fault##*: }"
 }
 
 # end_where_stuck: ends the command if no rows can be written.
 end_where_stuck() {
-    local fault
-    fault=$(writing_fault "$store")
+    local fault probe=$store/probe.$$
+    leftovers+=("$probe")
+    fault=$(writing_fault "$probe")
+    rm -f -- "$probe"
     [ -z "$fault" ] || die 4 "no rows can be written to $folder: $fault"
 }
 
-# end_where_full: ends the command if what a run prints can't be kept.
+# end_where_full FILE: ends the command if what a run prints can't be kept. The file is in the folder
+# of the sweep, and has what the run has printed so far, if that is known.
 end_where_full() {
-    [ -z "$(writing_fault "$work")" ] || no_room
+    [ -z "$(writing_fault "$work/$1")" ] || no_room
 }

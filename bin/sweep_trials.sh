@@ -66,7 +66,7 @@ try() {
     0 | 5) ;;
     2) refuse_value "$@" ;;
     *)
-        end_where_full
+        end_where_full "tried$1"
         die 4 "the simulator failed with status $status: $(< "$work/told$1")"
         ;;
     esac

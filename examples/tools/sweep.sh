@@ -103,8 +103,20 @@ ends 'a task of another grid' 2 'sweep: tasks is of another grid, or a trace has
     "$sweep" --task 1 --into tasks "${grid[@]}" -- fifo.din
 "$sweep" --task 1 --into faulty --vary --l1-dsize 8 "${rest[@]}" -- faulty.din >"$out" 2>"$err"
 status=$?
-[ "$status" -eq 1 ] && [ ! -s "$out" ] && [ "$(<"$err")" = 'sweep: faulty.din: line 2: label' ]
+[ "$status" -eq 1 ] && [ ! -s "$out" ] && [ "$(<"$err")" = 'sweep: faulty.din: line 2: label
+sweep: 1 of 1 configurations of task 1 have a fault, the first: line 2: label' ]
 verdict 'a task of a faulty trace' $?
+ends 'a task with refused configurations' 1 "sweep: 2 of 3 configurations of task 1 have a fault, \
+the first: l1-dcache: size is not a power of two" \
+    "$sweep" --task 1/2 --into odd --vary --l1-dsize 8,24,40,16,32,64 "${rest[@]}" -- kinds.din
+ends 'and one without' 0 '' \
+    "$sweep" --task 2/2 --into odd --vary --l1-dsize 8,24,40,16,32,64 "${rest[@]}" -- kinds.din
+run "$sweep" --gather odd
+first='line 3: l1-dcache: size is not a power of two'
+[ "$status" -eq 1 ] && [ "$(rows_of 2,36)" = "8 -,24 ${first#*: },40 ${first#*: },16 -,32 -,64 -," ] &&
+    [ "$(<"$err")" = "sweep: 2 of 6 configurations have a fault, the first in $first (column fault)" ]
+verdict 'their rows are kept' $?
+rm -r odd
 cp kinds.din changing.din
 "$sweep" --task 1 --into changing "${grid[@]}" -- changing.din >"$out" 2>"$err"
 touch changing.din

@@ -21,11 +21,17 @@ test_full_disk() {
     ends 'sweep on a full disk' 4 "sweep: no room for temporary files in $TMPDIR" \
         no_room 1 "$sweep" "${grid[@]}" -- kinds.din
     # The lines of 60 configurations have room without counts, and not with those of a long trace.
-    run no_room 7 "$sweep" --jobs 1 --vary --flushcount "$(seq -s , 60)" --l1-dsize 1k \
-        "${long[@]:3}" -- long.din
-    [ "$status" -eq 4 ] && [ "$(wc -l <"$out")" -eq 1 ] &&
-        [ "$(<"$err")" = "sweep: no room for temporary files in $TMPDIR" ]
-    verdict 'sweep whose run fills the disk' $?
+    local room many=(--vary --flushcount "$(seq -s , 60)" --l1-dsize 1k "${long[@]:3}")
+    for room in 7 8 10; do
+        run no_room $room "$sweep" --jobs 1 "${many[@]}" -- long.din
+        [ "$status" -eq 4 ] && [ "$(wc -l <"$out")" -eq 1 ] &&
+            [ "$(<"$err")" = "sweep: no room for temporary files in $TMPDIR" ]
+        verdict "sweep whose run fills the disk, with room for $room KiB" $?
+    done
+    ends 'a task whose run fills the disk' 4 "sweep: no room for temporary files in $TMPDIR" \
+        no_room 8 "$sweep" --task 1/1 --into full "${many[@]}" -- long.din
+    [ ! -e full/1-1 ] && rm -r full
+    verdict 'it leaves no rows' $?
     "$sweep" --task 1 --into full "${grid[@]}" -- kinds.din
     ends 'a task on a full disk' 4 "sweep: no room for temporary files in $TMPDIR" \
         no_room 1 "$sweep" --task 2 --into full "${grid[@]}" -- kinds.din

@@ -100,17 +100,23 @@ if has parallel; then
     verdict 'sweep --hosts with one run at once' $?
 fi
 
-# The shell of the first run is killed, and xargs makes no other. What had been said is no fault of
-# the trace.
-printf '#!/bin/sh\n[ /dev/stdin -ef /dev/null ] && exec "%s" "$@"\n%s\nkill -KILL $PPID\n' \
-    "$simulator" 'echo "dinero_grid: line 1" >&2' >"$work/failing"
+# The shell of the first run is killed. What had been said is no fault of the trace, and the other
+# run is made.
+cat >"$work/failing" <<END
+#!/bin/sh
+{ [ /dev/stdin -ef /dev/null ] || ! mkdir "\$MARKS"; } 2>/dev/null && exec "$simulator" "\$@"
+echo "dinero_grid: line 1" >&2
+kill -KILL \$PPID
+END
 good=$simulator simulator=$work/failing
+export MARKS=$work/killed
 noted --jobs 1 "${grid[@]}" -- kinds.din fifo.din
+export -n MARKS
 simulator=$good
-[ "$status" -eq 1 ] && [ "$(tail -n 3 "$err")" = 'sweep: kinds.din: not simulated
-sweep: fifo.din: not simulated
-sweep: 8 of 8 configurations have a fault, the first in line 2: not simulated (column fault)' ] &&
-    [ "$(rows_of 37 | tr , '\n' | sort -u)" = 'not simulated' ]
+[ "$status" -eq 1 ] && [ -d "$work/killed" ] && [ "$(<"$err")" = 'sweep: kinds.din: not simulated
+sweep: 4 of 8 configurations have a fault, the first in line 2: not simulated (column fault)' ] &&
+    [ "$(rows_of 37)" = 'not simulated,not simulated,not simulated,not simulated,-,-,-,-,' ] &&
+    shared "$out" | tail -n 4 | cmp -s - <(tail -n 4 "$work/rows")
 verdict 'sweep whose first run is killed' $?
 
 # A simulator that goes on when it is told to end.

@@ -96,14 +96,19 @@ head -c 100 cut/1 >"$work/report" && cp "$work/report" cut/1
 run "$sweep" --gather cut
 [ "$status" -eq 1 ] && [ "$(tail -n 1 "$out" | cut -f 37)" = 'not simulated' ]
 verdict 'gathering a report that was cut off' $?
-# What stands in the next file is none of its columns.
+# Half of a row is none, and what stands in the next file is none of its columns.
 rm -r cut
-for number in 1 2; do "$sweep" --task $number --into cut "${grid[@]}" -- kinds.din; done
-head -c -10 cut/1 >"$work/report" && cp "$work/report" cut/1
-run "$sweep" --gather cut
-[ "$status" -eq 1 ] && [ "$(sed -n 2p "$out" | cut -f 4,37)" = $'-\tnot simulated' ]
-verdict 'gathering a report whose last columns were cut off' $?
-rm -r cut
+for number in 1 2 3 4; do "$sweep" --task $number --into cut "${grid[@]}" -- kinds.din; done
+cp cut/1 first
+for bytes in 10 3 2 1; do
+    head -c -$bytes first >cut/1
+    run "$sweep" --gather cut
+    [ "$status" -eq 1 ] && [ "$(sed -n 2p "$out" | cut -f 4,37)" = $'-\tnot simulated' ] &&
+        shared "$out" | tail -n 3 | cmp -s - <(sed -n 2,4p "$work/rows") && [ "$(<"$err")" = \
+        'sweep: 1 of 4 configurations have a fault, the first in line 2: not simulated (column fault)' ]
+    verdict "gathering a report that lacks its last bytes: $bytes" $?
+done
+rm -r cut first
 # What else stands there is no report, but what is called as one has to be one.
 "$sweep" --task 1/1 --into cut "${grid[@]}" -- kinds.din fifo.din
 mkdir cut/others

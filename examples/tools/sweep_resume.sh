@@ -1,4 +1,5 @@
-# Tests that a log knows its traces, and that it goes on from wherever it was left. Read by tools.sh.
+# Tests that a log knows its traces, and that it goes on from wherever it was left. Read by
+# tools.sh.
 # shellcheck shell=bash disable=SC2154  # names that tools.sh and its other files set
 
 # with_log WORD..: the grid of one trace, with a log.
