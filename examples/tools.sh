@@ -2,6 +2,8 @@
 # Tests bin/record, bin/sweep, bin/plot and bin/install as users call them. What the machine lacks
 # of Debian's packages is said, and the tests that need it are skipped.
 set -uo pipefail
+# A script has what it starts in the background pass over Ctrl-C. The commands tested here must not.
+[ "${1-}" = again ] || exec env --default-signal=HUP,INT,QUIT,TERM bash -- "$0" again
 top=$(CDPATH='' cd -P -- "$(dirname -- "$0")/.." && pwd)
 work=$(realpath "$(mktemp -d)")
 daemons=()

@@ -75,6 +75,18 @@ start() {
     set +m
 }
 
+# wait_for_started: sets `status` to that of what was started. If it does not end within some ten
+# seconds, it is killed with all that it began.
+wait_for_started() {
+    until_true has_ended || kill -KILL -- "-$started"
+    status=0
+    wait "$started" 2>/dev/null || status=$?
+}
+
+has_ended() {
+    ! kill -0 "$started" 2>/dev/null
+}
+
 # until_true COMMAND..: waits for some ten seconds at most.
 until_true() {
     local end=$((SECONDS + 10))

@@ -97,8 +97,7 @@ test_record() {
         start "$record" sh -c 'while :; do :; done'
         until_true lines_at_least "$out" 1000
         if [ $signal = INT ]; then kill -INT -- "-$started"; else kill -$signal "$started"; fi
-        wait "$started" 2>/dev/null
-        status=$?
+        wait_for_started
         [ "$status" -eq $((128 + $(kill -l $signal))) ] && [ -z "$(tail -c 1 "$out")" ]
         verdict "record that is sent $signal" $?
     done
