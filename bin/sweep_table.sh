@@ -123,10 +123,11 @@ gather_table() {
     tell_faults
 }
 
-# writing_fault FILE: why it can't grow, such as a full disk, if it can't.
+# writing_fault FILE: why it can't grow, such as a full disk, if it can't. The signal of a limit on
+# files would end head without a word.
 writing_fault() {
     local fault
-    fault=$({ head -c 8192 /dev/zero >> "$1"; } 2>&1) && fault=
+    fault=$({ trap '' XFSZ && head -c 8192 /dev/zero >> "$1"; } 2>&1) && fault=
     echo "${fault##*: }"
 }
 
@@ -139,8 +140,8 @@ end_where_stuck() {
     [ -z "$fault" ] || die 4 "no rows can be written to $folder: $fault"
 }
 
-# end_where_full FILE: ends the command if what a run prints can't be kept. The file is in the folder
-# of the sweep, and has what the run has printed so far, if that is known.
+# end_where_full FILE: ends the command if what a run prints can't be kept. The file, in the folder
+# of the sweep, has what the run has printed so far, if that is known.
 end_where_full() {
     [ -z "$(writing_fault "$work/$1")" ] || no_room
 }

@@ -17,6 +17,12 @@ test_full_log() {
     verdict 'it goes on once there is room' $?
 }
 
+# limited KILOBYTES COMMAND..: a file that grows longer sends a signal.
+limited() (
+    ulimit -f "$1"
+    exec "${@:2}"
+)
+
 test_full_disk() {
     ends 'sweep on a full disk' 4 "sweep: no room for temporary files in $TMPDIR" \
         no_room 1 "$sweep" "${grid[@]}" -- kinds.din
@@ -28,6 +34,10 @@ test_full_disk() {
             [ "$(<"$err")" = "sweep: no room for temporary files in $TMPDIR" ]
         verdict "sweep whose run fills the disk, with room for $room KiB" $?
     done
+    run limited 8 "$sweep" --jobs 1 "${many[@]}" -- long.din
+    [ "$status" -eq 4 ] && [ "$(wc -l <"$out")" -eq 1 ] &&
+        [ "$(<"$err")" = "sweep: no room for temporary files in $TMPDIR" ]
+    verdict 'and where the signal of a limit is not passed over' $?
     ends 'a task whose run fills the disk' 4 "sweep: no room for temporary files in $TMPDIR" \
         no_room 8 "$sweep" --task 1/1 --into full "${many[@]}" -- long.din
     [ ! -e full/1-1 ] && rm -r full
