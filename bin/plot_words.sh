@@ -1,8 +1,8 @@
 # The words of a call. Read by plot.
 # shellcheck shell=bash disable=SC2034  # names that other files of plot use
 
-# list_options: their part of the help.
-list_options() {
+# list_choices: of what is drawn. A part of the help.
+list_choices() {
     cat <<'END'
   --over OPTION         what is on the axis: an option of the table whose
                         values are numbers [default: the size of the
@@ -21,6 +21,12 @@ list_options() {
                         one point, if its counts are the same in them
   --cache NAME          l1-icache, l1-dcache or l2-ucache [default: the
                         one of --over, or the one whose size is varied]
+END
+}
+
+# list_looks: how it is drawn. A part of the help.
+list_looks() {
+    cat <<'END'
   --whole-counts        kinds by Hill and Smith's subtraction: capacity
                         is the misses of a fully associative cache less
                         the compulsory ones, and conflict all misses less
