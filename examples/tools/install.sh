@@ -106,11 +106,8 @@ if has groff; then
         groff -ww -man -Tascii -P -cbu "a b/share/man/man1/dinero_$name.1" >"$work/shown" 2>"$err"
         [ ! -s "$err" ] && grep -q "^dinero_pipe $version  .*(1)\$" "$work/shown"
         verdict "the man page of $name at a terminal" $?
-        # The help of bin/sweep has longer lines.
-        [ "$name" = sweep ] || {
-            [ "$(wc -l <"$work/shown")" -gt 40 ] && ! grep '.\{81\}' "$work/shown" >"$err"
-            verdict "and its lines have room in 80 columns" $?
-        }
+        [ "$(wc -l <"$work/shown")" -gt 40 ] && ! grep '.\{81\}' "$work/shown" >"$err"
+        verdict "and its lines have room in 80 columns" $?
     done
 else
     skip 'the man pages of the commands' groff
