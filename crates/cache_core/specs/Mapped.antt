@@ -1,4 +1,4 @@
--- Inside the crate: a set kept as an ordered map, and the row of ways that it stands for.
+-- The row of ways that a set stands for which is kept as an ordered map.
 use Rattle.std.specs.Prelude.{ℕ, Bool, true, ◌&&◌, ◌||◌, nat_eq, if◌then◌else◌, List, [], ◌∷◌, ◌++◌}
 use Rattle.std.specs.Prelude.{take, map, filter, replicate, Option, Some, None}
 use Rattle.std.specs.Map.{lookup_entry, remove_entry, set_value}

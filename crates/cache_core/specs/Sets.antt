@@ -1,4 +1,4 @@
--- Inside the crate: all sets, as rows or as maps.
+-- The ways of all sets, which are kept as rows or as maps.
 use Rattle.std.specs.Prelude.{ℕ, ◌*◌, Bool, ◌&&◌, ◌==◌, vec_len, List}
 use Rattle.cache_core.specs.declared.ways.Way.{Way}
 use Rattle.cache_core.specs.declared.sets.Sets.{Sets}

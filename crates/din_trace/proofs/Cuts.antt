@@ -1,9 +1,11 @@
 -- The lines of a text that grows.
-use Rattle.std.proofs.Common.{◌≡◌, ℕ, ◌+◌, false, eqb, List, [], ◌∷◌, ◌++◌}
-use Rattle.std.proofs.Common.{Some, None, refl}
-use Rattle.std.proofs.Common.{inl, inr}
-use Rattle.std.proofs.lemmas.Bool.{cases_Bool}
+use Rattle.std.proofs.Common.{◌≡◌, ◌≢◌, ℕ, ◌+◌, true, false, eqb, List, [], ◌∷◌, ◌++◌}
+use Rattle.std.proofs.Common.{Some, None, refl, ap, sym, ◌∙◌, inl, inr}
+use Rattle.std.specs.List.{All, flat_map}
+use Rattle.std.proofs.lemmas.Bool.{cases_Bool, eq-eqb, eqb-true}
+use Rattle.std.proofs.lemmas.List.Elements.{All-cons, All-head, All-nil, All-tail}
 use Rattle.din_trace.specs.declared.fault.TraceFault.{TraceFault}
+use Rattle.din_trace.specs.Laws.{IsCut}
 use Rattle.din_trace.specs.Line.{Form, Blank, Din, Faulty, form}
 use Rattle.din_trace.specs.Text.{cut, with_first, Remaining, form_left, lines_left, first_fault}
 
@@ -142,3 +144,60 @@ first_fault-some bound f number [] none = cc
 first_fault-some bound f number (line ∷ ls) none =
     first_fault-some bound f (number + 1) ls
     (others_none (form bound line) number (lines_left bound (number + 1) ls (Some f)) none)
+
+-- a byte before a text comes first in its lines
+with_first-whole : (byte : ℕ) (ended : List (List ℕ)) (rest : List ℕ)
+    → flat_map (λ line. line ++ 10 ∷ []) (with_first byte ended rest).ended
+    ++ (with_first byte ended rest).rest
+    ≡ byte ∷ (flat_map (λ line. line ++ 10 ∷ []) ended ++ rest)
+with_first-whole byte [] rest = refl
+with_first-whole byte (line ∷ ended) rest = refl
+
+-- the lines with their LFs are the text
+lines-whole : (text : List ℕ)
+    → flat_map (λ line. line ++ 10 ∷ []) (cut text).ended ++ (cut text).rest ≡ text
+lines-whole [] = refl
+lines-whole (byte ∷ text) =
+    elim (cases_Bool (eqb byte 10)) [
+      | inl e ↦ rw e (
+          ap (λ bytes. 10 ∷ bytes) (lines-whole text)
+          ∙ ap (λ b. b ∷ text) (sym (eqb-true byte 10 e)))
+      | inr e ↦ rw e (with_first-whole byte (cut text).ended (cut text).rest
+          ∙ ap (λ bytes. byte ∷ bytes) (lines-whole text))
+    ]
+
+-- the bytes are no LFs
+abbrev NoLf : List ℕ → Type 0
+NoLf = All (λ byte. byte ≢ 10)
+
+with_first-no_lf : (byte : ℕ) (ended : List (List ℕ)) (rest : List ℕ) → byte ≢ 10
+    → All NoLf ended → NoLf rest
+    → All NoLf (with_first byte ended rest).ended × NoLf (with_first byte ended rest).rest
+with_first-no_lf byte [] rest other lines last =
+    (lines, All-cons (λ b. b ≢ 10) byte rest other last)
+with_first-no_lf byte (line ∷ ended) rest other lines last = (
+  All-cons NoLf (byte ∷ line) ended
+      (All-cons (λ b. b ≢ 10) byte line other (All-head NoLf line ended lines))
+      (All-tail NoLf line ended lines),
+  last,
+)
+
+lines-no_lf : (text : List ℕ) → All NoLf (cut text).ended × NoLf (cut text).rest
+lines-no_lf [] = (All-nil NoLf, All-nil (λ b. b ≢ 10))
+lines-no_lf (byte ∷ text) =
+    let others = lines-no_lf text in
+    elim (cases_Bool (eqb byte 10)) [
+      | inl e ↦ rw e (
+        All-cons NoLf [] (cut text).ended (All-nil (λ b. b ≢ 10)) others.0,
+        others.1,
+      )
+      | inr e ↦ rw e (with_first-no_lf byte (cut text).ended (cut text).rest
+          (λ same. let both : false ≡ true = sym e ∙ eq-eqb byte 10 same in cc) others.0 others.1)
+    ]
+
+pub cut_is : (text : List ℕ) → IsCut text
+cut_is text = record {
+  whole = lines-whole text;
+  ended = (lines-no_lf text).0;
+  last = (lines-no_lf text).1;
+}

@@ -3,6 +3,7 @@ pub mod Forms
 pub mod Wider
 pub mod Steps
 pub mod Cuts
+pub mod FirstFaults
 pub mod Stands
 pub mod Lefts
 pub mod Backlogs

@@ -6,6 +6,7 @@ use Rattle.std.proofs.lemmas.Bool.{cases_Bool, leb-false, leb-true, lt-leb}
 use Rattle.std.proofs.lemmas.List.{take-append-le, append-nil}
 use Rattle.std.specs.Prelude.{nat_le}
 use Rattle.din_trace.specs.declared.fault.TraceFault.{TraceFault}
+use Rattle.din_trace.specs.declared.record.DinRecord.{DinRecord}
 use Rattle.din_trace.specs.Faults.{FailedBehind, IsFaultOf}
 use Rattle.din_trace.specs.Line.{ADDRESS_MAX}
 use Rattle.din_trace.specs.Text.{records, fault, Remaining, text_left}
@@ -84,3 +85,32 @@ module _ {R : Type 0} (remaining : R → Option (List ℕ)) (failures : R → �
     refl,
     front given (record { rest = rest; whole = is.0; last = last; told = told; failed = is.1 }),
   )
+
+-- if a property holds for the records that are left, whatever the reader did, and no fault is left,
+-- it holds for the records of some text
+module _ (limit : ℕ) (P : List DinRecord → Type 0) where
+  abbrev LeavesGood : Script → Type 0
+  LeavesGood script =
+      let l = text_left ADDRESS_MAX 1 script.given limit script.fails in
+      (l.fault ≡ None) × P l.records
+
+  of-text : (text : List ℕ) → LeavesGood (record { given = text; fails = false })
+      → (fault ADDRESS_MAX text limit ≡ None) × P (records ADDRESS_MAX text)
+  of-text text good =
+      let law = leaves_text ADDRESS_MAX text limit in
+      let none = sym law.fault_is ∙ good.0 in (none, subst P (law.records_are none) good.1)
+
+  pub of-some-text : (fate : Fate) (given : List ℕ) → ((before later : Script)
+      → Follows fate given before later → LeavesGood before) → (text : List ℕ)
+      × (fault ADDRESS_MAX text limit ≡ None) × P (records ADDRESS_MAX text)
+  of-some-text Open given left =
+      let end : Script = record { given = []; fails = false } in
+      let good = of-text (given ++ []) (left _ end refl) in (given ++ [], good.0, good.1)
+  of-some-text Ended given left =
+      let end : Script = record { given = []; fails = false } in
+      let good = of-text given (left (record { given = given; fails = false }) end refl) in
+      (given, good.0, good.1)
+  of-some-text Failed given left =
+      let end : Script = record { given = []; fails = false } in
+      let good = left (record { given = given; fails = true }) end refl in
+      absurd ((leaves_text ADDRESS_MAX given limit).fails good.0)

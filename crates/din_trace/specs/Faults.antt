@@ -10,7 +10,7 @@ pub record FailedBehind {R : Type 0} (remaining : R → Option (List ℕ)) (fail
     (reader : R) (text given : List ℕ) : Type 0 where
   pub rest : List ℕ
   pub whole : text ≡ given ++ rest
-  -- the reader after the failure, which still has the rest
+  -- some state of a reader of this type that has the rest, and has failed once more
   pub last : R
   pub told : remaining last ≡ Some rest
   pub failed : failures last ≡ once_more (failures reader)

@@ -1,14 +1,46 @@
 -- The laws of lines and texts.
-use Rattle.std.specs.Prelude.{◌≡◌, ◌≢◌, ℕ, ◌<◌, ◌≤◌, List, None, Some, length, Bool, true, false}
-use Rattle.din_trace.specs.declared.fault.TraceFault.TheVariants.{TooLong, Read, Memory}
-use Rattle.din_trace.specs.Line.{Form, HasForm, form}
-use Rattle.din_trace.specs.Text.{records, fault, failed_fault, text_left}
+use Rattle.std.specs.Prelude.{◌≡◌, ◌≢◌, ℕ, ◌+◌, ◌<◌, ◌≤◌, List, [], ◌∷◌, ◌++◌, None, Some, length}
+use Rattle.std.specs.Prelude.{Bool, true, false}
+use Rattle.std.specs.List.{All, flat_map}
+use Rattle.din_trace.specs.declared.fault.TraceFault.TheVariants.{Bad, TooLong, Read, Memory}
+use Rattle.din_trace.specs.declared.fault.Why.{Why}
+use Rattle.din_trace.specs.Line.{Form, Faulty, HasForm, form}
+use Rattle.din_trace.specs.Text.{records, fault, failed_fault, text_left, lines, ended_lines}
+use Rattle.din_trace.specs.Text.{open_line}
 
 -- each line has exactly one form, the one found from left to right
 abbrev pub EachLineHasOneForm : Type 0
 EachLineHasOneForm = (bound : ℕ) (line : List ℕ) →
     HasForm bound line (form bound line)
     × ((other : Form) → HasForm bound line other → other ≡ form bound line)
+
+-- the lines that an LF ends, each with its LF, and then what follows the last LF are the text, and
+-- there is no other LF in it
+pub record IsCut (text : List ℕ) : Type 0 where
+  pub whole : flat_map (λ line. line ++ 10 ∷ []) (ended_lines text) ++ open_line text ≡ text
+  pub ended : All (All (λ byte. byte ≢ 10)) (ended_lines text)
+  pub last : All (λ byte. byte ≢ 10) (open_line text)
+
+-- so it is for each text
+abbrev pub TextsAreTheirLines : Type 0
+TextsAreTheirLines = (text : List ℕ) → IsCut text
+
+-- the line is not faulty
+abbrev pub IsGood : ℕ → List ℕ → Type 0
+IsGood bound line = (why : Why) → form bound line ≢ Faulty why
+
+-- the fault of a text is that of its first faulty line, if the lines are numbered from 1; where no
+-- line is faulty, there is none
+pub record HasFirstFault (bound : ℕ) (text : List ℕ) (limit : ℕ) : Type 0 where
+  pub first : (before after : List (List ℕ)) (line : List ℕ) (why : Why) →
+      lines text ≡ before ++ line ∷ after → All (IsGood bound) before →
+      form bound line ≡ Faulty why → fault bound text limit ≡ Some (Bad (length before + 1) why)
+  pub none : All (IsGood bound) (lines text) → fault bound text limit ≡ None
+
+-- so it is for each text within the limit
+abbrev pub FaultIsOfFirstFaultyLine : Type 0
+FaultIsOfFirstFaultyLine = (bound : ℕ) (text : List ℕ) (limit : ℕ) → length text ≤ limit →
+    HasFirstFault bound text limit
 
 -- a text without a fault has no fault under a greater bound on addresses, and the same records
 abbrev pub WiderAddressesKeepRecords : Type 0

@@ -19,7 +19,8 @@
 #![tactic(auto)]
 
 ghost use Rattle.din_trace.specs.Laws.{EachLineHasOneForm, WiderAddressesKeepRecords};
-ghost use Rattle.din_trace.specs.Laws.{SourceHasItsTextLeft};
+ghost use Rattle.din_trace.specs.Laws.{FaultIsOfFirstFaultyLine, SourceHasItsTextLeft};
+ghost use Rattle.din_trace.specs.Laws.{TextsAreTheirLines};
 ghost use Rattle.std.specs.Prelude.{◌≡◌, ◌^◌};
 
 mod backlog;
@@ -44,6 +45,16 @@ pub use text::read_all;
 /// Law: each line has exactly one form.
 pub fn each_line_has_one_form()
     ensures { EachLineHasOneForm }
+{}
+
+/// Law: a text is its lines, with an LF after each but the last.
+pub fn texts_are_their_lines()
+    ensures { TextsAreTheirLines }
+{}
+
+/// Law: the fault of a text within its limit is that of its first faulty line.
+pub fn fault_is_of_first_faulty_line()
+    ensures { FaultIsOfFirstFaultyLine }
 {}
 
 /// Law: a text without a fault has no fault under a greater bound on addresses, and the same

@@ -153,8 +153,7 @@ impl<R: ByteReader> Source<R> {
             (λ fault. (fault ≢ TraceFault.Memory → l.fault ≡ Some fault)
             × HasLeft self.new later (record { records = []; fault = Some fault })
             × (fault ≡ TraceFault.Memory → (l.fault ≡ Some fault) ⊎ (l.records ≢ [])))) }
-        // So after want of memory the reader is not asked once more: it might fail then, and the
-        // answer would not say so.
+        // So if the reader failed in this call, the answer says so, also where memory was wanting.
         ensures failed { (R.failures (reader_of self.new) ≡ R.failures (reader_of self.old))
             ⊎ (result ≡ Err TraceFault.Read) }
         ensures settled { IsSettled self.old → self.new ≡ self.old }

@@ -32,8 +32,8 @@ fn grid_words_status(fault: GridWordsFault) -> u8
 }
 
 /// The exit status for a fault: 0 if help was asked for, 1 for a faulty or too long trace, 2 for a
-/// refused command line, 3 if an allocation failed, 4 if reading the trace or writing the table
-/// failed.
+/// refused command line, 3 if an allocation failed or the trace has more blocks than can be
+/// numbered, 4 if reading the trace or writing the table failed.
 pub fn status(fault: &Fault) -> u8
     ensures { result ≡ status_of fault.now }
 {

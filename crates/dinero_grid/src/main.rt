@@ -8,7 +8,7 @@
 //! Proved: `run` writes the table that the definitions give for the text of its reader and the
 //! words after the program's name, or says why not; the line and the status of a fault are those of
 //! `specs/GridFaultText`. Only tested: that `main` passes the right words and streams, and the line
-//! before it that names a refused option or word.
+//! before that of the fault, which names a refused option or word.
 #![tactic(auto)]
 
 mod asked;
@@ -75,6 +75,9 @@ fn table<T: Threads + Sync, R: ByteReader + Drop + Send, W: ByteWriter>(
         ((fault ADDRESS_MAX text MAX_LIMIT ≡ None)
         × ((grid : Grid) × IsGridFor asked grid
         × Appends (W.contents writer.old) (W.contents writer.new) (table_of grid text))) }
+    ensures whole { OnOk result ((text : List ℕ) × (fault ADDRESS_MAX text MAX_LIMIT ≡ None)
+        × ((grid : Grid) × IsGridFor asked grid
+        × Appends (W.contents writer.old) (W.contents writer.new) (table_of grid text))) }
     ensures refused { IfOk result (λ some. some ≡ has_refused asked.points.items) }
     ensures trace { (text : List ℕ) → R.remaining reader ≡ Some text
         → (why : TraceFault) → result ≡ Err (GridFault.Trace why)
@@ -105,6 +108,10 @@ fn run<T: Threads + Sync, R: ByteReader + Drop + Send, W: ByteWriter>(
 ) -> Result<bool, Fault>
     ensures table { (text : List ℕ) → R.remaining reader ≡ Some text → IfOk result (λ some.
         (fault ADDRESS_MAX text MAX_LIMIT ≡ None) × HasTable (map string_bytes words.now) text some
+        (W.contents writer.old) (W.contents writer.new)) }
+    ensures whole { IfOk result (λ some. (text : List ℕ)
+        × (fault ADDRESS_MAX text MAX_LIMIT ≡ None)
+        × HasTable (map string_bytes words.now) text some
         (W.contents writer.old) (W.contents writer.new)) }
     ensures words { (why : GridWordsFault) → result ≡ Err (Fault.Words why)
         → AnswersGridWords (map string_bytes words.now) (Err why) }

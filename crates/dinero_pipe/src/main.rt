@@ -52,6 +52,9 @@ fn report<H: Threads + Wait + Sync, R: ByteReader + Drop, W: ByteWriter>(
         ((fault ADDRESS_MAX text MAX_LIMIT ≡ None)
         × Appends (W.contents writer.old) (W.contents writer.new)
         (report_of config.now selection.now text)) }
+    ensures whole { OnOk result ((text : List ℕ) × (fault ADDRESS_MAX text MAX_LIMIT ≡ None)
+        × Appends (W.contents writer.old) (W.contents writer.new)
+        (report_of config.now selection.now text)) }
     ensures trace { (text : List ℕ) → R.remaining reader ≡ Some text
         → (why : TraceFault) → result ≡ Err (RunFault.Trace why)
         → IsFaultOf R.remaining R.failures reader text MAX_LIMIT why }
@@ -79,6 +82,9 @@ fn run<H: Threads + Wait + Sync, R: ByteReader + Drop, W: ByteWriter>(
     ensures report { (text : List ℕ) → R.remaining reader ≡ Some text → OnOk result
         ((fault ADDRESS_MAX text MAX_LIMIT ≡ None) × HasReport (map string_bytes words.now) text
         (W.contents writer.old) (W.contents writer.new)) }
+    ensures whole { OnOk result ((text : List ℕ) × (fault ADDRESS_MAX text MAX_LIMIT ≡ None)
+        × HasReport (map string_bytes words.now) text (W.contents writer.old)
+        (W.contents writer.new)) }
     ensures words { (why : WordsFault) → result ≡ Err (Fault.Words why)
         → AnswersWords (map string_bytes words.now) (Err why) }
     ensures accepted { (why : RunFault) → result ≡ Err (Fault.Run why)

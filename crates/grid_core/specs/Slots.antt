@@ -1,4 +1,4 @@
--- Inside the crate: a row of slots, and what one access does to it.
+-- A row of slots, and what one access does to it.
 use Rattle.std.specs.Prelude.{ℕ, zero, suc, ◌*◌, ◌^◌}
 use Rattle.std.specs.Prelude.{◌<◌, Bool, true, false, not, ◌&&◌, ◌||◌, ◌==◌}
 use Rattle.std.specs.Prelude.{nat_lt, if◌then◌else◌, get_or, ◌-◌, List, [], ◌∷◌, ◌++◌, length}

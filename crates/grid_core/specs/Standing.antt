@@ -57,7 +57,7 @@ found_in s = s.found
 -- the slot behind the first n of the row of the last access, or the one that the row lost
 abbrev pub behind_in : Stack → ℕ → Slot
 behind_in s n =
-    if nat_lt n s.ways then get_or s.slots.items (s.set * s.ways + n) no_slot else s.last
+    if nat_lt n s.ways then get_or s.slots.items (s.set * s.ways + n) no_slot else s.lost
 
 -- the first byte of the block that a cache of n ways wrote back at the last access, if it missed
 abbrev pub back_at : Stack → ℕ → Option ℕ

@@ -201,7 +201,8 @@ impl Caches {
         Ok(lists)
     }
 
-    /// Empties all caches as `flush` does, and lists nothing that is served together.
+    /// Empties all caches as `flush` does, and lists only what those of their own write back, which
+    /// they count by these lists.
     pub fn flush_unlisted(&mut self, alloc: Global) -> Result<(), AllocError>
         requires { (n : ℕ) × AreInStep n self.old × (n < MAX_EVENTS) }
         ensures stands { OnOk result ((h : History) → CachesStandFor h self.old →
@@ -221,6 +222,8 @@ impl Caches {
     pub fn swap_numbers(&mut self, numbers: &mut BlockNumbers)
         ensures stands { (blocks : List ℕ) (h : History) → CachesStandBy blocks h self.old →
             CachesStandBy blocks h self.new }
+        ensures answers { (h : History) (x : Access) → HaveAnswered h x self.old →
+            HaveAnswered h x self.new }
         ensures taken { caches_numbered self.new ≡ blocks_in numbers.old }
         ensures given { blocks_in numbers.new ≡ caches_numbered self.old }
         ensures step { (n : ℕ) → AreInStep n self.old → AreInStep n self.new }

@@ -11,8 +11,8 @@ ghost use Rattle.grid_core.specs.Standing.{StandsFor, HasMoved, found_in, rules_
 ghost use Rattle.grid_core.specs.Standing.{IsWithinStack, told_in};
 ghost use Rattle.grid_core.specs.State.{nothing_alike, whole_counts};
 
-use crate::misses::less;
 use crate::stack::Stack;
+use crate::sums::less;
 use cache_core::{Counts, Geometry, MAX_EVENTS, PerClass};
 use std::alloc::{AllocError, Global};
 

@@ -13,8 +13,10 @@ use crate::stacked::Stacked;
 use cache_core::{Access, Counts, Geometry, MAX_EVENTS, NoMemory, Outcome, PerClass, Policy};
 use std::alloc::Global;
 
-/// Caches of one block size and one policy. After a failed allocation, every later access or flush
-/// answers `NoMemory`.
+/// Caches of one block size and one policy, each at the index that its geometry had in
+/// [`Engine::new`]. An access or a flush that is refused memory answers `NoMemory`, and so does an
+/// access if there are more blocks than can be numbered, some 2^31 or more. Every later one does
+/// then, too.
 #[derive(Drop)]
 pub struct Engine {
     alloc: Global,
@@ -49,6 +51,7 @@ impl Engine {
     ghost use Rattle.grid_core.specs.Written.{rules_at, written_by, none_kept, SendsNothing};
 
     /// Empty caches of these geometries, which have the block size of `first`, and of this policy.
+    /// Only the block size of `first` counts, and it need not be among them: there may be none.
     pub fn new(
         alloc: Global,
         geometries: &[Geometry],
@@ -167,8 +170,9 @@ impl Engine {
         Ok(lists)
     }
 
-    /// Empties all caches and the shadows as `flush` does, and lists no blocks. Where nobody reads
-    /// the lists, this spares the search of all rows for dirty blocks.
+    /// Empties all caches and the shadows as `flush` does, and answers no lists. Where nobody reads
+    /// them, this spares the search of all rows for dirty blocks. Of a cache that no stack order
+    /// serves the list is made all the same, for its count, and dropped.
     pub fn flush_unlisted(&mut self) -> Result<(), NoMemory>
         requires { served_in self.old < MAX_EVENTS }
         ensures stands { OnOk result ((h : History) → EngineStandsFor self.old h →
@@ -200,6 +204,8 @@ impl Engine {
     pub fn swap_numbers(&mut self, numbers: &mut BlockNumbers)
         ensures stands { (blocks : List ℕ) (h : History) → EngineStandsBy blocks self.old h →
             EngineStandsBy blocks self.new h }
+        ensures answers { (h : History) (x : Access) → HasAnswered self.old h x →
+            HasAnswered self.new h x }
         ensures taken { numbered_in self.new ≡ blocks_in numbers.old }
         ensures given { blocks_in numbers.new ≡ numbered_in self.old }
         ensures served { served_in self.new ≡ served_in self.old }
@@ -231,7 +237,8 @@ impl Engine {
         self.failed
     }
 
-    /// The counts of one cache.
+    /// The counts of one cache. For caches that are served together they are worked out from
+    /// tables and all rows: ask for them at the end, and not after each access.
     pub fn counts(&self, index: usize) -> Counts
         requires { index < length (rules_in self.now) }
         ensures kept { result ≡ (get_or (kept_in self.now) index none_kept).0 }
@@ -251,8 +258,9 @@ impl Engine {
         self.caches.shadow_misses(self.seats[index].shadow)
     }
 
-    /// Whether the last access sent nothing to the next level in any cache: it wrote nothing back,
-    /// fetched nothing and is no write that is sent on. May be `false` though nothing was sent.
+    /// Whether the last access, if no flush came after it, sent nothing to the next level in any
+    /// cache: it wrote nothing back, fetched nothing and is no write that is sent on. May be
+    /// `false` though nothing was sent.
     pub fn sent_nothing(&self) -> bool
         ensures { result ≡ true → (h : History) (x : Access) → HasAnswered self.now h x →
             (index : ℕ) → index < length (rules_in self.now) →
@@ -261,7 +269,7 @@ impl Engine {
         self.caches.sent_nothing()
     }
 
-    /// What the last access did in one cache.
+    /// What the last access did in one cache, if no flush came after it.
     pub fn answer(&self, index: usize) -> Outcome
         requires { index < length (rules_in self.now) }
         ensures { (h : History) (x : Access) → HasAnswered self.now h x →

@@ -110,7 +110,7 @@ pub(crate) fn stays(slots: &Vec<Slot>, set: usize, ways: usize, block: u64, writ
 pub(crate) struct Turned {
     pub position: usize,
     pub clean: usize,
-    pub last: Slot,
+    pub lost: Slot,
 }
 
 /// The slot that leaves a row in which the block of an access has this position: an empty one if it
@@ -139,16 +139,16 @@ fn turn_row(row: &mut [Slot], block: u64, from: usize, write: bool) -> Turned
     ensures position { result.position ≡ index_of (holds block) row.old }
     ensures clean { result.clean ≡ clean_in (level_in block row.old)
         (index_of (holds block) row.old) (length row.old) }
-    ensures last { result.last ≡ lost_in (index_of (holds block) row.old) row.old }
+    ensures lost { result.lost ≡ lost_in (index_of (holds block) row.old) row.old }
 {
     let seen = look(row, block, from);
     let clean = clean_of(seen, row.len());
-    let last = lost_by(row, seen.position);
+    let lost = lost_by(row, seen.position);
     touch_row(row, seen, block, write);
     Turned {
         position: seen.position,
         clean,
-        last,
+        lost,
     }
 }
 
@@ -163,7 +163,7 @@ fn turn(slots: &mut [Slot], set: usize, ways: usize, block: u64, from: usize, wr
     ensures position { result.position ≡ index_of (holds block) (row ways set slots.old) }
     ensures clean { result.clean ≡ clean_in (level_in block (row ways set slots.old))
         (index_of (holds block) (row ways set slots.old)) ways }
-    ensures last { result.last ≡ lost_in (index_of (holds block) (row ways set slots.old))
+    ensures lost { result.lost ≡ lost_in (index_of (holds block) (row ways set slots.old))
         (row ways set slots.old) }
 {
     let start = set * ways;
@@ -191,7 +191,7 @@ pub(crate) fn turn_in(
     ensures position { result.position ≡ index_of (holds block) (row ways set slots.old.items) }
     ensures clean { result.clean ≡ clean_in (level_in block (row ways set slots.old.items))
         (index_of (holds block) (row ways set slots.old.items)) ways }
-    ensures last { result.last ≡ lost_in (index_of (holds block) (row ways set slots.old.items))
+    ensures lost { result.lost ≡ lost_in (index_of (holds block) (row ways set slots.old.items))
         (row ways set slots.old.items) }
 {
     turn(slots, set, ways, block, from, write)

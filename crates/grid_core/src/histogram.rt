@@ -8,7 +8,7 @@ ghost use Rattle.cache_core.specs.Counting.{IsWithin, with_one};
 ghost use Rattle.cache_core.specs.History.{is_write};
 ghost use Rattle.grid_core.specs.Totals.{past, table_of, total};
 
-use crate::misses::{count_at, plus, sum_from, zeros};
+use crate::sums::{count_at, plus, sum_from, zeros};
 use cache_core::{Access, MAX_EVENTS, PerClass};
 use std::alloc::{AllocError, Global};
 
@@ -18,7 +18,7 @@ use std::alloc::{AllocError, Global};
 pub(crate) struct Histogram {
     ways: usize,
     levels: usize,
-    /// By the place of the block in its row, and then by its level in the shadows.
+    /// By the stack distance of the block, and then by its level in the shadows.
     distances: Vec<Vec<PerClass>>,
     /// By the number of ways up to which the block was not dirty.
     first_writes: Vec<PerClass>,
@@ -80,21 +80,21 @@ fn count_past_in(tables: &mut Vec<Vec<PerClass>>, distance: usize, level: usize,
     count_past(tables, distance, level, access);
 }
 
-/// Counts an access whose block stood at this place of its row, unless that was the first.
-fn count_place(tables: &mut Vec<Vec<PerClass>>, place: usize, level: usize, access: Access)
-    requires place { place < length tables.old.items }
+/// Counts an access whose block had this stack distance, unless it was first in its row.
+fn count_distance(tables: &mut Vec<Vec<PerClass>>, distance: usize, level: usize, access: Access)
+    requires distance { distance < length tables.old.items }
     requires level { All (λ counts. level < length counts) (map table_of tables.old.items) }
     requires within { IsWithin (past 0 0 (map table_of tables.old.items)) MAX_EVENTS }
     ensures past { (n k : ℕ) → 0 < n → past n k (map table_of tables.new.items)
-        ≡ with_one access (not (nat_lt place n) && not (nat_lt level k))
+        ≡ with_one access (not (nat_lt distance n) && not (nat_lt level k))
         (past n k (map table_of tables.old.items)) }
     ensures bounds { (b : ℕ) → IsWithin (past 0 0 (map table_of tables.old.items)) b →
         IsWithin (past 0 0 (map table_of tables.new.items)) (b + 1) }
     ensures wide { map length (map table_of tables.new.items)
         ≡ map length (map table_of tables.old.items) }
 {
-    if place > 0 {
-        count_past_in(tables, place, level, access);
+    if distance > 0 {
+        count_past_in(tables, distance, level, access);
     }
 }
 
@@ -138,15 +138,15 @@ impl Histogram {
         })
     }
 
-    /// Counts an access whose block stood at this place, or whose place is the number of ways as it
-    /// was not there; which was not dirty in up to `clean` ways, and had this level in the shadows.
-    pub fn note(&mut self, place: usize, clean: usize, level: usize, access: Access)
-        requires place { place ≤ histogram_ways self.old }
+    /// Counts an access whose block had this stack distance, the number of ways if it was not in
+    /// its row; which was not dirty in up to `clean` ways, and had this level in the shadows.
+    pub fn note(&mut self, distance: usize, clean: usize, level: usize, access: Access)
+        requires distance { distance ≤ histogram_ways self.old }
         requires clean { clean ≤ histogram_ways self.old }
         requires level { level < histogram_levels self.old }
         requires within { (n : ℕ) × IsWithinHistogram n self.old × (n < MAX_EVENTS) }
         ensures past { (n k : ℕ) → 0 < n → past_in self.new n k ≡ with_one access
-            (not (nat_lt place n) && not (nat_lt level k)) (past_in self.old n k) }
+            (not (nat_lt distance n) && not (nat_lt level k)) (past_in self.old n k) }
         ensures first { (n : ℕ) → 0 < n → first_in self.new n ≡ with_one access
             (is_write access && not (nat_lt clean n)) (first_in self.old n) }
         ensures bounds { (n : ℕ) → IsWithinHistogram n self.old →
@@ -154,11 +154,12 @@ impl Histogram {
         ensures levels { histogram_levels self.new ≡ histogram_levels self.old }
         ensures ways { histogram_ways self.new ≡ histogram_ways self.old }
     {
-        count_place(&mut self.distances, place, level, access);
+        count_distance(&mut self.distances, distance, level, access);
         count_first(&mut self.first_writes, clean, access);
     }
 
-    /// The accesses that missed in so many ways, and in the first `level` of the shadows.
+    /// The accesses that missed in so many ways, of which there is one or more, and in the first
+    /// `level` of the shadows.
     pub fn past(&self, ways: usize, level: usize) -> PerClass
         requires ways { ways ≤ histogram_ways self.now }
         requires level { level ≤ histogram_levels self.now }
@@ -168,7 +169,7 @@ impl Histogram {
         sum_past(&self.distances, ways, level)
     }
 
-    /// How many writes found their block not dirty in so many ways.
+    /// How many writes found their block not dirty in so many ways, of which there is one or more.
     pub fn first_writes(&self, ways: usize) -> u64
         requires ways { ways ≤ histogram_ways self.now }
         requires within { IsWithinHistogram MAX_EVENTS self.now }

@@ -11,13 +11,13 @@ pub fn wider_ways_hold_more()
     ensures { WiderWaysHoldMore }
 {}
 
-/// One distance tells the hits of every number of ways.
+/// One distance tells the hits of every number of ways up to that of the rows.
 pub fn stack_distances_are_hits()
     ensures { StackDistancesAreHits }
 {}
 
-/// One level tells in which numbers of ways a block was written at or after its last load (Thompson
-/// and Smith). Where a write-back cache holds it, it is then dirty.
+/// One level tells in which of these numbers of ways a block was written at or after its last load
+/// (Thompson and Smith). Where a write-back cache holds it, it is then dirty.
 pub fn dirty_levels_are_dirty_blocks()
     ensures { DirtyLevelsAreDirtyBlocks }
 {}

@@ -14,7 +14,7 @@
 //! one access to a row, and `stacks` serves the rows of all numbers of sets, which `shapes` and
 //! `parts` make. Where blocks stood is counted once for each number of sets (`histogram`), and the
 //! counts of each cache follow from that (`cells`). `outcome` tells what one access did in one of
-//! them, and `misses` adds counts. One list with a mark for each size is the shadow of all these
+//! them, and `sums` adds counts. One list with a mark for each size is the shadow of all these
 //! caches (`shadows`). `block_numbers` and `at_hand` number the blocks for it, and `recent` knows
 //! the block that was used last.
 //!
@@ -37,7 +37,6 @@ mod engine;
 mod front;
 mod histogram;
 mod laws;
-mod misses;
 mod outcome;
 mod parts;
 mod places;
@@ -54,6 +53,7 @@ mod slots;
 mod stack;
 mod stacked;
 mod stacks;
+mod sums;
 
 pub use block_numbers::BlockNumbers;
 pub use engine::Engine;

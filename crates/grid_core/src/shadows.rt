@@ -5,8 +5,8 @@ ghost use Rattle.std.specs.Prelude.{◌≡◌, ◌+◌, length, true};
 ghost use Rattle.marked_list.specs.Marked.{marked_sizes};
 
 use crate::block_numbers::BlockNumbers;
-use crate::misses::{count_at, sum_from, zeros};
 use crate::recent::{Recent, is_again, nothing_recent, used_now};
+use crate::sums::{count_at, sum_from, zeros};
 use cache_core::{Access, MAX_EVENTS, PerClass};
 use marked_list::Marked;
 use std::alloc::{AllocError, Global};
@@ -30,8 +30,8 @@ pub(crate) fn prior_of_last() -> PriorLevel
     }
 }
 
-/// Numbers for the blocks, and one list of the numbers of those that were ever accessed, by last
-/// use, with a mark at each size.
+/// Numbers for the blocks, and one list of the numbers of those used since the last flush, by last
+/// use, with a mark at each size. The list also knows which were ever used.
 #[derive(Drop)]
 pub(crate) struct Shadows {
     numbers: BlockNumbers,

@@ -1,4 +1,4 @@
-//! The sets of one number, for caches of every number of ways up to the widest.
+//! The rows of one number of sets, for caches of every number of ways up to the widest.
 
 ghost use Rattle.std.specs.Prelude.{◌≡◌, ◌<◌, ◌+◌, ◌*◌, ◌^◌, ℕ, vec_len};
 ghost use Rattle.cache_core.specs.Geometry.{bsize_of, sets_of, assoc_of};
@@ -23,11 +23,12 @@ pub(crate) struct Stack {
     last_set: u64,
     wback: bool,
     slots: Vec<Slot>,
-    /// The set of the last access, and where its block stood there before.
+    /// The set of the last access that was not passed over.
     set: usize,
+    /// Where the block of the last access stood in its row before: first, if it was passed over.
     found: usize,
-    /// The slot that its row lost, or an empty one.
-    last: Slot,
+    /// The slot that the row of `set` lost at that access, or an empty one.
+    lost: Slot,
     /// Where the blocks of all accesses stood before.
     histogram: Histogram,
     ghost width: { ways ≡ assoc_of geometry },
@@ -36,7 +37,7 @@ pub(crate) struct Stack {
     ghost bytes: { (t : ℕ) → t < sets_of geometry →
         HaveBytes (bsize_of geometry) (row ways t slots.items) },
     ghost inside: { set < sets_of geometry },
-    ghost fits: { last.block * bsize_of geometry < 2 ^ 64 },
+    ghost fits: { lost.block * bsize_of geometry < 2 ^ 64 },
     ghost counted: { histogram_ways histogram ≡ ways },
 }
 
@@ -80,7 +81,7 @@ impl Stack {
             slots,
             set: 0,
             found: 0,
-            last: empty_slot(),
+            lost: empty_slot(),
             histogram: Histogram::new(alloc, ways, levels)?,
         })
     }
@@ -132,7 +133,7 @@ impl Stack {
             .note(turned.position, turned.clean, level, access);
         self.set = set;
         self.found = turned.position;
-        self.last = turned.last;
+        self.lost = turned.lost;
     }
 
     /// Passes over an access whose block stays first in its row: the rows are as they were.
@@ -185,8 +186,8 @@ impl Stack {
         self.wback
     }
 
-    /// The slot behind the first `ways` of the row of the last access, or the one that the row
-    /// lost.
+    /// The slot behind the first `ways` of the row of the last access that was not passed over, or
+    /// the one that the row lost.
     fn slot_behind(&self, ways: usize) -> Slot
         ensures is { result ≡ behind_in self.now ways }
         ensures fits { result.block * bsize_of self.now.geometry < 2 ^ 64 }
@@ -194,7 +195,7 @@ impl Stack {
         if ways < self.ways {
             return self.slots[self.set * self.ways + ways];
         }
-        self.last
+        self.lost
     }
 
     /// The first byte of the block that the cache of `ways` ways wrote back at the last access, if
@@ -222,7 +223,8 @@ impl Stack {
         Ok(bytes)
     }
 
-    /// The accesses that missed in so many ways, and in the first `level` of the shadows.
+    /// The accesses that missed in so many ways, of which there is one or more, and in the first
+    /// `level` of the shadows.
     pub fn past(&self, ways: usize, level: usize) -> PerClass
         requires ways { ways ≤ (rules_of self.now).assoc }
         requires level { level ≤ told_in self.now }

@@ -249,6 +249,8 @@ impl Stacked {
     pub fn swap_numbers(&mut self, numbers: &mut BlockNumbers)
         ensures stands { (blocks : List ℕ) (h : History) → StackedStandsBy blocks self.old h →
             StackedStandsBy blocks self.new h }
+        ensures answers { (h : History) (x : Access) → StackedHasAnswered self.old h x →
+            StackedHasAnswered self.new h x }
         ensures taken { stacked_numbered self.new ≡ blocks_in numbers.old }
         ensures given { blocks_in numbers.new ≡ stacked_numbered self.old }
         ensures kept { stacked_kept self.new ≡ stacked_kept self.old }

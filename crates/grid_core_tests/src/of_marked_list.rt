@@ -17,20 +17,11 @@ fn same<T: PartialEq + Debug>(rt: &impl Abort, came: &T, wanted: &T, place: u64,
     assert_eq!(rt; came, wanted, "use {place}, of block {block}");
 }
 
-fn touch(rt: &impl Abort, marked: &mut Marked, number: usize) -> Result<usize, AllocError> {
-    assert!(rt; number < usize::MAX);
-    marked.touch(number)
-}
-
-fn clear(marked: &mut Marked) {
-    marked.clear();
-}
-
 /// Uses blocks, which have to have these levels.
 fn expect(rt: &impl Abort, marked: &mut Marked, uses: &[(usize, usize)]) {
     let mut place = 0u64;
     for (number, level) in uses {
-        same(rt, &touch(rt, marked, *number), &Ok(*level), place, *number);
+        same(rt, &marked.touch(*number), &Ok(*level), place, *number);
         place = place.wrapping_add(1);
     }
 }
@@ -43,7 +34,7 @@ fn expect_new(rt: &impl Abort, alloc: Global, sizes: &[usize], parts: &[&[(usize
     let mut marked = Marked::new(alloc, sizes).expect(rt, "memory");
     for uses in parts {
         expect(rt, &mut marked, *uses);
-        clear(&mut marked);
+        marked.clear();
     }
 }
 
@@ -73,9 +64,9 @@ fn levels_are_those_worked_out_by_hand(rt: HostRuntime) {
 fn a_used_block_is_known_even_after_a_clear(rt: HostRuntime) {
     let mut marked = Marked::new(rt.alloc(), &[1, 2]).expect(&rt, "memory");
     assert!(&rt; !marked.knows(70));
-    same(&rt, &touch(&rt, &mut marked, 70), &Ok(2), 0, 70);
+    same(&rt, &marked.touch(70), &Ok(2), 0, 70);
     assert!(&rt; marked.knows(70) && !marked.knows(6) && !marked.knows(71));
-    clear(&mut marked);
+    marked.clear();
     assert!(&rt; marked.knows(70) && !marked.knows(6) && !marked.knows(71));
 }
 
@@ -113,13 +104,13 @@ fn refuses(rt: &impl Abort, marked: &mut Marked) {
     static BEFORE: [(usize, usize); 2] = [(5, 2), (6, 2)];
     static AFTER: [(usize, usize); 2] = [(5, 1), (5, 0)];
     expect(rt, marked, &BEFORE);
-    assert!(rt; touch(rt, marked, u32::MAX as usize).is_err());
-    assert!(rt; touch(rt, marked, usize::MAX - 1).is_err());
+    assert!(rt; marked.touch(u32::MAX as usize).is_err());
+    assert!(rt; marked.touch(usize::MAX).is_err());
     expect(rt, marked, &AFTER);
 }
 
 #[test]
-fn a_number_of_more_than_32_bits_is_refused(rt: HostRuntime) {
+fn a_number_of_u32_max_or_more_is_refused(rt: HostRuntime) {
     let mut marked = Marked::new(rt.alloc(), &[1, 2]).expect(&rt, "memory");
     refuses(&rt, &mut marked);
 }

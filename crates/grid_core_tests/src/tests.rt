@@ -120,6 +120,13 @@ fn flush_alike(rt: &impl Abort, alloc: Global, engine: &mut Engine, caches: &mut
     }
 }
 
+/// Flushes the engine without lists, and each cache.
+fn flush_unlisted(rt: &impl Abort, alloc: Global, engine: &mut Engine, caches: &mut Vec<Cache>) {
+    assert!(rt; engine.served() < MAX_EVENTS);
+    engine.flush_unlisted().expect(rt, "memory");
+    flush_all(rt, alloc, caches);
+}
+
 /// Serves an access in each shadow.
 fn access_all(rt: &impl Abort, shadows: &mut Vec<Cache>, access: Access) {
     for cache in shadows.iter_mut() {
@@ -128,10 +135,10 @@ fn access_all(rt: &impl Abort, shadows: &mut Vec<Cache>, access: Access) {
     }
 }
 
-/// Flushes each shadow.
-fn flush_all(rt: &impl Abort, alloc: Global, shadows: &mut Vec<Cache>) {
+/// Flushes each cache.
+fn flush_all(rt: &impl Abort, alloc: Global, caches: &mut Vec<Cache>) {
     let mut bytes = Vec::new(alloc);
-    for cache in shadows.iter_mut() {
+    for cache in caches.iter_mut() {
         assert!(rt; cache.served() < MAX_EVENTS);
         cache.flush(&mut bytes).expect(rt, "memory");
     }
@@ -157,7 +164,8 @@ struct Long {
     blocks: u64,
 }
 
-/// An engine of all these caches does on a pseudo-random history what each alone does.
+/// An engine of all these caches does on a pseudo-random history what each alone does. Of its
+/// flushes, every second one is without lists.
 fn is_alike(
     rt: &impl Abort,
     alloc: Global,
@@ -180,8 +188,12 @@ fn is_alike(
         let access = access_of(&mut state, long.blocks);
         access_alike(rt, &mut engine, &mut caches, access);
         access_all(rt, &mut shadows, access);
-        if turn % 97 == 96 {
+        if turn % 194 == 96 {
             flush_alike(rt, alloc, &mut engine, &mut caches);
+            flush_all(rt, alloc, &mut shadows);
+        }
+        if turn % 194 == 193 {
+            flush_unlisted(rt, alloc, &mut engine, &mut caches);
             flush_all(rt, alloc, &mut shadows);
         }
     }

@@ -74,7 +74,8 @@ first_unreadable rows = find (λ x. not (has_readable rows x)) options
 abbrev pub varied : List Row → List Opt
 varied rows = filter (λ x. nat_lt 1 (length (values_of rows x))) options
 
--- the options that the points have words for: in a full table all, or else those that vary
+-- the options that the points have words for: in a full table all shared ones, or else those that
+-- vary
 abbrev pub shown : Bool → List Row → List Opt
 shown full rows = if full then shared_options else varied rows
 

@@ -9,7 +9,7 @@ use dinero_options::WordsFault;
 pub enum GridWordsFault {
     /// The words are refused like those of one configuration. Never holds `WordsFault::Config`.
     Words(WordsFault),
-    /// The value of `--threads` is no number, or above 1,024.
+    /// The value of `--threads` is no count, or above 1,024.
     Threads,
     /// The grid has more than 4,096 configurations.
     TooMany,

@@ -30,13 +30,14 @@ pub struct GridPoint {
 #[derive(Debug, Drop)]
 pub struct ParsedGrid {
     /// The names of the options that have two or more values, without hyphens; in a full table
-    /// those of all options but `--ring`.
+    /// those of all options but `--threads` and `--full`.
     pub names: Vec<String>,
     /// The points.
     pub points: Vec<GridPoint>,
     /// How many threads simulate, at most 1,024; 0 for one on each core that it may use.
     pub threads: usize,
-    /// Whether the table is full: all options have columns, and each count those of its classes.
+    /// Whether the table is full: all options but `--threads` and `--full` have columns, and counts
+    /// those of their classes.
     pub full: bool,
 }
 

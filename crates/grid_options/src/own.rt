@@ -10,7 +10,7 @@ use dinero_options::read_count;
 use std::alloc::Global;
 
 /// The most threads that may be asked for.
-const MOST: u64 = 1024;
+const MOST_THREADS: u64 = 1024;
 
 /// The option for the number of threads as clap knows it.
 pub(crate) fn threads_argument<'a>(alloc: Global) -> Arg<'a>
@@ -30,7 +30,7 @@ fn read_threads(text: &str) -> Option<usize>
     ensures { result ≡ threads_value text.now }
 {
     let count = read_count(text)?;
-    if count <= MOST {
+    if count <= MOST_THREADS {
         Some(count as usize)
     } else {
         None

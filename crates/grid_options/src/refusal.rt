@@ -55,8 +55,9 @@ fn first_paragraph(alloc: Global, said: &str) -> Result<String, AllocError> {
 }
 
 /// What clap says of words that it refuses, in one line and without the program's name: which
-/// option or word it is, and what is wrong with it. `None` where it takes the words, or help is
-/// asked for, and nowhere else. The contract says nothing about the text.
+/// option or word it is, and what is wrong with it. `None` where it takes the words, and also where
+/// it names no reason to refuse them, or where help is asked for. The contract says nothing about
+/// the text.
 pub fn grid_refusal_text(alloc: Global, words: &[String]) -> Result<Option<String>, NoMemory>
     ensures taken { takes grid_app (map string_bytes words.now) ≡ true
         → IfOk result (λ text. text ≡ None) }

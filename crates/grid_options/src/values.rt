@@ -101,7 +101,8 @@ fn varied(alloc: Global, matches: &ArgMatches) -> Result<Vec<Opt>, AllocError>
     Ok(varied)
 }
 
-/// The options that the points have words for: in a full table all, or else those that vary.
+/// The options that the points have words for: in a full table all that `dinero_pipe` has too, or
+/// else those that vary.
 pub(crate) fn shown(alloc: Global, matches: &ArgMatches, full: bool) -> Result<Vec<Opt>, AllocError>
     ensures { IfOk result (λ v. v.items ≡ shown full (rows_of (found_of matches.now))) }
 {

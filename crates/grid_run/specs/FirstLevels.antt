@@ -1,4 +1,4 @@
--- The first-level caches of all rows of one selection, and what they send.
+-- The first-level caches of a lane, and what they send.
 use Rattle.std.specs.Prelude.{◌++◌, List, map}
 use Rattle.std.specs.List.{All}
 use Rattle.din_trace.specs.declared.record.DinRecord.{DinRecord}

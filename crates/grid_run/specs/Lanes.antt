@@ -1,4 +1,4 @@
--- The caches of all rows of one selection.
+-- The caches of the rows of one portion of the grid that have one selection.
 use Rattle.std.specs.Prelude.{◌≡◌, ◌≤◌, List, length, map}
 use Rattle.std.specs.List.{All}
 use Rattle.din_trace.specs.declared.record.DinRecord.{DinRecord}

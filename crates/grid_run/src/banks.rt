@@ -21,8 +21,8 @@ use std::thread::{Threads, join_mut};
 /// all the work, and two for its second levels.
 const MOST_HELPFUL: usize = 3;
 
-/// Of `count` second levels, how many share a bank, so that each of so many threads can have two
-/// banks or more.
+/// Of `count` second levels, how many share a bank: there are at most two banks for each of so many
+/// threads, of which no more than `MOST_HELPFUL` count.
 fn size_of_bank(count: usize, threads: usize) -> usize
     ensures { 0 < result }
 {

@@ -21,17 +21,19 @@ use std::thread::Threads;
 /// the slowest of them; so a batch should give them tens of milliseconds of work.
 const BATCH: usize = 393_216;
 
-/// One thread that is alone takes so many at a time: what was read stays in the processor's caches.
+/// The first batch of one thread has so many, and every one if it has a single lane: what was read
+/// stays in the processor's caches.
 const BATCH_ALONE: usize = 16_384;
 
 /// The workers of all lanes.
 #[derive(Drop)]
 pub(crate) struct Crew {
     pub workers: Vec<Worker>,
-    /// At most so many threads take a batch; 0 counts as 1.
+    /// At most so many threads take a batch.
     threads: usize,
     /// How many of them each worker has.
     share: usize,
+    ghost some: { 0 < threads },
 }
 
 /// The workers of these plans, of which each has so many threads.
@@ -134,7 +136,7 @@ fn tell_failure(workers: &[Worker]) -> Result<(), NoMemory>
 }
 
 impl Crew {
-    /// The workers of these plans, for at most so many threads.
+    /// The workers of these plans, for at most so many threads; 0 counts as 1.
     pub fn new(alloc: Global, plans: &[LanePlan], threads: usize) -> Result<Crew, NoMemory>
         requires { All IsSound plans.now }
         ensures tasks { IfOk result (λ crew.
@@ -144,7 +146,7 @@ impl Crew {
         let share = (threads / plans.len().max(1)).max(1);
         Ok(Crew {
             workers: workers_for(alloc, plans, share)?,
-            threads,
+            threads: threads.max(1),
             share,
         })
     }
@@ -163,18 +165,12 @@ impl Crew {
         ensures tasks { map worker_task self.new.workers.items
             ≡ map worker_task self.old.workers.items }
     {
-        take_in(
-            rt,
-            &mut self.workers,
-            self.threads.max(1),
-            self.share,
-            batch,
-        );
+        take_in(rt, &mut self.workers, self.threads, self.share, batch);
         tell_failure(&self.workers)
     }
 
-    /// All workers serve what waits for their second levels. With a thread each they let nothing
-    /// wait, and no thread is started.
+    /// All workers serve what waits for their second levels: with a thread each, that is what the
+    /// last batch left, if it was a short one.
     pub fn settle<T: Threads + Sync>(&mut self, rt: &T) -> Result<(), NoMemory>
         requires room { (past : List Event) × All (MayHaveTaken past) self.old.workers.items
             × (length past ≤ MAX_LIMIT) }
@@ -184,8 +180,7 @@ impl Crew {
         ensures tasks { map worker_task self.new.workers.items
             ≡ map worker_task self.old.workers.items }
     {
-        let threads = if self.share > 1 { self.threads } else { 1 };
-        settle_in(rt, &mut self.workers, threads.max(1), self.share);
+        settle_in(rt, &mut self.workers, self.threads, self.share);
         tell_failure(&self.workers)
     }
 
@@ -199,8 +194,8 @@ impl Crew {
     }
 
     /// How many records the batch after one of this size has. A worker that is alone waits for no
-    /// other. For several, each batch is twice as long as the one before it: so a short trace is
-    /// read beside the work, too.
+    /// other. For several, each batch is twice as long as the one before it: so on several threads
+    /// a short trace is read beside the work, too.
     pub fn size_after(&self, size: usize) -> usize {
         if self.workers.len() < 2 {
             return size;

@@ -1,4 +1,4 @@
-//! The first-level caches of all rows of one selection.
+//! The first-level caches of a lane.
 
 ghost use Rattle.std.specs.Prelude.{◌≡◌, ◌<◌, ◌≤◌, ◌+◌, ◌*◌, ◌^◌, ◌++◌, ◌∷◌, [], List, IfOk};
 ghost use Rattle.std.specs.Prelude.{OnOk, length, map, option_to_list};

@@ -4,7 +4,7 @@ ghost use Rattle.std.specs.Prelude.{◌≡◌, if◌then◌else◌};
 ghost use Rattle.grid_run.specs.declared.front.Last.TheVariants as last;
 
 use crate::family::Family;
-use crate::parts::{ask_backs, ask_parts};
+use crate::parts::{ask_parts, ask_write_backs};
 use crate::requests::Request;
 use crate::shelf::Shelf;
 use cache_core::{Access, NoMemory};
@@ -152,7 +152,7 @@ impl Front {
                 let through = through_part(outcome.through, access.addr);
                 ask_parts(waiting, back_part(outcome.back), fetch, through)
             }
-            Last::Flush => ask_backs(waiting, &self.lists[cell], flush_part(side)),
+            Last::Flush => ask_write_backs(waiting, &self.lists[cell], flush_part(side)),
         }
     }
 }

@@ -15,7 +15,8 @@ pub enum Setup {
 /// A row of a grid.
 #[derive(Debug, Drop)]
 pub struct Row {
-    /// The words that the row begins with, one for each name of the grid.
+    /// The words that the row begins with, one for each name of the grid, or else the table has
+    /// lines of several lengths. For tabs and ends of lines, see [`Setup::Refused`].
     pub words: Vec<String>,
     /// What stands behind the row.
     pub setup: Setup,
@@ -33,7 +34,8 @@ pub enum Columns {
 /// A grid: the names of the words of its rows, its columns, and its rows in their order.
 #[derive(Debug, Drop)]
 pub struct Grid {
-    /// The names of the options that the rows have words of, without hyphens.
+    /// The names of the options that the rows have words of, without hyphens; without tabs and ends
+    /// of lines, too.
     pub names: Vec<String>,
     /// The columns of its table.
     pub columns: Columns,

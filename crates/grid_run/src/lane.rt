@@ -1,4 +1,4 @@
-//! The caches of all rows of one selection.
+//! The caches of the rows of one portion of the grid that have one selection.
 
 use crate::bank::Bank;
 use crate::banks::{back_at, banks_for, settle_on, take_over_all};

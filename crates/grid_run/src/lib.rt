@@ -4,10 +4,11 @@
 //! in the caches of that row. Then it writes a line for each row. [`write_heads`],
 //! [`write_counted`] and [`write_refused`] write the lines of a table from given figures.
 //!
-//! What rows have in common is done once. All rows of one selection share a `lane`. In it, the
-//! first-level caches of a side that have one block size and one policy are a `family`, which an
-//! engine of grid_core serves (`front`, `fronts`), and what each pair of them sends waits in a
-//! queue (`queue`, `queues`, `parts`): these are the `first_levels`. Behind each queue are second
+//! The rows are divided into portions, one for each thread. A `lane` has the rows of one portion
+//! that have one selection; what these have in common is done once. In it, the first-level caches
+//! of a side that have one block size and one policy are a `family`, which an engine of grid_core
+//! serves (`front`, `fronts`), and what each pair of them sends waits in a queue (`queue`,
+//! `queues`, `parts`): these are the `first_levels`. Behind each queue are second
 //! levels (`second`, `back`), which take it over and serve what waits. Some of them, a `bank`,
 //! share the numbers of blocks, so that different threads can serve the `banks` of a lane. `beside`
 //! does both at once. `requests` has what an event asks of each cache.

@@ -41,7 +41,7 @@ pub(crate) fn ask_parts(
 }
 
 /// Adds write-backs, and then a flush, if there is one.
-pub(crate) fn ask_backs(
+pub(crate) fn ask_write_backs(
     waiting: &mut Vec<What>,
     addrs: &[u64],
     flush: Option<What>,

@@ -2,6 +2,7 @@
 
 use crate::grid::{Row, Setup};
 use cache_core::{Geometry, Policy};
+use stage_core::Config;
 
 /// Whether two caches are of one shape and policy.
 fn is_same(one: (Geometry, Policy), other: (Geometry, Policy)) -> bool {
@@ -11,28 +12,39 @@ fn is_same(one: (Geometry, Policy), other: (Geometry, Policy)) -> bool {
         && one.1 == other.1
 }
 
-/// Whether two rows have the same first-level caches, so that one engine may serve their second
-/// levels.
-fn share_first_level(one: &Setup, other: &Setup) -> bool {
-    let Setup::Simulated(one, _) = one else {
-        return false;
-    };
-    let Setup::Simulated(other, _) = other else {
-        return false;
-    };
+/// Whether two configurations have the same first-level caches, so that one engine may serve their
+/// second levels.
+fn share_first_level(one: &Config, other: &Config) -> bool {
     is_same(one.i(), other.i()) && is_same(one.d(), other.d())
 }
 
-/// The group of a row, by that of the row before it. Rows beside one another that have the same
-/// first-level caches are a group. The groups are numbered from 0.
+/// The configuration of a row, if it was not refused.
+fn config_of(row: &Row) -> Option<&Config> {
+    match &row.setup {
+        Setup::Simulated(config, _) => Some(config),
+        Setup::Refused(_) => None,
+    }
+}
+
+/// The configuration of the last row that was not refused.
+fn last_config(rows: &[Row]) -> Option<&Config> {
+    rows.iter().rev().find_map(config_of)
+}
+
+/// The group of a row, by that of the row before it. Rows that have the same first-level caches are
+/// a group, if no other rows stand between them but refused ones, whose group does not matter. The
+/// groups are numbered from 0.
 pub(crate) fn group_after(rows: &[Row], index: usize, group: usize) -> usize {
-    if index == 0 || index >= rows.len() {
+    if index >= rows.len() {
         return group;
     }
-    if share_first_level(&rows[index - 1].setup, &rows[index].setup) {
+    let Some(config) = config_of(&rows[index]) else {
         return group;
+    };
+    match last_config(&rows[..index]) {
+        Some(last) if !share_first_level(last, config) => group.saturating_add(1),
+        _ => group,
     }
-    group.saturating_add(1)
 }
 
 /// How many groups there are.

@@ -132,6 +132,9 @@ pub fn simulate_grid<T: Threads + Sync, R: ByteReader + Drop + Send, W: ByteWrit
         ((fault ADDRESS_MAX text limit ≡ None)
         × Appends (W.contents writer.old) (W.contents writer.new)
         (table_of grid.now text)) }
+    // For any reader, the same holds for some text.
+    ensures whole { OnOk result ((text : List ℕ) × (fault ADDRESS_MAX text limit ≡ None)
+        × Appends (W.contents writer.old) (W.contents writer.new) (table_of grid.now text)) }
     ensures trace { (text : List ℕ) → R.remaining reader ≡ Some text
         → (why : TraceFault) → result ≡ Err (GridFault.Trace why)
         → IsFaultOf R.remaining R.failures reader text limit why }

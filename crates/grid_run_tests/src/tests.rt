@@ -1,6 +1,8 @@
-//! Tables, and grids over traces in memory. The expected texts were worked out by hand.
+//! Tables, and grids over traces in memory. The expected texts were worked out by hand; those of
+//! `beside` are of runs of one configuration.
 
 mod beside;
+mod faults;
 mod full;
 mod grids;
 mod lines;
@@ -16,7 +18,7 @@ use grid_run::{Row, Setup};
 use std::alloc::Global;
 use std::test::Fail;
 
-/// The columns of one cache: the heads after its name.
+/// The first line of a plain table, behind the names of the options.
 static HEADS: &str = concat!(
     "l1-icache-fetches\tl1-icache-misses\tl1-icache-miss-rate\tl1-icache-compulsory\t",
     "l1-icache-capacity\tl1-icache-conflict\tl1-icache-fully-associative-misses\t",

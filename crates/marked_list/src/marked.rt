@@ -16,7 +16,7 @@ use std::alloc::{AllocError, Global};
 pub struct Marked {
     uses: Uses,
     marks: Vec<Mark>,
-    /// How many different blocks were used.
+    /// How many different blocks were used since the last `clear`.
     used: usize,
     /// Whether each size is larger than those before it.
     rising: bool,
@@ -43,7 +43,8 @@ impl Marked {
     ghost use Rattle.marked_list.specs.Recency.{level_of, brought_front};
     ghost use Rattle.marked_list.specs.Marked.{order_of, marked_sizes, was_used};
 
-    /// A list for these sizes, with no block.
+    /// A list for these sizes, with no block. The sizes are numbers of blocks, in any order; a use
+    /// takes fewer steps if they rise.
     pub fn new(alloc: Global, sizes: &[usize]) -> Result<Marked, AllocError>
         requires { All (λ size. 0 < size) sizes.now }
         ensures order { IfOk result (λ marked. order_of marked ≡ []) }
@@ -97,8 +98,8 @@ impl Marked {
 
     /// Uses a block, and answers its level before: the index of the first size for which it was
     /// among the blocks used last, or the number of sizes. After an error nothing is changed.
-    /// Numbers and places in the log have 32 bits: `u32::MAX` and more, and a log of so many uses,
-    /// answer an error, as if memory were wanting.
+    /// A number of `u32::MAX` or more answers an error, as if memory were wanting. So does a use
+    /// for which the list has no place left, which takes some 2^31 blocks or more.
     pub fn touch(&mut self, number: usize) -> Result<usize, AllocError>
         ensures level { IfOk result (λ level.
             level ≡ level_of (marked_sizes self.old) (order_of self.old) number) }
@@ -121,7 +122,7 @@ impl Marked {
         self.serve(number)
     }
 
-    /// Forgets all blocks.
+    /// Empties the list. Blocks that were ever used stay known.
     pub fn clear(&mut self)
         ensures order { order_of self.new ≡ [] }
         ensures used { (q : ℕ) → was_used self.new q ≡ was_used self.old q }

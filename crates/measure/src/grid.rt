@@ -59,7 +59,7 @@ fn serve(engine: &mut Engine, record: DinRecord) -> Result<(), NoMemory> {
         });
     }
     if record.label == Label::Flush {
-        let _lists = engine.flush()?;
+        engine.flush_unlisted()?;
     }
     Ok(())
 }

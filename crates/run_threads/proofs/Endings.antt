@@ -1,11 +1,8 @@
 -- The result of a run over a source, from the results of its threads.
 use Rattle.std.proofs.Common.{◌≡◌, List, [], None, Option, Result, Ok, Err, refl, sym}
-use Rattle.std.proofs.Common.{◌++◌, true, false, ◌∙◌, ℕ, ◌⊎◌, inl, inr, Some, subst, append-nil}
+use Rattle.std.proofs.Common.{true, ℕ, ◌⊎◌, inl, inr, Some, subst, append-nil}
 use Rattle.std.specs.Prelude.{OnOk, IfOk, IfErr, IsOk, option_map}
-use Rattle.din_trace.specs.Line.{ADDRESS_MAX}
-use Rattle.din_trace.specs.Text.{records, fault, Remaining, text_left}
-use Rattle.din_trace.specs.Remaining.{Script, Fate, Open, Ended, Failed, Follows}
-use Rattle.din_trace.proofs.Texts.{leaves_text}
+use Rattle.din_trace.specs.Text.{records, fault, Remaining}
 use Rattle.din_trace.specs.declared.record.DinRecord.{DinRecord}
 use Rattle.din_trace.specs.declared.fault.TraceFault.{TraceFault}
 use Rattle.stage_core.specs.Events.{events}
@@ -22,35 +19,6 @@ use Rattle.run_threads.specs.Faults.{MayAnswer, fault_of_stop}
 use Rattle.run_threads.specs.Threads.{LeavesRest, SplitUp, at_end}
 use Rattle.run_threads.specs.Runs.{HasRun, RunsOver}
 use Rattle.run_threads.specs.Waits.{splitter_at}
-
--- if a property holds for the records that are left, whatever the reader did, and no fault is left,
--- it holds for the records of some text
-module _ (limit : ℕ) (P : List DinRecord → Type 0) where
-  abbrev LeavesGood : Script → Type 0
-  LeavesGood script =
-      let l = text_left ADDRESS_MAX 1 script.given limit script.fails in
-      (l.fault ≡ None) × P l.records
-
-  of-text : (text : List ℕ) → LeavesGood (record { given = text; fails = false })
-      → (fault ADDRESS_MAX text limit ≡ None) × P (records ADDRESS_MAX text)
-  of-text text good =
-      let law = leaves_text ADDRESS_MAX text limit in
-      let none = sym law.fault_is ∙ good.0 in (none, subst P (law.records_are none) good.1)
-
-  pub of-some-text : (fate : Fate) (given : List ℕ) → ((before later : Script)
-      → Follows fate given before later → LeavesGood before) → (text : List ℕ)
-      × (fault ADDRESS_MAX text limit ≡ None) × P (records ADDRESS_MAX text)
-  of-some-text Open given left =
-      let end : Script = record { given = []; fails = false } in
-      let good = of-text (given ++ []) (left _ end refl) in (given ++ [], good.0, good.1)
-  of-some-text Ended given left =
-      let end : Script = record { given = []; fails = false } in
-      let good = of-text given (left (record { given = given; fails = false }) end refl) in
-      (given, good.0, good.1)
-  of-some-text Failed given left =
-      let end : Script = record { given = []; fails = false } in
-      let good = left (record { given = given; fails = true }) end refl in
-      absurd ((leaves_text ADDRESS_MAX given limit).fails good.0)
 
 -- a property of the splitter's fault, of `Memory` and of `Cut` is one of the fault of lowest rank
 module _ (P : RunFault → Type 0) (memory : P Memory) (cut : P Cut) (result : RunFault) where

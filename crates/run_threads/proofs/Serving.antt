@@ -14,7 +14,7 @@ use Rattle.stage_core.specs.declared.l1_stage.L1Stage.{L1Stage}
 use Rattle.stage_core.proofs.Place.{flat_map_with_past-more}
 use Rattle.run_threads.specs.declared.ends.StageEnds.{StageEnds}
 use Rattle.run_threads.specs.Ends.{UnusedStage}
-use Rattle.run_threads.specs.Threads.{StageServed, StageEnded}
+use Rattle.run_threads.specs.Threads.{StageServed, StageServedAll}
 use Rattle.run_threads.specs.Waits.{AnswersPublished, OfStage}
 
 -- a stage that has sent nothing holds no answer back
@@ -99,7 +99,7 @@ finish-is Finish is = refl
 pub serves-finish : (began : L1Stage) (start : StageEnds) (stage : L1Stage) (was : StageEnds)
     (m : ToStage) (next : L1Stage) (now : StageEnds)
     → StageServed began start stage was → took_finish stage ≡ false → Serves stage was m next now
-    → is_finish m ≡ true → StageEnded began start next now
+    → is_finish m ≡ true → StageServedAll began start next now
 serves-finish began start stage was m next now going goes_on one last = record {
   served = serves-more began start stage was m next now going one;
   finish = record {

@@ -75,7 +75,7 @@ pub record StageServed (began : L1Stage) (was : StageEnds) (stage : L1Stage) (no
   pub empty : outbox_of stage ≡ []
 
 -- a stage has served its whole stream, up to `Finish`
-pub record StageEnded (began : L1Stage) (was : StageEnds) (stage : L1Stage) (now : StageEnds)
+pub record StageServedAll (began : L1Stage) (was : StageEnds) (stage : L1Stage) (now : StageEnds)
     : Type 0 where
   pub served : StageServed began was stage now
   pub finish : EndOnce is_finish to_stage.Finish (received now.from_splitter)
@@ -94,7 +94,7 @@ pub record MergeServed (at : MergeState) (began : L2Stage) (was : MergeEnds) (u 
 pub record StageCounted (began : L1Stage) (was : StageEnds) (counts : Counts) (now : StageEnds)
     : Type 0 where
   pub stage : L1Stage
-  pub ended : StageEnded began was stage now
+  pub ended : StageServedAll began was stage now
   pub counted : (messages : List ToStage) → StageStandsFor stage messages
       → counts ≡ counts_of (rules_of (cache_of stage)) (taken_in messages)
 

@@ -17,12 +17,12 @@
 //! What programs need of this, sim_run passes on. All else that is public here is for the tests of
 //! single threads, and of runs that are given up.
 //!
-//! Proved for every lawful configuration, every selection, and whatever the reader does: if a run
-//! succeeds, the source was read to its end without a fault. Each ring has the capacity of the
-//! configuration and has carried exactly its stream, each message once and in order, and all of it
-//! was received. The second level got its requests in the order of the trace. The counts are those
-//! that the definitions give for the records that were read. Nothing is claimed of a run that does
-//! not end.
+//! Proved for every lawful configuration, every selection of numbers up to 2^40, and whatever the
+//! reader does: if a run succeeds, the source was read to its end without a fault. Each ring has
+//! the capacity of the configuration and has carried exactly its stream, each message once and in
+//! order, and all of it was received. The second level got its requests in the order of the trace.
+//! The counts are those that the definitions give for the records that were read. Nothing is
+//! claimed of a run that does not end.
 //!
 //! Only tested: that the threads run at the same time and while the trace is read, and that a lost
 //! peer or a missing thread is reported only if there is one.

@@ -10,7 +10,7 @@ ghost use Rattle.stage_core.specs.Standing.{StageStandsFor, IsReady, cache_of, s
 ghost use Rattle.stage_core.specs.Standing.{outbox_of, took_finish};
 ghost use Rattle.run_threads.specs.declared.fault.Stop.{Stop};
 ghost use Rattle.run_threads.specs.Ends.{UnusedStage};
-ghost use Rattle.run_threads.specs.Threads.{StageEnded};
+ghost use Rattle.run_threads.specs.Threads.{StageServedAll};
 ghost use Rattle.run_threads.specs.Waits.{AnswersPublished, OfStage, StageHasEnded};
 ghost use Rattle.run_threads.specs.declared.waits.Until.TheVariants as Until;
 
@@ -35,7 +35,7 @@ pub struct StagePromise {
 }
 
 impl Promise<StageEnd> for StagePromise {
-    ghost kept_by = { λ p r. IfOk r (λ t. StageEnded p.machine.value p.ends.value t.0 t.1) };
+    ghost kept_by = { λ p r. IfOk r (λ t. StageServedAll p.machine.value p.ends.value t.0 t.1) };
 }
 
 /// A stage's thread, which is still to be joined.
@@ -187,7 +187,7 @@ fn serve_all<H: Wait, G: Gate>(
     requires ready { IsReady stage.old }
     requires new { StageStandsFor stage.old [] }
     requires unused { UnusedStage ends.old }
-    ensures ended { OnOk result (StageEnded stage.old ends.old stage.new ends.new) }
+    ensures ended { OnOk result (StageServedAll stage.old ends.old stage.new ends.new) }
     ensures rests { OnOk result (StageHasEnded stage.new ends.new) }
     ensures announced { OnOk result (IsAnnounced ends.new.to_merge) }
 {
@@ -221,7 +221,7 @@ pub fn run_stage<H: Wait, G: Gate>(
     requires ready { IsReady machine }
     requires new { StageStandsFor machine [] }
     requires unused { UnusedStage unused }
-    ensures ended { IfOk result (λ r. StageEnded machine unused r.0 r.1) }
+    ensures ended { IfOk result (λ r. StageServedAll machine unused r.0 r.1) }
     // A stage that has ended holds no answer back, and has woken the merge if it slept.
     ensures rests { IfOk result (λ r. StageHasEnded r.0 r.1) }
     ensures announced { IfOk result (λ r. IsAnnounced r.1.to_merge) }
@@ -255,7 +255,7 @@ pub fn start_stage<'s, E, H: Wait + Sync, G: Gate>(
         requires ready { IsReady machine }
         requires new { StageStandsFor machine [] }
         requires unused { UnusedStage ends }
-        ensures { IfOk result (λ r. StageEnded machine ends r.0 r.1) }
+        ensures { IfOk result (λ r. StageServedAll machine ends r.0 r.1) }
     { run_stage(rt, gate, who, machine, ends) };
     scope.spawn_with(promise, run).or(Err(NoThread))
 }

@@ -34,6 +34,10 @@ pub fn simulate_plain<R: ByteReader + Drop, W: ByteWriter>(
         ((fault ADDRESS_MAX text limit ≡ None)
         × Appends (W.contents writer.old) (W.contents writer.new)
         (report_of config.now selection.now text)) }
+    // For any reader, the same holds for some text.
+    ensures whole { OnOk result ((text : List ℕ) × (fault ADDRESS_MAX text limit ≡ None)
+        × Appends (W.contents writer.old) (W.contents writer.new)
+        (report_of config.now selection.now text)) }
     ensures trace { (text : List ℕ) → R.remaining reader ≡ Some text
         → (why : TraceFault) → result ≡ Err (RunFault.Trace why)
         → IsFaultOf R.remaining R.failures reader text limit why }

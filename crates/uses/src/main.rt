@@ -1,4 +1,4 @@
-//! A use of each library, as its README shows it. Run as a program, it prints what they answer.
+//! The uses that the READMEs of the libraries show. Run as a program, it prints what they answer.
 #![tactic(auto)]
 
 mod block;
@@ -8,6 +8,7 @@ mod list;
 mod ring;
 mod run;
 mod stages;
+mod table;
 mod trace;
 
 use anyhow::bail;
@@ -53,5 +54,13 @@ fn main(rt: HostRuntime) -> anyhow::Result<()> {
     };
     println!(rt; "sim_run:")?;
     rt.stdout().write_all(report.as_slice())?;
+    let Ok(grid) = table::two_sizes(alloc) else {
+        bail!("no grid");
+    };
+    let Ok(table) = table::table(&rt, alloc, &grid, b"0 0\n0 8\n0 0\n2 0\n") else {
+        bail!("no table");
+    };
+    println!(rt; "grid_run:")?;
+    rt.stdout().write_all(table.as_slice())?;
     Ok(())
 }

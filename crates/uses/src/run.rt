@@ -8,13 +8,15 @@ use std::alloc::Global;
 use std::sync::Wait;
 use std::thread::Threads;
 
-const WHOLE: Selection = Selection {
+/// The whole of a trace.
+pub const WHOLE: Selection = Selection {
     skip: 0,
     max: 0,
     every: 0,
 };
 
-fn cache(size: u64, bsize: u64, assoc: u64) -> CacheSpec {
+/// An LRU cache that writes back and allocates at writes.
+pub fn cache(size: u64, bsize: u64, assoc: u64) -> CacheSpec {
     let policy = Policy {
         repl: Repl::Lru,
         wback: true,

@@ -20,3 +20,18 @@ pub returns-in-Err-table-clause-trace : goal.returns-in-Err-table-clause-trace
 returns-in-Err-table-clause-trace g c text known why is =
     let met : c.table.result ≡ Err (Trace why) = search rules in
     c.table.ensures.trace text known why met
+
+pub returns-in-Ok-table-clause-whole : goal.returns-in-Ok-table-clause-whole
+returns-in-Ok-table-clause-whole g c =
+    let told = c.in-Ok-table.ensures.whole in (
+      told.0,
+      told.1,
+      record {
+        parsed = c.in-Ok.asked;
+        asked = c.in-Ok.ensures.answer;
+        grid = told.2.0;
+        rows = told.2.1;
+        refused = c.in-Ok-table.ensures.refused;
+        written = told.2.2;
+      },
+    )

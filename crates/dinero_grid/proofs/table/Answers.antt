@@ -11,3 +11,8 @@ pub returns-clause-table : goal.returns-clause-table
 returns-clause-table g c text known =
     let told = c.in_ok-simulate_grid.ensures.table text known in
     (told.0, (c.in-Ok.grid, c.in-Ok.ensures.grid, told.1))
+
+pub returns-clause-whole : goal.returns-clause-whole
+returns-clause-whole g c =
+    let told = c.in_ok-simulate_grid.ensures.whole in
+    (told.0, told.1, (c.in-Ok.grid, c.in-Ok.ensures.grid, told.2))

@@ -1,8 +1,15 @@
 use Rattle.std.proofs.Common.{rules, ◌≡◌, Err}
 use Rattle.run_threads.specs.declared.fault.RunFault.TheVariants.{Trace}
+use Rattle.sim_run.specs.TraceReport.{report_of}
 use Rattle.dinero_pipe.proofs.report.Goals as goal
 
 pub returns-in_err-_settled-clause-trace : goal.returns-in_err-_settled-clause-trace
 returns-in_err-_settled-clause-trace g c text known why is =
     let met : c.simulate.result ≡ Err (Trace why) = search rules in
     c.simulate.ensures.trace text known why met
+
+pub returns-clause-whole : goal.returns-clause-whole
+unfolding report_of
+returns-clause-whole g c =
+    let whole = c.in_ok-_settled.ensures.whole in
+    (whole.0, whole.1, rw whole.2.counted at c.in_ok-_settled.ensures.report)

@@ -32,3 +32,16 @@ pub returns-in-Err-report-clause-trace : goal.returns-in-Err-report-clause-trace
 returns-in-Err-report-clause-trace g c text known why is =
     let met : c.report.result ≡ Err (Trace why) = search rules in
     c.report.ensures.trace text known why met
+
+pub returns-in-Ok-report-clause-whole : goal.returns-in-Ok-report-clause-whole
+returns-in-Ok-report-clause-whole g c =
+    let told = c.in-Ok-report.ensures.whole in (
+      told.0,
+      told.1,
+      record {
+        config = c.in-Ok.asked.0;
+        selection = c.in-Ok.asked.1;
+        asked = c.in-Ok.ensures.answer;
+        written = told.2;
+      },
+    )

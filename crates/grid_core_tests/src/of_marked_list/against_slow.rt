@@ -3,8 +3,8 @@
 ghost use Rattle.std.specs.Prelude.{◌<◌};
 ghost use Rattle.std.specs.List.{All};
 
+use super::same;
 use super::slow::Slow;
-use super::{clear, same, touch};
 use marked_list::Marked;
 use std::alloc::Global;
 use std::process::Abort;
@@ -38,9 +38,9 @@ fn use_alike(rt: &impl Abort, marked: &mut Marked, slow: &mut Slow, (uses, block
     for place in 0..uses {
         let number = block_of(&mut state, blocks.0, blocks.1);
         let level = slow.touch(rt, number);
-        same(rt, &touch(rt, marked, number), &Ok(level), place, number);
+        same(rt, &marked.touch(number), &Ok(level), place, number);
         if next_random(&mut state).checked_rem(period) == Some(0) {
-            clear(marked);
+            marked.clear();
             slow.clear();
         }
     }

@@ -2,7 +2,7 @@
 //! checks that the block that was used last still is, and then fails with the name of the refusal
 //! and nothing else.
 
-use super::{clear, same, touch};
+use super::same;
 use marked_list::Marked;
 use std::alloc::AllocError;
 use std::process::Abort;
@@ -17,10 +17,10 @@ fn used(
     number: usize,
     level: usize,
 ) -> Result<(), AllocError> {
-    let answer = touch(rt, marked, number);
+    let answer = marked.touch(number);
     if answer.is_err() {
         if let Some(latest) = latest {
-            same(rt, &touch(rt, marked, latest), &Ok(0), 0, latest);
+            same(rt, &marked.touch(latest), &Ok(0), 0, latest);
         }
     }
     same(rt, &answer?, &level, 0, number);
@@ -36,7 +36,7 @@ fn fills(rt: &impl Abort, marked: &mut Marked) -> Result<(), AllocError> {
         used(rt, marked, Some(number), before, 1)?;
         used(rt, marked, Some(before), number, 1)?;
     }
-    clear(marked);
+    marked.clear();
     used(rt, marked, None, 299, 3)?;
     used(rt, marked, Some(299), 400, 3)?;
     used(rt, marked, Some(400), 299, 1)

@@ -7,7 +7,7 @@ use std::process::Abort;
 use std::test::Fail;
 
 #[test]
-fn a_cache_of_one_block_is_one(rt: HostRuntime) -> Result<(), Fail> {
+fn caches_of_one_block_are_single_caches(rt: HostRuntime) -> Result<(), Fail> {
     let geometries = geometries_of(&rt, rt.alloc(), &[4, 8], &[1, 2]);
     let long = Long {
         turns: 500,

@@ -1,7 +1,7 @@
 //! Engines that are served in turn, and share the numbers of blocks.
 
 use super::{access_alike, access_of, caches_of, expect_counts, flush_alike, geometries_of};
-use cache_core::{Cache, Policy, Repl};
+use cache_core::{Access, Cache, Class, MAX_EVENTS, PerClass, Policy, Repl};
 use grid_core::{BlockNumbers, Engine, share_block_size};
 use std::alloc::Global;
 use std::process::Abort;
@@ -70,8 +70,26 @@ fn engines_that_share_numbers_are_single_caches(rt: HostRuntime) -> Result<(), F
     Ok(())
 }
 
+/// Reads the block of address 0 with the shared numbers, and answers the compulsory misses of the
+/// first cache.
+fn compulsory_after_read(
+    rt: &impl Abort,
+    engine: &mut Engine,
+    numbers: &mut BlockNumbers,
+) -> PerClass {
+    engine.swap_numbers(numbers);
+    assert!(rt; engine.served() < MAX_EVENTS);
+    let class = Class::Read;
+    engine
+        .access(Access { class, addr: 0 })
+        .expect(rt, "memory");
+    engine.swap_numbers(numbers);
+    assert!(rt; 0 < engine.cells());
+    engine.counts(0).compulsory
+}
+
 #[test]
-fn blocks_that_another_engine_used_are_first_accesses(rt: HostRuntime) -> Result<(), Fail> {
+fn a_block_that_another_engine_used_is_accessed_first(rt: HostRuntime) -> Result<(), Fail> {
     let alloc = rt.alloc();
     let policy = Policy {
         repl: Repl::Lru,
@@ -79,11 +97,15 @@ fn blocks_that_another_engine_used_are_first_accesses(rt: HostRuntime) -> Result
         walloc: true,
     };
     let mut numbers = BlockNumbers::new(alloc);
-    let mut one = pair_of(&rt, alloc, &[16], policy);
-    let mut other = pair_of(&rt, alloc, &[16], policy);
-    serve_some(&rt, alloc, &mut one, &mut numbers, 1);
-    serve_some(&rt, alloc, &mut other, &mut numbers, 1);
-    assert!(&rt; 0 < one.engine.cells() && 0 < other.engine.cells());
-    assert_eq!(&rt; other.engine.counts(0), one.engine.counts(0));
+    let mut one = pair_of(&rt, alloc, &[16], policy).engine;
+    let mut other = pair_of(&rt, alloc, &[16], policy).engine;
+    let once = PerClass {
+        read: 1,
+        ..PerClass::default()
+    };
+    for _ in 0..2 {
+        assert_eq!(&rt; compulsory_after_read(&rt, &mut one, &mut numbers), once);
+        assert_eq!(&rt; compulsory_after_read(&rt, &mut other, &mut numbers), once);
+    }
     Ok(())
 }

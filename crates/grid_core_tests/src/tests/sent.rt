@@ -59,7 +59,7 @@ fn writes_alike(rt: &impl Abort, engine: &mut Engine, through: bool) {
     expect_sent(rt, engine, Class::Write, 0, true);
 }
 
-/// Both caches have counted so many reads, writes and accesses of other kinds, so many misses, and
+/// Both caches have counted so many reads, writes and accesses of class `Misc`, so many misses, and
 /// so many blocks written back.
 fn expect_counts(rt: &impl Abort, engine: &Engine, fetches: [u64; 3], misses: u128, back: u64) {
     assert!(rt; 1 < engine.cells());

@@ -58,7 +58,7 @@ pub fn made(alloc: Global, line: &str) -> Result<ParsedGrid, Fail> {
 }
 
 /// The grid has to have these names, and points with these words.
-pub fn has_rows(rt: &impl Abort, grid: &ParsedGrid, names: &str, rows: &[&str]) {
+pub fn expect_rows(rt: &impl Abort, grid: &ParsedGrid, names: &str, rows: &[&str]) {
     assert!(rt; are(grid.names.as_slice(), names));
     assert_eq!(rt; grid.points.len(), rows.len());
     for (point, row) in grid.points.iter().zip(rows) {
@@ -67,7 +67,7 @@ pub fn has_rows(rt: &impl Abort, grid: &ParsedGrid, names: &str, rows: &[&str]) 
 }
 
 /// The data caches of the points have to have so many blocks and sets.
-pub fn has_data_caches(rt: &impl Abort, grid: &ParsedGrid, caches: &[(u64, u64)]) {
+pub fn expect_data_caches(rt: &impl Abort, grid: &ParsedGrid, caches: &[(u64, u64)]) {
     assert_eq!(rt; grid.points.len(), caches.len());
     for (point, (blocks, sets)) in grid.points.iter().zip(caches) {
         assert!(rt; has_data_cache(&point.config, *blocks, *sets));
@@ -78,9 +78,9 @@ pub fn has_data_caches(rt: &impl Abort, grid: &ParsedGrid, caches: &[(u64, u64)]
 fn varies_the_last_list_fastest(rt: HostRuntime) -> Result<(), Fail> {
     let grid = made(rt.alloc(), "--l1-dassoc 1,2 --l1-dsize 16,32,64")?;
     let rows = ["16 1", "16 2", "32 1", "32 2", "64 1", "64 2"];
-    has_rows(&rt, &grid, "l1-dsize l1-dassoc", &rows);
+    expect_rows(&rt, &grid, "l1-dsize l1-dassoc", &rows);
     let caches = [(4, 4), (4, 2), (8, 8), (8, 4), (16, 16), (16, 8)];
-    has_data_caches(&rt, &grid, &caches);
+    expect_data_caches(&rt, &grid, &caches);
     Ok(())
 }
 
@@ -88,7 +88,7 @@ fn varies_the_last_list_fastest(rt: HostRuntime) -> Result<(), Fail> {
 fn gives_each_point_its_selection(rt: HostRuntime) -> Result<(), Fail> {
     let line = "--l1-dsize 16 --skipcount 5 --maxcount 6 --flushcount 0,007";
     let grid = made(rt.alloc(), line)?;
-    has_rows(&rt, &grid, "flushcount", &["0", "007"]);
+    expect_rows(&rt, &grid, "flushcount", &["0", "007"]);
     for (point, every) in grid.points.iter().zip([0, 7]) {
         let selection = Selection {
             skip: 5,
@@ -103,15 +103,15 @@ fn gives_each_point_its_selection(rt: HostRuntime) -> Result<(), Fail> {
 #[test]
 fn takes_one_configuration_as_a_grid_without_names(rt: HostRuntime) -> Result<(), Fail> {
     let grid = made(rt.alloc(), "--l1-dsize 16")?;
-    has_rows(&rt, &grid, "", &[""]);
-    has_data_caches(&rt, &grid, &[(4, 4)]);
+    expect_rows(&rt, &grid, "", &[""]);
+    expect_data_caches(&rt, &grid, &[(4, 4)]);
     Ok(())
 }
 
 #[test]
-fn keeps_a_refused_member_in_its_place(rt: HostRuntime) -> Result<(), Fail> {
+fn keeps_a_refused_point_in_its_place(rt: HostRuntime) -> Result<(), Fail> {
     let grid = made(rt.alloc(), "--l1-dsize 16,24,32")?;
-    has_rows(&rt, &grid, "l1-dsize", &["16", "24", "32"]);
+    expect_rows(&rt, &grid, "l1-dsize", &["16", "24", "32"]);
     let refused = ConfigFault::Geometry(CacheName::D, GeometryFault::SizeNotPower);
     for (point, fault) in grid.points.iter().zip([None, Some(refused), None]) {
         assert_eq!(rt; point.config.err(), fault);

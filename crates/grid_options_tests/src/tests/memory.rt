@@ -1,8 +1,8 @@
 //! Failing allocations. Each test passes if there is enough memory. If an allocation is refused,
 //! also one for the words themselves, it fails with the name of the refusal and nothing else.
 
-use super::grids::{has_data_caches, parsed, words_of};
-use super::refusals::{UNREAD, names_all_but_the_rings};
+use super::grids::{expect_data_caches, parsed, words_of};
+use super::refusals::UNREAD;
 use dinero_options::{Opt, WordsFault};
 use grid_options::{GridWordsFault, ParsedGrid, grid_help_text, grid_refusal_text};
 use std::process::Abort;
@@ -46,7 +46,7 @@ fn a_grid_is_read_or_memory_is_wanted(rt: HostRuntime) -> Result<(), Fail> {
     match parsed(rt.alloc(), "--l1-dsize 16,32 --l1-dassoc 1,2")? {
         Ok(grid) => {
             has_counts(&rt, &grid, 2, 4);
-            has_data_caches(&rt, &grid, &[(4, 4), (4, 2), (8, 8), (8, 4)]);
+            expect_data_caches(&rt, &grid, &[(4, 4), (4, 2), (8, 8), (8, 4)]);
             Ok(())
         }
         Err(fault) => Ok(wants_memory(&rt, fault)?),
@@ -93,7 +93,12 @@ fn the_refused_word_is_told_or_memory_is_wanted(rt: HostRuntime) -> Result<(), F
 }
 
 #[test]
-fn the_help_names_every_option_or_memory_is_wanted(rt: HostRuntime) -> Result<(), Fail> {
-    names_all_but_the_rings(&rt, grid_help_text(rt.alloc())?.as_str());
+fn the_help_names_every_option_but_the_rings_or_memory_is_wanted(
+    rt: HostRuntime,
+) -> Result<(), Fail> {
+    let help = grid_help_text(rt.alloc())?;
+    for option in Opt::ALL {
+        assert_eq!(rt; help.as_str().contains(option.name()), option != Opt::Ring);
+    }
     Ok(())
 }

@@ -1,7 +1,7 @@
 //! The options that the program has of its own.
 
-use super::grids::{has_data_caches, has_rows, made, parsed};
-use super::refusals::{UNREAD, are_refused, refusal};
+use super::grids::{expect_data_caches, expect_rows, made, parsed};
+use super::refusals::{UNREAD, expect_refused, refusal};
 use cache_core::GeometryFault;
 use dinero_options::{Opt, WordsFault};
 use grid_options::{GridWordsFault, ParsedGrid, grid_help_text};
@@ -51,7 +51,7 @@ fn refuses_other_numbers_of_threads(rt: HostRuntime) -> Result<(), Fail> {
         "--l1-dsize 16 --threads=-1",
         "--l1-dsize 16 --threads=",
     ];
-    are_refused(&rt, rt.alloc(), &lines, GridWordsFault::Threads)
+    expect_refused(&rt, rt.alloc(), &lines, GridWordsFault::Threads)
 }
 
 #[test]
@@ -61,39 +61,36 @@ fn takes_threads_once_and_with_a_number(rt: HostRuntime) -> Result<(), Fail> {
         "--l1-dsize 16 --threads",
         "--threads --l1-dsize 16",
     ];
-    are_refused(&rt, rt.alloc(), &lines, UNREAD)
+    expect_refused(&rt, rt.alloc(), &lines, UNREAD)
 }
 
 #[test]
 fn names_the_threads_behind_other_options(rt: HostRuntime) -> Result<(), Fail> {
     let flushes = GridWordsFault::Words(WordsFault::Number(Opt::Flushcount));
     let lines = ["--threads x --l1-dsize 16 --flushcount x"];
-    are_refused(&rt, rt.alloc(), &lines, flushes)
+    expect_refused(&rt, rt.alloc(), &lines, flushes)
 }
 
 #[test]
-fn helps_with_both(rt: HostRuntime) -> Result<(), Fail> {
-    let text = grid_help_text(rt.alloc());
-    assert!(rt; text.is_ok());
-    if let Ok(text) = text {
-        assert!(rt; text.as_str().contains("--threads <COUNT>"));
-        assert!(rt; text.as_str().contains("--full "));
-    }
+fn helps_with_threads_and_full(rt: HostRuntime) -> Result<(), Fail> {
+    let text = grid_help_text(rt.alloc())?;
+    assert!(rt; text.as_str().contains("--threads <COUNT>"));
+    assert!(rt; text.as_str().contains("--full "));
     Ok(())
 }
 
 /// The grid has to be full, and to have points with these words.
-fn is_full(rt: &impl Abort, grid: &ParsedGrid, rows: &[&str]) {
+fn expect_full(rt: &impl Abort, grid: &ParsedGrid, rows: &[&str]) {
     assert!(rt; grid.full);
-    has_rows(rt, grid, ALL, rows);
+    expect_rows(rt, grid, ALL, rows);
 }
 
 #[test]
 fn gives_a_full_table_all_options(rt: HostRuntime) -> Result<(), Fail> {
     let grid = made(rt.alloc(), "--full --l1-dsize 16")?;
-    is_full(&rt, &grid, &["16 4 1 l 16 4 1 l a a 64 8 1 l a a 0 0 0"]);
+    expect_full(&rt, &grid, &["16 4 1 l 16 4 1 l a a 64 8 1 l a a 0 0 0"]);
     assert_eq!(rt; grid.threads, 0);
-    has_data_caches(&rt, &grid, &[(4, 4)]);
+    expect_data_caches(&rt, &grid, &[(4, 4)]);
     Ok(())
 }
 
@@ -114,7 +111,7 @@ fn writes_sizes_in_bytes_and_counts_without_zeros_in_front(rt: HostRuntime) -> R
         "16 4 1 l 1048576 4 2 l a a 64 8 1 l a a 7 0 999999999999",
     ];
     let grid = made(rt.alloc(), line)?;
-    is_full(&rt, &grid, &rows);
+    expect_full(&rt, &grid, &rows);
     assert_eq!(rt; grid.threads, 3);
     Ok(())
 }
@@ -129,7 +126,7 @@ fn writes_policies_as_their_letters(rt: HostRuntime) -> Result<(), Fail> {
         "16 4 2 f 16 4 4 f n n 64 8 8 f n n 0 0 0",
         "16 4 2 f 16 4 4 f n n 64 8 8 f a n 0 0 0",
     ];
-    is_full(&rt, &made(rt.alloc(), line)?, &rows);
+    expect_full(&rt, &made(rt.alloc(), line)?, &rows);
     Ok(())
 }
 
@@ -140,7 +137,7 @@ fn gives_refused_points_their_values_too(rt: HostRuntime) -> Result<(), Fail> {
         "16 4 1 l 1048575999998951424 4 1 l a a 64 8 1 l a a 0 0 0",
     ];
     let grid = made(rt.alloc(), "--l1-dsize 0024,999999999999m --full")?;
-    is_full(&rt, &grid, &rows);
+    expect_full(&rt, &grid, &rows);
     let refused = ConfigFault::Geometry(CacheName::D, GeometryFault::SizeNotPower);
     for point in grid.points.iter() {
         assert_eq!(rt; point.config.err(), Some(refused));
@@ -152,7 +149,7 @@ fn gives_refused_points_their_values_too(rt: HostRuntime) -> Result<(), Fail> {
 fn gives_no_full_table_unless_asked(rt: HostRuntime) -> Result<(), Fail> {
     let grid = made(rt.alloc(), "--l1-dsize 0016,1k")?;
     assert!(rt; !grid.full);
-    has_rows(&rt, &grid, "l1-dsize", &["0016", "1k"]);
+    expect_rows(&rt, &grid, "l1-dsize", &["0016", "1k"]);
     Ok(())
 }
 
@@ -163,7 +160,7 @@ fn takes_the_flag_once_and_without_a_value(rt: HostRuntime) -> Result<(), Fail> 
         "--l1-dsize 16 --full true",
         "--l1-dsize 16 --full --full",
     ];
-    are_refused(&rt, rt.alloc(), &lines, UNREAD)?;
+    expect_refused(&rt, rt.alloc(), &lines, UNREAD)?;
     assert_eq!(rt; refusal(rt.alloc(), "--full --l1-dsize 16")?, None);
     Ok(())
 }

@@ -3,7 +3,7 @@
 use super::grids::{parsed, words_of};
 use din_trace::FromWrite;
 use dinero_options::{Opt, WordsFault};
-use grid_options::{GridWordsFault, grid_help_text, grid_refusal_text, put_grid_words};
+use grid_options::{GridWordsFault, grid_refusal_text, put_grid_words};
 use std::alloc::{AllocError, Global};
 use std::process::Abort;
 use std::test::Fail;
@@ -20,7 +20,7 @@ pub fn refusal(alloc: Global, line: &str) -> Result<Option<GridWordsFault>, Allo
 }
 
 /// Each of these lines, behind the words of `OTHERS`, has to be refused for this reason.
-pub fn are_refused(
+pub fn expect_refused(
     rt: &impl Abort,
     alloc: Global,
     lines: &[&str],
@@ -86,7 +86,7 @@ fn refuses_more_than_4096_configurations(rt: HostRuntime) -> Result<(), Fail> {
 fn names_bad_threads_before_too_many_configurations(rt: HostRuntime) -> Result<(), Fail> {
     let mut line = lists(rt.alloc(), 17, 241)?;
     line.push_str(" --threads x")?;
-    are_refused(&rt, rt.alloc(), &[line.as_str()], GridWordsFault::Threads)
+    expect_refused(&rt, rt.alloc(), &[line.as_str()], GridWordsFault::Threads)
 }
 
 #[test]
@@ -99,7 +99,7 @@ fn refuses_an_empty_value(rt: HostRuntime) -> Result<(), Fail> {
         "--l1-dsize=",
     ];
     let size = GridWordsFault::Words(WordsFault::Number(Opt::L1Dsize));
-    are_refused(&rt, rt.alloc(), &lines, size)?;
+    expect_refused(&rt, rt.alloc(), &lines, size)?;
     assert_eq!(rt; refusal(rt.alloc(), "--l1-dsize 16,32")?, None);
     Ok(())
 }
@@ -129,7 +129,7 @@ static BAD_VALUES: [(&str, WordsFault); 5] = [
 #[test]
 fn names_the_first_option_with_a_bad_value(rt: HostRuntime) -> Result<(), Fail> {
     for (line, fault) in BAD_VALUES {
-        are_refused(&rt, rt.alloc(), &[line], GridWordsFault::Words(fault))?;
+        expect_refused(&rt, rt.alloc(), &[line], GridWordsFault::Words(fault))?;
     }
     Ok(())
 }
@@ -141,9 +141,9 @@ fn leaves_rings_and_unknown_options_to_clap(rt: HostRuntime) -> Result<(), Fail>
         "--l1-dsize x --l3-usize 16",
         "--l1-dassoc 1",
     ];
-    are_refused(&rt, rt.alloc(), &lines, UNREAD)?;
+    expect_refused(&rt, rt.alloc(), &lines, UNREAD)?;
     let help = GridWordsFault::Words(WordsFault::Help);
-    are_refused(&rt, rt.alloc(), &["--help"], help)
+    expect_refused(&rt, rt.alloc(), &["--help"], help)
 }
 
 /// Is this what is said of the fault?
@@ -226,18 +226,5 @@ fn tells_which_word_clap_refuses(rt: HostRuntime) -> Result<(), Fail> {
     for (line, text) in rows {
         assert!(rt; is_said(rt.alloc(), line, text)?, "at {line}");
     }
-    Ok(())
-}
-
-/// The help has to name each option but that of the rings.
-pub fn names_all_but_the_rings(rt: &impl Abort, help: &str) {
-    for option in Opt::ALL {
-        assert_eq!(rt; help.contains(option.name()), option != Opt::Ring);
-    }
-}
-
-#[test]
-fn helps_with_each_option_but_the_rings(rt: HostRuntime) -> Result<(), Fail> {
-    names_all_but_the_rings(&rt, grid_help_text(rt.alloc())?.as_str());
     Ok(())
 }

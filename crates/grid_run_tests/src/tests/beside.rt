@@ -4,6 +4,7 @@ ghost use Rattle.std.specs.Prelude.{IfOk};
 ghost use Rattle.stage_core.specs.Events.{IsBounded};
 ghost use Rattle.grid_run.specs.Grids.{HasBoundedRows};
 
+use super::grids::EVERYTHING;
 use super::{add_row, words_of};
 use cache_core::{Policy, Repl};
 use din_trace::{DinRecord, FromRead, FromWrite, MAX_LIMIT, read_all};
@@ -224,11 +225,6 @@ fn agrees<H: Abort + Threads + Sync>(
 
 #[test]
 fn rows_are_as_runs_alone(rt: HostRuntime) -> Result<(), Fail> {
-    let everything = Selection {
-        skip: 0,
-        max: 0,
-        every: 0,
-    };
     let part = Selection {
         skip: 17,
         max: 400,
@@ -236,7 +232,7 @@ fn rows_are_as_runs_alone(rt: HostRuntime) -> Result<(), Fail> {
     };
     for seed in 0..4 {
         let trace = trace_of(rt.alloc(), seed, 600)?;
-        agrees(&rt, rt.alloc(), &everything, &part, &trace)?;
+        agrees(&rt, rt.alloc(), &EVERYTHING, &part, &trace)?;
     }
     Ok(())
 }

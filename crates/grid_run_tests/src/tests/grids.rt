@@ -6,7 +6,7 @@ ghost use Rattle.grid_run.specs.Grids.{HasBoundedRows};
 
 use super::{HEADS, add_row, is_made_of, words_of};
 use cache_core::{Policy, Repl};
-use din_trace::{FromRead, FromWrite, MAX_LIMIT, TraceFault, Why};
+use din_trace::{FromRead, FromWrite, MAX_LIMIT};
 use grid_run::{Columns, Grid, GridFault, Setup, simulate_grid};
 use stage_core::{CacheSpec, Config, Selection};
 use std::alloc::Global;
@@ -233,22 +233,6 @@ fn a_flush_is_inserted(rt: HostRuntime) -> Result<(), Fail> {
     );
     let grid = grid(rt.alloc(), &each, &each)?;
     writes(&rt, rt.alloc(), &grid, CONFLICT, table(small, large));
-    Ok(())
-}
-
-#[test]
-fn nothing_is_written_for_a_faulty_trace(rt: HostRuntime) -> Result<(), Fail> {
-    let grid = grid(rt.alloc(), &EVERYTHING, &EVERYTHING)?;
-    for (trace, line, why) in [
-        (b"0 0\n0 8\n0 1g\n", 3, Why::Tail),
-        (b"x 0\n0 8\n0 10\n", 1, Why::Label),
-    ] {
-        let mut written = Vec::new(rt.alloc());
-        let ended = run(&rt, rt.alloc(), &grid, 2, trace.as_slice(), &mut written);
-        let fault = TraceFault::Bad { line, why };
-        assert_eq!(rt; ended, Err(GridFault::Trace(fault)));
-        assert!(rt; written.is_empty());
-    }
     Ok(())
 }
 

@@ -23,7 +23,7 @@ fn instrs(instr: u64) -> PerClass {
     }
 }
 
-/// Figures in which each number of a cache is another one.
+/// Figures in which each number of the instruction cache is another one.
 fn figures() -> Figures {
     let i = Counts {
         fetches: instrs(3),

@@ -1,7 +1,7 @@
 //! Threads in which an allocation fails: a run that fails for another reason too answers `Memory`.
 
 ghost use Rattle.std.specs.Prelude.{IfOk};
-ghost use Rattle.run_threads.specs.Threads.{StageEnded};
+ghost use Rattle.run_threads.specs.Threads.{StageServedAll};
 
 use super::gone::{rings, stage};
 use run_threads::{
@@ -32,7 +32,7 @@ fn starved<'s, E, H: Threads + Wait + Sync>(
         ends: Snapshot::of(&ends),
     };
     let run = move || -> StageEnd
-        ensures { IfOk result (λ r. StageEnded machine ends r.0 r.1) }
+        ensures { IfOk result (λ r. StageServedAll machine ends r.0 r.1) }
     {
         drop(machine);
         drop(ends);

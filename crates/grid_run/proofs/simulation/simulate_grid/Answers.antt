@@ -1,12 +1,14 @@
 use Rattle.std.proofs.Common.{rules, ◌≡◌, ℕ, Err, List, Some, refl, subst}
 use Rattle.std.proofs.lemmas.Result.{on_ok_weaker}
 use Rattle.std.specs.Io.KnownBytes.{Appends}
+use Rattle.std.specs.List.{All}
 use Rattle.din_trace.specs.Source.{reader_of}
 use Rattle.din_trace.specs.Text.{Remaining}
 use Rattle.din_trace.specs.declared.record.DinRecord.{DinRecord}
-use Rattle.din_trace.proofs.Told.{MayBeLeft, script_of_told}
+use Rattle.din_trace.proofs.Told.{MayBeLeft, of-some-text, script_of_told}
 use Rattle.grid_run.specs.Grids.{table, table_of}
 use Rattle.grid_run.specs.Rows.{ServedAll}
+use Rattle.grid_run.specs.Workers.{Took}
 use Rattle.grid_run.specs.declared.fault.GridFault.TheVariants.{Trace}
 use Rattle.grid_run.proofs.simulation.simulate_grid.Goals as goal
 use Rattle.grid_run.proofs.simulation.simulate_grid.Goals.{After-serve_trace}
@@ -52,3 +54,14 @@ returns-clause-table g c text known =
           wrote,
     ))
     (c.write_table.ensures.table _ ended.1)
+
+pub returns-clause-whole : goal.returns-clause-whole
+unfolding table_of
+returns-clause-whole g c =
+    let reads = c.serve_trace.ensures.reads in
+    let some = of-some-text c.args.limit
+    (λ rs. All (Took rs) c.serve_trace.new.crew.workers.items) reads.1 reads.0
+    (λ before later is. subst (ServedAll _ c.serve_trace.new.crew.workers.items)
+    c.in_ok-serve_trace.was (reads.3 before later _ is (c.new-source.ensures.left before))) in
+    on_ok_weaker c.write_table.result (λ wrote. (some.0, some.1, wrote))
+    (c.write_table.ensures.table _ some.2)

@@ -8,12 +8,20 @@ use Rattle.din_trace.specs.Text.{records}
 use Rattle.stage_core.specs.Config.{hierarchy_of}
 use Rattle.stage_core.specs.Events.{events}
 use Rattle.stage_core.specs.SecondLevel.{totals}
+use Rattle.stage_core.specs.declared.config.Config.{Config}
+use Rattle.stage_core.specs.declared.selection.Selection.{Selection}
+use Rattle.stage_core.specs.declared.totals.Totals.{Totals}
+use Rattle.din_trace.proofs.Told.{of-some-text}
 use Rattle.run_threads.specs.declared.fault.RunFault.{RunFault}
 use Rattle.run_threads.specs.declared.fault.RunFault.TheVariants.{Trace}
 use Rattle.run_threads.specs.Faults.{source_fault}
 use Rattle.sim_run.specs.TraceReport.{report_of}
 use Rattle.sim_run.proofs.KnownText.{left-of-text}
 use Rattle.sim_run.proofs.plain.simulate_plain.Goals as goal
+
+-- the counts over what is selected of some records
+abbrev totals_over : Config → Selection → List DinRecord → Totals
+totals_over c s rs = totals (hierarchy_of c) (events s rs)
 
 -- a fault of the trace is that of the source, and is not `Memory`
 only_trace : (of : TraceFault) (why : TraceFault) (result : Result (Unit {0}) RunFault)
@@ -45,9 +53,21 @@ returns-clause-report g c text known =
     let good = left.4.no_fault all.1 in
     let trace_is : c.deref.result.now ≡ records ADDRESS_MAX text =
     c.deref.ensures.value ∙ all.0 ∙ good.1 in
-    let totals_over = λ (t : List DinRecord).
-    totals (hierarchy_of c.args.config.now) (events c.args.selection.now t) in
-    let counted : c.in-Ok-run_plain.totals ≡ totals_over (records ADDRESS_MAX text) =
-    c.in-Ok-run_plain.ensures ∙ ap totals_over trace_is in
+    let counted : c.in-Ok-run_plain.totals
+    ≡ totals_over c.args.config.now c.args.selection.now (records ADDRESS_MAX text) =
+    c.in-Ok-run_plain.ensures ∙ ap (totals_over c.args.config.now c.args.selection.now) trace_is in
     on_ok_weaker c.write_report.result (λ wrote. (good.0, rw counted at wrote))
+    c.write_report.ensures.written.ok
+
+pub returns-clause-whole : goal.returns-clause-whole
+unfolding report_of
+returns-clause-whole g c =
+    let reads = c.rest.ensures.reads in
+    let some = of-some-text c.args.limit (λ rs. c.deref.result.now ≡ rs) reads.1 reads.0
+    (λ before later is. let all = rw c.in-Ok.is at reads.3 before later _ is
+    (c.new-source.ensures.left before) in (all.1, c.deref.ensures.value ∙ all.0)) in
+    let counted : c.in-Ok-run_plain.totals ≡ totals_over c.args.config.now c.args.selection.now
+    (records ADDRESS_MAX some.0) =
+    c.in-Ok-run_plain.ensures ∙ ap (totals_over c.args.config.now c.args.selection.now) some.2 in
+    on_ok_weaker c.write_report.result (λ wrote. (some.0, some.1, rw counted at wrote))
     c.write_report.ensures.written.ok

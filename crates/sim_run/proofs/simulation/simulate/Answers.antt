@@ -1,10 +1,10 @@
 use Rattle.std.proofs.Common.{rules, Err, ◌≡◌, List, subst}
 use Rattle.din_trace.specs.declared.record.DinRecord.{DinRecord}
+use Rattle.din_trace.proofs.Told.{of-some-text}
 use Rattle.stage_core.specs.Config.{hierarchy_of, ring_of}
 use Rattle.stage_core.specs.Events.{events}
 use Rattle.run_threads.specs.declared.fault.RunFault.TheVariants.{Trace}
 use Rattle.run_threads.specs.Runs.{HasRun}
-use Rattle.run_threads.proofs.Endings.{of-some-text}
 use Rattle.sim_run.specs.TraceReport.{report_of}
 use Rattle.sim_run.proofs.KnownText.{left-of-text}
 use Rattle.sim_run.proofs.simulation.simulate.Goals as goal

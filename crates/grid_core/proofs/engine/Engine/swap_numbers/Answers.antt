@@ -17,3 +17,8 @@ returns-clause-stands c = λ blocks h e. record {
   served = e.served;
   caches = c.swap_numbers.ensures.stands blocks h e.caches;
 }
+
+pub returns-clause-answers : goal.returns-clause-answers
+returns-clause-answers c = λ h x a. record {
+  answers = c.swap_numbers.ensures.answers h x a.answers;
+}

@@ -3,8 +3,8 @@ use Rattle.grid_core.specs.Totals.{table_of}
 use Rattle.grid_core.proofs.Tables.{wide-at}
 use Rattle.grid_core.proofs.histogram.Histogram.note.Goals as goal
 
-pub count_place-requires-clause-level : goal.count_place-requires-clause-level
-count_place-requires-clause-level c = λ k d lt.
+pub count_distance-requires-clause-level : goal.count_distance-requires-clause-level
+count_distance-requires-clause-level c = λ k d lt.
     let self = c.args.self.now in
     let ts = map table_of self.distances.items in
     let low = c.requires.level in

@@ -54,8 +54,8 @@ returns-clause-moved c = λ h st. record {
       c.set_of-set.ensures c.writes-write.ensures c.turn_in-turned.ensures.position;
   backs = back-turned c.args.self.now h st c.args.access c.block-block.ensures
       c.set_of-set.ensures c.writes-write.ensures
-      c.turn_in-turned.new.slots.items c.turn_in-turned.result.last
-      c.turn_in-turned.ensures.slots c.turn_in-turned.ensures.last;
+      c.turn_in-turned.new.slots.items c.turn_in-turned.result.lost
+      c.turn_in-turned.ensures.slots c.turn_in-turned.ensures.lost;
 }
 
 pub invariant_of-self-clause-bytes : goal.invariant_of-self-clause-bytes
@@ -84,12 +84,12 @@ invariant_of-self-clause-fits c =
     let long = row-whole old c.set_of-set.result lt in
     let wide = old.width in
     let some = (sane_of g).assoc_pos in
-    subst (λ (v : Slot). v.block * bsize_of g < 2 ^ 64) (sym c.turn_in-turned.ensures.last)
+    subst (λ (v : Slot). v.block * bsize_of g < 2 ^ 64) (sym c.turn_in-turned.ensures.lost)
     (lost-fits (bsize_of g) (index_of (holds c.block-block.result) old-row) old-row (omega arith)
     (old.bytes c.set_of-set.result lt))
 
-pub note-requires-clause-place : goal.note-requires-clause-place
-note-requires-clause-place c =
+pub note-requires-clause-distance : goal.note-requires-clause-distance
+note-requires-clause-distance c =
     let old = c.args.self.now in
     let old-row = row old.ways c.set_of-set.result old.slots.items in
     let long = row-whole old c.set_of-set.result

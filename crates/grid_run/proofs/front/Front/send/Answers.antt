@@ -54,7 +54,7 @@ returns-in-Flush c =
     let r = rules_at (rules_in family) c.args.cell in
     let v = c.args.self.now.lists in
     let ws = c.args.waiting.now.items in
-    on_ok_weaker c.ask_backs.result (λ longer h q last.
+    on_ok_weaker c.ask_write_backs.result (λ longer h q last.
     let was = subst (λ (w : Last). WasLast family h w v.items q) c.in-Flush.is last.last in
     let sent = sent-flush family h v.items r c.args.side q was in
     let backs = c.deref.ensures.value
@@ -62,4 +62,4 @@ returns-in-Flush c =
     c.index.ensures in
     let parts = flush-parts r c.args.side h c.deref.result.now
     (option_to_list c.flush_part.result) backs c.flush_part.ensures in
-    longer ∙ ap (λ l. ws ++ l) (parts ∙ sym sent.0)) c.ask_backs.ensures
+    longer ∙ ap (λ l. ws ++ l) (parts ∙ sym sent.0)) c.ask_write_backs.ensures

@@ -1,6 +1,6 @@
 use Rattle.std.proofs.Common.{◌≡◌, drop}
 use Rattle.grid_core.specs.Totals.{added, total}
-use Rattle.grid_core.proofs.misses.sum_of.Given as goal
+use Rattle.grid_core.proofs.sums.sum_of.Given as goal
 
 -- the sum so far, and what is left
 abbrev pub invariant-loop-one : goal.invariant-loop-one

@@ -3,7 +3,7 @@ use Rattle.cache_core.specs.declared.counts.PerClass.{PerClass}
 use Rattle.cache_core.specs.Counting.{IsWithin}
 use Rattle.grid_core.specs.Totals.{total}
 use Rattle.grid_core.proofs.Totals.{rest-is}
-use Rattle.grid_core.proofs.misses.sum_from.Goals as goal
+use Rattle.grid_core.proofs.sums.sum_from.Goals as goal
 
 pub sum_of-requires : goal.sum_of-requires
 sum_of-requires c =

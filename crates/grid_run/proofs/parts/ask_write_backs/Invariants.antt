@@ -1,6 +1,6 @@
 use Rattle.std.proofs.Common.{◌≡◌, ◌++◌, map, take}
 use Rattle.stage_core.specs.SecondLevel.{back}
-use Rattle.grid_run.proofs.parts.ask_backs.Given as goal
+use Rattle.grid_run.proofs.parts.ask_write_backs.Given as goal
 
 -- the write-backs that were passed were added
 abbrev pub invariant-loop-addr : goal.invariant-loop-addr

@@ -4,7 +4,7 @@ use Rattle.cache_core.specs.declared.counts.PerClass.{PerClass}
 use Rattle.cache_core.specs.Counts.{none_by_class}
 use Rattle.cache_core.specs.Counting.{IsWithin}
 use Rattle.grid_core.proofs.Totals.{within-each, within-more}
-use Rattle.grid_core.proofs.misses.count_at.Goals as goal
+use Rattle.grid_core.proofs.sums.count_at.Goals as goal
 
 pub count-requires : goal.count-requires
 count-requires c =

@@ -4,7 +4,7 @@ use Rattle.std.proofs.lemmas.List.{take_all}
 use Rattle.std.proofs.lemmas.Result.{on_ok_weaker}
 use Rattle.stage_core.specs.SecondLevel.{back}
 use Rattle.grid_run.proofs.Rooms.{backs-to}
-use Rattle.grid_run.proofs.parts.ask_backs.Goals as goal
+use Rattle.grid_run.proofs.parts.ask_write_backs.Goals as goal
 
 pub loop-addr-preserved : goal.loop-addr-preserved
 loop-addr-preserved c =
