@@ -29,8 +29,8 @@ done
 
 # In this order: a later file uses the tables and traces of those before it. No file is left out.
 subjects=(checks names help building building_sweep building_others record record_filter
-    record_functions record_output sweep sweep_names sweep_words sweep_grids sweep_full
-    sweep_resume sweep_restart sweep_disk sweep_parts sweep_machines settings slurm plot
+    record_functions record_output sweep sweep_tasks sweep_names sweep_words sweep_grids
+    sweep_full sweep_resume sweep_restart sweep_disk sweep_parts sweep_machines settings slurm plot
     plot_points plot_caches plot_labels plot_words plot_intervals plot_titles plot_names handout
     install hostile formats)
 diff <(printf '%s.sh\n' "${subjects[@]}" | sort) \

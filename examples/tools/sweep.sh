@@ -86,51 +86,6 @@ run "$sweep" --vary --l1-dsize 8 "${rest[@]}" -- faulty.din kinds.din
 sweep: 1 of 2 configurations have a fault, the first in line 2: line 2: label (column fault)" ]
 verdict 'sweep of a faulty trace' $?
 
-for number in 4 1 3 2; do
-    "$sweep" --task $number --into tasks "${grid[@]}" -- kinds.din || echo "task $number failed"
-done >"$out" 2>"$err"
-[ ! -s "$out" ] && [ ! -s "$err" ] && run "$sweep" --gather tasks && [ "$status" -eq 0 ] &&
-    shared "$out" | cmp -s - <(head -n 4 "$work/rows")
-verdict 'sweep by tasks, and --gather' $?
-rm tasks/3
-run "$sweep" --gather tasks
-[ "$status" -eq 1 ] && [ "$(rows_of 37)" = '-,-,not simulated,-,' ] && [ "$(<"$err")" = \
-    'sweep: 1 of 4 configurations have a fault, the first in line 4: not simulated (column fault)' ]
-verdict 'gathering where a report is missing' $?
-ends 'a task that the grid has not' 2 'sweep: --task: the grid has 4 configurations, and no 5; try --help' \
-    "$sweep" --task 5 --into tasks "${grid[@]}" -- kinds.din
-ends 'a task of another grid' 2 'sweep: tasks is of another grid, or a trace has changed; try --help' \
-    "$sweep" --task 1 --into tasks "${grid[@]}" -- fifo.din
-"$sweep" --task 1 --into faulty --vary --l1-dsize 8 "${rest[@]}" -- faulty.din >"$out" 2>"$err"
-status=$?
-[ "$status" -eq 1 ] && [ ! -s "$out" ] && [ "$(<"$err")" = 'sweep: faulty.din: line 2: label
-sweep: 1 of 1 configurations of task 1 have a fault, the first: line 2: label' ]
-verdict 'a task of a faulty trace' $?
-ends 'a task with refused configurations' 1 "sweep: 2 of 3 configurations of task 1 have a fault, \
-the first: l1-dcache: size is not a power of two" \
-    "$sweep" --task 1/2 --into odd --vary --l1-dsize 8,24,40,16,32,64 "${rest[@]}" -- kinds.din
-ends 'and one without' 0 '' \
-    "$sweep" --task 2/2 --into odd --vary --l1-dsize 8,24,40,16,32,64 "${rest[@]}" -- kinds.din
-run "$sweep" --gather odd
-first='line 3: l1-dcache: size is not a power of two'
-[ "$status" -eq 1 ] && [ "$(rows_of 2,36)" = "8 -,24 ${first#*: },40 ${first#*: },16 -,32 -,64 -," ] &&
-    [ "$(<"$err")" = "sweep: 2 of 6 configurations have a fault, the first in $first (column fault)" ]
-verdict 'their rows are kept' $?
-rm -r odd
-cp kinds.din changing.din
-"$sweep" --task 1 --into changing "${grid[@]}" -- changing.din >"$out" 2>"$err"
-touch changing.din
-"$sweep" --task 2 --into changing "${grid[@]}" -- changing.din >>"$out" 2>>"$err"
-[ ! -s "$out" ] && [ ! -s "$err" ] && [ "$(ls changing)" = $'1\n2\ngrid' ]
-verdict 'tasks of a trace that was touched' $?
-printf '2 0\n' >changing.din
-ends 'a task of a trace that has changed' 2 \
-    'sweep: changing is of another grid, or a trace has changed; try --help' \
-    "$sweep" --task 3 --into changing "${grid[@]}" -- changing.din
-head -n 3 changing/grid >changing/part && mv changing/part changing/grid
-ends 'gathering by half of a grid' 4 "sweep: $PWD/changing/grid is damaged" "$sweep" --gather changing
-rm -r tasks faulty changing changing.din
-
 # refused LINE WORD..: the words are refused so.
 refused() {
     ends "sweep: $1" 2 "sweep: $1; try --help" "$sweep" "${@:2}"
