@@ -87,16 +87,39 @@ write_over() {
     printf 1 | dd of=growing.din conv=notrunc status=none
 }
 
+# is_held: the run that reads the trace stands still. Sets `held` to its process.
+is_held() {
+    local process
+    for process in /proc/[0-9]*; do
+        if [ "$process/fd/0" -ef growing.din ] && kill -STOP "${process#/proc/}" 2>/dev/null; then
+            held=${process#/proc/}
+            return
+        fi
+    done
+    return 1
+}
+
+is_held_or_over() {
+    is_held || ! kill -0 "$started" 2>/dev/null
+}
+
 # changed_midway NAME COMMAND..: a trace changes while a run reads it, and no row of that is told or
 # kept. What the runs call is not the place of the program, in which there may be another one.
 changed_midway() {
-    local called
+    local called tries held=
     yes '0 0' | head -n 4000000 >growing.din
-    start "${@:2}" --l1-isize 1k --l1-ibsize 16 --l1-dbsize 16 --l2-usize 4k --l2-ubsize 16 \
-        --vary --l1-dsize 1k,2k -- growing.din
-    until_true compgen -G "$TMPDIR/*/raw.*" >/dev/null
+    for ((tries = 0; tries < 10; tries++)); do
+        rm -rf grown tasks
+        start "${@:2}" --l1-isize 1k --l1-ibsize 16 --l1-dbsize 16 --l2-usize 4k --l2-ubsize 16 \
+            --vary --l1-dsize 1k,2k -- growing.din
+        until_true is_held_or_over
+        [ -z "$held" ] || break
+        # It was over too soon.
+        wait "$started"
+    done
     called=$(readlink "$TMPDIR"/*/dinero_grid)
     "$change"
+    kill -CONT "$held"
     status=0
     wait "$started" || status=$?
     [ "$status" -eq 4 ] && [ "$(wc -l <"$out")" -le 1 ] && [[ $called == /proc/*/fd/* ]] &&
@@ -114,7 +137,7 @@ test_changes() {
     verdict 'the task has no row' $?
     change=write_over
     changed_midway 'sweep of a trace whose size stays' "$sweep" --jobs 1
-    rm -r growing.din grown tasks
+    rm -rf growing.din grown tasks
 }
 
 # A row whose options are not in step is of no configuration of a grid in which they are.
