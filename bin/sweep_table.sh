@@ -95,16 +95,6 @@ the first: $first_fault"
     exit 1
 }
 
-# gather_rows FILE: its lines. What stands behind the last line feed is a part of a row, as a copy
-# that was cut off may have it, and is left out.
-gather_rows() {
-    local lines last
-    mapfile lines < "$1"
-    last=$((${#lines[@]} - 1))
-    [ "$last" -lt 0 ] || [[ ${lines[last]} == *$'\n' ]] || unset "lines[last]"
-    { (printf %s "${lines[@]}") >> "$work/pending"; } 2>/dev/null || no_room
-}
-
 gather_table() {
     local file
     [ -z "$log$restarts$full$hosts$jobs$task$into${fixed[*]}${varied[*]}${tied[*]}${traces[*]}" ] ||
@@ -117,7 +107,9 @@ gather_table() {
     for file in "$store"/*; do
         [[ ${file##*/} =~ ^[0-9]+(-[0-9]+)?$ ]] || continue
         { [ -f "$file" ] && [ -r "$file" ]; } || die 4 "$file can't be read"
-        gather_rows "$file"
+        # What stands behind the last line feed is a part of a row, as a copy may have it that was
+        # cut off.
+        { head -n "$(wc -l < "$file")" -- "$file" >> "$work/pending"; } 2>/dev/null || no_room
     done
     put_last_lines
     tell_faults

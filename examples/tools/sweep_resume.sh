@@ -100,7 +100,7 @@ is_held() {
 }
 
 is_held_or_over() {
-    is_held || ! kill -0 "$started" 2>/dev/null
+    is_held || has_ended
 }
 
 # changed_midway NAME COMMAND..: a trace changes while a run reads it, and no row of that is told or
