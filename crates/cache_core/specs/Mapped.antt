@@ -1,4 +1,4 @@
--- The row of ways that a set stands for which is kept as an ordered map.
+-- A set that is kept as an ordered map, shown as a row of ways.
 use Rattle.std.specs.Prelude.{ℕ, Bool, true, ◌&&◌, ◌||◌, nat_eq, if◌then◌else◌, List, [], ◌∷◌, ◌++◌}
 use Rattle.std.specs.Prelude.{take, map, filter, replicate, Option, Some, None}
 use Rattle.std.specs.Map.{lookup_entry, remove_entry, set_value}

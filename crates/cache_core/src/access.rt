@@ -58,9 +58,10 @@ pub struct Outcome {
     pub kind: Option<MissKind>,
     /// The address of the first byte of the dirty block that is evicted and written back, if any.
     pub back: Option<u64>,
-    /// Whether the block of the access is fetched from the next level.
+    /// Whether the block of the access is fetched from the next level, and so loaded.
     pub fetch: bool,
-    /// Whether the access is a write that is sent on to the next level, with its own address.
+    /// Whether the access is a write that is sent on to the next level, with its own address: each
+    /// write under write through, and without write allocation each write that misses.
     pub through: bool,
 }
 

@@ -22,7 +22,7 @@ pub struct PerClass {
 /// All counts of one cache.
 #[derive(Clone, Copy, Debug, Default, PartialEq, Eq)]
 pub struct Counts {
-    /// All accesses, hits and misses.
+    /// All accesses, hits and misses: what Dinero IV calls demand fetches.
     pub fetches: PerClass,
     /// The accesses that missed. The next three counts divide them by kind.
     pub misses: PerClass,

@@ -10,9 +10,11 @@ ghost use Rattle.cache_core.specs.Laws.{OrderedWaysAreResidents};
 
 use crate::cache::MAX_EVENTS;
 
-/// The stack property of LRU (Mattson and others), and the same for FIFO: if the blocks of a set
-/// are ordered by last use (FIFO: by last load), the first ones, as many as there are ways, are the
-/// residents by reuse distance. This also holds without write allocation.
+/// If the blocks of a set are ordered by last use (FIFO: by last load), the first ones, as many as
+/// there are ways, are the residents by reuse distance. For LRU caches that allocate at writes, the
+/// order is the same for every number of ways: this is the stack property (Mattson and others).
+/// FIFO caches do not have it, nor do those that do not allocate at writes, where a hit in one may
+/// be a miss in another, which renews other blocks.
 pub fn ordered_ways_are_residents()
     ensures { OrderedWaysAreResidents }
 {}
@@ -46,7 +48,7 @@ pub fn dirty_blocks_are_the_dirty_ones()
 {}
 
 /// The value of `MAX_EVENTS`: more events than any trace within the limits makes.
-pub fn a_cache_serves_as_many_events()
+pub fn max_events_is_two_to_the_forty_four()
     ensures { MAX_EVENTS ≡ 2 ^ 44 }
 {}
 

@@ -10,8 +10,8 @@
 //! Proved for every history of a cache: each outcome, the list of each flush and all counts are
 //! those of the definitions in `specs/`, which work on the whole history by reuse distance and have
 //! no ways. If an allocation fails, the cache keeps its counts, and every later access or flush
-//! answers `NoMemory`. `laws` has properties of the definitions themselves. Only the set of blocks
-//! ever accessed grows with the trace.
+//! answers `NoMemory`. `laws` has properties of the definitions themselves. All that a cache holds
+//! is bounded by its size, but for the set of blocks ever accessed, which grows with the trace.
 #![tactic(auto)]
 
 mod access;
@@ -33,8 +33,8 @@ pub use counts::{Counts, PerClass};
 pub use geometry::{Geometry, GeometryFault};
 pub use kinds::Prior;
 pub use laws::{
-    a_cache_serves_as_many_events, at_most_one_block_leaves, definitions_meet_worked_examples,
-    dirty_blocks_are_the_dirty_ones, one_lru_set_has_no_conflict, ordered_ways_are_residents,
+    at_most_one_block_leaves, definitions_meet_worked_examples, dirty_blocks_are_the_dirty_ones,
+    max_events_is_two_to_the_forty_four, one_lru_set_has_no_conflict, ordered_ways_are_residents,
     write_backs_are_charged,
 };
 pub use policy::{Policy, Repl};

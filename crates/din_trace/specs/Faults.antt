@@ -5,12 +5,12 @@ use Rattle.din_trace.specs.Device.{once_more}
 use Rattle.din_trace.specs.Line.{ADDRESS_MAX}
 use Rattle.din_trace.specs.Text.{fault, failed_fault}
 
--- the reader failed once, after it gave these first bytes of its text
+-- the text begins with the given bytes, and there is a reader of this type that has the rest left
+-- and has failed once more than this one: so a reader stands that failed after it gave those bytes
 pub record FailedBehind {R : Type 0} (remaining : R → Option (List ℕ)) (failures : R → ℕ)
     (reader : R) (text given : List ℕ) : Type 0 where
   pub rest : List ℕ
   pub whole : text ≡ given ++ rest
-  -- some state of a reader of this type that has the rest, and has failed once more
   pub last : R
   pub told : remaining last ≡ Some rest
   pub failed : failures last ≡ once_more (failures reader)

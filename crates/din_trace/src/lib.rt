@@ -47,7 +47,7 @@ pub fn each_line_has_one_form()
     ensures { EachLineHasOneForm }
 {}
 
-/// Law: a text is its lines, with an LF after each but the last.
+/// Law: a text is its lines that an LF ends, each with its LF, and then what follows the last LF.
 pub fn texts_are_their_lines()
     ensures { TextsAreTheirLines }
 {}

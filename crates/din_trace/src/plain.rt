@@ -1,5 +1,5 @@
-//! A fast path for plain lines: those that hold a record and are completely in the buffer. Most
-//! lines of most traces are plain.
+//! A fast path for plain lines: a label, blanks, an optional `0x`, up to 16 digits, and an optional
+//! comment, all of it in the buffer. Most lines of most traces are plain.
 
 ghost use Rattle.std.specs.Prelude.{◌≡◌, ℕ, ◌+◌, ◌<◌, ◌≤◌, List, ◌++◌, IfSome, length, drop};
 ghost use Rattle.std.specs.Prelude.{slice_index_or};
@@ -10,7 +10,8 @@ use crate::digits::digit;
 use crate::line::{is_blank, label};
 use crate::record::DinRecord;
 
-/// The most bytes that an address and the byte after it take: `0x`, 16 digits, and that byte.
+/// The most bytes that the address of a plain line and the byte after it take: `0x`, 16 digits, and
+/// that byte.
 const WINDOW: usize = 19;
 
 /// The record of the line at the start, and how many bytes that line has with its LF. The line has

@@ -87,7 +87,7 @@ place_of Skipcount = 17
 place_of Maxcount = 18
 place_of Flushcount = 19
 
--- an option without its hyphens
+-- an option without the two hyphens in front
 abbrev pub id_of : Opt → Text
 id_of L1Isize = codes "l1-isize"
 id_of L1Ibsize = codes "l1-ibsize"
@@ -110,7 +110,7 @@ id_of Skipcount = codes "skipcount"
 id_of Maxcount = codes "maxcount"
 id_of Flushcount = codes "flushcount"
 
--- an option with its hyphens
+-- an option with the two hyphens in front
 abbrev pub name_of : Opt → Text
 name_of option = codes "--" ++ id_of option
 

@@ -9,7 +9,7 @@ use stage_core::ConfigFault;
 #[derive(Clone, Copy, Debug, PartialEq, Eq)]
 pub enum WordsFault {
     /// clap refused the words: an unknown option, one given twice or without a value, or one that
-    /// is required and missing.
+    /// is required and missing. Or an argument of the program is not UTF-8.
     Words,
     /// The value of the option is not a size or a count.
     Number(Opt),

@@ -56,7 +56,7 @@ impl Opt {
         Opt::Flushcount,
     ];
 
-    /// The option with its hyphens.
+    /// The option with the two hyphens in front.
     pub fn name(&self) -> &str
         ensures { result.now ≡ name_of self.now }
     {
@@ -98,7 +98,7 @@ impl Opt {
         self as usize
     }
 
-    /// The option without its hyphens.
+    /// The option without the two hyphens in front.
     pub fn id<'a>(self) -> &'a str
         ensures { result.now ≡ id_of self }
     {

@@ -34,8 +34,8 @@ pub enum Columns {
 /// A grid: the names of the words of its rows, its columns, and its rows in their order.
 #[derive(Debug, Drop)]
 pub struct Grid {
-    /// The names of the options that the rows have words of, without hyphens; without tabs and ends
-    /// of lines, too.
+    /// The names of the options that the rows have words of, without the two hyphens in front;
+    /// without tabs and ends of lines, too.
     pub names: Vec<String>,
     /// The columns of its table.
     pub columns: Columns,

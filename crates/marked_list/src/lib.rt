@@ -1,7 +1,7 @@
 //! The blocks that were used last, for fully associative LRU caches of many sizes at once.
 //!
-//! A [`Marked`] is one list for all sizes. A use of a block answers the first size whose cache had
-//! the block.
+//! A [`Marked`] is one list for all sizes. A use of a block answers the index of the first size
+//! whose cache had the block, or the number of sizes if none had it.
 #![tactic(auto)]
 
 mod laws;

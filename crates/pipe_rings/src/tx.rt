@@ -24,7 +24,7 @@ pub struct Tx<T: Copy> {
     pub(crate) first: usize,
     /// The capacity of the outbox, in items.
     pub(crate) room: usize,
-    /// How many items were moved into the ring since the receiver was last woken, or more.
+    /// How many items were moved into the ring since this end last rang the receiver's bell.
     pub(crate) unannounced: usize,
     pub(crate) patience: Patience,
     /// The bell that wakes this end, and the one that wakes the other end.
@@ -148,8 +148,9 @@ impl<T: Copy> Tx<T> {
     }
 
     /// Like [`publish`](Tx::publish), but lets a sleeping receiver sleep on, so that it finds more
-    /// to do when it wakes. It is woken if the ring is full, or if many items were offered since it
-    /// was last woken. A sender that is about to wait for something else calls `publish` before.
+    /// to do when it wakes. Its bell is rung if the ring is full, or if many items were offered
+    /// since it was last rung. A sender that is about to wait for something else calls `publish`
+    /// before.
     pub fn offer(&mut self) -> usize
         ensures ring { SameTx self.old self.new }
         ensures sent { sent self.new ≡ sent self.old }

@@ -58,18 +58,19 @@ abbrev pub held : SplitterEnds → ℕ
 held ends = length (ring.posted ends.order) + length (ring.posted ends.to_i)
     + length (ring.posted ends.to_d)
 
--- the receivers of the three rings were woken for all that the splitter has published
+-- on none of the three rings anything is left to announce: no message went in since the sender last
+-- announced what went in
 pub record AllAnnounced (ends : SplitterEnds) : Type 0 where
   pub order : IsAnnounced ends.order
   pub to_i : IsAnnounced ends.to_i
   pub to_d : IsAnnounced ends.to_d
 
--- all that the splitter has posted is published, and its receivers were woken for it
+-- all that the splitter has posted is published, and nothing of it is left to announce
 pub record AllPublished (ends : SplitterEnds) : Type 0 where
   pub held : held ends ≡ 0
   pub announced : AllAnnounced ends
 
--- all answers that a stage has posted are published, and the merge was woken for them
+-- all answers that a stage has posted are published, and none of them is left to announce
 pub record AnswersPublished (ends : StageEnds) : Type 0 where
   pub held : length (ring.posted ends.to_merge) ≡ 0
   pub announced : IsAnnounced ends.to_merge

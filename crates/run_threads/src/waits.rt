@@ -1,10 +1,10 @@
-//! The only functions in which the threads of a run wait for one another. Each of those that are
-//! public requires that its thread may wait there, and that it has looked and found nothing to do.
-//! `await_item` is private: the two of the merge wait in it.
+//! The only functions in which the body of a thread waits for another thread. Each of those that
+//! are public requires that its thread may wait there, and that it has looked and found nothing to
+//! do. `await_item` is private: the two of the merge wait in it.
 //!
 //! The body of a thread has no runtime, only a [`BodyRuntime`], whose runtime no other module can
-//! reach. Without a runtime no end of a ring can be asked to wait. By [`pass`] a body passes its
-//! gate, which may hold it too.
+//! reach. Without a runtime no end of a ring can be asked to wait. By [`pass`] a stage or the
+//! merge passes its gate, and the splitter by [`BodyRuntime::arrive`]; a gate may hold it too.
 
 ghost use Rattle.std.specs.Prelude.{◌≡◌, ◌+◌, ◌<◌, ◌≤◌, [], ◌∷◌, ◌++◌, length, OnOk, IfOk, IfErr};
 ghost use Rattle.pipe_rings.specs.Rings.{sent, posted, received, SameTx, SameRx};

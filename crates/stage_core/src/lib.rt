@@ -8,8 +8,8 @@
 //! the second level. `plain` runs all machines on one thread, and `laws` has properties of the
 //! definitions themselves.
 //!
-//! `network` moves them one push or one pop at a time through rings of a given capacity, as the
-//! threads of a pipeline do, in whatever order its caller chooses. No program uses it.
+//! `network` runs all machines with rings of a given capacity between them, one push or one pop at
+//! a time, in whatever order its caller chooses. No program uses it.
 //!
 //! Proved of every trace, selection and lawful configuration: what each machine puts out is a
 //! function of the list that it took in (`specs/Streams`); the merge takes the two sides' messages

@@ -74,8 +74,8 @@ pub enum Want {
     Nothing,
 }
 
-/// The messages of one event, or those of the end: to the merge, to I and to D. They are pushed in
-/// this order.
+/// The messages of one event, or those of the end: to the merge, to I and to D. They are sent in
+/// this order, each through a ring of its own.
 #[derive(Clone, Copy, Debug, PartialEq, Eq)]
 pub struct Routed {
     /// The merge's: whose answer it takes next.

@@ -13,8 +13,8 @@ use std::alloc::Global;
 use std::marker::Model;
 
 /// Which part of a trace is simulated: `skip` references are left out, then at most `max` are taken
-/// (0: no bound), and a flush is inserted after every `every` of those (0: none). The names are
-/// those of Dinero IV.
+/// (0: no bound), and a flush is inserted after every `every` of those (0: none). Dinero IV has
+/// options for this: skipcount, maxcount and flushcount.
 #[derive(Clone, Copy, Debug, PartialEq, Eq)]
 pub struct Selection {
     /// How many references are left out at the start.
