@@ -22,7 +22,7 @@ pub enum GeometryFault {
 }
 
 /// The shape of a cache: its size and its block size in bytes, and the number of ways of a set.
-#[derive(Clone, Copy, Debug)]
+#[derive(Clone, Copy, Debug, PartialEq, Eq)]
 pub struct Geometry {
     size: u64,
     bsize: u64,

@@ -32,7 +32,7 @@ ghost use Rattle.dinero_grid.specs.GridRuns.{AreAccepted, HasTable};
 use crate::asked::{grid_for, has_refused};
 use crate::fault::{Fault, fault_text, status};
 use din_trace::{ByteReader, ByteWriter, DeviceFailed, FromRead, FromWrite, MAX_LIMIT, TraceFault};
-use dinero_options::{WordsFault, unread_arguments_fault};
+use dinero_options::{WordsFault, unreadable_arguments_fault};
 use grid_options::{
     GridWordsFault, ParsedGrid, grid_help_text, grid_refusal_text, parse_grid_words,
 };
@@ -179,7 +179,7 @@ fn words_of(rt: &HostRuntime) -> Result<Vec<String>, Fault> {
     let mut arguments = match env::args(rt) {
         Ok(arguments) => arguments,
         Err(error) => {
-            let fault = unread_arguments_fault(error.kind());
+            let fault = unreadable_arguments_fault(error.kind());
             return Err(Fault::Words(GridWordsFault::Words(fault)));
         }
     };

@@ -36,9 +36,9 @@ config_fault_text config.Ring = codes "ring is not from 1 to 65536"
 
 -- the fault if the program's arguments cannot be read: `Memory` if an allocation failed, or else
 -- `Words`, since an argument is not UTF-8
-abbrev pub unread_arguments_fault : ErrorKind → WordsFault
-unread_arguments_fault kind.OutOfMemory = words.Memory
-unread_arguments_fault _ = words.Words
+abbrev pub unreadable_arguments_fault : ErrorKind → WordsFault
+unreadable_arguments_fault kind.OutOfMemory = words.Memory
+unreadable_arguments_fault _ = words.Words
 
 -- the message for a refused command line; empty for help
 abbrev pub words_fault_text : WordsFault → List ℕ

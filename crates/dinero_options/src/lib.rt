@@ -13,8 +13,8 @@
 //! arguments that cannot be read.
 //!
 //! A program whose options are some of these, or that reads many texts for an option, builds on the
-//! same steps: [`add_options`], [`take_words`], [`matched_text`], [`can_read`], [`unread_fault`],
-//! [`settings_in`].
+//! same steps: [`add_options`], [`take_words`], [`matched_text`], [`can_read`],
+//! [`unreadable_fault`], [`settings_in`].
 //!
 //! Proved: the answer to the words is the one that `specs/Answer` defines, with clap's contracts
 //! for the matches. If the words are refused, the fault is the first one by those definitions, or
@@ -36,9 +36,9 @@ mod words;
 pub use command::{NoMemory, add_options, help_text};
 pub use fault::WordsFault;
 pub use opt::Opt;
-pub use refusal::{config_text, put_words, unread_arguments_fault, words_status};
+pub use refusal::{config_text, put_words, unreadable_arguments_fault, words_status};
 pub use settings::{Settings, settings_in};
-pub use texts::{can_read, listed_text, matched_text, unread_fault};
+pub use texts::{can_read, listed_text, matched_text, unreadable_fault};
 pub use trace_refusal::{put_trace, trace_status};
 pub use values::{read_count, read_size};
 pub use words::{parse_words, take_words};

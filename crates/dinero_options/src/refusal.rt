@@ -3,7 +3,7 @@
 ghost use Rattle.std.specs.Prelude.{◌≡◌, ◌++◌, IfOk, string_bytes};
 ghost use Rattle.din_trace.specs.Device.{Writes};
 ghost use Rattle.dinero_options.specs.Refusals.{cache_name_text, config_fault_text};
-ghost use Rattle.dinero_options.specs.Refusals.{geometry_fault_text, unread_arguments_fault};
+ghost use Rattle.dinero_options.specs.Refusals.{geometry_fault_text, unreadable_arguments_fault};
 ghost use Rattle.dinero_options.specs.Refusals.{words_fault_text, words_status};
 
 use crate::fault::WordsFault;
@@ -71,8 +71,8 @@ pub fn config_text(alloc: Global, fault: ConfigFault) -> Result<String, AllocErr
 }
 
 /// The fault if the program's arguments cannot be read: an allocation failed, or one is not UTF-8.
-pub fn unread_arguments_fault(kind: ErrorKind) -> WordsFault
-    ensures { result ≡ unread_arguments_fault kind }
+pub fn unreadable_arguments_fault(kind: ErrorKind) -> WordsFault
+    ensures { result ≡ unreadable_arguments_fault kind }
 {
     match kind {
         ErrorKind::OutOfMemory => WordsFault::Memory,

@@ -61,7 +61,7 @@ pub fn can_read(option: Opt, text: &str) -> bool
 }
 
 /// The fault of an option whose text cannot be read.
-pub fn unread_fault(option: Opt) -> WordsFault
+pub fn unreadable_fault(option: Opt) -> WordsFault
     ensures { result ≡ refusal_by_option option }
 {
     match option.kind() {
@@ -72,7 +72,7 @@ pub fn unread_fault(option: Opt) -> WordsFault
 
 /// The first option whose text cannot be read, of a list with a text for each option in their
 /// order.
-pub(crate) fn first_unread(texts: &[&str]) -> Option<Opt>
+pub(crate) fn first_unreadable(texts: &[&str]) -> Option<Opt>
     ensures { result ≡ first_unreadable (text_at (map (λ t. t.now) texts.now)) options }
 {
     for option in Opt::ALL {

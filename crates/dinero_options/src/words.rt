@@ -10,7 +10,7 @@ ghost use Rattle.dinero_options.specs.Options.{options};
 use crate::command::command;
 use crate::fault::WordsFault;
 use crate::settings::{Settings, settings_in};
-use crate::texts::{first_unread, matched_texts, unread_fault};
+use crate::texts::{first_unreadable, matched_texts, unreadable_fault};
 use clap::error::ErrorKind;
 use clap::{ArgMatches, Command};
 use stage_core::{Config, Selection};
@@ -51,8 +51,8 @@ fn read_settings(texts: &[&str]) -> Result<Settings, WordsFault>
         result ≡ if_readable by options (settings_at by) }
     ensures bound { IfOk result (λ s. IsBounded s.selection) }
 {
-    match first_unread(texts) {
-        Some(option) => Err(unread_fault(option)),
+    match first_unreadable(texts) {
+        Some(option) => Err(unreadable_fault(option)),
         None => Ok(settings_in(texts)),
     }
 }

@@ -28,7 +28,7 @@ ghost use Rattle.dinero_pipe.specs.Runs.{AreAccepted, HasReport};
 
 use crate::fault::{Fault, fault_text, status};
 use din_trace::{ByteReader, ByteWriter, DeviceFailed, FromRead, FromWrite, MAX_LIMIT, TraceFault};
-use dinero_options::{WordsFault, help_text, parse_words, unread_arguments_fault};
+use dinero_options::{WordsFault, help_text, parse_words, unreadable_arguments_fault};
 use sim_run::{OpenGate, RunFault, simulate};
 use stage_core::{Config, Selection};
 use std::alloc::Global;
@@ -139,7 +139,7 @@ fn write_help(rt: &HostRuntime) -> Result<(), Fault> {
 fn words_of(rt: &HostRuntime) -> Result<Vec<String>, Fault> {
     let mut arguments = match env::args(rt) {
         Ok(arguments) => arguments,
-        Err(error) => return Err(Fault::Words(unread_arguments_fault(error.kind()))),
+        Err(error) => return Err(Fault::Words(unreadable_arguments_fault(error.kind()))),
     };
     let _program = arguments.next();
     let Ok(words) = arguments.collect::<Vec<String>>(rt.alloc()) else {

@@ -29,8 +29,8 @@ pub struct GridPoint {
 /// value of the last option that varies changes from point to point.
 #[derive(Debug, Drop)]
 pub struct ParsedGrid {
-    /// The names of the options that have two or more values, without hyphens; in a full table
-    /// those of all options but `--threads` and `--full`.
+    /// The names of the options that have two or more values, without the two hyphens in front; in
+    /// a full table those of all options but `--threads` and `--full`.
     pub names: Vec<String>,
     /// The points.
     pub points: Vec<GridPoint>,
@@ -53,7 +53,7 @@ pub(crate) fn names_of(alloc: Global, shown: &[Opt]) -> Result<Vec<String>, Allo
 }
 
 /// The texts of these options.
-fn texts_of(alloc: Global, shown: &[Opt], texts: &[&str]) -> Result<Vec<String>, AllocError>
+fn shown_texts(alloc: Global, shown: &[Opt], texts: &[&str]) -> Result<Vec<String>, AllocError>
     ensures { IfOk result (λ words. map string_bytes words.items
         ≡ map (text_at (map (λ t. t.now) texts.now)) shown.now) }
 {
@@ -65,7 +65,7 @@ fn texts_of(alloc: Global, shown: &[Opt], texts: &[&str]) -> Result<Vec<String>,
 }
 
 /// What these options are set to.
-fn values_of(alloc: Global, shown: &[Opt], settings: Settings) -> Result<Vec<String>, AllocError>
+fn shown_values(alloc: Global, shown: &[Opt], settings: Settings) -> Result<Vec<String>, AllocError>
     ensures { IfOk result (λ words. map string_bytes words.items
         ≡ map (written settings) shown.now) }
 {
@@ -89,9 +89,9 @@ fn words_of(
         ≡ words_of full shown.now (map (λ t. t.now) texts.now)) }
 {
     if full {
-        values_of(alloc, shown, settings)
+        shown_values(alloc, shown, settings)
     } else {
-        texts_of(alloc, shown, texts)
+        shown_texts(alloc, shown, texts)
     }
 }
 

@@ -42,14 +42,14 @@ fn add_line(text: &mut String, line: &str) -> Result<(), AllocError> {
 /// The first paragraph of a text of clap, in one line.
 fn first_paragraph(alloc: Global, said: &str) -> Result<String, AllocError> {
     let mut text = String::new(alloc);
-    for line in said.lines() {
+    for line in said.strip_prefix("error: ").unwrap_or(said).lines() {
         if line.is_empty() {
             return Ok(text);
         }
         if !text.is_empty() {
             text.push(' ')?;
         }
-        add_line(&mut text, line.trim_start_matches("error: ").trim())?;
+        add_line(&mut text, line.trim())?;
     }
     Ok(text)
 }

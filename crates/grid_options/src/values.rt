@@ -66,7 +66,10 @@ fn can_read_all(option: Opt, values: &[&str]) -> bool
 }
 
 /// The first option one of whose values cannot be read.
-pub(crate) fn first_unread(alloc: Global, matches: &ArgMatches) -> Result<Option<Opt>, AllocError>
+pub(crate) fn first_unreadable(
+    alloc: Global,
+    matches: &ArgMatches,
+) -> Result<Option<Opt>, AllocError>
     ensures { IfOk result (λ first. first ≡ first_unreadable (rows_of (found_of matches.now))) }
 {
     for option in Opt::ALL {

@@ -13,9 +13,9 @@ use crate::fault::{GridWordsFault, MEMORY};
 use crate::grid::{ParsedGrid, names_of, read_points};
 use crate::own::{full_in, threads_in};
 use crate::product::points_in;
-use crate::values::{first_unread, shown};
+use crate::values::{first_unreadable, shown};
 use clap::ArgMatches;
-use dinero_options::{take_words, unread_fault};
+use dinero_options::{take_words, unreadable_fault};
 use std::alloc::{AllocError, Global};
 
 /// The grid of these points.
@@ -46,11 +46,11 @@ fn grid_of(
 fn answer(alloc: Global, matches: &ArgMatches) -> Result<ParsedGrid, GridWordsFault>
     ensures { (result ≡ Err memory) ⊎ AnswersGrid (rows_of (found_of matches.now)) result }
 {
-    let Ok(first) = first_unread(alloc, matches) else {
+    let Ok(first) = first_unreadable(alloc, matches) else {
         return Err(MEMORY);
     };
     if let Some(option) = first {
-        return Err(GridWordsFault::Words(unread_fault(option)));
+        return Err(GridWordsFault::Words(unreadable_fault(option)));
     }
     let Some(threads) = threads_in(matches) else {
         return Err(GridWordsFault::Threads);

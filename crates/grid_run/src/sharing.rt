@@ -1,21 +1,12 @@
 //! How the rows of a grid are divided into portions.
 
 use crate::grid::{Row, Setup};
-use cache_core::{Geometry, Policy};
 use stage_core::Config;
-
-/// Whether two caches are of one shape and policy.
-fn is_same(one: (Geometry, Policy), other: (Geometry, Policy)) -> bool {
-    one.0.bsize() == other.0.bsize()
-        && one.0.sets() == other.0.sets()
-        && one.0.blocks() == other.0.blocks()
-        && one.1 == other.1
-}
 
 /// Whether two configurations have the same first-level caches, so that one engine may serve their
 /// second levels.
 fn share_first_level(one: &Config, other: &Config) -> bool {
-    is_same(one.i(), other.i()) && is_same(one.d(), other.d())
+    one.i() == other.i() && one.d() == other.d()
 }
 
 /// The configuration of a row, if it was not refused.

@@ -49,7 +49,7 @@ fn is_since(place: usize, last: Option<usize>) -> bool
 {
     match last {
         None => false,
-        Some(last) => !(last < place),
+        Some(last) => last >= place,
     }
 }
 

@@ -31,7 +31,7 @@ pub enum Stop {
 }
 
 /// A thread could not be started. The values that were to be moved into it were dropped.
-#[derive(Drop)]
+#[derive(Clone, Copy, Debug, PartialEq, Eq)]
 pub struct NoThread;
 
 /// The fault of a run whose source has this fault. `TraceFault::Memory` becomes `RunFault::Memory`.

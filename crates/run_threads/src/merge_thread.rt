@@ -24,7 +24,7 @@ use std::sync::Wait;
 use std::thread::{Promise, PromisedHandle, Scope};
 
 /// The result of the merge's thread.
-pub type MergeEnd = Result<(L2Stage, MergeEnds), Stop>;
+pub type MergeResult = Result<(L2Stage, MergeEnds), Stop>;
 
 /// What the thread of the merge promises about its result, given the values that it began with.
 #[derive(Drop)]
@@ -33,12 +33,12 @@ pub struct MergePromise {
     pub ends: Snapshot<MergeEnds>,
 }
 
-impl Promise<MergeEnd> for MergePromise {
+impl Promise<MergeResult> for MergePromise {
     ghost kept_by = { λ p r. IfOk r (λ t. MergeServed AtEnd p.machine.value p.ends.value t.0 t.1) };
 }
 
 /// The merge's thread, which is still to be joined.
-pub type MergeHandle = PromisedHandle<MergeEnd, MergePromise>;
+pub type MergeHandle = PromisedHandle<MergeResult, MergePromise>;
 
 /// The merge takes a message of a side, and the second level serves the request in it, if any.
 #[inline(always)]
@@ -168,7 +168,7 @@ pub fn run_merge<H: Wait, G: Gate>(
     gate: &G,
     machine: L2Stage,
     unused: MergeEnds,
-) -> MergeEnd
+) -> MergeResult
     requires new { L2StandsFor machine [] }
     requires unused { UnusedMerge unused }
     ensures { IfOk result (λ r. MergeServed AtEnd machine unused r.0 r.1) }
@@ -197,7 +197,7 @@ pub fn start_merge<'s, E, H: Wait + Sync, G: Gate>(
         machine: Snapshot::of(&machine),
         ends: Snapshot::of(&ends),
     };
-    let run = move || -> MergeEnd
+    let run = move || -> MergeResult
         requires new { L2StandsFor machine [] }
         requires unused { UnusedMerge ends }
         ensures { IfOk result (λ r. MergeServed AtEnd machine ends r.0 r.1) }

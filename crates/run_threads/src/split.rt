@@ -112,15 +112,13 @@ fn next_record<H: Wait, R: ByteReader, G: Gate>(
     ensures room { OnOk result (room_of source.old ≤ MAX_LIMIT) }
     ensures cut { IfErr result (λ why. why ≡ Stop.Cut) }
 {
-    if !gate.is_open() && publish(rt, ends, Until::Published).is_err() {
-        return Err(Stop::Cut);
+    if !gate.is_open() {
+        publish(rt, ends, Until::Published)?;
     }
     if let Some(answer) = source.at_hand() {
         return Ok(answer);
     }
-    if publish(rt, ends, Until::Published).is_err() {
-        return Err(Stop::Cut);
-    }
+    publish(rt, ends, Until::Published)?;
     Ok(ask(source, ends))
 }
 
@@ -162,8 +160,7 @@ fn send_end<H: Wait>(
     ensures cut { IfErr result (λ why. why ≡ Stop.Cut) }
 {
     send_routed(rt, ends, routed)?;
-    publish(rt, ends, Until::Published)?;
-    Ok(())
+    publish(rt, ends, Until::Published)
 }
 
 /// Routes an event, if there is one, and sends its messages. The splitter counts the events, as
@@ -226,7 +223,7 @@ pub fn split<H: Wait, R: ByteReader, G: Gate>(
     requires bounded { IsBounded selection }
     requires unused { UnusedSplitter ends.old }
     ensures rings { SameSplitterEnds ends.old ends.new }
-    // A splitter that has ended holds no message back, and has woken whoever slept.
+    // A splitter that has ended holds no message back, and has none left to announce.
     ensures rests { OnOk result (SplitterHasEnded ends.new) }
     ensures announced { OnOk result (AllAnnounced ends.new) }
     ensures met { IfErr result IsMet }

@@ -25,7 +25,7 @@ use std::sync::Wait;
 use std::thread::{Promise, PromisedHandle, Scope};
 
 /// The result of a stage's thread.
-pub type StageEnd = Result<(L1Stage, StageEnds), Stop>;
+pub type StageResult = Result<(L1Stage, StageEnds), Stop>;
 
 /// What the thread of a stage promises about its result, given the values that it began with.
 #[derive(Drop)]
@@ -34,12 +34,12 @@ pub struct StagePromise {
     pub ends: Snapshot<StageEnds>,
 }
 
-impl Promise<StageEnd> for StagePromise {
+impl Promise<StageResult> for StagePromise {
     ghost kept_by = { λ p r. IfOk r (λ t. StageServedAll p.machine.value p.ends.value t.0 t.1) };
 }
 
 /// A stage's thread, which is still to be joined.
-pub type StageHandle = PromisedHandle<StageEnd, StagePromise>;
+pub type StageHandle = PromisedHandle<StageResult, StagePromise>;
 
 /// Publishes posted messages, until all are published or there is room for another one.
 fn publish<H: Wait>(
@@ -217,12 +217,12 @@ pub fn run_stage<H: Wait, G: Gate>(
     who: Who,
     machine: L1Stage,
     unused: StageEnds,
-) -> StageEnd
+) -> StageResult
     requires ready { IsReady machine }
     requires new { StageStandsFor machine [] }
     requires unused { UnusedStage unused }
     ensures ended { IfOk result (λ r. StageServedAll machine unused r.0 r.1) }
-    // A stage that has ended holds no answer back, and has woken the merge if it slept.
+    // A stage that has ended holds no answer back, and has none left to announce.
     ensures rests { IfOk result (λ r. StageHasEnded r.0 r.1) }
     ensures announced { IfOk result (λ r. IsAnnounced r.1.to_merge) }
 {
@@ -251,7 +251,7 @@ pub fn start_stage<'s, E, H: Wait + Sync, G: Gate>(
         machine: Snapshot::of(&machine),
         ends: Snapshot::of(&ends),
     };
-    let run = move || -> StageEnd
+    let run = move || -> StageResult
         requires ready { IsReady machine }
         requires new { StageStandsFor machine [] }
         requires unused { UnusedStage ends }

@@ -43,7 +43,7 @@ pub enum ConfigFault {
 }
 
 /// A lawful configuration.
-#[derive(Clone, Copy, Debug)]
+#[derive(Clone, Copy, Debug, PartialEq, Eq)]
 pub struct Config {
     i: (Geometry, Policy),
     d: (Geometry, Policy),

@@ -12,13 +12,12 @@ mod table;
 mod trace;
 
 use anyhow::bail;
+use stage_core::Config;
 use std::io::Write;
 
-fn main(rt: HostRuntime) -> anyhow::Result<()> {
+/// Prints what the uses of a trace, of one cache and of caches of many sizes answer.
+fn print_caches(rt: &HostRuntime) -> anyhow::Result<()> {
     let alloc = rt.alloc();
-    let Ok(config) = run::small_caches() else {
-        bail!("no lawful configuration");
-    };
     let Ok(stores) = trace::stores(alloc, b"2 400d7c\n0 1000\n1 1004 a comment\n") else {
         bail!("no records");
     };
@@ -35,12 +34,13 @@ fn main(rt: HostRuntime) -> anyhow::Result<()> {
         bail!("no grid");
     };
     println!(rt; "grid_core: {misses:?}")?;
-    let Ok(ends) = ring::two_ends(alloc) else {
-        bail!("no ring");
-    };
-    let sum = ring::pass(&rt, ends);
-    println!(rt; "pipe_rings: {sum}")?;
-    let Ok(misses) = stages::second_level_misses(alloc, &config) else {
+    Ok(())
+}
+
+/// Prints what the uses of the machines and of a block of a report answer.
+fn print_machines(rt: &HostRuntime, config: &Config) -> anyhow::Result<()> {
+    let alloc = rt.alloc();
+    let Ok(misses) = stages::second_level_misses(alloc, config) else {
         bail!("no counts");
     };
     println!(rt; "stage_core: {misses} misses")?;
@@ -49,6 +49,21 @@ fn main(rt: HostRuntime) -> anyhow::Result<()> {
     };
     println!(rt; "cache_report:")?;
     rt.stdout().write_all(block.as_slice())?;
+    Ok(())
+}
+
+fn main(rt: HostRuntime) -> anyhow::Result<()> {
+    let alloc = rt.alloc();
+    let Ok(config) = run::small_caches() else {
+        bail!("no lawful configuration");
+    };
+    print_caches(&rt)?;
+    let Ok(ends) = ring::two_ends(alloc) else {
+        bail!("no ring");
+    };
+    let sum = ring::pass(&rt, ends);
+    println!(rt; "pipe_rings: {sum}")?;
+    print_machines(&rt, &config)?;
     let Ok(report) = run::report(&rt, alloc, &config, b"1 0\n0 8\n0 10\n") else {
         bail!("no report");
     };

@@ -6,7 +6,7 @@ use Rattle.dinero_options.proofs.words.read_settings.Goals as goal
 pub returns-in-Some-clause-value : goal.returns-in-Some-clause-value
 returns-in-Some-clause-value c =
     let by = text_at (map (λ t. t.now) c.args.texts.now) in
-    ap Err c.unread_fault.ensures
+    ap Err c.unreadable_fault.ensures
     ∙ sym (refused_first by (settings_at by) c.in-Some.option c.in-Some.ensures)
 
 pub returns-in-None-clause-value : goal.returns-in-None-clause-value

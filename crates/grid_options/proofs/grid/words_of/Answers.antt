@@ -4,6 +4,6 @@ use Rattle.grid_options.proofs.grid.words_of.Goals as goal
 
 pub returns-then-full : goal.returns-then-full
 returns-then-full c = rw c.if-full.true
-    (subst (λ s. IfOk c.values_of.result
+    (subst (λ s. IfOk c.shown_values.result
     (λ words. map string_bytes words.items ≡ map (written s) c.args.shown.now))
-    c.requires c.values_of.ensures)
+    c.requires c.shown_values.ensures)

@@ -3,7 +3,7 @@ use Rattle.dinero_options.specs.Answer.{is_readable, reads_as, text_at}
 use Rattle.dinero_options.specs.Options.{kind_of_option, options}
 use Rattle.dinero_options.specs.declared.opt.Opt.TheVariants.{L1Isize}
 use Rattle.dinero_options.proofs.FirstLemmas.{found_first, none_more}
-use Rattle.dinero_options.proofs.texts.first_unread.Goals as goal
+use Rattle.dinero_options.proofs.texts.first_unreadable.Goals as goal
 
 pub returns-then-not-can_read : goal.returns-then-not-can_read
 unfolding is_readable

@@ -6,7 +6,7 @@ use Rattle.dinero_options.specs.Options.{kind_of_option, options}
 use Rattle.dinero_options.specs.declared.opt.Opt.TheVariants.{L1Isize}
 use Rattle.dinero_options.proofs.FirstLemmas.{found_first, none_more}
 use Rattle.grid_options.specs.Grid.{has_readable}
-use Rattle.grid_options.proofs.values.first_unread.Goals as goal
+use Rattle.grid_options.proofs.values.first_unreadable.Goals as goal
 
 pub returns-then-not-can_read_all : goal.returns-then-not-can_read_all
 unfolding has_readable

@@ -1,7 +1,7 @@
 use Rattle.std.proofs.Common.{◌≡◌, None, map, take}
 use Rattle.dinero_options.specs.Answer.{first_unreadable, text_at}
 use Rattle.dinero_options.specs.Options.{options}
-use Rattle.dinero_options.proofs.texts.first_unread.Given as goal
+use Rattle.dinero_options.proofs.texts.first_unreadable.Given as goal
 
 abbrev pub invariant-loop-option : goal.invariant-loop-option
 invariant-loop-option l =
