@@ -32,7 +32,6 @@ fn writes_a_dirty_victim_back(rt: HostRuntime) {
         written_back: 1,
         ..first_misses!(ALL, ALL, 3)
     };
-    assert!(rt; COUNTS.misses.total() == 3);
     const VICTIM: Outcome = Outcome {
         back: Some(0),
         ..NEW
@@ -43,6 +42,12 @@ fn writes_a_dirty_victim_back(rt: HostRuntime) {
         Step::Count(COUNTS, 3),
     ];
     walk_new(&rt, rt.alloc(), DATA, LRU, &STEPS);
+}
+
+#[test]
+fn a_total_is_the_sum_of_the_classes(rt: HostRuntime) {
+    const ALL: PerClass = by_class!(instr: 1, read: 20, write: 300, misc: 4_000);
+    assert_eq!(rt; ALL.total(), 4_321);
 }
 
 #[test]

@@ -251,47 +251,49 @@ fn judges_the_lines_that_came_before_the_reader_failed(rt: HostRuntime) {
     expect_failing(&rt, rt.alloc(), &ROWS);
 }
 
+/// A text, cut off behind each of its bytes.
+static CUT_TEXTS: [(&str, Text<'static>); 14] = [
+    ("", (&[], Found::Nothing)),
+    ("1", (&[], Found::Bad(1, Why::Gap))),
+    ("1 ", (&[], Found::Bad(1, Why::Address))),
+    ("1 0", (&[(Label::Write, 0)], Found::Nothing)),
+    ("1 0\n", (&[(Label::Write, 0)], Found::Nothing)),
+    ("1 0\n0", (&[], Found::Bad(2, Why::Gap))),
+    ("1 0\n0 ", (&[], Found::Bad(2, Why::Address))),
+    (
+        "1 0\n0 8",
+        (&[(Label::Write, 0), (Label::Read, 8)], Found::Nothing),
+    ),
+    (
+        "1 0\n0 8\n",
+        (&[(Label::Write, 0), (Label::Read, 8)], Found::Nothing),
+    ),
+    ("1 0\n0 8\n0", (&[], Found::Bad(3, Why::Gap))),
+    ("1 0\n0 8\n0 ", (&[], Found::Bad(3, Why::Address))),
+    (
+        "1 0\n0 8\n0 1",
+        (
+            &[(Label::Write, 0), (Label::Read, 8), (Label::Read, 1)],
+            Found::Nothing,
+        ),
+    ),
+    (
+        "1 0\n0 8\n0 10",
+        (
+            &[(Label::Write, 0), (Label::Read, 8), (Label::Read, 0x10)],
+            Found::Nothing,
+        ),
+    ),
+    (
+        "1 0\n0 8\n0 10\n",
+        (
+            &[(Label::Write, 0), (Label::Read, 8), (Label::Read, 0x10)],
+            Found::Nothing,
+        ),
+    ),
+];
+
 #[test]
 fn reads_a_text_that_is_cut_off_anywhere(rt: HostRuntime) {
-    static ROWS: [(&str, Text<'static>); 14] = [
-        ("", (&[], Found::Nothing)),
-        ("1", (&[], Found::Bad(1, Why::Gap))),
-        ("1 ", (&[], Found::Bad(1, Why::Address))),
-        ("1 0", (&[(Label::Write, 0)], Found::Nothing)),
-        ("1 0\n", (&[(Label::Write, 0)], Found::Nothing)),
-        ("1 0\n0", (&[], Found::Bad(2, Why::Gap))),
-        ("1 0\n0 ", (&[], Found::Bad(2, Why::Address))),
-        (
-            "1 0\n0 8",
-            (&[(Label::Write, 0), (Label::Read, 8)], Found::Nothing),
-        ),
-        (
-            "1 0\n0 8\n",
-            (&[(Label::Write, 0), (Label::Read, 8)], Found::Nothing),
-        ),
-        ("1 0\n0 8\n0", (&[], Found::Bad(3, Why::Gap))),
-        ("1 0\n0 8\n0 ", (&[], Found::Bad(3, Why::Address))),
-        (
-            "1 0\n0 8\n0 1",
-            (
-                &[(Label::Write, 0), (Label::Read, 8), (Label::Read, 1)],
-                Found::Nothing,
-            ),
-        ),
-        (
-            "1 0\n0 8\n0 10",
-            (
-                &[(Label::Write, 0), (Label::Read, 8), (Label::Read, 0x10)],
-                Found::Nothing,
-            ),
-        ),
-        (
-            "1 0\n0 8\n0 10\n",
-            (
-                &[(Label::Write, 0), (Label::Read, 8), (Label::Read, 0x10)],
-                Found::Nothing,
-            ),
-        ),
-    ];
-    expect_each(&rt, rt.alloc(), &ROWS);
+    expect_each(&rt, rt.alloc(), &CUT_TEXTS);
 }

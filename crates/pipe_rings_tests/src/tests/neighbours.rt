@@ -3,10 +3,12 @@
 use super::answer;
 use super::ends::{Call, LONG, Step, receiver_answers, sender_answers};
 use pipe_rings::{Bell, Rx, SenderGone, Tx, ring, ring_from};
+use std::alloc::Global;
 use std::process::Abort;
 use std::sync::Wait;
 use std::test::Fail;
 use std::thread;
+use std::thread::Threads;
 use std::time::Clock;
 
 /// Is more to be published before the outbox has room (if `all`, before it is empty)?
@@ -191,6 +193,53 @@ fn a_receiver_that_sleeps_is_woken_for_what_was_offered(rt: HostRuntime) -> Resu
     );
     assert_eq!(rt; sent, 10);
     Ok(())
+}
+
+/// Two numbers are offered to a receiver that sleeps, of which the ring takes one.
+static OFFERED_TO_A_SMALL_RING: [Step; 3] = [
+    (LONG, None),
+    (Call::Post(0, 2), Some(2)),
+    (Call::Offer, Some(1)),
+];
+
+/// So many numbers are offered to a receiver that sleeps that it has to be woken.
+static OFFERED_MANY: [Step; 3] = [
+    (LONG, None),
+    (Call::Post(0, 512), Some(512)),
+    (Call::Offer, Some(512)),
+];
+
+/// Offers numbers, publishes nothing, and waits for the answer to the first of them.
+fn is_answered<H: Threads + Wait + Clock + Abort + Sync>(
+    rt: &H,
+    alloc: Global,
+    (there, from_there): (Tx<u64>, Rx<u64>),
+    offered: &'static [Step],
+) -> Result<(), Fail> {
+    let (back, from_back) = ring(alloc, 1)?;
+    let ((), sent) = thread::join(
+        rt,
+        move || {
+            let (mut tx, mut rx) = (there, from_back);
+            sender_answers(rt, &mut tx, offered);
+            receiver_answers(rt, &mut rx, &[(Call::Receive, Some(0))]);
+        },
+        move || send_back(rt, from_there, back, 1),
+    );
+    assert_eq!(rt; sent, 1);
+    Ok(())
+}
+
+#[test]
+fn an_offer_that_fills_the_ring_wakes_the_receiver(rt: HostRuntime) -> Result<(), Fail> {
+    let ends = ring(rt.alloc(), 1)?;
+    is_answered(&rt, rt.alloc(), ends, &OFFERED_TO_A_SMALL_RING)
+}
+
+#[test]
+fn an_offer_of_many_numbers_wakes_the_receiver(rt: HostRuntime) -> Result<(), Fail> {
+    let ends = ring(rt.alloc(), 1_024)?;
+    is_answered(&rt, rt.alloc(), ends, &OFFERED_MANY)
 }
 
 /// A ring of capacity one is filled, and then one more number is sent.

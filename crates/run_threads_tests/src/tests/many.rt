@@ -6,12 +6,11 @@ ghost use Rattle.run_threads.specs.Machines.{AreNew};
 
 use super::config;
 use cache_core::{Counts, PerClass};
-use cache_report::write_report;
-use din_trace::{FromRead, FromWrite, MAX_LIMIT, Source, TraceFault, Why};
+use din_trace::{FromRead, MAX_LIMIT, Source, TraceFault, Why};
+use expected_counts::{NO_COUNTS, by_class, first_misses};
 use run_threads::{BodyRuntime, OpenGate, RunFault, Settled, prepare, run_in};
 use stage_core::{Config, Selection, Totals};
 use std::alloc::Global;
-use std::process::Abort;
 use std::sync::Wait;
 use std::test::Fail;
 use std::thread;
@@ -37,15 +36,13 @@ static EVERYTHING: Selection = Selection {
     every: 0,
 };
 
-/// The result of a run in threads over a trace, with an outbox of one message before each ring, and
-/// the bytes that it wrote.
+/// The result of a run in threads over a trace, with an outbox of one message before each ring.
 fn run_with<H: Threads + Wait + Sync>(
     rt: &H,
     alloc: Global,
     config: &Config,
     trace: &[u8],
-    written: &mut Vec<u8>,
-) -> Result<Option<RunFault>, Fail> {
+) -> Result<Result<Totals, RunFault>, Fail> {
     let (machines, rings) = prepare(alloc, config, 1)?;
     let source = Source::new(FromRead::new(trace), MAX_LIMIT);
     let body_rt = &BodyRuntime::new(rt);
@@ -66,97 +63,42 @@ fn run_with<H: Threads + Wait + Sync>(
     match ended {
         Ok(Settled { totals, rings }) => {
             drop(rings);
-            write_report(&totals, &mut FromWrite::new(written))?;
-            Ok(None)
+            Ok(Ok(totals))
         }
-        Err(fault) => Ok(Some(fault)),
-    }
-}
-
-fn instrs(instr: u64) -> PerClass {
-    PerClass {
-        instr,
-        ..PerClass::default()
-    }
-}
-
-fn reads(read: u64) -> PerClass {
-    PerClass {
-        read,
-        ..PerClass::default()
+        Err(fault) => Ok(Err(fault)),
     }
 }
 
 /// The totals of the trace without a fault: the second read evicts the written block.
-fn totals_of_three() -> Totals {
-    let all = PerClass {
-        write: 1,
-        ..reads(2)
-    };
-    let d = Counts {
-        fetches: all,
-        misses: all,
-        compulsory: all,
-        loaded: 3,
+static TOTALS_OF_THREE: Totals = Totals {
+    i: NO_COUNTS,
+    d: Counts {
         written_back: 1,
-        ..Counts::default()
-    };
-    let u = Counts {
-        fetches: PerClass {
-            write: 1,
-            ..reads(3)
-        },
-        misses: reads(3),
-        compulsory: reads(3),
-        loaded: 3,
-        ..Counts::default()
-    };
-    Totals {
-        d,
-        u,
-        ..Totals::default()
-    }
-}
+        ..first_misses!(
+            by_class!(read: 2, write: 1),
+            by_class!(read: 2, write: 1),
+            3
+        )
+    },
+    u: first_misses!(by_class!(read: 3, write: 1), by_class!(read: 3), 3),
+};
 
-fn reported(alloc: Global, totals: &Totals) -> Result<Vec<u8>, Fail> {
-    let mut text = Vec::new(alloc);
-    write_report(totals, &mut FromWrite::new(&mut text))?;
-    Ok(text)
-}
-
-/// A run in threads over a trace has to answer its fault, or else to write this text.
-fn ends_alike<H: Threads + Wait + Abort + Sync>(
-    rt: &H,
-    alloc: Global,
-    config: &Config,
-    trace: &[u8],
-    fault: Option<(u64, Why)>,
-    text: &[u8],
-) -> Result<(), Fail> {
-    let mut written = Vec::new(alloc);
-    let ended = run_with(rt, alloc, config, trace, &mut written)?;
+/// What a run over one of the traces has to answer.
+fn wanted(fault: Option<(u64, Why)>) -> Result<Totals, RunFault> {
     match fault {
-        Some((line, why)) => {
-            let bad = TraceFault::Bad { line, why };
-            assert_eq!(rt; ended, Some(RunFault::Trace(bad)));
-            assert!(rt; written.is_empty());
-        }
-        None => {
-            assert_eq!(rt; ended, None);
-            assert!(rt; written.as_slice() == text);
-        }
+        Some((line, why)) => Err(RunFault::Trace(TraceFault::Bad { line, why })),
+        None => Ok(TOTALS_OF_THREE),
     }
-    Ok(())
 }
 
 #[test]
 fn a_thousand_runs_with_outboxes_of_one_end_alike(rt: HostRuntime) -> Result<(), Fail> {
-    let text = reported(rt.alloc(), &totals_of_three())?;
     for ring in [1, 2, 3, 64] {
         let config = config(ring)?;
         for _ in 0..250 {
             for (trace, fault) in TRACES {
-                ends_alike(&rt, rt.alloc(), &config, trace, fault, &text)?;
+                let ended = run_with(&rt, rt.alloc(), &config, trace)?;
+                assert_eq!(rt; ended, wanted(fault));
             }
         }
     }
@@ -184,35 +126,37 @@ fn counts_of_rounds(all: PerClass, first: PerClass, again: PerClass) -> Counts {
         capacity: again,
         loaded: ROUNDS,
         flushes: ROUNDS,
-        ..Counts::default()
+        ..NO_COUNTS
     }
 }
 
 /// Their totals. The fetch loads the block into the second level, where the read finds it.
 fn totals_of_rounds() -> Totals {
-    let i = counts_of_rounds(instrs(ROUNDS), instrs(1), instrs(ROUNDS - 1));
+    let i = counts_of_rounds(
+        by_class!(instr: ROUNDS),
+        by_class!(instr: 1),
+        by_class!(instr: ROUNDS - 1),
+    );
+    let d = counts_of_rounds(
+        by_class!(read: ROUNDS),
+        by_class!(read: 1),
+        by_class!(read: ROUNDS - 1),
+    );
     let u = Counts {
-        fetches: PerClass {
-            instr: ROUNDS,
-            ..reads(ROUNDS)
-        },
+        fetches: by_class!(instr: ROUNDS, read: ROUNDS),
         ..i
     };
-    Totals {
-        i,
-        d: counts_of_rounds(reads(ROUNDS), reads(1), reads(ROUNDS - 1)),
-        u,
-    }
+    Totals { i, d, u }
 }
 
 #[test]
-fn long_runs_with_outboxes_of_one_write_the_same(rt: HostRuntime) -> Result<(), Fail> {
+fn long_runs_with_outboxes_of_one_count_the_same(rt: HostRuntime) -> Result<(), Fail> {
     let trace = rounds(rt.alloc())?;
-    let text = reported(rt.alloc(), &totals_of_rounds())?;
     for ring in [1, 2, 3, 64] {
         let config = config(ring)?;
         for _ in 0..12 {
-            ends_alike(&rt, rt.alloc(), &config, &trace, None, &text)?;
+            let ended = run_with(&rt, rt.alloc(), &config, &trace)?;
+            assert_eq!(rt; ended, Ok(totals_of_rounds()));
         }
     }
     Ok(())

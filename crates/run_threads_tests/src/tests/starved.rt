@@ -5,7 +5,7 @@ ghost use Rattle.run_threads.specs.Threads.{StageServedAll};
 
 use super::gone::{rings, stage};
 use run_threads::{
-    Rings, RunFault, StageEnd, StageEnds, StageHandle, StagePromise, Stop, ends_of, why_stopped,
+    Rings, RunFault, StageEnds, StageHandle, StagePromise, StageResult, Stop, ends_of, why_stopped,
     wind_up,
 };
 use stage_core::{L1Stage, Side};
@@ -31,7 +31,7 @@ fn starved<'s, E, H: Threads + Wait + Sync>(
         machine: Snapshot::of(&machine),
         ends: Snapshot::of(&ends),
     };
-    let run = move || -> StageEnd
+    let run = move || -> StageResult
         ensures { IfOk result (λ r. StageServedAll machine ends r.0 r.1) }
     {
         drop(machine);

@@ -1,5 +1,5 @@
-//! Compares runs with given counts: the report has to be that of these counts, and the network has
-//! to give the same counts.
+//! Compares runs with given counts: a run has to answer these and write their report, and the
+//! network has to give the same counts.
 
 use super::{EVERYTHING, MOST, config, run};
 use din_trace::{DinRecord, FromRead, FromWrite, MAX_LIMIT, Source};
@@ -37,7 +37,7 @@ pub(super) fn reported(rt: &impl Abort, alloc: Global, totals: &Totals) -> Vec<u
     text
 }
 
-/// A run over a trace has to succeed, and to write this text.
+/// A run over a trace has to succeed, and to write this text. Answers its totals.
 pub(super) fn writes_text<H: Threads + Wait + Abort + Sync>(
     rt: &H,
     alloc: Global,
@@ -45,15 +45,15 @@ pub(super) fn writes_text<H: Threads + Wait + Abort + Sync>(
     selection: &Selection,
     trace: &[u8],
     text: &[u8],
-) {
+) -> Totals {
     let mut written = Vec::new(alloc);
     let ended = run(rt, alloc, config, selection, trace, MAX_LIMIT, &mut written);
-    assert_eq!(rt; ended, Ok(()));
     assert!(rt; written.as_slice() == text);
+    ended.expect(rt, "a run without a fault")
 }
 
-/// A run over a trace has to succeed, with the report of exactly these totals, and the network has
-/// to give the same totals.
+/// A run over a trace has to succeed, with exactly these totals and their report, and the network
+/// has to give the same totals.
 pub(super) fn reports<H: Threads + Wait + Abort + Sync>(
     rt: &H,
     alloc: Global,
@@ -62,14 +62,9 @@ pub(super) fn reports<H: Threads + Wait + Abort + Sync>(
     trace: &[u8],
     totals: &Totals,
 ) {
-    writes_text(
-        rt,
-        alloc,
-        config,
-        selection,
-        trace,
-        &reported(rt, alloc, totals),
-    );
+    let text = reported(rt, alloc, totals);
+    let counted = writes_text(rt, alloc, config, selection, trace, &text);
+    assert_eq!(rt; counted, *totals);
     let records = records_of(rt, alloc, trace);
     assert_eq!(rt; driven(rt, alloc, config, selection, &records), *totals);
 }

@@ -146,7 +146,7 @@ fn ended_at(length: usize) -> Result<(), RunFault> {
 }
 
 #[test]
-fn a_cut_text_has_a_report_unless_its_last_line_is_cut(rt: HostRuntime) {
+fn a_cut_text_has_a_report_unless_its_last_line_has_no_address(rt: HostRuntime) {
     let text = b"1 0\n0 8\n0 10\n";
     for length in 0..=text.len() {
         let cut = &text[..length];
