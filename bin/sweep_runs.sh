@@ -147,12 +147,14 @@ read_ended() {
     done
 }
 
-# one_task: its rows are kept as soon as a run of it has ended.
+# one_task: its rows are kept as soon as a run of it has ended. Those of an earlier call stay until
+# all are there anew.
 one_task() {
     local number name=$task
     [ "$tasks" -eq "$cells" ] || name=$task-$tasks
     claim "$into"
     plan 'plan parts commands' "task=$task" "tasks=$tasks"
+    take_earlier "$store/$name"
     : > "$work/kept"
     for ((number = 1; number <= runs; number++)); do
         (cd "$work" && exec sh -c "$one_run" run "$number" "${commands[number - 1]}") > /dev/null ||
@@ -166,8 +168,25 @@ one_task() {
             end_where_stuck
             die 4 "task $task has not all of its rows"
         fi
-        cat "$work/rows.$call" >> "$work/kept" || no_room
-        place 644 "$work/kept" "$store/$name"
+        [ "$number" -lt "$runs" ] || : > "$work/earlier"
+        keep_for_task "$store/$name"
     done
     tell_faults_of_task
+}
+
+# take_earlier FILE: what an earlier call of the task has left there, without half of a line, which
+# a copy may have.
+take_earlier() {
+    { : > "$work/earlier"; } 2>/dev/null || no_room
+    [ -f "$1" ] || return 0
+    [ -r "$1" ] || die 4 "$1 can't be read"
+    { head -n "$(wc -l < "$1")" -- "$1" > "$work/earlier"; } 2>/dev/null || no_room
+}
+
+# keep_for_task FILE: puts there the rows of the run that has ended, behind those of the runs before
+# it and of an earlier call.
+keep_for_task() {
+    { cat "$work/rows.$call" >> "$work/kept" &&
+        awk '!given[$0]++' "$work/earlier" "$work/kept" > "$work/rows"; } 2>/dev/null || no_room
+    place 644 "$work/rows" "$1"
 }

@@ -45,3 +45,46 @@ ends 'a task of a trace that has changed' 2 \
 head -n 3 changing/grid >changing/part && mv changing/part changing/grid
 ends 'gathering by half of a grid' 4 "sweep: $PWD/changing/grid is damaged" "$sweep" --gather changing
 rm -r tasks faulty changing changing.din
+
+# again_with UNPACKER WORD..: the task of two traces once more, of which this unpacks the second.
+# Sets `earlier` to the rows that it had left.
+again_with() {
+    earlier=$(<again/1-1)
+    mkdir -p "$work/unpacking"
+    printf '#!/bin/sh\n%s\n' "$1" >"$work/unpacking/zcat"
+    chmod +x "$work/unpacking/zcat"
+    again=("$sweep" --task 1/1 --into again "${grid[@]}" -- kinds.din fifo.din.gz)
+}
+
+# has_rows ROWS..: the task has these and no others, each once.
+has_rows() {
+    cmp -s <(sort again/1-1) <(printf '%s\n' "$@" | sort)
+}
+
+# A task that is made again, as Slurm does where a node was lost, may be cut off or fail.
+test_again() {
+    local earlier again head
+    gzip -k fifo.din
+    run "$sweep" --task 1/1 --into again "${grid[@]}" -- kinds.din fifo.din.gz
+    again_with ': >"$MARK"; exec sleep 60'
+    signalled TERM "$work/unpacking" "${again[@]}" && [ "$status" -eq 143 ] &&
+        lines_at_least again/1-1 8 && has_rows "$earlier"
+    verdict 'a task that is made again and interrupted keeps its rows' $?
+    again_with 'exit 1'
+    run env PATH="$work/unpacking:$PATH" "${again[@]}"
+    [ "$status" -eq 4 ] && [ "$(tail -n 1 "$err")" = 'sweep: task 1 has not all of its rows' ] &&
+        has_rows "$earlier"
+    verdict 'and where it fails' $?
+    head=$(head -n 4 again/1-1)
+    head -c -9 again/1-1 >"$work/cut" && cp "$work/cut" again/1-1
+    run env PATH="$work/unpacking:$PATH" "${again[@]}"
+    [ "$status" -eq 4 ] && has_rows "$(head -n 7 <<<"$earlier")"
+    verdict 'half of a row is none of them' $?
+    echo 'of no grid' >>again/1-1
+    run "${again[@]}"
+    [ "$status" -eq 0 ] && [ ! -s "$err" ] && has_rows "$earlier" &&
+        [ "$(head -n 4 again/1-1)" = "$head" ]
+    verdict 'a task that is made again as a whole has its new rows alone' $?
+    rm -r again fifo.din.gz "$work/unpacking"
+}
+test_again
