@@ -1,9 +1,9 @@
 # Puts the rows of a log that are of the grid into the file `pending`. With `forgets`, all of the
-# log but the rows of those traces of the grid that have changed goes to the file `left`. The file
-# `verdict` has a line for what is to be said of the log: `good`, `damaged`, or `changed` and the
-# name of a trace. Its second line has how many configurations of the grid are in the log, how many
-# the grid has, and how many rows are of no trace that has changed, and how many are. The first line
-# of the log has the names. sweep_grid.awk is read before it.
+# log but damaged lines, and the rows of those traces of the grid that have changed, goes to the file
+# `left`. The file `verdict` has a line for what is to be said of the log: `good`, `damaged` and the
+# number of a line, or `changed` and the name of a trace. Its second line has how many configurations
+# of the grid are in the log, how many the grid has, and how many lines are to be left, and how many
+# are not. The first line of the log has the names. sweep_grid.awk is read before it.
 
 BEGIN {
     said = "good"
@@ -15,7 +15,7 @@ FNR == 1 {
     next
 }
 
-NF != 2 + options + head_count { is_damaged = 1; next }
+NF != 2 + options + head_count { gone++; if (!damaged) damaged = FNR; next }
 $1 in trace_at && $2 "" != sum_of[$1] "" { said = "changed" OFS $1; gone++; next }
 
 {
@@ -29,6 +29,6 @@ $1 in trace_at && $2 "" != sum_of[$1] "" { said = "changed" OFS $1; gone++; next
 }
 
 END {
-    print (is_damaged ? "damaged" : said) > made("verdict")
+    print (damaged ? "damaged" OFS damaged : said) > made("verdict")
     print found, cells, left, gone > made("verdict")
 }

@@ -67,23 +67,22 @@ read_log() {
     judge_log || no_room
     case $what in
     good) ;;
-    damaged) refuse "$log is no log of a sweep" ;;
+    damaged*) die 2 "$log: line ${what#*$'\t'} is damaged; --restart forgets it" ;;
     *) die 2 "${what#*$'\t'} has changed since $log was begun; --restart forgets its rows" ;;
     esac
 }
 
-# restart_log: forgets the rows of the traces that have changed, or all of a log that is of other
-# options or damaged.
+# restart_log: forgets damaged lines and the rows of the traces that have changed, or all of a log
+# that is of other options.
 restart_log() {
-    local what=damaged counted left=0 gone
-    ! has_names || judge_log forgets=yes || no_room
-    if [ "$what" = damaged ]; then
-        gone=$(($(wc -l < "$log") - 1))
-        : > "$log"
-        : > "$work/pending"
-    else
+    local what counted left=0 gone
+    if has_names; then
+        judge_log forgets=yes || no_room
         left=${counted[2]} gone=${counted[3]}
         [ "$gone" -eq 0 ] || replace_log "$work/left.$call"
+    else
+        gone=$(($(wc -l < "$log") - 1))
+        : > "$log"
     fi
     complain "$log: $left rows are kept, and $gone are forgotten"
 }

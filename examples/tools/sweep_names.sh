@@ -82,7 +82,7 @@ reads_log() {
         'sweep: kinds.din has changed since theirs was begun; --restart forgets its rows' ] || return
     printf '%s\t:\t0\n' "$1" >>theirs
     run "$sweep" --resume theirs "${one[@]}" -- kinds.din
-    [ "$status" -eq 2 ] && [ "$(<"$err")" = 'sweep: theirs is no log of a sweep; try --help' ]
+    [ "$status" -eq 2 ] && [ "$(<"$err")" = 'sweep: theirs: line 4 is damaged; --restart forgets it' ]
 }
 at_all_names 'sweep with a hostile log' reads_log "${few[@]::4}" 'finished[$(touch pwned)]'
 

@@ -39,14 +39,26 @@ test_restart() {
     verdict 'its rows alone are forgotten, and simulated again' $?
     [ -L many ] && [ "$(stat -c %a real-log)" = 640 ] && [ -z "$(find . -name '*.part*')" ]
     verdict 'the log has its place and its mode' $?
-    echo damaged >>many
-    ends 'a damaged log' 2 'sweep: many is no log of a sweep; try --help' \
-        "$sweep" --resume many "${grid[@]}" -- b.din c.din
-    run "$sweep" --resume many --restart "${grid[@]}" -- b.din c.din
-    restarted 0 13 && [ "$(cut -f 1 many | sort | uniq -c | tr -s ' ' | tr '\n' ,)" = \
-        ' 4 b.din, 4 c.din, 1 trace,' ]
-    verdict 'it is begun anew' $?
+    test_damaged_lines
     rm many real-log "${three[@]}"
+}
+
+# Two lines of the log that are none: the rows of all three traces stay, and one that is lost is
+# simulated again.
+test_damaged_lines() {
+    cp many before
+    { head -n 3 before; echo damaged; tail -n +5 before; echo 'this one too'; } >many
+    cp many mine
+    ends 'a damaged log' 2 'sweep: many: line 4 is damaged; --restart forgets it' \
+        "$sweep" --resume many "${grid[@]}" -- b.din c.din
+    cmp -s many mine
+    verdict 'it is left as it was, and' $?
+    run "$sweep" --resume many --restart "${grid[@]}" -- b.din c.din
+    restarted 11 2 && head -n 12 many | cmp -s - <(sed 4d before)
+    verdict 'the damaged lines alone are forgotten' $?
+    run "$sweep" --resume many "${grid[@]}" -- "${three[@]}"
+    [ "$status" -eq 0 ] && cmp -s <(sort many) <(sort before)
+    verdict 'and what stood there is simulated again' $?
 }
 
 # A log that is longer than the disk has room for, as it is read.

@@ -1,5 +1,5 @@
 # Tests a grid in tasks, and --gather. Read by tools.sh, behind sweep.sh.
-# shellcheck shell=bash disable=SC2154  # names that tools.sh and its other files set
+# shellcheck shell=bash disable=SC2016,SC2154  # names that tools.sh and its other files set
 
 for number in 4 1 3 2; do
     "$sweep" --task $number --into tasks "${grid[@]}" -- kinds.din || echo "task $number failed"
