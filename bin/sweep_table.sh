@@ -72,15 +72,18 @@ take_in() {
     put_lines
 }
 
-# tell_faults: how many configurations have one, if any has, and which one is the first.
+# tell_faults WHAT FIRST: how many of all configurations have one, if any has, and the first.
 tell_faults() {
-    local first="line ${first_fault%%$'\t'*}: ${first_fault#*$'\t'}"
     [ "$faults" -gt 0 ] || return 0
-    complain "$faults of $last configurations have a fault, the first in $first (column fault)"
+    complain "$faults of $1 have a fault, the first$2"
     exit 1
 }
 
-# tell_faults_of_task: the same of its rows.
+tell_faults_of_table() {
+    tell_faults "$last configurations" " in line ${first_fault%%$'\t'*} of the table: \
+${first_fault#*$'\t'} (column fault)"
+}
+
 tell_faults_of_task() {
     local rows row
     mapfile -t rows < "$work/kept"
@@ -89,10 +92,7 @@ tell_faults_of_task() {
         faults=$((faults + 1))
         [ -n "$first_fault" ] || first_fault=${row##*$'\t'}
     done
-    [ "$faults" -gt 0 ] || return 0
-    complain "$faults of ${#rows[@]} configurations of task $task have a fault, \
-the first: $first_fault"
-    exit 1
+    tell_faults "${#rows[@]} configurations of task $task" ": $first_fault"
 }
 
 gather_table() {
@@ -112,7 +112,7 @@ gather_table() {
         { head -n "$(wc -l < "$file")" -- "$file" >> "$work/pending"; } 2>/dev/null || no_room
     done
     put_last_lines
-    tell_faults
+    tell_faults_of_table
 }
 
 # writing_fault FILE: why it can't grow, such as a full disk, if it can't. The signal of a limit on

@@ -72,7 +72,7 @@ verdict "sweep's lines stand in the grid's order" $?
 rm first.din
 
 run "$sweep" --vary --l1-dsize 16,24,32 --vary --l1-dassoc 4,8 "${rest[@]}" -- kinds.din
-first='line 3: l1-dcache: associativity is too large'
+first='line 3 of the table: l1-dcache: associativity is too large'
 [ "$status" -eq 1 ] && whole_lines "$out" $fields &&
     [ "$(<"$err")" = "sweep: 3 of 6 configurations have a fault, the first in $first (column fault)" ] &&
     [ "$(rows_of 2,3,37)" = \
@@ -83,7 +83,8 @@ printf '2 0\n9 0\n' >faulty.din
 run "$sweep" --vary --l1-dsize 8 "${rest[@]}" -- faulty.din kinds.din
 [ "$status" -eq 1 ] && [ "$(rows_of 1,36)" = 'faulty.din line 2: label,kinds.din -,' ] &&
     [ "$(<"$err")" = "sweep: faulty.din: line 2: label
-sweep: 1 of 2 configurations have a fault, the first in line 2: line 2: label (column fault)" ]
+sweep: 1 of 2 configurations have a fault, the first in line 2 of the table: \
+line 2: label (column fault)" ]
 verdict 'sweep of a faulty trace' $?
 
 # refused LINE WORD..: the words are refused so.

@@ -64,7 +64,8 @@ rm -f packed.log
 run env PATH="$work/cut-off:$PATH" "$sweep" --resume packed.log "${grid[@]}" -- kinds.din.gz
 reason='zcat ended with status 137'
 [ "$status" -eq 1 ] && [ "$(<"$err")" = "sweep: kinds.din.gz: $reason
-sweep: 4 of 4 configurations have a fault, the first in line 2: $reason (column fault)" ] &&
+sweep: 4 of 4 configurations have a fault, the first in line 2 of the table: \
+$reason (column fault)" ] &&
     [ "$(rows_of 4,37 | tr , '\n' | sort -u)" = "- $reason" ] &&
     [ "$(wc -l <packed.log)" -eq 1 ]
 verdict 'sweep of a trace whose unpacker is killed' $?
@@ -113,8 +114,9 @@ export MARKS=$work/killed
 noted --jobs 1 "${grid[@]}" -- kinds.din fifo.din
 export -n MARKS
 simulator=$good
-[ "$status" -eq 1 ] && [ -d "$work/killed" ] && [ "$(<"$err")" = 'sweep: kinds.din: not simulated
-sweep: 4 of 8 configurations have a fault, the first in line 2: not simulated (column fault)' ] &&
+[ "$status" -eq 1 ] && [ -d "$work/killed" ] && [ "$(<"$err")" = "sweep: kinds.din: not simulated
+sweep: 4 of 8 configurations have a fault, the first in line 2 of the table: \
+not simulated (column fault)" ] &&
     [ "$(rows_of 37)" = 'not simulated,not simulated,not simulated,not simulated,-,-,-,-,' ] &&
     shared "$out" | tail -n 4 | cmp -s - <(tail -n 4 "$work/rows")
 verdict 'sweep whose first run is killed' $?

@@ -10,7 +10,7 @@ verdict 'sweep by tasks, and --gather' $?
 rm tasks/3
 run "$sweep" --gather tasks
 [ "$status" -eq 1 ] && [ "$(rows_of 37)" = '-,-,not simulated,-,' ] && [ "$(<"$err")" = \
-    'sweep: 1 of 4 configurations have a fault, the first in line 4: not simulated (column fault)' ]
+    'sweep: 1 of 4 configurations have a fault, the first in line 4 of the table: not simulated (column fault)' ]
 verdict 'gathering where a report is missing' $?
 ends 'a task that the grid has not' 2 'sweep: --task: the grid has 4 configurations, and no 5; try --help' \
     "$sweep" --task 5 --into tasks "${grid[@]}" -- kinds.din
@@ -27,7 +27,7 @@ the first: l1-dcache: size is not a power of two" \
 ends 'and one without' 0 '' \
     "$sweep" --task 2/2 --into odd --vary --l1-dsize 8,24,40,16,32,64 "${rest[@]}" -- kinds.din
 run "$sweep" --gather odd
-first='line 3: l1-dcache: size is not a power of two'
+first='line 3 of the table: l1-dcache: size is not a power of two'
 [ "$status" -eq 1 ] && [ "$(rows_of 2,36)" = "8 -,24 ${first#*: },40 ${first#*: },16 -,32 -,64 -," ] &&
     [ "$(<"$err")" = "sweep: 2 of 6 configurations have a fault, the first in $first (column fault)" ]
 verdict 'their rows are kept' $?
