@@ -145,8 +145,40 @@ claim() {
         end_where_stuck
         place 644 "$described" "$store/grid"
     fi
-    cmp -s "$described" "$store/grid" ||
-        refuse "$folder is of another grid, or a trace has changed"
+    cmp -s "$described" "$store/grid" || refuse_grid
+}
+
+# refuse_grid: the folder is of another one than this call: says which trace has changed, or what
+# differs first.
+refuse_grid() {
+    local ours theirs i=0 said there=--full
+    grep -q $'^shown\t' "$store/grid" || there=
+    [ "$there" = "$full" ] || die 2 "$folder was begun ${there:+with}${full:+without} --full"
+    { mapfile -t ours < "$described" && mapfile -t theirs < "$store/grid"; } 2>/dev/null ||
+        die 4 "$store/grid can't be read"
+    while [ "$i" -lt ${#ours[@]} ] && [ "${ours[i]}" = "${theirs[i]-}" ]; do
+        i=$((i + 1))
+    done
+    say_line "${theirs[i]-}"
+    there=$said
+    say_line "${ours[i]-}"
+    [ "$i" -gt 0 ] || die 2 "$folder is of another simulator"
+    [[ $said != 'the trace '* || $said != "$there" ]] ||
+        die 2 "${said#the trace } has changed since $folder was begun, or is another file"
+    refuse "$folder is of another grid: it has $there, and this call has $said"
+}
+
+# say_line LINE: sets `said` to what a line of a description is in a call.
+say_line() {
+    local word name value
+    IFS=$'\t' read -r word name value <<<"$1"
+    case $word in
+    option) said=${value:+--$name $value} && said=${said:-several values of --$name} ;;
+    vary) said="--vary --$name $value" ;;
+    with) said="--with --$name=--$value" ;;
+    trace) said="the trace ${value#*$'\t'}" ;;
+    *) said=nothing ;;
+    esac
 }
 
 # make_store: the folder of the rows, if it is not there. Sets `made_store` if it makes it.

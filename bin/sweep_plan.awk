@@ -2,7 +2,9 @@
 # makes it. A configuration whose whole row was read needs no run. With `task` and `tasks`, these
 # are the runs of one part of so many; with `slots`, so many can be made at once. With `part=sizes`,
 # whose lines have the sizes of the traces in bytes as their third words, the runs are for a log,
-# and sweep_parts.awk cuts them further. sweep_grid.awk is read before it, and sweep_parts.awk and
+# and sweep_parts.awk cuts them further. With `of` in place of all these, which is a number of tasks
+# or `all`, for each configuration one, nothing is cut: the file `missing` has the numbers of the
+# tasks that lack a row, such as `3,5-7`. sweep_grid.awk is read before it, and sweep_parts.awk and
 # sweep_commands.awk beside it.
 
 # What one call of dinero_grid takes.
@@ -24,6 +26,7 @@ function parts_of_trace(some,   a, b, rest) {
 }
 
 END {
+    if (of) { find_missing(of == "all" ? cells : of); exit }
     printf "" > file("runs")
     printf "" > file("commands")
     if (tasks == cells) plan_row(task)
@@ -45,15 +48,62 @@ function plan_row(n,   d, line) {
 }
 
 # plan_task(): the same runs are found for each task, each of which makes its share of them.
-function plan_task(   i, past, n) {
+function plan_task(   i) {
+    find_runs()
+    for (i = 1; i <= runs; i++)
+        if (task_of(i) == task) put_run(found[i])
+}
+
+function find_runs(   i, past, n) {
     cover_all()
     n = boxes
     for (i = 1; i <= n; i++) {
         cut(box[i], int((past + size[i]) * tasks / cells) - int(past * tasks / cells))
         past += size[i]
     }
-    for (i = 1; i <= runs; i++)
-        if (runs <= tasks ? i == task : int((i - 1) * tasks / runs) + 1 == task) put_run(found[i])
+}
+
+# task_of(I): which one makes this run.
+function task_of(i) {
+    return runs <= tasks ? i : int((i - 1) * tasks / runs) + 1
+}
+
+# find_missing(SOME): of so many tasks. The runs are those of a grid without any row.
+function find_missing(some,   i, lacks) {
+    tasks = some
+    for (i = 1; i <= cells; i++)
+        if (!(i in row)) lacking[i]
+        else if (tasks != cells) delete row[i]
+    if (tasks < cells) {
+        find_runs()
+        for (i = 1; i <= runs; i++)
+            if (lacks_row(found[i])) lacks[task_of(i)]
+        print ranges_of(lacks) > made("missing")
+    } else print (tasks == cells ? ranges_of(lacking) : "") > made("missing")
+}
+
+# lacks_row(LINE): a configuration of the run does.
+function lacks_row(line) {
+    read_run(line)
+    return lacks_from(1, run[0] - 1)
+}
+
+function lacks_from(d, n,   some, one, i) {
+    if (d > dimensions) return (n + 1) in lacking
+    some = split(run[d], one, ",")
+    for (i = 1; i <= some; i++)
+        if (lacks_from(d + 1, n * count[d] + place[d, one[i]] - 1)) return 1
+    return 0
+}
+
+# ranges_of(SET): of numbers up to that of the tasks.
+function ranges_of(set,   i, first, text) {
+    for (i = 1; i <= tasks; i++) {
+        if (!(i in set)) continue
+        for (first = i; (i + 1) in set; i++) continue
+        text = text (text ? "," : "") first (i > first ? "-" i : "")
+    }
+    return text
 }
 
 # plan_rest(): of what is not done.

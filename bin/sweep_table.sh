@@ -105,14 +105,35 @@ gather_table() {
         die 4 "no folder of rows: $gather"
     grep -q $'^trace\t' "$described" || die 4 "$described is damaged"
     for file in "$store"/*; do
-        [[ ${file##*/} =~ ^[0-9]+(-[0-9]+)?$ ]] || continue
+        [[ ${file##*/} =~ ^[0-9]+(-([0-9]+))?$ ]] || continue
+        note_tasks "${BASH_REMATCH[2]:-all}"
         { [ -f "$file" ] && [ -r "$file" ]; } || die 4 "$file can't be read"
         # What stands behind the last line feed is a part of a row, as a copy may have it that was
         # cut off.
         { head -n "$(wc -l < "$file")" -- "$file" >> "$work/pending"; } 2>/dev/null || no_room
     done
+    find_missing
     put_last_lines
+    [ -z "$missing" ] ||
+        complain "of the tasks 1-${of/all/$last}, these have not left all of their rows: $missing"
     tell_faults_of_table
+}
+
+# note_tasks SOME: sets `of` to how many tasks the grid is cut into, or to nothing if the names of
+# the files do not agree on that.
+of=0
+note_tasks() {
+    [ "$of" != 0 ] || of=$1
+    [ "$of" = "$1" ] || of=
+}
+
+# find_missing: sets `missing` to the numbers of the tasks that have not left all of their rows, as
+# the option --array of sbatch takes them, if it is known how many there are.
+missing=
+find_missing() {
+    [[ $of =~ ^(all|[1-9][0-9]*)$ ]] || return 0
+    { of_grid 'plan parts commands' "of=$of" part=rows "$work/pending" &&
+        read -r missing < "$work/missing.$call"; } 2>/dev/null || no_room
 }
 
 # writing_fault FILE: why it can't grow, such as a full disk, if it can't. The signal of a limit on

@@ -7,8 +7,8 @@
 #     sbatch examples/sweep.sbatch
 #     bin/sweep --gather lab/slurm > lab/columns.tsv       # once the array has ended
 #
-# The configurations of a task that failed have lines with a fault, and lab/slurm-N.out says why;
-# `sbatch --array=N` runs that one again.
+# The configurations of a task that failed have lines with a fault, and lab/slurm-N.out says why.
+# --gather names such tasks; `sbatch --array=N,M-P examples/sweep.sbatch` runs these again.
 #SBATCH --job-name=sweep
 #SBATCH --array=1-7
 #SBATCH --cpus-per-task=1

@@ -132,7 +132,7 @@ test_full_tasks() {
     [ ! -s "$out" ] && [ ! -s "$err" ] && run "$sweep" --gather parts && is_full
     verdict 'a full table by tasks' $?
     ends 'a task that is not full among those that are' 2 \
-        'sweep: parts is of another grid, or a trace has changed; try --help' \
+        'sweep: parts was begun with --full' \
         "$sweep" --task 1/3 --into parts "${grid[@]}" -- kinds.din fifo.din
     refused '--gather takes no other words' --full --gather parts
     rm parts/1-3

@@ -185,7 +185,7 @@ test_long_task() {
     "$sweep" --task 1/2 --into long "${grid[@]}" -- behind.din
     sed -i '450000s/^0/1/' behind.din
     ends 'a task of a trace that has another record in its midst' 2 \
-        'sweep: long is of another grid, or a trace has changed; try --help' \
+        'sweep: behind.din has changed since long was begun, or is another file' \
         "$sweep" --task 2/2 --into long "${grid[@]}" -- behind.din
     rm -r behind.din long
 }

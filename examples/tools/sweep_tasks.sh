@@ -1,5 +1,5 @@
 # Tests a grid in tasks, and --gather. Read by tools.sh, behind sweep.sh.
-# shellcheck shell=bash disable=SC2016,SC2154  # names that tools.sh and its other files set
+# shellcheck shell=bash disable=SC2016,SC2054,SC2154  # names that tools.sh and its other files set
 
 for number in 4 1 3 2; do
     "$sweep" --task $number --into tasks "${grid[@]}" -- kinds.din || echo "task $number failed"
@@ -10,12 +10,29 @@ verdict 'sweep by tasks, and --gather' $?
 rm tasks/3
 run "$sweep" --gather tasks
 [ "$status" -eq 1 ] && [ "$(rows_of 37)" = '-,-,not simulated,-,' ] && [ "$(<"$err")" = \
-    'sweep: 1 of 4 configurations have a fault, the first in line 4 of the table: not simulated (column fault)' ]
+    "sweep: of the tasks 1-4, these have not left all of their rows: 3
+sweep: 1 of 4 configurations have a fault, the first in line 4 of the table: \
+not simulated (column fault)" ]
 verdict 'gathering where a report is missing' $?
 ends 'a task that the grid has not' 2 'sweep: --task: the grid has 4 configurations, and no 5; try --help' \
     "$sweep" --task 5 --into tasks "${grid[@]}" -- kinds.din
-ends 'a task of another grid' 2 'sweep: tasks is of another grid, or a trace has changed; try --help' \
-    "$sweep" --task 1 --into tasks "${grid[@]}" -- fifo.din
+# of_another_grid NAME THERE HERE WORD..: a task of 4, whose folder is of another one.
+of_another_grid() {
+    ends "$1" 2 "sweep: tasks is of another grid: it has $2, and this call has $3; try --help" \
+        "$sweep" --task 1/4 --into tasks "${@:4}"
+}
+of_another_grid 'a task of another trace' 'the trace kinds.din' 'the trace fifo.din' \
+    "${grid[@]}" -- fifo.din
+of_another_grid 'of one trace more' nothing 'the trace fifo.din' "${grid[@]}" -- kinds.din fifo.din
+of_another_grid 'of another value' '--l2-uassoc 2' '--l2-uassoc 4' "${grid[@]::17}" 4 -- kinds.din
+of_another_grid 'of other sizes' '--vary --l1-dsize 8,16' '--vary --l1-dsize 8,32' \
+    --vary --l1-dsize 8,32 "${grid[@]:3}" -- kinds.din
+of_another_grid 'of fewer options that are varied' 'several values of --l1-dassoc' '--l1-dassoc 1' \
+    --vary --l1-dsize 8,16,32,64 --l1-dassoc 1 "${rest[@]}" -- kinds.din
+of_another_grid 'of options in step' '--l1-isize 16' 'several values of --l1-isize' \
+    --with l1-isize=l1-dsize "${grid[@]::6}" "${rest[@]:2}" -- kinds.din
+ends 'of a full table' 2 'sweep: tasks was begun without --full' \
+    "$sweep" --full --task 1/4 --into tasks "${grid[@]}" -- kinds.din
 "$sweep" --task 1 --into faulty --vary --l1-dsize 8 "${rest[@]}" -- faulty.din >"$out" 2>"$err"
 status=$?
 [ "$status" -eq 1 ] && [ ! -s "$out" ] && [ "$(<"$err")" = 'sweep: faulty.din: line 2: label
@@ -40,13 +57,45 @@ touch changing.din
 verdict 'tasks of a trace that was touched' $?
 printf '2 0\n' >changing.din
 ends 'a task of a trace that has changed' 2 \
-    'sweep: changing is of another grid, or a trace has changed; try --help' \
+    'sweep: changing.din has changed since changing was begun, or is another file' \
     "$sweep" --task 3 --into changing "${grid[@]}" -- changing.din
-head -n 3 changing/grid >changing/part && mv changing/part changing/grid
+cp changing/grid changing/part && head -n 3 changing/part >changing/grid
 ends 'gathering by half of a grid' 4 "sweep: $PWD/changing/grid is damaged" "$sweep" --gather changing
+sed -i '1s/fault$/flaw/' changing/part && mv changing/part changing/grid
+ends 'a task of another simulator' 2 'sweep: changing is of another simulator' \
+    "$sweep" --task 3 --into changing "${grid[@]}" -- changing.din
 rm -r tasks faulty changing changing.din
 
-# again_with UNPACKER WORD..: the task of two traces once more, of which this unpacks the second.
+# A grid of 6 sizes and 2 numbers of ways, which is cut into 6 tasks by its sizes.
+test_missing() {
+    local number six=(--vary --l1-dsize 8,16,32,64,128,256 --vary --l1-dassoc 1,2 "${rest[@]}")
+    local tell='sweep: of the tasks 1-6, these have not left all of their rows:'
+    for number in 1 2 4; do
+        "$sweep" --task $number/6 --into six "${six[@]}" -- kinds.din
+    done >"$out" 2>"$err"
+    run "$sweep" --gather six
+    [ "$status" -eq 1 ] && [ "$(<"$err")" = "$tell 3,5-6
+sweep: 6 of 12 configurations have a fault, the first in line 6 of the table: \
+not simulated (column fault)" ]
+    verdict 'the tasks that are missing, as sbatch takes them' $?
+    head -n 1 six/1-6 >"$work/cut" && cp "$work/cut" six/1-6
+    run "$sweep" --gather six
+    [ "$status" -eq 1 ] && [ "$(head -n 1 "$err")" = "$tell 1,3,5-6" ]
+    verdict 'and one that has left a part of its rows' $?
+    for number in 1 3 5 6; do
+        "$sweep" --task $number/6 --into six "${six[@]}" -- kinds.din
+    done >"$out" 2>"$err"
+    run "$sweep" --gather six
+    [ "$status" -eq 0 ] && [ ! -s "$err" ]
+    verdict 'once these are made, no row is missing' $?
+    rm six/2-6 && cp six/1-6 six/1-3
+    run "$sweep" --gather six
+    [ "$status" -eq 1 ] && [ "$(wc -l <"$err")" -eq 1 ]
+    verdict 'none is named where it is not known how many there are' $?
+    rm -r six
+}
+
+# again_with UNPACKER: the task of two traces once more, of which this unpacks the second.
 # Sets `earlier` to the rows that it had left.
 again_with() {
     earlier=$(<again/1-1)
@@ -62,6 +111,7 @@ has_rows() {
 }
 
 # A task that is made again, as Slurm does where a node was lost, may be cut off or fail.
+test_missing
 test_again() {
     local earlier again head
     gzip -k fifo.din
@@ -87,4 +137,5 @@ test_again() {
     verdict 'a task that is made again as a whole has its new rows alone' $?
     rm -r again fifo.din.gz "$work/unpacking"
 }
+test_missing
 test_again
