@@ -68,7 +68,10 @@ read_log() {
     case $what in
     good) ;;
     damaged*) die 2 "$log: line ${what#*$'\t'} is damaged; --restart forgets it" ;;
-    *) die 2 "${what#*$'\t'} has changed since $log was begun; --restart forgets its rows" ;;
+    *)
+        die 2 "${what#*$'\t'} has changed since $log was begun, or is another file; \
+--restart forgets its rows"
+        ;;
     esac
 }
 

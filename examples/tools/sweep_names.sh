@@ -79,7 +79,7 @@ reads_log() {
     done
     alter_log "$1" 2
     [ "$status" -eq 2 ] && [ "$(<"$err")" = \
-        'sweep: kinds.din has changed since theirs was begun; --restart forgets its rows' ] || return
+        'sweep: kinds.din has changed since theirs was begun, or is another file; --restart forgets its rows' ] || return
     printf '%s\t:\t0\n' "$1" >>theirs
     run "$sweep" --resume theirs "${one[@]}" -- kinds.din
     [ "$status" -eq 2 ] && [ "$(<"$err")" = 'sweep: theirs: line 4 is damaged; --restart forgets it' ]

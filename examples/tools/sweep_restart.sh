@@ -24,7 +24,7 @@ test_restart() {
     verdict 'no row is forgotten where no trace has changed' $?
     cp fifo.din b.din
     ends 'one of three traces has changed' 2 \
-        'sweep: b.din has changed since many was begun; --restart forgets its rows' \
+        'sweep: b.din has changed since many was begun, or is another file; --restart forgets its rows' \
         "$sweep" --resume many "${grid[@]}" -- "${three[@]}"
     run "$sweep" --resume many "${grid[@]}" -- c.din a.din
     [ "$status" -eq 0 ] && [ ! -s "$err" ] && cmp -s many before

@@ -25,7 +25,7 @@ is_refused() {
 }
 
 test_known_traces() {
-    local changed='known.din has changed since known was begun; --restart forgets its rows'
+    local changed='known.din has changed since known was begun, or is another file; --restart forgets its rows'
     rm -f known
     cp -p kinds.din known.din
     with_log && cp "$out" first && with_log
@@ -157,7 +157,7 @@ test_steps() {
 # A trace of more than two MiB, by a link. Its first record, its last one or its time of change is
 # then another one, and nothing else.
 test_long_trace() {
-    local changed='known.din has changed since known was begun; --restart forgets its rows'
+    local changed='known.din has changed since known was begun, or is another file; --restart forgets its rows'
     local time='2001-01-01 00:00:00'
     rm -f known known.din
     yes '0 0' | head -n 600000 >behind.din
