@@ -139,9 +139,13 @@ plan() {
 
 # claim FOLDER: the folder of the rows is of this grid, from now on or since an earlier call.
 claim() {
+    local fault
     choose_folder "$1"
     if ! [ -f "$store/grid" ]; then
-        make_store 2>/dev/null || die 4 "the folder $folder could not be made"
+        make_store 2> "$work/told" || {
+            fault=$(< "$work/told")
+            die 4 "the folder $folder could not be made: ${fault##*: }"
+        }
         end_where_stuck
         place 644 "$described" "$store/grid"
     fi

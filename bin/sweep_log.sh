@@ -17,11 +17,15 @@ log_names() {
 
 # open_log: it is kept from another call that would go on with it.
 open_log() {
-    local begins
+    local begins fault
     need flock util-linux
+    [ ! "$log" -ef /dev/stdout ] || refuse "--resume: $log is where the table goes"
+    # A pipe would have to be waited for.
+    [ ! -e "$log" ] || [ -d "$log" ] || [ -f "$log" ] ||
+        die 4 "$log could not be written: Not a regular file"
     begins=$({ head -c 10 < "$log" | tr '\0' ' '; } 2>/dev/null) || true
     [[ $'trace\tsum\t' == "$begins"* ]] || refuse "$log is no log of a sweep"
-    [ ! "$log" -ef /dev/stdout ] || refuse "--resume: $log is where the table goes"
+    fault=$({ : >> "$log"; } 2>&1) || die 4 "$log could not be written: ${fault##*: }"
     { exec {log_lock}>>"$log"; } 2>/dev/null || die 4 "$log could not be written"
     flock -n "$log_lock" || die 4 "$log is written by another sweep"
     end_last_line

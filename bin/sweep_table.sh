@@ -11,17 +11,19 @@ last=0
 # put_lines: those that sweep_table.awk has made: each that can follow the last one, as soon as its
 # row and all before it are there.
 put_lines() {
-    local some first lines status=0
+    local some first lines status=0 fault table
     { IFS=$'\t' read -r some last first && mapfile lines; } < "$work/lines.$call" 2>/dev/null ||
         no_room
     faults=$((faults + some))
     [ -n "$first_fault" ] || first_fault=$first
     next=$((next + ${#lines[@]}))
     [ ${#lines[@]} -gt 0 ] || return 0
-    (printf %s "${lines[@]}") 2>/dev/null || status=$?
+    exec {table}>&1
+    fault=$(printf %s "${lines[@]}" 2>&1 >&"$table") || status=$?
+    exec {table}>&-
     # If its reader has gone away, a command ends so.
     [ "$status" -ne 141 ] || exit 141
-    [ "$status" -eq 0 ] || die 4 'the table could not be written'
+    [ "$status" -eq 0 ] || die 4 "the table could not be written: ${fault##*: }"
 }
 
 # put_last_lines: also those that have no row.

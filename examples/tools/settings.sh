@@ -55,7 +55,7 @@ verdict 'install by a user whose files are private' $?
 
 # What can't be opened is told, also by a shell that goes by the letter of POSIX.
 posix=(env POSIXLY_CORRECT=1)
-ends 'a log where none can be, by POSIX' 4 'sweep: /dev/null/log could not be written' \
+ends 'a log where none can be, by POSIX' 4 'sweep: /dev/null/log could not be written: Not a directory' \
     "${posix[@]}" "$sweep" --resume /dev/null/log "${grid[@]}" -- kinds.din
 ends 'plot of no table, by POSIX' 4 'plot: no table to read: nowhere' \
     "${posix[@]}" "$bin/plot" rates nowhere rates.svg

@@ -122,7 +122,8 @@ ends 'sweep of what is at its own input' 4 \
     'sweep: /dev/stdin is another file for each run of a sweep: give the name of the file itself' \
     "$sweep" "${grid[@]}" -- /dev/stdin
 ends 'gathering from nowhere' 4 'sweep: no folder of rows: nowhere' "$sweep" --gather nowhere
-to_full 'sweep to a full disk' 'sweep: the table could not be written' \
+to_full 'sweep to a full disk' \
+    'sweep: the table could not be written: No space left on device' \
     "$sweep" "${long[@]}" -- long.din
 "$sweep" "${long[@]}" -- long.din 2>"$err" | head -n 1 >"$out"
 status=${PIPESTATUS[0]}
@@ -182,8 +183,16 @@ test_log() {
     ends 'a log in use' 4 'sweep: log is written by another sweep' \
         "$sweep" --resume log "${long[@]}" -- "${several[@]}"
     exec {lock}<&-
-    ends 'a log where none can be' 4 'sweep: /dev/null/log could not be written' \
+    ends 'a log where none can be' 4 'sweep: /dev/null/log could not be written: Not a directory' \
         "$sweep" --resume /dev/null/log "${grid[@]}" -- kinds.din
+    ends 'a log in no folder' 4 'sweep: no/log could not be written: No such file or directory' \
+        "$sweep" --resume no/log "${grid[@]}" -- kinds.din
+    ends 'a log that is a folder' 4 "sweep: $PWD could not be written: Is a directory" \
+        "$sweep" --resume "$PWD" "${grid[@]}" -- kinds.din
+    mkfifo pipe
+    ends 'a log that is a pipe' 4 'sweep: pipe could not be written: Not a regular file' \
+        timeout 60 "$sweep" --resume pipe "${grid[@]}" -- kinds.din
+    rm pipe
 }
 
 test_parallel() {

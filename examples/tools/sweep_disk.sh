@@ -63,6 +63,11 @@ test_folders() {
     done
     [ ! -e new ] && rmdir empty
     verdict 'an empty folder stays, and a new one does not' $?
+    echo >file
+    ends 'a task into a file' 4 'sweep: the folder file could not be made: File exists' \
+        "$sweep" --task 1 --into file "${grid[@]}" -- kinds.din
+    [ "$(wc -c <file)" -eq 1 ] && rm file
+    verdict 'it is left as it was' $?
     # shellcheck disable=SC2016  # the inner shell has the word
     run bash -c 'mkdir gone && cd gone && rmdir ../gone && exec "$1" --gather relative' - "$sweep"
     [ "$status" -eq 4 ] &&

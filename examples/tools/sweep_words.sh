@@ -151,7 +151,8 @@ verdict 'the faults of traces of which one ends in the name of the other' $?
 closed() {
     "$@" >&-
 }
-ends 'sweep whose output is closed' 4 'sweep: the table could not be written' \
+ends 'sweep whose output is closed' 4 \
+    'sweep: the table could not be written: Bad file descriptor' \
     closed "$sweep" "${grid[@]}" -- kinds.din
 run closed "$sweep" --task 1/1 --into closed "${grid[@]}" -- kinds.din
 [ "$status" -eq 0 ] && [ ! -s "$err" ] && run "$sweep" --gather closed && [ "$status" -eq 0 ] &&
