@@ -26,8 +26,10 @@ run_with_parallel() {
     cd "$work" && : > joblog || return
     # A terminal may stop who writes to it from behind, and the bar would stand still for ever.
     trap '' TTOU
+    # What it finds out about a machine goes into the folder of the sweep, and not into that of the
+    # user.
     # shellcheck disable=SC2016  # the inner shell's words
-    TMPDIR=${work%/*} PARALLEL_SHELL=/bin/sh parallel "${words[@]}" \
+    PARALLEL_HOME=$work/parallel TMPDIR=${work%/*} PARALLEL_SHELL=/bin/sh parallel "${words[@]}" \
         'eval "$(sed -n {}p commands)"' < <(seq "$runs") > /dev/null &
     tail --pid $! -s 0.1 -n +1 -f joblog |
         while IFS=$'\t' read -r number _; do

@@ -120,12 +120,14 @@ test_bar() {
     [ "$status" -eq 0 ] && grep -q '100%' "$out" && ! grep -q dinero_grid "$out" &&
         shared "$work/table" | cmp -s - "$work/rows"
     verdict 'the bar of a sweep on a terminal that stops those behind' $?
+    [ ! -e "$HOME" ]
+    verdict "none of the user's folders is made" $?
 }
 
 if has parallel; then
     test_lists
     if has script; then
-        SWEEP=$sweep GRID=${grid[*]} test_bar
+        HOME=$work/no-home SWEEP=$sweep GRID=${grid[*]} test_bar
     else
         skip 'the bar of a sweep' script
     fi
