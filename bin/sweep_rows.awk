@@ -12,7 +12,7 @@ function take_run(n, line,   raw, text) {
     read_run(line)
     find_head()
     lines = rows = in_table = is_cut = is_other = 0
-    said = ended = unpacked = ""
+    said = ended = unpacked = packer_said = ""
     raw = file("raw." n)
     while ((getline text < raw) > 0) take_line(text)
     close(raw)
@@ -38,7 +38,10 @@ function take_line(text,   field) {
     else if (in_table) {
         line_of_table[++lines] = text
         if (split(text, field, "\t") != labels + head_count) is_cut = 1
-    } else if (said == "" || is_ours(text) && !is_ours(said)) said = text
+    } else {
+        if (said == "" || is_ours(text) && !is_ours(said)) said = text
+        if (text != "" && !is_ours(text) && unpacked == "") packer_said = text
+    }
 }
 
 # is_ours(TEXT): it is the simulator that has said it, and not what unpacks the trace.
@@ -53,9 +56,19 @@ function end_run() {
     make_rows(1)
     # A simulator that has refused the trace hears no more of it, and the unpacker is cut off.
     if (unpacked && (unpacked < 128 || is_table()))
-        give_fault("again", unpacker[run[0]] " ended with status " unpacked)
+        give_fault("again", unpacker[run[0]] " ended with status " unpacked reason())
     else if (is_table()) give_table()
     else give_fault(ended == 1 || ended == 2 ? "whole" : "again", said)
+}
+
+# reason(): what the unpacker has said last, without the names in front, if it has said anything. Of
+# one that was killed, a shell may say so.
+function reason() {
+    if (unpacked >= 128) return ""
+    sub(/^.*: /, "", packer_said)
+    gsub(/\t/, " ", packer_said)
+    sub(/ +$/, "", packer_said)
+    return packer_said == "" ? "" : ": " packer_said
 }
 
 # has_column(NAME): of an option, in what the run has printed.

@@ -228,7 +228,7 @@ packed() {
     run "$sweep" --vary --l1-dsize 1k,2k "${long[@]:3}" -- "half.din.$1"
     [ "$status" -eq 1 ] &&
         [[ $(rows_of 36) == "$2 ended with status "*",$2 ended with status "* ]] &&
-        grep -qx "sweep: half.din.$1: $2 ended with status [0-9]*" "$err"
+        grep -qx "sweep: half.din.$1: $2 ended with status [0-9]*: [a-zA-Z].*" "$err"
     verdict 'half of it is refused' $?
     { cat faulty.din long.din long.din; } | "${@:4}" >"faulty.din.$1"
     run "$sweep" --vary --l1-dsize 1k,2k "${long[@]:3}" -- "faulty.din.$1"

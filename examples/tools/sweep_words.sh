@@ -140,6 +140,12 @@ printf '2 0\n9 9\n' | gzip -c >bad.din.gz
 run env GZIP=-9 "$sweep" --vary --l1-dsize 8,16 "${rest[@]}" -- bad.din.gz
 [ "$status" -eq 1 ] && [ "$(rows_of 36)" = 'line 2: label,line 2: label,' ]
 verdict 'the fault of a trace whose unpacker warns' $?
+gzip -c long.din | head -c 1000 >bad.din.gz
+run env GZIP=-9 "$sweep" --vary --l1-dsize 8,16 "${rest[@]}" -- bad.din.gz
+reason='zcat ended with status 1: unexpected end of file'
+[ "$status" -eq 1 ] && [ "$(rows_of 36)" = "$reason,$reason," ] &&
+    [ "$(head -n 1 "$err")" = "sweep: bad.din.gz: $reason" ]
+verdict 'what the unpacker of a trace that is cut off says' $?
 rm bad.din.gz
 cp faulty.din also-faulty.din
 run "$sweep" --jobs 1 --vary --l1-dsize 8 "${rest[@]}" -- also-faulty.din faulty.din
