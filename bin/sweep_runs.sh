@@ -57,6 +57,8 @@ choose_hosts() {
     grep -qvE "^([0-9]+/)?:\$|$no_machine" "$work/hosts" || return 0
     need ssh openssh-client
     need rsync rsync
+    # What can't be reached has its runs made by another machine: no run fails for another reason.
+    host_words+=(--retries 2)
     host_words+=(--basefile dinero_grid --basefile commands --cleanup --rsync-opts -rLDzR)
     for name in "${!traces[@]}"; do
         host_words+=(--basefile "$name.din")

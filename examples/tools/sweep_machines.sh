@@ -45,6 +45,17 @@ else
         'parallel, ssh, rsync and the right to mount (parallel, openssh-client, rsync)'
 fi
 
+# One of two machines can't be reached.
+if has parallel && has rsync && has ssh; then
+    printf '#!/bin/sh\nexit 255\n' >"$work/unreachable"
+    chmod +x "$work/unreachable"
+    printf '1/:\n1/%s another\n' "$work/unreachable" >machines
+    run "$sweep" --hosts machines "${grid[@]}" -- kinds.din fifo.din
+    check "sweep of which one machine can't be reached" is_table_of_rows
+else
+    skip "sweep of which one machine can't be reached" 'parallel, ssh and rsync'
+fi
+
 # Another program that is called parallel.
 mkdir "$work/another-parallel"
 printf '#!/bin/sh\necho "parallel: invalid option" >&2\nexit 1\n' >"$work/another-parallel/parallel"
