@@ -2,11 +2,12 @@
 # of a grid would else all end at nearly one time. Each part reads the trace anew. sweep_grid.awk is
 # read before it, and sweep_plan.awk beside it.
 
-# Work is counted in bytes of the trace that a cache of the first level takes in; a second or so is
-# 300 million of these. The parts of a run have at least `least` each, by their mean, and together
-# at most `worst` times the work of the run. By how much a trace is packed is a guess.
+# Work is counted in thousandths of what one configuration does for a byte of the trace. A second or
+# so is 400 million bytes of a recorded trace, or more, and 100 million of one that misses often.
+# The parts of a run have at least `least` each, by their mean, and together at most `worst` times
+# the work of the run. By how much a trace is packed is a guess.
 BEGIN {
-    least = 250000000
+    least = 1000 * 250000000
     worst = 1.25
     packing = 5
 }
@@ -40,22 +41,40 @@ function parts_of_run(line,   before, whole, parts, work, some) {
     return parts
 }
 
-# work_of(LINE): of a run. To read the trace takes about as long as one cache of the first level,
-# and what only a row has, its second level, a tenth. Values that belong to no cache are of all.
-function work_of(line,   word, one, d, rows, caches) {
+# work_of(LINE): of a run, as recorded traces have it (docs/PERFORMANCE.md, "Sweeps"); others have
+# more work that parts don't share. Caches of the first level that differ only in size and ways are
+# one family, whose caches share most of their work. A pair of them has its own requests to the
+# second level. To read the trace takes 30 % of what one configuration does, a family 35 %, another
+# pair 12 %, and another second level 1.2 %. Values that belong to no cache are of all.
+function work_of(line,   word, some, d, n, families, all, pairs, rows) {
     split(line, word, "\t")
-    rows = caches["l1-i"] = caches["l1-d"] = caches["l2-u"] = caches["all"] = 1
+    families["l1-i"] = families["l1-d"] = all = pairs = rows = 1
     for (d = 1; d <= dimensions; d++) {
-        rows *= split(word[d + 1], one, ",")
-        caches[cache_of(d) in caches ? cache_of(d) : "all"] *= split(word[d + 1], one, ",")
+        n = split(word[d + 1], some, ",")
+        rows *= n
+        if (cache_of(d) == "l2-u") continue
+        pairs *= n
+        if (!(cache_of(d) in families)) all *= n
+        else if (varied[d] !~ /^l1-.(size|assoc)$/) families[cache_of(d)] *= n
     }
-    return bytes[word[1]] * (1 + caches["all"] * (caches["l1-i"] + caches["l1-d"]) + rows / 10)
+    n = 300 + 350 * all * (families["l1-i"] + families["l1-d"]) + 120 * pairs + 12 * rows
+    return bytes[word[1]] * n
 }
 
-# dimension_above(WORD): the first option with several values that is none of the second level,
-# since parts that differ in that alone have the same first levels.
-function dimension_above(word,   d, one) {
-    for (d = 1; d <= dimensions; d++)
-        if (split(word[d + 1], one, ",") > 1 && cache_of(d) != "l2-u") return d
-    return 0
+# cheapest_cut(WORD, PARTS): the option along which the run is cut in two with the least work. Of
+# several it is one whose values make so many equal parts, and else the first. It is 0 if no option
+# has several values.
+function cheapest_cut(word, parts,   d, n, one, half, work, cost, is_even, found_one) {
+    for (d = 1; d <= dimensions; d++) {
+        n = split(word[d + 1], one, ",")
+        if (n == 1) continue
+        half = int((n + 1) / 2)
+        work = work_of(with_values(word, one, d, 1, half))
+        work += work_of(with_values(word, one, d, half + 1, n))
+        if (found_one && (work > cost || work == cost && (is_even || n % parts))) continue
+        found_one = d
+        cost = work
+        is_even = !(n % parts)
+    }
+    return found_one + 0
 }

@@ -188,7 +188,7 @@ function cut(line, parts,   word, one, d, n, half, share) {
 # values share least; but of the options of the same cache one whose values make so many equal
 # parts, if there is any. It is 0 if no option has several values.
 function dimension_to_cut(word, parts,   d, n, one, first) {
-    if (cuts_for_log) first = dimension_above(word)
+    if (cuts_for_log) return cheapest_cut(word, parts)
     for (d = 1; d <= dimensions; d++) {
         n = split(word[d + 1], one, ",")
         if (n == 1) continue

@@ -49,29 +49,36 @@ cut_as() {
     verdict "$1" $?
 }
 
-# A run of n configurations with first levels of their own has the work n + n/10, and 2 for what
-# each part has anew. So two parts in place of a run of 6 cost (4 + 6.6) / (2 + 6.6) = 1.23 times as
-# much, and of a run of 4 1.31 times, which is more than a fourth. Of all 28, four parts cost 1.18
-# times as much, and eight 1.43 times.
+# In hundredths of what one configuration costs, a run has the work 30, and 35 for the instruction
+# cache and for each of the 1, 2 or 4 families of data caches, which differ in more than their size,
+# and 13.2 for each configuration. Of all 28, two parts with two families each cost 640 in place of
+# 575, which is 1.11 times as much, and four parts 1.34 times, which is more than a fourth. Of 8
+# with four families, two parts cost 1.21 times as much; of 4 with four families 1.252 times, and of
+# 6 with two families 1.30 times.
 test_cuts() {
-    local below=(--vary --l2-usize 512,1k,2k,4k "${sizes[@]}" "${rest[@]:0:6}" --l2-ubsize 8)
+    local below=(--vary --l2-usize 512,1k,2k,4k "${wide[@]:0:9}" "${rest[@]:0:6}" --l2-ubsize 8)
     whole_of "${wide[@]}"
     noted --jobs 4 "${wide[@]}" -- huge.din
     [ "$status" -eq 0 ] && cmp -s "$out" whole && [ "$(sizes_of_calls)" = '8 8 6 6 ' ]
     verdict 'a long grid without a log: as many parts as jobs' $?
-    cut_as 'with a log: twice as many' '4 4 4 4 3 3 3 3' huge.din --jobs 4 "${wide[@]}"
+    cut_as 'with a log: those of 8 in two' '6 6 4 4 4 4' huge.din --jobs 4 "${wide[@]}"
+    [ "$(calls_of --l1-drepl)" = 'f f f l l l ' ]
+    verdict 'along the option that parts share least of' $?
     cut_as 'and no more where the trace is short' '8 8 6 6' kinds.din --jobs 4 "${wide[@]}"
-    cut_as 'by one job: four, but not eight' '8 8 6 6' huge.din --jobs 1 "${wide[@]}"
+    cut_as 'by one job: two, but not four' '14 14' huge.din --jobs 1 "${wide[@]}"
     cut_as 'by three jobs: 8, 8 and 12, each in two' '6 6 4 4 4 4' huge.din --jobs 3 "${wide[@]}"
-    cut_as 'by five: 8, 6, 6, 4 and 4, the last two whole' '4 4 4 4 3 3 3 3' huge.din \
+    cut_as 'by five: 8, 6, 6, 4 and 4, the first in two' '6 6 4 4 4 4' huge.din \
         --jobs 5 "${wide[@]}"
     cut_as 'by more jobs than configurations' "$(printf '1 %.0s' {1..27})1" huge.din \
         --jobs 28 "${wide[@]}"
+    # Sizes and ways share nearly all: of seven sizes, two parts cost 1.52 times as much.
+    whole_of "${sizes[@]}" "${rest[@]:0:10}"
+    cut_as 'where only sizes are varied' 7 huge.din --jobs 1 "${sizes[@]}" "${rest[@]:0:10}"
     # Its second level is varied first. To cut it there would simulate each first level anew.
     whole_of "${below[@]}"
-    cut_as 'where the second level is varied first' '16 12' huge.din --jobs 1 "${below[@]}"
+    cut_as 'where the second level is varied first' '56 56' huge.din --jobs 1 "${below[@]}"
     [ "$(calls_of --l2-usize)" = '512,1k,2k,4k 512,1k,2k,4k ' ] &&
-        [ "$(calls_of --l1-dsize)" = '128,256,512 8,16,32,64 ' ]
+        [ "$(calls_of --l1-drepl)" = 'f l ' ]
     verdict 'each part has all of it' $?
 }
 
@@ -104,32 +111,33 @@ stopped_at() {
 
 # says_kept COUNT: an interrupt, of the log.
 says_kept() {
-    [ "$(<"$err")" = "sweep: interrupted: $1 of 28 configurations are in parts.log; \
+    [ "$(<"$err")" = "sweep: interrupted: $1 of 48 configurations are in parts.log; \
 the same call goes on from there" ]
 }
 
-# The parts of one job have 8, 8, 6 and 6 configurations.
+# 12 sizes in four families have the work 838. Four parts with one family each cost 1.23 times as
+# much; of two families that are left, two parts cost 1.14 times as much, and of one, 1.4 times.
 test_interrupts() {
-    local signal
+    local signal wide=(--vary --l1-dsize 8,16,32,64,128,256,512,1k,2k,4k,8k,16k "${wide[@]:3}")
     whole_of "${wide[@]}"
     for signal in INT TERM HUP; do
         rm -f parts.log
-        stopped_at 3 $signal 17 --jobs 1 --resume parts.log && says_kept 16 &&
-            each_once parts.log 16 && lines_at_least "$out" 1 &&
+        stopped_at 3 $signal 25 --jobs 1 --resume parts.log && says_kept 24 &&
+            each_once parts.log 24 && lines_at_least "$out" 1 &&
             cmp -s "$out" <(head -n "$(wc -l <"$out")" whole)
         verdict "sweep of one trace with a log that is sent $signal" $?
     done
     cp parts.log before
-    stopped_at 2 INT 23 --jobs 1 --resume parts.log && says_kept 22 && each_once parts.log 22 &&
-        head -n 17 parts.log | cmp -s - before
+    stopped_at 2 INT 37 --jobs 1 --resume parts.log && says_kept 36 && each_once parts.log 36 &&
+        head -n 25 parts.log | cmp -s - before
     verdict 'and again' $?
-    noted --jobs 3 --resume parts.log "${wide[@]}" -- huge.din
-    [ "$status" -eq 0 ] && [ ! -s "$err" ] && cmp -s "$out" whole && each_once parts.log 28 &&
-        [ "$(sizes_of_calls)" = '2 2 2 ' ]
+    noted --jobs 4 --resume parts.log "${wide[@]}" -- huge.din
+    [ "$status" -eq 0 ] && [ ! -s "$err" ] && cmp -s "$out" whole && each_once parts.log 48 &&
+        [ "$(sizes_of_calls)" = '3 3 3 3 ' ]
     verdict 'it goes on, and its table is that of a sweep without an interrupt' $?
     rm -f parts.log
     stopped_at 1 INT 1 --jobs 1 --resume parts.log && each_once parts.log 0 &&
-        [ "$(<"$err")" = 'sweep: interrupted: none of the 28 configurations is in parts.log' ]
+        [ "$(<"$err")" = 'sweep: interrupted: none of the 48 configurations is in parts.log' ]
     verdict 'sweep that is interrupted before its first part has ended' $?
     stopped_at 1 INT 0 --jobs 1 && [ "$(<"$err")" = 'sweep: interrupted' ]
     verdict 'sweep without a log promises nothing' $?
