@@ -59,6 +59,8 @@ test_no_output() {
     done
     refuses_output 'record --output to where the trace goes' 2 "the trace goes to $out; try --help" \
         "${recorded[@]}" --output "$out" true
+    refuses_output 'record --output to where standard error goes' 2 \
+        "standard error goes to $err; try --help" "${recorded[@]}" --output "$err" true
     fails 'record --output twice' 2 'record: --output is given twice; try --help' \
         "${recorded[@]}" --output a --output=b true
     fails 'record --output without a value' 2 'record: --output has no value; try --help' \
@@ -69,6 +71,41 @@ test_no_output() {
     rmdir folder
     [ -z "$(ls -d a b none.txt nowhere 2>/dev/null)" ]
     verdict 'and no file is made' $?
+}
+
+# refuses_mixture NAME: what the program prints would be in the trace, and so it is not run.
+refuses_mixture() {
+    local line='record: standard error goes to where the trace goes; try --help'
+    [ "$status" -eq 2 ] && [ "$(<"$out")" = "$line"$'\n'"$line" ] && [ ! -e started ]
+    verdict "$1" $?
+}
+
+test_mixture() {
+    local option
+    rm -f started told.txt
+    for option in --split=64 --output=told.txt; do
+        status=0
+        "${recorded[@]}" "$option" true >"$out" 2>&1 </dev/null || status=$?
+        refuses_mixture "record $option with the trace and standard error in one file"
+        "${recorded[@]}" "$option" true 2>&1 </dev/null | cat >"$out"
+        status=${PIPESTATUS[0]}
+        refuses_mixture "record $option with the trace and standard error in one pipe"
+    done
+    [ ! -e told.txt ]
+    verdict 'and no file is made' $?
+    status=0
+    "${recorded[@]}" true >/dev/null 2>&1 </dev/null || status=$?
+    [ "$status" -eq 7 ] && [ -e started ]
+    verdict 'record with the trace and standard error nowhere' $?
+}
+
+# A terminal shows both, and keeps neither.
+test_terminal() {
+    rm -f started
+    # shellcheck disable=SC2016  # the inner shell's word
+    RECORD=$record PATH=$work/valgrind:$PATH run script -qec '"$RECORD" true' /dev/null
+    [ "$status" -eq 7 ] && [ -e started ] && grep -q '^2 00001000' "$out"
+    verdict 'record with the trace and standard error on a terminal' $?
 }
 
 # What is packed and unpacked again, beside its trace.
@@ -82,6 +119,12 @@ test_real_output() {
 cp "$top/examples/1-kinds/kinds.din" kinds.din
 test_output
 test_no_output
+test_mixture
+if has script; then
+    test_terminal
+else
+    skip 'record with the trace and standard error on a terminal' script
+fi
 if has valgrind && has gzip; then
     test_real_output
 else
