@@ -1,0 +1,75 @@
+# Tests which signals the program gets that bin/record runs. Read by tools.sh, behind record.sh.
+# shellcheck shell=bash disable=SC2154  # names that tools.sh and its other files set
+
+# A program that tells of each signal, and ends with the last kind.
+# shellcheck disable=SC2016  # the inner shell's words
+telling='for name in HUP INT TERM; do trap "echo $name >&2" $name; done
+    trap "exit 7" QUIT
+    echo ready >&2
+    while :; do :; done'
+
+# start_ready COMMAND..: until the program says that it has its traps. What stands there now is of
+# another one.
+start_ready() {
+    : >"$err"
+    start "$@"
+    until_true grep -qx ready "$err"
+}
+
+# send_each TARGET: each signal has come to the program before the next is sent.
+send_each() {
+    local signal
+    for signal in HUP INT TERM; do
+        kill -$signal -- "$1"
+        until_true grep -qx $signal "$err"
+    done
+}
+
+# has_told_once: the last signal is for the command alone, and what was passed on before it came
+# before it.
+has_told_once() {
+    kill -QUIT "$started"
+    wait_for_started
+    [ "$status" -eq 7 ] && [ "$(<"$err")" = $'ready\nHUP\nINT\nTERM' ] &&
+        [ -z "$(tail -c 1 "$out")" ]
+}
+
+is_stopped() {
+    grep -q '^State:.T' "/proc/$started/status"
+}
+
+# The command stands still until the program has told of what all got, so that what it passes on
+# would be told once more.
+test_group() {
+    start_ready "$record" --split 64 sh -c "$telling"
+    kill -STOP "$started"
+    until_true is_stopped
+    send_each "-$started"
+    kill -CONT "$started"
+    check 'record passes on no signal that the program has got' has_told_once
+}
+
+test_alone() {
+    start_ready "$record" --split 64 sh -c "$telling"
+    send_each "$started"
+    check 'record passes on the signals that it alone gets' has_told_once
+}
+
+# The group's signal does not come to a program that has left it. It would end by itself.
+test_parted() {
+    start_ready "$record" setsid sh -c 'trap "exit 7" TERM
+        echo ready >&2
+        for second in 1 2 3 4 5 6 7 8 9 10; do sleep 1; done'
+    kill -TERM -- "-$started"
+    wait_for_started
+    [ "$status" -eq 7 ]
+    verdict 'record of a program that has left the process group' $?
+}
+
+if has valgrind; then
+    test_group
+    test_alone
+    test_parted
+else
+    skip 'record of a program that gets signals' valgrind
+fi
