@@ -3,8 +3,8 @@
 
 # A program that tells of each signal, and ends with the last kind.
 # shellcheck disable=SC2016  # the inner shell's words
-telling='for name in HUP INT TERM; do trap "echo $name >&2" $name; done
-    trap "exit 7" QUIT
+telling='for name in HUP INT QUIT; do trap "echo $name >&2" $name; done
+    trap "exit 7" TERM
     echo ready >&2
     while :; do :; done'
 
@@ -19,7 +19,7 @@ start_ready() {
 # send_each TARGET: each signal has come to the program before the next is sent.
 send_each() {
     local signal
-    for signal in HUP INT TERM; do
+    for signal in HUP INT QUIT; do
         kill -$signal -- "$1"
         until_true grep -qx $signal "$err"
     done
@@ -28,14 +28,19 @@ send_each() {
 # has_told_once: the last signal is for the command alone, and what was passed on before it came
 # before it.
 has_told_once() {
-    kill -QUIT "$started"
+    kill -TERM "$started"
     wait_for_started
-    [ "$status" -eq 7 ] && [ "$(<"$err")" = $'ready\nHUP\nINT\nTERM' ] &&
+    [ "$status" -eq 7 ] && [ "$(<"$err")" = $'ready\nHUP\nINT\nQUIT' ] &&
         [ -z "$(tail -c 1 "$out")" ]
 }
 
 is_stopped() {
     grep -q '^State:.T' "/proc/$started/status"
+}
+
+# has_settled: the command waits again, and no signal waits for it.
+has_settled() {
+    [ "$(grep -cE '^State:.S|^ShdPnd:.0+$' "/proc/$started/status")" -eq 2 ]
 }
 
 # The command stands still until the program has told of what all got, so that what it passes on
@@ -46,9 +51,11 @@ test_group() {
     until_true is_stopped
     send_each "-$started"
     kill -CONT "$started"
+    until_true has_settled
     check 'record passes on no signal that the program has got' has_told_once
 }
 
+# A signal after another, which may come while the command still passes that on.
 test_alone() {
     start_ready "$record" --split 64 sh -c "$telling"
     send_each "$started"
