@@ -10,6 +10,7 @@ find_functions() {
     file=${file%$'\n.'}
     # nm takes a word that begins with a hyphen or an @ for one of its own.
     [[ $file == /* ]] || file=./$file
+    [ -r "$file" ] || die 126 "${program[0]} can't be read, so its functions are not known"
     if is_position_independent "$file"; then
         base=$(base_of_others) || die 70 "where valgrind puts ${program[0]} is not known; link it with -no-pie"
     fi
@@ -25,7 +26,7 @@ find_functions() {
 
 # is_position_independent FILE: the header's word for the kind of the file is 3.
 is_position_independent() {
-    [ "$(od -A n -j 16 -N 2 -t u1 < "$1" | tr -d ' \n')" = 30 ]
+    [ "$(od -A n -j 16 -N 2 -t u1 < "$1" 2>/dev/null | tr -d ' \n')" = 30 ]
 }
 
 # base_of_others: where valgrind puts such programs, as it says of one that does nothing.
@@ -37,13 +38,9 @@ base_of_others() {
 
 # find_function OPTION FUNCTION FILE BASE: puts into `address` where the one of this name begins.
 find_function() {
-    address=$({ nm "$3" 2>/dev/null || true; } | NAME=$2 LC_ALL=C awk '
-        $2 ~ /^[TtW]$/ && substr($0, length($1) + 4) == ENVIRON["NAME"] && !seen[$1]++ {
-            print $1
-        }')
-    case $address in
-    '') refuse "$1: nm finds no function '$2' in ${program[0]}" ;;
-    *$'\n'*) refuse "$1: nm finds several functions '$2' in ${program[0]}" ;;
-    esac
+    address=$({ nm "$3" 2>/dev/null || echo; } | NAME=$2 LC_ALL=C awk -f "$here/record_function.awk") ||
+        refuse "$1: nm finds no function '$2' in ${program[0]}$address"
+    [[ $address != *$'\n'* ]] ||
+        refuse "$1: nm finds several functions '$2' in ${program[0]}"
     printf -v address '%08x' $((16#$address + $4))
 }

@@ -12,6 +12,8 @@ fails() {
     verdict "$1" $?
 }
 fails 'record without a program' 2 'record: no program is given; try --help' "$record"
+fails 'record with an empty program' 2 'record: the name of the program is empty; try --help' \
+    "$record" ''
 fails 'record with an unknown option' 2 'record: unknown option: --all; try --help' "$record" --all ls
 for value in 0 3 -64 8192 64k 0x40 ' 64' 18446744073709551680; do
     fails "record --split $value" 2 \

@@ -33,6 +33,37 @@ test_functions() {
         env PATH="$(without nm)" "$record" --from pass ./walk
 }
 
+# Functions by the names that a compiler gives to copies of them, and to what is seldom run.
+assemble_copies() {
+    printf '%s\n' '        .globl _start' '_start: ret' 'kernel.constprop.0: ret' \
+        'kernel.isra.0: ret' 'kernel.cold: ret' 'kernels: ret' >copies.s
+    gcc -nostdlib -static -no-pie -o copies copies.s &&
+        gcc -nostdlib -static -no-pie -s -o bare copies.s
+}
+
+test_names() {
+    fails 'record --from a function of which there are copies' 2 \
+        "record: --from: nm finds no function 'kernel' in ./copies, but 'kernel.constprop.0', 'kernel.isra.0'; try --help" \
+        "$record" --from kernel ./copies
+    fails 'record --from a function of a program without names' 2 \
+        "record: --from: nm finds no function 'kernel' in ./bare, which is stripped of all names; try --help" \
+        "$record" --from kernel ./bare
+    : >empty
+    chmod +x empty
+    fails 'record --from a function of an empty file' 2 \
+        "record: --from: nm finds no function 'kernel' in ./empty; try --help" \
+        "$record" --from kernel ./empty
+}
+
+# test_unreadable COMMAND..: by a user who may run the program.
+test_unreadable() {
+    cp walk closed
+    chmod 111 closed
+    fails 'record --from a function of a program that can not be read' 126 \
+        "record: $PWD/closed can't be read, so its functions are not known" \
+        "$@" "$record" --from pass "$PWD/closed"
+}
+
 test_programs() {
     fails 'record of a file that can not be run' 126 'valgrind: ./walk.s: Permission denied
 record: ./walk.s was not run: valgrind made no reference' "$record" ./walk.s
@@ -45,9 +76,18 @@ record: ./walk.s was not run: valgrind made no reference' "$record" ./walk.s
     verdict 'record of a program that becomes one that a signal ends' $?
 }
 
-if has valgrind && [ -x walk ] && assemble_twins; then
+if has valgrind && [ -x walk ] && assemble_twins && assemble_copies; then
     test_functions
+    test_names
     test_programs
+    chmod a+rx "$work"
+    if [ "$(id -u)" -ne 0 ]; then
+        test_unreadable
+    elif setpriv --reuid 65534 test -x "$record"; then
+        test_unreadable setpriv --reuid 65534 --regid 65534 --clear-groups
+    else
+        skip 'record of a program that can not be read' 'a user who may run it'
+    fi
 else
     skip 'record of functions' 'valgrind and gcc'
 fi
