@@ -39,6 +39,14 @@ verdict 'the version' $?
 for name in grid pipe plot record sweep; do
     check "the man page of $name shows the version" shows_version "$pages/dinero_$name.1"
 done
+# The name is followed by a whole sentence, of which nothing is left for the description.
+names_itself() {
+    grep -A 1 '^\.SH NAME$' "$pages/dinero_$1.1" | grep -qE "^dinero_$1 \\\\- [a-z].*[a-z]\$" &&
+        grep -A 2 '^\.SH DESCRIPTION$' "$pages/dinero_$1.1" | tail -n 1 | grep -qx ''
+}
+for name in plot record sweep; do
+    check "the man page of $name says in a line what it does" names_itself "$name"
+done
 for name in grid pipe; do
     sed "1s/ $version//" "$pages/dinero_$name.1" | cmp -s - "$top/docs/dinero_$name.1"
     verdict "the man page of $name is as it was written but for that" $?
