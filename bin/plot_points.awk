@@ -4,7 +4,7 @@
 #
 # Prints the title, and the label of the axis; on a line what is on the axis, `size`, `ways`,
 # `interval` or `other`, the bytes of its unit, the least and the most place on it, the name of the
-# place behind all others, or `-`, and the number of groups; the name of each group on a line of its
+# place behind all others, or `-`, the number of groups, and that of lines with a fault; the name of each group on a line of its
 # own; and then a line for each point: its group, its place on the axis, which is 9 * 10^18 for the
 # one behind all others, and as percentages of the accesses its misses or their three kinds. If it
 # fails, it prints why and nothing else. plot_names.awk and plot_places.awk are read before it.
@@ -70,20 +70,30 @@ function read_names(   i, counts) {
     by = column_of(by)
 }
 
+# has_fault(): the line says so.
+function has_fault() {
+    return "fault" in at && $at["fault"] != "-"
+}
+
 # is_wanted(): each column of --only has one of the values that were given for it.
 function is_wanted(   column, text, all) {
     all = 1
     for (column in is_chosen) {
         text = plain(column, $at[column])
-        if ((column, text) in wanted) found[column, text]
-        else all = 0
+        if (!((column, text) in wanted)) all = 0
+        else if (!has_fault()) found[column, text]
     }
     return all
 }
 
 NR == 1 { read_names(); next }
 NF != columns { fail("line " NR ": " NF " fields, where the names are " columns) }
-(!("fault" in at) || $at["fault"] == "-") && is_wanted() {
+!is_wanted() { next }
+has_fault() {
+    if (!faults++) first_fault = "line " NR ": " $at["fault"]
+    next
+}
+{
     line[++lines] = $0
     number_of[lines] = NR
 }
@@ -158,7 +168,7 @@ function choose_columns(   prefix) {
     if (cache == "" && over != "") cache = cache_of(over)
     if (cache == "") cache = varied_cache()
     prefix = substr(cache, 1, 4)
-    if (over == "") { over = prefix "size"; need_column(over) }
+    if (over == "") { over = size_of(prefix) }
     if (by == "" && over != prefix "assoc" && (prefix "assoc") in at) by = prefix "assoc"
     if (by == "" && over != prefix "size" && (prefix "size") in at) by = prefix "size"
     if (by == over) fail(over " can't be both the axis and the groups")
@@ -167,6 +177,13 @@ function choose_columns(   prefix) {
     if (kind != "rates") draw_count("-compulsory")
     if (kind == "kinds") { draw_count("-capacity"); draw_count("-conflict") }
     if (kind == "whole") draw_count("-fully-associative-misses")
+}
+
+# size_of(PREFIX): the option of a cache's size, if the table has it.
+function size_of(prefix) {
+    if (!((prefix "size") in at))
+        fail("the table has no column " prefix "size: choose the axis by --over")
+    return prefix "size"
 }
 
 # draw_count(COUNT): the table has it of the cache, and the picture depends on it.
@@ -238,13 +255,14 @@ END {
     if (!NR) fail("no table of bin/sweep")
     for (i in wanted)
         if (!(i in found)) fail("no line without a fault has " wanted[i])
+    if (!lines && faults) fail("each line has a fault, the first: " first_fault)
     if (!lines) fail("no line of the table is left")
     choose_columns()
     keep_points()
     rank_groups()
     print title()
     print axis()
-    printf "%s %d %.0f %.0f %s %d\n", class(), unit, least, most, far, groups
+    printf "%s %d %.0f %.0f %s %d %d\n", class(), unit, least, most, far, groups, faults
     for (i = 1; i <= groups; i++) print (by == "" ? "" : label(by, value_of[ranked[i]]))
     for (i = 1; i <= lines; i++) if (i in point) print rank[group_at[i]] "\t" point[i]
 }

@@ -140,7 +140,8 @@ parse() {
         esac
         shift
     done
-    [ ${#words[@]} -eq 3 ] || refuse 'a kind, a table and a picture are needed'
+    [ ${#words[@]} -ge 3 ] || refuse 'a kind, a table and a picture are needed'
+    [ ${#words[@]} -eq 3 ] || refuse "a word behind the picture: ${words[3]}"
     kind=${words[0]} table=${words[1]} picture=${words[2]}
 }
 

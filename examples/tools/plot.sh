@@ -9,7 +9,10 @@ ends 'plot without words' 2 'plot: a kind, a table and a picture are needed; try
 ends 'plot of an unknown kind' 2 'plot: unknown kind: pie; try --help' "$plot" pie kinds.tsv pie.svg
 ends 'plot to an unknown format' 2 'plot: none of .svg, .png and .pdf: kinds.gif; try --help' \
     "$plot" kinds kinds.tsv kinds.gif
-ends 'plot of a table that is not there' 4 'plot: no table to read: nowhere.tsv' \
+ends 'plot with a word too many' 2 'plot: a word behind the picture: more; try --help' \
+    "$plot" kinds kinds.tsv kinds.svg more
+ends 'plot of a table that is not there' 4 \
+    'plot: no table to read: nowhere.tsv: No such file or directory' \
     "$plot" kinds nowhere.tsv kinds.svg
 
 # shows FILE WORDS..: each of them is a text of the picture.
@@ -58,7 +61,7 @@ test_streams() {
     verdict 'plot to a name that begins with a hyphen' $?
     ends 'plot with an unknown option' 2 'plot: unknown option: -x.svg; try --help' \
         "$plot" rates kinds.tsv -x.svg
-    ends 'plot of a folder' 4 'plot: no table to read: .' "$plot" rates . none.svg
+    ends 'plot of a folder' 4 'plot: no table to read: .: Is a directory' "$plot" rates . none.svg
 }
 
 test_plot() {
@@ -103,7 +106,8 @@ test_lacking_tables() {
         "$plot" kinds both.tsv none.svg
     ends 'plot of another file' 1 'plot: kinds.din: no table of bin/sweep' \
         "$plot" rates kinds.din none.svg
-    ends 'plot of a cache whose size is not varied' 1 'plot: kinds.tsv: the table has no column l2-usize' \
+    ends 'plot of a cache whose size is not varied' 1 \
+        'plot: kinds.tsv: the table has no column l2-usize: choose the axis by --over' \
         "$plot" rates kinds.tsv none.svg --cache l2-ucache
     ends 'plot of a value that no line has' 1 'plot: kinds.tsv: no line without a fault has trace=none' \
         "$plot" rates kinds.tsv none.svg --only trace=none
@@ -112,6 +116,15 @@ test_lacking_tables() {
         'plot: lacking.tsv: the table has no column l1-dcache-fully-associative-misses' \
         "$plot" kinds lacking.tsv none.svg --whole-counts
     head -n 1 kinds.tsv >empty.tsv
+    awk -F '\t' -v OFS='\t' 'NR > 1 { $NF = "l1-dsize" } { print }' kinds.tsv >faults.tsv
+    ends 'plot of lines that all have a fault' 1 \
+        'plot: faults.tsv: each line has a fault, the first: line 2: l1-dsize' \
+        "$plot" kinds faults.tsv none.svg
+    awk -F '\t' -v OFS='\t' 'NR == 2 { $NF = "l1-dsize" } { print }' kinds.tsv >fault.tsv
+    run "$plot" kinds fault.tsv fault.svg
+    [ "$status" -eq 0 ] && [ -s fault.svg ] &&
+        [ "$(<"$err")" = 'plot: fault.tsv: lines left out for their faults: 1' ]
+    verdict 'plot of a table with a fault' $?
     ends 'plot of no line' 1 'plot: empty.tsv: no line of the table is left' \
         "$plot" rates empty.tsv none.svg
     : >empty.tsv
@@ -135,9 +148,22 @@ test_lacking_tables() {
     run env GNUTERM=qt "$plot" kinds kinds.tsv other.svg
     [ "$status" -eq 0 ] && [ ! -s "$err" ] && cmp -s kinds.svg other.svg
     verdict "plot with gnuplot's own variable for its terminal" $?
+    cp kinds.tsv table.svg
+    for table in table.svg ./table.svg -; do
+        "$plot" rates "$table" table.svg <table.svg >"$out" 2>"$err"
+        status=$?
+        [ "$status" -eq 2 ] && cmp -s table.svg kinds.tsv &&
+            [ "$(<"$err")" = 'plot: the picture would replace its table: table.svg; try --help' ]
+        verdict "plot of $table in the place of its table" $?
+    done
     mkdir "$work/ended" && printf '#!/bin/sh\nkill -XFSZ $$\n' >"$work/ended/gnuplot"
     chmod +x "$work/ended/gnuplot"
     ends 'plot with a gnuplot that is ended' 4 'plot: gnuplot failed: it ended with status 153' \
+        env PATH="$work/ended:$PATH" "$plot" kinds kinds.tsv none.svg
+    printf '#!/bin/sh\necho "\n\"script\" line 1: warning: iconv failed" >&2\nkill -XFSZ $$\n' \
+        >"$work/ended/gnuplot"
+    ends 'plot with a gnuplot that warns and is ended' 4 \
+        'plot: gnuplot failed: it ended with status 153' \
         env PATH="$work/ended:$PATH" "$plot" kinds kinds.tsv none.svg
     echo before >before.svg
     run "$plot" kinds short.tsv before.svg

@@ -34,6 +34,7 @@ ends 'plot --linear of kinds' 2 'plot: --linear is of rates; try --help' \
     "$plot" kinds points.tsv none.svg --linear
 
 lacks 'the column l1-dcache-misses is no option' '' rates --over l1-dcache-misses
+lacks 'the table has no column l1-isize: choose the axis by --over' '' rates --cache l1-icache
 lacks 'the table has no column l1-isize' '' rates --over l1-isize
 lacks "l1-dsize can't be both the axis and the groups" '' rates --by l1-dsize
 lacks 'line 2: trace is no number: a/x.din' '' rates --over trace

@@ -57,7 +57,8 @@ verdict 'install by a user whose files are private' $?
 posix=(env POSIXLY_CORRECT=1)
 ends 'a log where none can be, by POSIX' 4 'sweep: /dev/null/log could not be written: Not a directory' \
     "${posix[@]}" "$sweep" --resume /dev/null/log "${grid[@]}" -- kinds.din
-ends 'plot of no table, by POSIX' 4 'plot: no table to read: nowhere' \
+ends 'plot of no table, by POSIX' 4 \
+    'plot: no table to read: nowhere: No such file or directory' \
     "${posix[@]}" "$bin/plot" rates nowhere rates.svg
 run "${posix[@]}" "$sweep" --resume posix.log --jobs 2 "${grid[@]}" -- kinds.din fifo.din
 check 'sweep by POSIX' is_table_of_rows
