@@ -4,10 +4,11 @@
 #
 # Prints the title, and the label of the axis; on a line what is on the axis, `size`, `ways`,
 # `interval` or `other`, the bytes of its unit, the least and the most place on it, the name of the
-# place behind all others, or `-`, the number of groups, and that of lines with a fault; the name of each group on a line of its
-# own; and then a line for each point: its group, its place on the axis, which is 9 * 10^18 for the
-# one behind all others, and as percentages of the accesses its misses or their three kinds. If it
-# fails, it prints why and nothing else. plot_names.awk and plot_places.awk are read before it.
+# place behind all others, or `-`, the number of groups, and how many lines were left out for their
+# faults; the name of each group on a line of its own; and then a line for each point: its group,
+# its place on the axis, which is 9 * 10^18 for the one behind all others, and as percentages of the
+# accesses its misses or their three kinds. If it fails, it prints why and nothing else.
+# plot_names.awk and plot_places.awk are read before it.
 
 BEGIN {
     FS = "\t"
@@ -168,7 +169,7 @@ function choose_columns(   prefix) {
     if (cache == "" && over != "") cache = cache_of(over)
     if (cache == "") cache = varied_cache()
     prefix = substr(cache, 1, 4)
-    if (over == "") { over = size_of(prefix) }
+    if (over == "") over = size_of(prefix)
     if (by == "" && over != prefix "assoc" && (prefix "assoc") in at) by = prefix "assoc"
     if (by == "" && over != prefix "size" && (prefix "size") in at) by = prefix "size"
     if (by == over) fail(over " can't be both the axis and the groups")
