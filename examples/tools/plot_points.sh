@@ -136,7 +136,8 @@ test_commas() {
     # shellcheck disable=SC2154  # settings.sh sets it
     run "${turkish[@]}" KEPT="$work/kept" PATH="$work/keeping:$PATH" \
         "$plot" kinds points.tsv points.svg --whole-counts
-    [ "$status" -eq 0 ] && [ ! -s "$err" ] && diff -r "$work/kept" "$work/plain" >/dev/null
+    [ "$status" -eq 0 ] && ! grep -qv ': lines left out for their faults: 1$' "$err" &&
+        diff -r "$work/kept" "$work/plain" >/dev/null
     verdict 'plot in Turkish' $?
 }
 

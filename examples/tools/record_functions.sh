@@ -53,6 +53,7 @@ test_names() {
     fails 'record --from a function of an empty file' 2 \
         "record: --from: nm finds no function 'kernel' in ./empty; try --help" \
         "$record" --from kernel ./empty
+    rm empty
 }
 
 # test_unreadable COMMAND..: by a user who may run the program.
@@ -62,6 +63,7 @@ test_unreadable() {
     fails 'record --from a function of a program that can not be read' 126 \
         "record: $PWD/closed can't be read, so its functions are not known" \
         "$@" "$record" --from pass "$PWD/closed"
+    rm -f closed
 }
 
 test_programs() {
