@@ -75,8 +75,8 @@ start() {
     set +m
 }
 
-# wait_for_started: sets `status` to that of what was started. If it does not end within some ten
-# seconds, it is killed with all that it began.
+# wait_for_started: sets `status` to that of what was started. If it does not end within a minute,
+# it is killed with all that it began.
 wait_for_started() {
     until_true has_ended || kill -KILL -- "-$started"
     status=0
@@ -87,9 +87,9 @@ has_ended() {
     ! kill -0 "$started" 2>/dev/null
 }
 
-# until_true COMMAND..: waits for some ten seconds at most.
+# until_true COMMAND..: waits for a minute at most, as other programs may use all processors.
 until_true() {
-    local end=$((SECONDS + 10))
+    local end=$((SECONDS + 60))
     until "$@"; do
         [ $SECONDS -lt $end ] || return
         sleep 0.05
