@@ -6,7 +6,7 @@
 
 use crate::POLICY;
 use anyhow::bail;
-use cache_core::{Access, Cache, Class, Geometry, MAX_EVENTS, NoMemory};
+use cache_core::{Access, Cache, Class, Geometry, MAX_EVENTS};
 use std::env::Args;
 use std::time::Instant;
 
@@ -38,14 +38,16 @@ fn access_from(state: u64) -> Access {
 }
 
 /// Serves this many generated references.
-fn serve_all(cache: &mut Cache, references: u64) -> Result<(), NoMemory> {
+fn serve_all(cache: &mut Cache, references: u64) -> anyhow::Result<()> {
     let mut state = 1;
     for _ in 0..references {
         if cache.served() >= MAX_EVENTS {
-            return Ok(());
+            bail!("more references than a cache serves");
         }
         state = next(state);
-        cache.access(access_from(state))?;
+        if cache.access(access_from(state)).is_err() {
+            bail!("no memory");
+        }
     }
     Ok(())
 }
@@ -59,9 +61,7 @@ fn measure_ways(rt: &HostRuntime, ways: u64, references: u64, timed: bool) -> an
         bail!("no memory");
     };
     let start = Instant::now(rt)?;
-    let Ok(()) = serve_all(&mut cache, references) else {
-        bail!("no memory");
-    };
+    serve_all(&mut cache, references)?;
     let took = start.elapsed(rt)?;
     let counts = cache.counts();
     println!(rt;

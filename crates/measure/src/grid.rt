@@ -6,7 +6,7 @@
 
 use crate::POLICY;
 use anyhow::{Context, bail};
-use cache_core::{Access, Class, Counts, Geometry, MAX_EVENTS, NoMemory};
+use cache_core::{Access, Class, Geometry, MAX_EVENTS};
 use din_trace::{DinRecord, FromRead, Label, MAX_LIMIT, Source};
 use grid_core::{Engine, share_block_size};
 use std::alloc::Global;
@@ -48,18 +48,20 @@ fn class_of(label: Label) -> Option<Class> {
 }
 
 /// Serves one record of a trace.
-fn serve(engine: &mut Engine, record: DinRecord) -> Result<(), NoMemory> {
+fn serve(engine: &mut Engine, record: DinRecord) -> anyhow::Result<()> {
     if engine.served() >= MAX_EVENTS {
-        return Ok(());
+        bail!("more references than an engine serves");
     }
-    if let Some(class) = class_of(record.label) {
-        return engine.access(Access {
+    let served = match class_of(record.label) {
+        Some(class) => engine.access(Access {
             class,
             addr: record.addr,
-        });
-    }
-    if record.label == Label::Flush {
-        engine.flush_unlisted()?;
+        }),
+        None if record.label == Label::Flush => engine.flush_unlisted(),
+        None => Ok(()),
+    };
+    if served.is_err() {
+        bail!("no memory");
     }
     Ok(())
 }
@@ -69,11 +71,7 @@ fn serve_all(engine: &mut Engine, trace: FromRead<File>) -> anyhow::Result<()> {
     let mut source = Source::new(trace, MAX_LIMIT);
     for _ in 0..u64::MAX {
         match source.next() {
-            Ok(Some(record)) => {
-                if serve(engine, record).is_err() {
-                    bail!("no memory");
-                }
-            }
+            Ok(Some(record)) => serve(engine, record)?,
             Ok(None) => return Ok(()),
             Err(fault) => bail!("{fault:?}"),
         }
