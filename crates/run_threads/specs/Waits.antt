@@ -58,7 +58,7 @@ abbrev pub held : SplitterEnds → ℕ
 held ends = length (ring.posted ends.order) + length (ring.posted ends.to_i)
     + length (ring.posted ends.to_d)
 
--- on none of the three rings anything is left to announce: no message went in since the sender last
+-- nothing is left to announce on any of the three rings: no message went in since the sender last
 -- announced what went in
 pub record AllAnnounced (ends : SplitterEnds) : Type 0 where
   pub order : IsAnnounced ends.order

@@ -8,7 +8,6 @@ ghost use Rattle.run_threads.specs.Ends.{HaveOutboxes, SameRings};
 use pipe_rings::{Bell, NoMemory, Rx, Tx, ring_from, settle};
 use stage_core::{FromStage, Routed, ToStage, Turn};
 use std::alloc::Global;
-use std::sync::Wait;
 
 /// How many events, or messages, a thread posts from one offer to the next.
 pub(crate) const BETWEEN_OFFERS: usize = 32;

@@ -18,16 +18,15 @@ ghost use Rattle.run_threads.specs.Machines.{AreNew, hierarchy_in, machines_at, 
 ghost use Rattle.run_threads.specs.Runs.{HasRun, RunsOver};
 ghost use Rattle.run_threads.specs.Waits.{splitter_at};
 
-use crate::ends::{MergeEnds, Rings, SplitterEnds, StageEnds};
-use crate::fault::{NoThread, RunFault, gravest};
+use crate::ends::{Rings, SplitterEnds};
+use crate::fault::{RunFault, gravest};
 use crate::gap::gap;
 use crate::gate::{Gate, Who};
 use crate::joins::{all_ended, join_merge, join_stage, why_stopped, wind_up};
-use crate::merge_thread::{MergeHandle, MergeResult, start_merge};
+use crate::merge_thread::{MergeHandle, start_merge};
 use crate::split::split;
-use crate::stage_thread::{StageHandle, StageResult, start_stage};
+use crate::stage_thread::{StageHandle, start_stage};
 use crate::waits::BodyRuntime;
-use cache_core::Counts;
 use din_trace::{ByteReader, Source};
 use pipe_rings::OUTBOX;
 use stage_core::{
@@ -37,7 +36,7 @@ use stage_core::{
 use std::alloc::Global;
 use std::sync::Wait;
 use std::thread;
-use std::thread::{Promise, PromisedHandle, Scope, Threads};
+use std::thread::{Scope, Threads};
 
 /// The result of a successful run: the counts, and the rings that carried its messages.
 #[derive(Drop)]

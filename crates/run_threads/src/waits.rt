@@ -3,8 +3,8 @@
 //! do. `await_item` is private: the two of the merge wait in it.
 //!
 //! The body of a thread has no runtime, only a [`BodyRuntime`], whose runtime no other module can
-//! reach. Without a runtime no end of a ring can be asked to wait. By [`pass`] a stage or the
-//! merge passes its gate, and the splitter by [`BodyRuntime::arrive`]; a gate may hold it too.
+//! reach. Without a runtime no end of a ring can be asked to wait. By [`pass`] a stage or the merge
+//! passes its gate, and by [`BodyRuntime::arrive`] the splitter. There a gate may hold a body, too.
 
 ghost use Rattle.std.specs.Prelude.{◌≡◌, ◌+◌, ◌<◌, ◌≤◌, [], ◌∷◌, ◌++◌, length, OnOk, IfOk, IfErr};
 ghost use Rattle.pipe_rings.specs.Rings.{sent, posted, received, SameTx, SameRx};
