@@ -1,4 +1,4 @@
-//! Small traces, each for one rule.
+//! Small traces, each for one rule, and the total of counts.
 
 use super::{CAPACITY, CONFLICT, DATA, FIFO, HIT, LRU, NEW, Step, cache_of, serve, walk, walk_new};
 use cache_core::{Cache, Class, Counts, Outcome, PerClass, Policy};

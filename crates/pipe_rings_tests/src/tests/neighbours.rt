@@ -196,7 +196,7 @@ fn a_receiver_that_sleeps_is_woken_for_what_was_offered(rt: HostRuntime) -> Resu
 }
 
 /// Two numbers are offered to a receiver that sleeps, of which the ring takes one.
-static OFFERED_TO_A_SMALL_RING: [Step; 3] = [
+static OFFERED_ONE_TOO_MANY: [Step; 3] = [
     (LONG, None),
     (Call::Post(0, 2), Some(2)),
     (Call::Offer, Some(1)),
@@ -231,9 +231,9 @@ fn is_answered<H: Threads + Wait + Clock + Abort + Sync>(
 }
 
 #[test]
-fn an_offer_that_fills_the_ring_wakes_the_receiver(rt: HostRuntime) -> Result<(), Fail> {
+fn an_offer_that_leaves_a_number_wakes_the_receiver(rt: HostRuntime) -> Result<(), Fail> {
     let ends = ring(rt.alloc(), 1)?;
-    is_answered(&rt, rt.alloc(), ends, &OFFERED_TO_A_SMALL_RING)
+    is_answered(&rt, rt.alloc(), ends, &OFFERED_ONE_TOO_MANY)
 }
 
 #[test]

@@ -48,8 +48,9 @@ pub(super) fn writes_text<H: Threads + Wait + Abort + Sync>(
 ) -> Totals {
     let mut written = Vec::new(alloc);
     let ended = run(rt, alloc, config, selection, trace, MAX_LIMIT, &mut written);
+    let totals = ended.expect(rt, "a run without a fault");
     assert!(rt; written.as_slice() == text);
-    ended.expect(rt, "a run without a fault")
+    totals
 }
 
 /// A run over a trace has to succeed, with exactly these totals and their report, and the network
