@@ -13,7 +13,7 @@ name == ENVIRON["NAME"] && !seen[$1]++ {
 
 # A compiler adds `.constprop.0`, `.isra.0` or `.part.0` to the name of a copy that it made. What it
 # never expects to be run, it puts apart, with `.cold`.
-index(name, ENVIRON["NAME"] ".") == 1 && name !~ /\.cold$/ {
+index(name, ENVIRON["NAME"] ".") == 1 && name !~ /\.cold(\.[0-9]+)?$/ {
     copies = copies (copies == "" ? ", but " : ", ") "\047" name "\047"
 }
 

@@ -6,13 +6,32 @@
 
 traced=
 early=
+witness=
 
 # forward_signals: from here on, instead of ending this command.
 forward_signals() {
+    begin_witness
     trap 'forward 1' HUP
     trap 'forward 2' INT
     trap 'forward 3' QUIT
     trap 'forward 15' TERM
+}
+
+# begin_witness: a process that blocks the signals, so that what the whole group is sent waits there
+# to be seen. It ends with this command.
+begin_witness() {
+    (
+        trap '' HUP INT QUIT TERM
+        exec {words}>&- {trace}>&- {messages}>&-
+        [ -z "$printed" ] || exec {printed}>&-
+        exec env --block-signal=HUP,INT,QUIT,TERM tail --pid=$$ -s 1 -f /dev/null
+    ) < /dev/null > /dev/null 2>&1 &
+    witness=$!
+}
+
+# end_witness
+end_witness() {
+    kill -KILL "$witness" 2>/dev/null || true
 }
 
 # forward SIGNAL
@@ -21,21 +40,40 @@ forward() {
     caught=yes
     if [ -z "$traced" ]; then
         early=$1
-    elif ! was_for_all "$1" || ! has_stayed; then
-        kill -n "$1" "$traced" 2>/dev/null || true
+    elif ! is_started || ! was_for_all "$1" || ! has_stayed; then
+        send "$1"
     fi
 }
 
-# forward_early: what came while the program was started.
+# forward_early: what came before there was a process to send it to.
 forward_early() {
-    [ -z "$early" ] || kill -n "$early" "$traced" 2>/dev/null || true
+    [ -z "$early" ] || send "$early"
 }
 
-# was_for_all SIGNAL: it waits at the filter, too, which blocks it. The kernel sends it there before
-# it comes to this command, which is older.
+# send SIGNAL: to the program. The shell that becomes it may still pass signals over.
+send() {
+    until is_started; do sleep 0.01 || true; done
+    kill -n "$1" "$traced" 2>/dev/null || true
+}
+
+# is_started: the shell has become valgrind, or has ended.
+is_started() {
+    [ ! "/proc/$traced/exe" -ef "/proc/$$/exe" ]
+}
+
+# was_for_all SIGNAL: it waits at the witness, too. The kernel sends it there before it comes to
+# this command, which is older; but `timeout` may send it here before it sends it to the group.
 was_for_all() {
+    waits_at_witness "$1" || { sleep 0.1 || true; waits_at_witness "$1"; } || return
+    # What it has seen would be taken for the next one.
+    end_witness
+    begin_witness
+}
+
+# waits_at_witness SIGNAL
+waits_at_witness() {
     local key mask=0
-    while read -r key mask && [ "$key" != ShdPnd: ]; do :; done < "/proc/$filter/status"
+    while read -r key mask && [ "$key" != ShdPnd: ]; do :; done < "/proc/$witness/status"
     (((16#$mask >> ($1 - 1)) & 1))
 } 2>/dev/null
 

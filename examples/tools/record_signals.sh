@@ -62,6 +62,45 @@ test_alone() {
     check 'record passes on the signals that it alone gets' has_told_once
 }
 
+# tells_twice SIGNAL
+tells_twice() {
+    [ "$(grep -cx "$1" "$err")" -eq 2 ]
+}
+
+# What the group was sent is not taken for what the command alone is sent after it.
+test_after_group() {
+    start_ready "$record" --split 64 sh -c "$telling"
+    kill -INT -- "-$started"
+    until_true grep -qx INT "$err"
+    until_true has_settled
+    kill -INT "$started"
+    until_true tells_twice INT
+    kill -TERM "$started"
+    wait_for_started
+    [ "$status" -eq 7 ] && [ "$(<"$err")" = $'ready\nINT\nINT' ]
+    verdict 'record passes on a signal after one that all got' $?
+}
+
+# ends_early NAME LINE SIGNAL STATUS: of a copy that sends itself the signal behind this line.
+ends_early() {
+    mkdir "$work/early"
+    cp "$bin/common.sh" "$bin"/record* "$work/early"
+    sed -i "/^$2\$/a kill -s $3 \$\$" "$work/early/record"
+    run "$work/early/record" --split 64 sleep 20
+    rm -r "$work/early"
+    [ "$status" -eq "$4" ]
+    verdict "$1 $3" $?
+}
+
+test_early() {
+    ends_early 'record that is sent, before it calls valgrind,' check_streams QUIT 131
+    local signal
+    for signal in HUP:129 INT:130 QUIT:131 TERM:143; do
+        ends_early 'record that is sent, while it calls valgrind,' forward_signals \
+            "${signal%:*}" "${signal#*:}"
+    done
+}
+
 # The group's signal does not come to a program that has left it. It would end by itself.
 test_parted() {
     start_ready "$record" setsid sh -c 'trap "exit 7" TERM
@@ -76,6 +115,8 @@ test_parted() {
 if has valgrind; then
     test_group
     test_alone
+    test_after_group
+    test_early
     test_parted
 else
     skip 'record of a program that gets signals' valgrind
