@@ -58,7 +58,8 @@ choose_hosts() {
     need ssh openssh-client
     need rsync rsync
     # What can't be reached has its runs made by another machine: no run fails for another reason.
-    host_words+=(--retries 2)
+    # Each machine may be tried.
+    host_words+=(--retries "$(($(grep -cvE "$no_machine" "$work/hosts") + 1))")
     host_words+=(--basefile dinero_grid --basefile commands --cleanup --rsync-opts -rLDzR)
     for name in "${!traces[@]}"; do
         host_words+=(--basefile "$name.din")

@@ -19,7 +19,7 @@ put_lines() {
     next=$((next + ${#lines[@]}))
     [ ${#lines[@]} -gt 0 ] || return 0
     exec {table}>&1
-    fault=$(printf %s "${lines[@]}" 2>&1 >&"$table") || status=$?
+    fault=$(trap '' XFSZ && printf %s "${lines[@]}" 2>&1 >&"$table") || status=$?
     exec {table}>&-
     # If its reader has gone away, a command ends so.
     [ "$status" -ne 141 ] || exit 141
@@ -106,6 +106,7 @@ gather_table() {
     [ "$({ head -n 1 "$described" | cut -f 1; } 2>/dev/null)" = counts ] ||
         die 4 "no folder of rows: $gather"
     grep -q $'^trace\t' "$described" || die 4 "$described is damaged"
+    { : > "$work/pending"; } 2>/dev/null || no_room
     for file in "$store"/*; do
         [[ ${file##*/} =~ ^[0-9]+(-([0-9]+))?$ ]] || continue
         note_tasks "${BASH_REMATCH[2]:-all}"

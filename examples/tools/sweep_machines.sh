@@ -45,15 +45,15 @@ else
         'parallel, ssh, rsync and the right to mount (parallel, openssh-client, rsync)'
 fi
 
-# One of two machines can't be reached.
+# Two of three machines can't be reached.
 if has parallel && has rsync && has ssh; then
     printf '#!/bin/sh\nexit 255\n' >"$work/unreachable"
     chmod +x "$work/unreachable"
-    printf '1/:\n1/%s another\n' "$work/unreachable" >machines
+    printf '1/:\n1/%s another\n1/%s a third\n' "$work/unreachable" "$work/unreachable" >machines
     run "$sweep" --hosts machines "${grid[@]}" -- kinds.din fifo.din
-    check "sweep of which one machine can't be reached" is_table_of_rows
+    check "sweep of which two machines can't be reached" is_table_of_rows
 else
-    skip "sweep of which one machine can't be reached" 'parallel, ssh and rsync'
+    skip "sweep of which two machines can't be reached" 'parallel, ssh and rsync'
 fi
 
 # Another program that is called parallel.

@@ -14,6 +14,14 @@ run "$sweep" --gather tasks
 sweep: 1 of 4 configurations have a fault, the first in line 4 of the table: \
 not simulated (column fault)" ]
 verdict 'gathering where a report is missing' $?
+mkdir empty
+cp tasks/grid empty
+run "$sweep" --gather empty
+[ "$status" -eq 1 ] && [ "$(rows_of 37)" = "$(printf 'not simulated,%.0s' 1 2 3 4)" ] &&
+    [ "$(<"$err")" = 'sweep: 4 of 4 configurations have a fault, the first in line 2 of the table: '\
+'not simulated (column fault)' ]
+verdict 'gathering where no task has left rows' $?
+rm -r empty
 ends 'a task that the grid has not' 2 'sweep: --task: the grid has 4 configurations, and no 5; try --help' \
     "$sweep" --task 5 --into tasks "${grid[@]}" -- kinds.din
 # of_another_grid NAME THERE HERE WORD..: a task of 4, whose folder is of another one.
