@@ -179,13 +179,10 @@ one_task() {
     tell_faults_of_task
 }
 
-# take_earlier FILE: what an earlier call of the task has left there, without half of a line, which
-# a copy may have.
+# take_earlier FILE: what an earlier call of the task has left there.
 take_earlier() {
     { : > "$work/earlier"; } 2>/dev/null || no_room
-    [ -f "$1" ] || return 0
-    [ -r "$1" ] || die 4 "$1 can't be read"
-    { head -n "$(wc -l < "$1")" -- "$1" > "$work/earlier"; } 2>/dev/null || no_room
+    [ ! -f "$1" ] || add_rows "$1" "$work/earlier"
 }
 
 # keep_for_task FILE: puts there the rows of the run that has ended, behind those of the runs before

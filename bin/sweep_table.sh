@@ -110,16 +110,20 @@ gather_table() {
     for file in "$store"/*; do
         [[ ${file##*/} =~ ^[0-9]+(-([0-9]+))?$ ]] || continue
         note_tasks "${BASH_REMATCH[2]:-all}"
-        { [ -f "$file" ] && [ -r "$file" ]; } || die 4 "$file can't be read"
-        # What stands behind the last line feed is a part of a row, as a copy may have it that was
-        # cut off.
-        { head -n "$(wc -l < "$file")" -- "$file" >> "$work/pending"; } 2>/dev/null || no_room
+        add_rows "$file" "$work/pending"
     done
     find_missing
     put_last_lines
     [ -z "$missing" ] ||
         complain "of the tasks 1-${of/all/$last}, these have not left all of their rows: $missing"
     tell_faults_of_table
+}
+
+# add_rows FILE TARGET: its whole lines. What stands behind the last line feed is a part of a row,
+# as a copy may have it that was cut off.
+add_rows() {
+    { [ -f "$1" ] && [ -r "$1" ]; } || die 4 "$1 can't be read"
+    { head -n "$(wc -l < "$1")" -- "$1" >> "$2"; } 2>/dev/null || no_room
 }
 
 # note_tasks SOME: sets `of` to how many tasks the grid is cut into, or to nothing if the names of
