@@ -103,7 +103,7 @@ $0 ~ near && $2 > room[substr($1, length($1) - digits + 1)] && /^(I | [LMS]) / {
     next
 }
 
-/^valgrind: / { state = "broken" }
+/^valgrind: |^==[0-9]+== +Valgrind cannot continue/ { state = "broken" }
 /^==[0-9]+== Exit code: / && state == "cut" { state = "whole" }
 { others++ }
 /^end$/ { exit }

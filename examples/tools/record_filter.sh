@@ -30,5 +30,8 @@ filters 'how many references straddle' $' M 1ffe7e3c,8\n L 1ffe7e28,32\n S 1ffe7
 # What valgrind says of its own failure is not made good by what it says later.
 filters 'a valgrind that fails before it tells its end' \
     $'I  00001000,3\nvalgrind: failed\n==12== Exit code:       0' 0 '2 00001000' '- broken 0'
+filters 'a valgrind that has no more memory' $'I  00001000,3
+==12==     Valgrind\'s memory management: out of memory:
+==12==     Valgrind cannot continue.  Sorry.' 0 '2 00001000' '- broken 0'
 filters 'a valgrind that comes to its end' $'I  00001000,3\n==12== Exit code:       0' 0 \
     '2 00001000' '- whole 0'

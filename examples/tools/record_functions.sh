@@ -9,6 +9,21 @@ status=0
     [ "$(tail -n 1 "$err")" = "$(<"$out")" ]
 verdict 'record that may open no more files' $?
 
+# is_whole_or_failed: a trace that ends early says so.
+is_whole_or_failed() {
+    [ "$status" -eq 0 ] || [[ $(tail -n 1 "$out") == record:* ]]
+}
+
+# Somewhere between these limits, valgrind has room for a part of the program alone.
+test_no_memory() {
+    local kilobytes
+    for kilobytes in 30000 36000 42000 50000 60000; do
+        status=0
+        (ulimit -v "$kilobytes" && exec "$record" true) >"$out" 2>"$err" </dev/null || status=$?
+        check "record where there are $kilobytes KiB of memory" is_whole_or_failed
+    done
+}
+
 # A function of one name in each of two files, and a nm that prints each line twice.
 assemble_twins() {
     printf '        .globl _start\n_start: call twin\n        ret\ntwin:   ret\n' >one.s
@@ -79,6 +94,7 @@ record: ./walk.s was not run: valgrind made no reference' "$record" ./walk.s
 }
 
 if has valgrind && [ -x walk ] && assemble_twins && assemble_copies; then
+    test_no_memory
     test_functions
     test_names
     test_programs
