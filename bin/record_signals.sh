@@ -29,9 +29,10 @@ begin_witness() {
     witness=$!
 }
 
-# end_witness
+# end_witness: waits until it has ended, or the shell would tell of it later.
 end_witness() {
     kill -KILL "$witness" 2>/dev/null || true
+    wait "$witness" || true
 }
 
 # forward SIGNAL

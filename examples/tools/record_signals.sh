@@ -112,6 +112,33 @@ test_parted() {
     verdict 'record of a program that has left the process group' $?
 }
 
+# What blocks the signals has much memory to give back when it is ended, each time more, so that it
+# ends while the command does. The shell that ends it says nothing of that.
+test_slow_end() {
+    local line='record: the trace could not be written'
+    local -x MARK=$work/blocks BYTES
+    # shellcheck disable=SC2016  # the inner shell's word
+    fake_valgrind 'until [ -e "$MARK" ]; do sleep 0.01; done'
+    cat >"$work/valgrind/tail" <<'END'
+#!/usr/bin/env bash
+printf -v memory '%*d' "$BYTES" 0
+: >"$MARK"
+exec {none}<> <(:)
+read -rt 60 -u "$none"
+END
+    chmod +x "$work/valgrind/tail"
+    for ((BYTES = 4000000; BYTES <= 60000000; BYTES += 4000000)); do
+        rm -f "$MARK"
+        status=0
+        PATH=$work/valgrind:$PATH "$record" true >/dev/full 2>"$err" </dev/null || status=$?
+        [ "$(<"$err")" = "$line" ] || break
+    done
+    [ "$status" -eq 4 ] && [ "$(<"$err")" = "$line" ]
+    verdict 'record says nothing of what it has ended itself' $?
+    rm "$MARK" "$work/valgrind/tail"
+}
+
+test_slow_end
 if has valgrind; then
     test_group
     test_alone
