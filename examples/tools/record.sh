@@ -37,9 +37,8 @@ to_din() {
 # environment that record gives it. It is linked at once, since lackey's counts, unlike its trace,
 # leave out how a linker saves the registers when a function is called for the first time.
 lackey_counts() {
-    # shellcheck disable=SC2016  # the inner shell's word
-    env -i PATH="$PATH" TMPDIR="$TMPDIR" LD_BIND_NOW=1 bash -c \
-        '(exec valgrind --tool=lackey --detailed-counts=yes -- "$0") 2>&1; true' "$1" |
+    env -i PATH="$PATH" TMPDIR="$TMPDIR" LD_BIND_NOW=1 \
+        valgrind --tool=lackey --detailed-counts=yes -- "$1" 2>&1 |
         awk '{ gsub(",", "") }
             /guest instrs:/ && !fetches { fetches = $4 }
             $2 ~ /^[IFV][0-9]+$/ { loads += $3; stores += $4 }

@@ -63,3 +63,10 @@ ends 'plot of no table, by POSIX' 4 \
 run "${posix[@]}" "$sweep" --resume posix.log --jobs 2 "${grid[@]}" -- kinds.din fifo.din
 check 'sweep by POSIX' is_table_of_rows
 rm posix.log
+
+# What the caller has set by names that the command has for itself.
+# shellcheck disable=SC2016  # the inner shell's words
+fake_valgrind 'echo "$size,$from,$trace,$CDPATH" >&2'
+run env size=1 from=2 trace=3 CDPATH=/ PATH="$work/valgrind:$PATH" "$record" true
+[ "$status" -eq 0 ] && [ "$(<"$out")" = '2 00001000' ] && [ "$(<"$err")" = 1,2,3,/ ]
+verdict "record hands on the caller's environment" $?
