@@ -1,8 +1,15 @@
 # What the commands of bin/ share. Each sets `self`, its name, before it reads this file.
 # shellcheck shell=bash
 
-# A relative name leads from where the command runs, and from nowhere else.
-unset CDPATH
+# A function of the caller's, which the shell has taken over, would stand in for the tool of its
+# name.
+while read -r _ _ theirs; do
+    unset -f -- "$theirs" || true
+done <<<"$(declare -F)"
+
+# A relative name leads from where the command runs, and from nowhere else. A pipe that says nothing
+# is waited for.
+unset CDPATH TMOUT || true
 
 # complain TEXT: a line on standard error, in the name of the command.
 complain() {
@@ -33,10 +40,10 @@ show_help() {
 }
 
 # Where POSIXLY_CORRECT is set, a file that can't be opened would end the shell without a word. What
-# SHELLOPTS may hold would leave a star a star, or take words for variables. The program of record
-# keeps what the caller has set.
-# shellcheck disable=SC2154  # each command sets its name
-[ "$self" = record ] || set +fk +o posix
+# SHELLOPTS may hold would leave a star a star, take words for variables, or refuse to write to a
+# file that is there; and what BASHOPTS may hold, make two lines of a text with a backslash.
+set +fkC +o posix
+shopt -u xpg_echo
 
 # A closed output stays one that can't be written, and a closed input one that can't be read, but no
 # file of the command's takes its number. To duplicate a number to itself would always succeed.

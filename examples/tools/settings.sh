@@ -37,13 +37,44 @@ else
     skip 'the commands in Turkish' 'the sources of locales (locales)'
 fi
 
-# What SHELLOPTS of the caller says of stars and words.
-"$sweep" --task 1/1 --into stars "${grid[@]}" -- kinds.din fifo.din
-for option in noglob keyword; do
-    run env SHELLOPTS=$option "$sweep" --gather stars
+# What the caller says of stars, words, files and texts, and functions with the names of tools.
+# shellcheck disable=SC2016  # the words of functions
+own=('BASH_FUNC_cat%%=() { command cat -n "$@"; }' 'BASH_FUNC_cd%%=() { builtin cd "$@" && pwd; }')
+for option in SHELLOPTS=noglob SHELLOPTS=keyword SHELLOPTS=noclobber "${own[@]}"; do
+    for again in '' ' again'; do
+        ends "a task with $option$again" 0 '' \
+            env "$option" "$sweep" --task 1/1 --into stars "${grid[@]}" -- kinds.din fifo.din
+    done
+    run env "$option" "$sweep" --gather stars
     check "sweep --gather with $option" is_table_of_rows
+    rm -r stars
 done
-rm -r stars
+ends 'sweep of a word with a backslash, with xpg_echo' 2 \
+    'sweep: unknown word: a\nb (traces stand behind --); try --help' \
+    env BASHOPTS=xpg_echo "$sweep" 'a\nb'
+
+# How long a shell reads at most. The first run takes longer, and has ended in the second one.
+test_long_read() {
+    cat >"$work/slow-grid" <<'END'
+#!/usr/bin/env bash
+[ ! /dev/stdin -ef "$SLOW" ] || sleep 2
+[ ! /dev/stdin -ef "$STILL" ] || exec sleep 60
+exec "$REAL" "$@"
+END
+    chmod +x "$work/slow-grid"
+    : >read.log
+    start env TMOUT=1 REAL="$simulator" CALLS="$work/calls" GRID="$work/slow-grid" \
+        SLOW="$PWD/kinds.din" STILL="$PWD/fifo.din" \
+        "$noting/sweep" --jobs 1 --resume read.log "${grid[@]}" -- kinds.din fifo.din
+    until_true lines_at_least read.log 5
+    kill -INT -- "-$started"
+    wait_for_started
+    [ "$status" -eq 130 ] && [ "$(<"$err")" = "sweep: interrupted: 4 of 8 configurations are in \
+read.log; the same call goes on from there" ]
+    verdict 'sweep with a log, with TMOUT' $?
+    rm read.log
+}
+test_long_read
 
 # What is installed is for all users.
 (umask 077 && exec "$bin/install" a/prefix) >"$out" 2>"$err"
