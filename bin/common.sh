@@ -44,6 +44,9 @@ show_help() {
 # file that is there; and what BASHOPTS may hold, make two lines of a text with a backslash.
 set +fkC +o posix
 shopt -u xpg_echo
+# The signal of a limit on files would end a tool without a word. The program of record gets it.
+# shellcheck disable=SC2154  # each command sets its name
+[ "$self" = record ] || trap '' XFSZ
 
 # A closed output stays one that can't be written, and a closed input one that can't be read, but no
 # file of the command's takes its number. To duplicate a number to itself would always succeed.

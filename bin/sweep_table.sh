@@ -19,7 +19,7 @@ put_lines() {
     next=$((next + ${#lines[@]}))
     [ ${#lines[@]} -gt 0 ] || return 0
     exec {table}>&1
-    fault=$(trap '' XFSZ && printf %s "${lines[@]}" 2>&1 >&"$table") || status=$?
+    fault=$(printf %s "${lines[@]}" 2>&1 >&"$table") || status=$?
     exec {table}>&-
     # If its reader has gone away, a command ends so.
     [ "$status" -ne 141 ] || exit 141
@@ -143,11 +143,10 @@ find_missing() {
         read -r missing < "$work/missing.$call"; } 2>/dev/null || no_room
 }
 
-# writing_fault FILE: why it can't grow, such as a full disk, if it can't. The signal of a limit on
-# files would end head without a word.
+# writing_fault FILE: why it can't grow, such as a full disk, if it can't.
 writing_fault() {
     local fault
-    fault=$({ trap '' XFSZ && head -c 8192 /dev/zero >> "$1"; } 2>&1) && fault=
+    fault=$({ head -c 8192 /dev/zero >> "$1"; } 2>&1) && fault=
     echo "${fault##*: }"
 }
 

@@ -38,6 +38,13 @@ test_full_disk() {
     [ "$status" -eq 4 ] && [ "$(wc -l <"$out")" -eq 1 ] &&
         [ "$(<"$err")" = "sweep: no room for temporary files in $TMPDIR" ]
     verdict 'and where the signal of a limit is not passed over' $?
+    ends 'sweep where no file has room' 4 "sweep: no room for temporary files in $TMPDIR" \
+        limited 1 "$sweep" "${grid[@]}" -- kinds.din
+    run limited 2 "$sweep" --resume limited.log "${grid[@]}" -- kinds.din fifo.din
+    [ "$status" -eq 4 ] &&
+        [ "$(<"$err")" = 'sweep: limited.log could not be written: File too large' ]
+    verdict 'sweep whose log has no room' $?
+    rm -f limited.log
     ends 'a task whose run fills the disk' 4 "sweep: no room for temporary files in $TMPDIR" \
         no_room 8 "$sweep" --task 1/1 --into full "${many[@]}" -- long.din
     [ ! -e full/1-1 ] && rm -r full
