@@ -101,3 +101,12 @@ fake_valgrind 'echo "$size,$from,$trace,$CDPATH" >&2'
 run env size=1 from=2 trace=3 CDPATH=/ PATH="$work/valgrind:$PATH" "$record" true
 [ "$status" -eq 0 ] && [ "$(<"$out")" = '2 00001000' ] && [ "$(<"$err")" = 1,2,3,/ ]
 verdict "record hands on the caller's environment" $?
+# More than half of what the system takes by default.
+(
+    printf -v long_text '%0100000d' 0
+    for number in {1..12}; do export "long$number=$long_text"; done
+    exec env size=1 PATH="$work/valgrind:$PATH" "$record" true
+) >"$out" 2>"$err" </dev/null
+status=$?
+[ "$status" -eq 0 ] && [ "$(<"$out")" = '2 00001000' ] && [ "$(<"$err")" = 1,,, ]
+verdict 'and a large one' $?
