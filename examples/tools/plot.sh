@@ -156,14 +156,14 @@ test_lacking_tables() {
             [ "$(<"$err")" = 'plot: the picture would replace its table: table.svg; try --help' ]
         verdict "plot of $table in the place of its table" $?
     done
-    mkdir "$work/ended" && printf '#!/bin/sh\nkill -XFSZ $$\n' >"$work/ended/gnuplot"
+    mkdir "$work/ended" && printf '#!/bin/sh\nkill -KILL $$\n' >"$work/ended/gnuplot"
     chmod +x "$work/ended/gnuplot"
-    ends 'plot with a gnuplot that is ended' 4 'plot: gnuplot failed: it ended with status 153' \
+    ends 'plot with a gnuplot that is ended' 4 'plot: gnuplot failed: it ended with status 137' \
         env PATH="$work/ended:$PATH" "$plot" kinds kinds.tsv none.svg
-    printf '#!/bin/sh\necho "\n\"script\" line 1: warning: iconv failed" >&2\nkill -XFSZ $$\n' \
+    printf '#!/bin/sh\necho "\n\"script\" line 1: warning: iconv failed" >&2\nkill -KILL $$\n' \
         >"$work/ended/gnuplot"
     ends 'plot with a gnuplot that warns and is ended' 4 \
-        'plot: gnuplot failed: it ended with status 153' \
+        'plot: gnuplot failed: it ended with status 137' \
         env PATH="$work/ended:$PATH" "$plot" kinds kinds.tsv none.svg
     echo before >before.svg
     run "$plot" kinds short.tsv before.svg
