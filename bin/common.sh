@@ -8,8 +8,8 @@ while read -r _ _ theirs; do
 done <<<"$(declare -F)"
 
 # A relative name leads from where the command runs, and from nowhere else. A pipe that says nothing
-# is waited for.
-unset CDPATH TMOUT || true
+# is waited for. A trace is unpacked, whatever else gzip and xz are told to do by default.
+unset CDPATH TMOUT GZIP XZ_OPT XZ_DEFAULTS || true
 
 # complain TEXT: a line on standard error, in the name of the command.
 complain() {

@@ -110,3 +110,41 @@ verdict "record hands on the caller's environment" $?
 status=$?
 [ "$status" -eq 0 ] && [ "$(<"$out")" = '2 00001000' ] && [ "$(<"$err")" = 1,,, ]
 verdict 'and a large one' $?
+# A word that sets nothing. No shell hands one on, but a program can.
+test_nameless_word() {
+    echo 'touch pwned' >"$work/valgrind/lost"
+    chmod +x "$work/valgrind/lost"
+    PATH=$work/valgrind:$PATH python3 - "$record" >"$out" 2>"$err" </dev/null <<'END'
+import ctypes, os, sys
+
+def array(words):
+    return (ctypes.c_char_p * (len(words) + 1))(*words, None)
+
+command = os.fsencode(sys.argv[1])
+words = [b'lost', b'=lost', b'size=1', b'PATH=' + os.environb[b'PATH']]
+ctypes.CDLL(None).execve(command, array([command, b'true']), array(words))
+END
+    status=$?
+    [ "$status" -eq 0 ] && [ "$(<"$out")" = '2 00001000' ] && [ "$(<"$err")" = 1,,, ] &&
+        [ ! -e pwned ]
+    verdict 'and one with words that set nothing' $?
+}
+if has python3; then
+    test_nameless_word
+else
+    skip 'an environment with words that set nothing' 'python3 (python3)'
+fi
+
+# What the tools that unpack are told to do by default.
+if has xz; then
+    xz -c kinds.din >packed.din.xz
+    run "$sweep" "${grid[@]}" -- kinds.din
+    mv "$out" "$work/unpacked"
+    run env GZIP=-t XZ_DEFAULTS=--list XZ_OPT=-t "$sweep" "${grid[@]}" -- packed.din.xz
+    [ "$status" -eq 0 ] && [ ! -s "$err" ] &&
+        cmp -s "$out" <(sed 's/^kinds.din/packed.din.xz/' "$work/unpacked")
+    verdict 'sweep of a packed trace, whatever xz is told to do' $?
+    rm packed.din.xz
+else
+    skip 'sweep of a packed trace, whatever xz is told to do' 'xz (xz-utils)'
+fi
