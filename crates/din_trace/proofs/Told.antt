@@ -7,7 +7,7 @@ use Rattle.std.proofs.lemmas.List.{take-append-le, append-nil}
 use Rattle.std.specs.Prelude.{nat_le}
 use Rattle.din_trace.specs.declared.fault.TraceFault.{TraceFault}
 use Rattle.din_trace.specs.declared.record.DinRecord.{DinRecord}
-use Rattle.din_trace.specs.Faults.{FailedBehind, IsFaultOf}
+use Rattle.din_trace.specs.Faults.{FailedBehind, GaveAll, IsFaultOf}
 use Rattle.din_trace.specs.Line.{ADDRESS_MAX}
 use Rattle.din_trace.specs.Text.{records, fault, Remaining, text_left}
 use Rattle.din_trace.specs.Remaining.{Script, Fate, Open, Ended, Failed, Follows, FateIs}
@@ -87,8 +87,9 @@ module _ {R : Type 0} (remaining : R → Option (List ℕ)) (failures : R → �
   )
 
 -- if a property holds for the records that are left, whatever the reader did, and no fault is left,
--- it holds for the records of some text
-module _ (limit : ℕ) (P : List DinRecord → Type 0) where
+-- the reader gave a text up to its end, and the property holds for the records of that text
+module _ {R : Type 0} (remaining : R → Option (List ℕ)) (failures : R → ℕ) (reader last : R)
+    (limit : ℕ) (P : List DinRecord → Type 0) where
   abbrev LeavesGood : Script → Type 0
   LeavesGood script =
       let l = text_left ADDRESS_MAX 1 script.given limit script.fails in
@@ -100,17 +101,23 @@ module _ (limit : ℕ) (P : List DinRecord → Type 0) where
       let law = leaves_text ADDRESS_MAX text limit in
       let none = sym law.fault_is ∙ good.0 in (none, subst P (law.records_are none) good.1)
 
-  pub of-some-text : (fate : Fate) (given : List ℕ) → ((before later : Script)
-      → Follows fate given before later → LeavesGood before) → (text : List ℕ)
+  -- some fault is left if the reader fails
+  no_failure : {A : Type 0} (given : List ℕ) → LeavesGood (record { given = given; fails = true })
+      → A
+  no_failure given good = absurd ((leaves_text ADDRESS_MAX given limit).fails good.0)
+
+  pub of-text-given : (fate : Fate) (given : List ℕ)
+      → FateIs fate (remaining reader) given (remaining last) (failures reader) (failures last)
+      → ((before later : Script) → Follows fate given before later → LeavesGood before)
+      → (text : List ℕ) × GaveAll remaining failures reader text
       × (fault ADDRESS_MAX text limit ≡ None) × P (records ADDRESS_MAX text)
-  of-some-text Open given left =
-      let end : Script = record { given = []; fails = false } in
-      let good = of-text (given ++ []) (left _ end refl) in (given ++ [], good.0, good.1)
-  of-some-text Ended given left =
+  of-text-given Open given is left =
+      no_failure (given ++ []) (left _ (record { given = []; fails = true }) refl)
+  of-text-given Ended given is left =
       let end : Script = record { given = []; fails = false } in
       let good = of-text given (left (record { given = given; fails = false }) end refl) in
-      (given, good.0, good.1)
-  of-some-text Failed given left =
-      let end : Script = record { given = []; fails = false } in
-      let good = left (record { given = given; fails = true }) end refl in
-      absurd ((leaves_text ADDRESS_MAX given limit).fails good.0)
+      let all : GaveAll remaining failures reader given =
+      record { last = last; gave = is.0; ended = is.1; sound = is.2 } in
+      (given, all, good.0, good.1)
+  of-text-given Failed given is left =
+      no_failure given (left _ (record { given = []; fails = false }) refl)

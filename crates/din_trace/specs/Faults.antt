@@ -1,12 +1,24 @@
--- Which faults a run that reads a trace may answer.
+-- What a run over a reader may answer: that the reader gave a text and came to its end, or which
+-- fault.
 use Rattle.std.specs.Prelude.{◌≡◌, ◌⊎◌, ◌≤◌, ℕ, List, ◌++◌, length, Option, Some}
+use Rattle.std.specs.Io.KnownBytes.{Consumes, IsAtEnd}
 use Rattle.din_trace.specs.declared.fault.TraceFault.{TraceFault}
 use Rattle.din_trace.specs.Device.{once_more}
 use Rattle.din_trace.specs.Line.{ADDRESS_MAX}
 use Rattle.din_trace.specs.Text.{fault, failed_fault}
 
--- the text begins with the given bytes, and there is a reader of this type that has the rest left
--- and has failed once more than this one: so a reader stands that failed after it gave those bytes
+-- the reader gave the text, came to its end, and never failed: some reader of this type has all
+-- of that behind it, and has failed as often as this one
+pub record GaveAll {R : Type 0} (remaining : R → Option (List ℕ)) (failures : R → ℕ) (reader : R)
+    (text : List ℕ) : Type 0 where
+  pub last : R
+  pub gave : Consumes (remaining reader) (remaining last) text
+  pub ended : IsAtEnd (remaining last)
+  pub sound : failures last ≡ failures reader
+
+-- the text begins with the given bytes, and some reader of this type has the rest left and has
+-- failed once more than this one, as this one has once it failed after it gave those bytes; that it
+-- gave all of them before it failed is not said
 pub record FailedBehind {R : Type 0} (remaining : R → Option (List ℕ)) (failures : R → ℕ)
     (reader : R) (text given : List ℕ) : Type 0 where
   pub rest : List ℕ

@@ -21,7 +21,7 @@ ghost use Rattle.std.specs.Io.KnownBytes.{Appends};
 ghost use Rattle.din_trace.specs.Device.{Writes, once_more};
 ghost use Rattle.din_trace.specs.Line.{ADDRESS_MAX};
 ghost use Rattle.din_trace.specs.Text.{fault};
-ghost use Rattle.din_trace.specs.Faults.{IsFaultOf};
+ghost use Rattle.din_trace.specs.Faults.{GaveAll, IsFaultOf};
 ghost use Rattle.grid_options.specs.Grid.{AnswersGridWords};
 ghost use Rattle.grid_run.specs.Grids.{table_of};
 ghost use Rattle.grid_run.specs.declared.grid.Grid.{Grid};
@@ -75,7 +75,8 @@ fn table<T: Threads + Sync, R: ByteReader + Drop + Send, W: ByteWriter>(
         ((fault ADDRESS_MAX text MAX_LIMIT ≡ None)
         × ((grid : Grid) × IsGridFor asked grid
         × Appends (W.contents writer.old) (W.contents writer.new) (table_of grid text))) }
-    ensures whole { OnOk result ((text : List ℕ) × (fault ADDRESS_MAX text MAX_LIMIT ≡ None)
+    ensures whole { OnOk result ((text : List ℕ) × GaveAll R.remaining R.failures reader text
+        × (fault ADDRESS_MAX text MAX_LIMIT ≡ None)
         × ((grid : Grid) × IsGridFor asked grid
         × Appends (W.contents writer.old) (W.contents writer.new) (table_of grid text))) }
     ensures refused { IfOk result (λ some. some ≡ has_refused asked.points.items) }
@@ -110,7 +111,7 @@ fn run<T: Threads + Sync, R: ByteReader + Drop + Send, W: ByteWriter>(
         (fault ADDRESS_MAX text MAX_LIMIT ≡ None) × HasTable (map string_bytes words.now) text some
         (W.contents writer.old) (W.contents writer.new)) }
     ensures whole { IfOk result (λ some. (text : List ℕ)
-        × (fault ADDRESS_MAX text MAX_LIMIT ≡ None)
+        × GaveAll R.remaining R.failures reader text × (fault ADDRESS_MAX text MAX_LIMIT ≡ None)
         × HasTable (map string_bytes words.now) text some
         (W.contents writer.old) (W.contents writer.new)) }
     ensures words { (why : GridWordsFault) → result ≡ Err (Fault.Words why)

@@ -19,7 +19,7 @@ ghost use Rattle.std.specs.Io.KnownBytes.{Appends};
 ghost use Rattle.din_trace.specs.Device.{Writes, once_more};
 ghost use Rattle.din_trace.specs.Line.{ADDRESS_MAX};
 ghost use Rattle.din_trace.specs.Text.{fault};
-ghost use Rattle.din_trace.specs.Faults.{IsFaultOf};
+ghost use Rattle.din_trace.specs.Faults.{GaveAll, IsFaultOf};
 ghost use Rattle.stage_core.specs.Events.{IsBounded};
 ghost use Rattle.sim_run.specs.TraceReport.{report_of};
 ghost use Rattle.dinero_options.specs.Answer.{AnswersWords};
@@ -52,7 +52,8 @@ fn report<H: Threads + Wait + Sync, R: ByteReader + Drop, W: ByteWriter>(
         ((fault ADDRESS_MAX text MAX_LIMIT ≡ None)
         × Appends (W.contents writer.old) (W.contents writer.new)
         (report_of config.now selection.now text)) }
-    ensures whole { OnOk result ((text : List ℕ) × (fault ADDRESS_MAX text MAX_LIMIT ≡ None)
+    ensures whole { OnOk result ((text : List ℕ) × GaveAll R.remaining R.failures reader text
+        × (fault ADDRESS_MAX text MAX_LIMIT ≡ None)
         × Appends (W.contents writer.old) (W.contents writer.new)
         (report_of config.now selection.now text)) }
     ensures trace { (text : List ℕ) → R.remaining reader ≡ Some text
@@ -82,9 +83,9 @@ fn run<H: Threads + Wait + Sync, R: ByteReader + Drop, W: ByteWriter>(
     ensures report { (text : List ℕ) → R.remaining reader ≡ Some text → OnOk result
         ((fault ADDRESS_MAX text MAX_LIMIT ≡ None) × HasReport (map string_bytes words.now) text
         (W.contents writer.old) (W.contents writer.new)) }
-    ensures whole { OnOk result ((text : List ℕ) × (fault ADDRESS_MAX text MAX_LIMIT ≡ None)
-        × HasReport (map string_bytes words.now) text (W.contents writer.old)
-        (W.contents writer.new)) }
+    ensures whole { OnOk result ((text : List ℕ) × GaveAll R.remaining R.failures reader text
+        × (fault ADDRESS_MAX text MAX_LIMIT ≡ None) × HasReport (map string_bytes words.now) text
+        (W.contents writer.old) (W.contents writer.new)) }
     ensures words { (why : WordsFault) → result ≡ Err (Fault.Words why)
         → AnswersWords (map string_bytes words.now) (Err why) }
     ensures accepted { (why : RunFault) → result ≡ Err (Fault.Run why)

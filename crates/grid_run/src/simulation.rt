@@ -7,7 +7,7 @@ ghost use Rattle.std.specs.Io.KnownBytes.{Appends};
 ghost use Rattle.din_trace.specs.Device.{once_more};
 ghost use Rattle.din_trace.specs.Line.{ADDRESS_MAX};
 ghost use Rattle.din_trace.specs.Text.{fault};
-ghost use Rattle.din_trace.specs.Faults.{IsFaultOf};
+ghost use Rattle.din_trace.specs.Faults.{GaveAll, IsFaultOf};
 ghost use Rattle.din_trace.specs.declared.record.DinRecord.{DinRecord};
 ghost use Rattle.grid_run.specs.Grids.{HasBoundedRows, row_line, table, table_of};
 ghost use Rattle.grid_run.specs.Rows.{HasPlace, HavePlaces};
@@ -132,8 +132,9 @@ pub fn simulate_grid<T: Threads + Sync, R: ByteReader + Drop + Send, W: ByteWrit
         ((fault ADDRESS_MAX text limit ≡ None)
         × Appends (W.contents writer.old) (W.contents writer.new)
         (table_of grid.now text)) }
-    // For any reader, the same holds for some text.
-    ensures whole { OnOk result ((text : List ℕ) × (fault ADDRESS_MAX text limit ≡ None)
+    // For any reader, the same holds for a text that it gave, without a failure, up to its end.
+    ensures whole { OnOk result ((text : List ℕ) × GaveAll R.remaining R.failures reader text
+        × (fault ADDRESS_MAX text limit ≡ None)
         × Appends (W.contents writer.old) (W.contents writer.new) (table_of grid.now text)) }
     ensures trace { (text : List ℕ) → R.remaining reader ≡ Some text
         → (why : TraceFault) → result ≡ Err (GridFault.Trace why)

@@ -5,7 +5,7 @@ ghost use Rattle.std.specs.Io.KnownBytes.{Appends};
 ghost use Rattle.din_trace.specs.Device.{once_more};
 ghost use Rattle.din_trace.specs.Line.{ADDRESS_MAX};
 ghost use Rattle.din_trace.specs.Text.{fault};
-ghost use Rattle.din_trace.specs.Faults.{IsFaultOf};
+ghost use Rattle.din_trace.specs.Faults.{GaveAll, IsFaultOf};
 ghost use Rattle.stage_core.specs.Events.{IsBounded};
 ghost use Rattle.sim_run.specs.TraceReport.{report_of};
 
@@ -34,8 +34,9 @@ pub fn simulate_plain<R: ByteReader + Drop, W: ByteWriter>(
         ((fault ADDRESS_MAX text limit ≡ None)
         × Appends (W.contents writer.old) (W.contents writer.new)
         (report_of config.now selection.now text)) }
-    // For any reader, the same holds for some text.
-    ensures whole { OnOk result ((text : List ℕ) × (fault ADDRESS_MAX text limit ≡ None)
+    // For any reader, the same holds for a text that it gave, without a failure, up to its end.
+    ensures whole { OnOk result ((text : List ℕ) × GaveAll R.remaining R.failures reader text
+        × (fault ADDRESS_MAX text limit ≡ None)
         × Appends (W.contents writer.old) (W.contents writer.new)
         (report_of config.now selection.now text)) }
     ensures trace { (text : List ℕ) → R.remaining reader ≡ Some text

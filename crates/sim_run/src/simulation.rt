@@ -5,7 +5,7 @@ ghost use Rattle.std.specs.Io.KnownBytes.{Appends};
 ghost use Rattle.din_trace.specs.Device.{once_more};
 ghost use Rattle.din_trace.specs.Line.{ADDRESS_MAX};
 ghost use Rattle.din_trace.specs.Text.{fault, records};
-ghost use Rattle.din_trace.specs.Faults.{IsFaultOf};
+ghost use Rattle.din_trace.specs.Faults.{GaveAll, IsFaultOf};
 ghost use Rattle.stage_core.specs.Config.{hierarchy_of, ring_of};
 ghost use Rattle.stage_core.specs.Events.{IsBounded, events};
 ghost use Rattle.cache_report.specs.Report.{report};
@@ -50,9 +50,9 @@ pub fn simulate<H: Threads + Wait + Sync, R: ByteReader + Drop, G: Gate, W: Byte
         (fault ADDRESS_MAX text limit ≡ None)
         × HasRun (ring_of config.now) (hierarchy_of config.now)
         (events selection.now (records ADDRESS_MAX text)) settled) }
-    // For any reader, the same holds for some text.
+    // For any reader, the same holds for a text that it gave, without a failure, up to its end.
     ensures whole { IfOk result (λ settled. (text : List ℕ)
-        × (fault ADDRESS_MAX text limit ≡ None)
+        × GaveAll R.remaining R.failures reader text × (fault ADDRESS_MAX text limit ≡ None)
         × HasRun (ring_of config.now) (hierarchy_of config.now)
         (events selection.now (records ADDRESS_MAX text)) settled) }
     // The report of these counts was written.

@@ -26,12 +26,13 @@ returns-in-Ok-table-clause-whole g c =
     let told = c.in-Ok-table.ensures.whole in (
       told.0,
       told.1,
+      told.2,
       record {
         parsed = c.in-Ok.asked;
         asked = c.in-Ok.ensures.answer;
-        grid = told.2.0;
-        rows = told.2.1;
+        grid = told.3.0;
+        rows = told.3.1;
         refused = c.in-Ok-table.ensures.refused;
-        written = told.2.2;
+        written = told.3.2;
       },
     )

@@ -15,4 +15,4 @@ returns-clause-table g c text known =
 pub returns-clause-whole : goal.returns-clause-whole
 returns-clause-whole g c =
     let told = c.in_ok-simulate_grid.ensures.whole in
-    (told.0, told.1, (c.in-Ok.grid, c.in-Ok.ensures.grid, told.2))
+    (told.0, told.1, told.2, (c.in-Ok.grid, c.in-Ok.ensures.grid, told.3))

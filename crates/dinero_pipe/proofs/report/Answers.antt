@@ -12,4 +12,4 @@ pub returns-clause-whole : goal.returns-clause-whole
 unfolding report_of
 returns-clause-whole g c =
     let whole = c.in_ok-_settled.ensures.whole in
-    (whole.0, whole.1, rw whole.2.counted at c.in_ok-_settled.ensures.report)
+    (whole.0, whole.1, whole.2, rw whole.3.counted at c.in_ok-_settled.ensures.report)

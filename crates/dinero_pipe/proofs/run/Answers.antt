@@ -38,10 +38,11 @@ returns-in-Ok-report-clause-whole g c =
     let told = c.in-Ok-report.ensures.whole in (
       told.0,
       told.1,
+      told.2,
       record {
         config = c.in-Ok.asked.0;
         selection = c.in-Ok.asked.1;
         asked = c.in-Ok.ensures.answer;
-        written = told.2;
+        written = told.3;
       },
     )

@@ -5,7 +5,7 @@ use Rattle.std.specs.List.{All}
 use Rattle.din_trace.specs.Source.{reader_of}
 use Rattle.din_trace.specs.Text.{Remaining}
 use Rattle.din_trace.specs.declared.record.DinRecord.{DinRecord}
-use Rattle.din_trace.proofs.Told.{MayBeLeft, of-some-text, script_of_told}
+use Rattle.din_trace.proofs.Told.{MayBeLeft, of-text-given, script_of_told}
 use Rattle.grid_run.specs.Grids.{table, table_of}
 use Rattle.grid_run.specs.Rows.{ServedAll}
 use Rattle.grid_run.specs.Workers.{Took}
@@ -59,9 +59,12 @@ pub returns-clause-whole : goal.returns-clause-whole
 unfolding table_of
 returns-clause-whole g c =
     let reads = c.serve_trace.ensures.reads in
-    let some = of-some-text c.args.limit
+    let same : reader_of c.new-source.result ≡ c.args.reader = c.new-source.ensures.reader in
+    let some = of-text-given g.R.ByteReader.remaining g.R.ByteReader.failures c.args.reader
+    (reader_of c.serve_trace.new.source) c.args.limit
     (λ rs. All (Took rs) c.serve_trace.new.crew.workers.items) reads.1 reads.0
+    (rw same at reads.2.reader)
     (λ before later is. subst (ServedAll _ c.serve_trace.new.crew.workers.items)
     c.in_ok-serve_trace.was (reads.3 before later _ is (c.new-source.ensures.left before))) in
-    on_ok_weaker c.write_table.result (λ wrote. (some.0, some.1, wrote))
-    (c.write_table.ensures.table _ some.2)
+    on_ok_weaker c.write_table.result (λ wrote. (some.0, some.1, some.2, wrote))
+    (c.write_table.ensures.table _ some.3)

@@ -4,6 +4,7 @@ use Rattle.din_trace.specs.declared.record.DinRecord.{DinRecord}
 use Rattle.din_trace.specs.declared.fault.TraceFault.{TraceFault}
 use Rattle.din_trace.specs.declared.fault.TraceFault.TheVariants as trace
 use Rattle.din_trace.specs.Line.{ADDRESS_MAX}
+use Rattle.din_trace.specs.Source.{reader_of}
 use Rattle.din_trace.specs.Text.{records}
 use Rattle.stage_core.specs.Config.{hierarchy_of}
 use Rattle.stage_core.specs.Events.{events}
@@ -11,7 +12,7 @@ use Rattle.stage_core.specs.SecondLevel.{totals}
 use Rattle.stage_core.specs.declared.config.Config.{Config}
 use Rattle.stage_core.specs.declared.selection.Selection.{Selection}
 use Rattle.stage_core.specs.declared.totals.Totals.{Totals}
-use Rattle.din_trace.proofs.Told.{of-some-text}
+use Rattle.din_trace.proofs.Told.{of-text-given}
 use Rattle.run_threads.specs.declared.fault.RunFault.{RunFault}
 use Rattle.run_threads.specs.declared.fault.RunFault.TheVariants.{Trace}
 use Rattle.run_threads.specs.Faults.{source_fault}
@@ -63,11 +64,13 @@ pub returns-clause-whole : goal.returns-clause-whole
 unfolding report_of
 returns-clause-whole g c =
     let reads = c.rest.ensures.reads in
-    let some = of-some-text c.args.limit (λ rs. c.deref.result.now ≡ rs) reads.1 reads.0
+    let some = of-text-given g.R.ByteReader.remaining g.R.ByteReader.failures c.args.reader
+    (reader_of c.rest.new.self) c.args.limit (λ rs. c.deref.result.now ≡ rs) reads.1 reads.0
+    (rw c.new-source.ensures.reader at reads.2.reader)
     (λ before later is. let all = rw c.in-Ok.is at reads.3 before later _ is
     (c.new-source.ensures.left before) in (all.1, c.deref.ensures.value ∙ all.0)) in
     let counted : c.in-Ok-run_plain.totals ≡ totals_over c.args.config.now c.args.selection.now
     (records ADDRESS_MAX some.0) =
-    c.in-Ok-run_plain.ensures ∙ ap (totals_over c.args.config.now c.args.selection.now) some.2 in
-    on_ok_weaker c.write_report.result (λ wrote. (some.0, some.1, rw counted at wrote))
+    c.in-Ok-run_plain.ensures ∙ ap (totals_over c.args.config.now c.args.selection.now) some.3 in
+    on_ok_weaker c.write_report.result (λ wrote. (some.0, some.1, some.2, rw counted at wrote))
     c.write_report.ensures.written.ok

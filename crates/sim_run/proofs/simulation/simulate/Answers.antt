@@ -1,6 +1,7 @@
 use Rattle.std.proofs.Common.{rules, Err, ◌≡◌, List, subst}
 use Rattle.din_trace.specs.declared.record.DinRecord.{DinRecord}
-use Rattle.din_trace.proofs.Told.{of-some-text}
+use Rattle.din_trace.proofs.Told.{of-text-given}
+use Rattle.din_trace.specs.Source.{reader_of}
 use Rattle.stage_core.specs.Config.{hierarchy_of, ring_of}
 use Rattle.stage_core.specs.Events.{events}
 use Rattle.run_threads.specs.declared.fault.RunFault.TheVariants.{Trace}
@@ -38,9 +39,10 @@ returns-clause-run g c text known =
 pub returns-clause-whole : goal.returns-clause-whole
 returns-clause-whole g c =
     let reads = c.run_pipeline-source.ensures.reads in
-    of-some-text c.args.limit (λ t. HasRun (ring_of c.args.config.now)
+    of-text-given g.R.ByteReader.remaining g.R.ByteReader.failures c.args.reader
+    (reader_of c.run_pipeline-source.result.0) c.args.limit (λ t. HasRun (ring_of c.args.config.now)
     (hierarchy_of c.args.config.now) (events c.args.selection.now t)
-    c.in_ok-settled.settled) reads.1 reads.0
+    c.in_ok-settled.settled) reads.1 reads.0 (rw c.new-source.ensures.reader at reads.2.reader)
     (λ before later is. let ended = rw c.in_ok-settled.was at reads.3 before later _ is
     (c.new-source.ensures.left before) in (ended.0, ended.1))
 
