@@ -1,5 +1,5 @@
 -- The report: three blocks of eleven lines, one for each cache.
-use Rattle.std.specs.Prelude.{◌≡◌, ◌⊎◌, ℕ, ◌-◌, ◌*◌, ◌/◌, ◌%◌, ◌==◌, List, [], ◌∷◌, ◌++◌, map}
+use Rattle.std.specs.Prelude.{ℕ, ◌-◌, ◌*◌, ◌/◌, ◌%◌, ◌==◌, List, [], ◌∷◌, ◌++◌, map}
 use Rattle.std.specs.Prelude.{length, replicate, codes, decimal}
 use Rattle.std.specs.Prelude.{if◌then◌else◌}
 use Rattle.std.specs.List.{concat, flat_map}
@@ -76,11 +76,6 @@ block name c = concat (
     ∷ count_line (codes "Writes Sent On") c.sent_on
     ∷ count_line (codes "Flushes") c.flushes
     ∷ [])
-
--- the text is the name of one of the three caches
-abbrev pub IsCacheName : List ℕ → Type 0
-IsCacheName name =
-    (name ≡ codes "l1-icache") ⊎ ((name ≡ codes "l1-dcache") ⊎ (name ≡ codes "l2-ucache"))
 
 -- the whole report: three blocks, separated by empty lines
 unfoldable pub report : Totals → List ℕ

@@ -4,7 +4,7 @@ ghost use Rattle.std.specs.Prelude.{◌<◌, ◌≤◌, ◌^◌, ◌∷◌, [], 
 ghost use Rattle.std.specs.Prelude.{codes};
 ghost use Rattle.std.specs.List.{concat};
 ghost use Rattle.din_trace.specs.Device.{Writes};
-ghost use Rattle.cache_report.specs.Report.{IsCacheName, block, class_line, column, count_line};
+ghost use Rattle.cache_report.specs.Report.{block, class_line, column, count_line};
 ghost use Rattle.cache_report.specs.Report.{five_rates, four_digits, heads, line, name_field, rate};
 ghost use Rattle.cache_report.specs.Report.{rate_text, report};
 
@@ -195,7 +195,6 @@ pub fn write_block<W: ByteWriter>(
     counts: &Counts,
     writer: &mut W,
 ) -> Result<(), DeviceFailed>
-    requires { IsCacheName name.now }
     ensures { Writes W.contents W.failures writer.old writer.new result
         (block name.now counts.now) }
 {
@@ -209,7 +208,6 @@ fn put_next_block<W: ByteWriter>(
     name: &str,
     counts: &Counts,
 ) -> Result<(), DeviceFailed>
-    requires { IsCacheName name.now }
     ensures { Writes W.contents W.failures writer.old writer.new result
         (10 ∷ block name.now counts.now) }
 {

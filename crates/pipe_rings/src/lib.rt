@@ -31,6 +31,7 @@ mod yields;
 ghost use Rattle.std.specs.Prelude.{◌≡◌, ◌≤◌, [], IfOk};
 ghost use Rattle.pipe_rings.specs.Rings.{sent, received, capacity_of, outbox_of, outbox_for};
 ghost use Rattle.pipe_rings.specs.Rings.{AreEnds, SameTx, SameRx, IsBehindBy, IsAnnounced};
+ghost use Rattle.pipe_rings.specs.Rings.{HasRoom};
 
 pub use bell::Bell;
 pub use memory::NoMemory;
@@ -46,6 +47,7 @@ pub fn ring<T: Copy>(alloc: Global, capacity: usize) -> Result<(Tx<T>, Rx<T>), N
     ensures one { IfOk result (λ r. AreEnds r.0 r.1) }
     ensures capacity { IfOk result (λ r. capacity_of r.0 ≡ capacity) }
     ensures outbox { IfOk result (λ r. outbox_of r.0 ≡ OUTBOX) }
+    ensures room { IfOk result (λ r. HasRoom r.0) }
     ensures new { IfOk result (λ r. (sent r.0 ≡ []) × (received r.1 ≡ [])) }
     ensures announced { IfOk result (λ r. IsAnnounced r.0) }
 {
@@ -75,6 +77,7 @@ pub fn ring_from<T: Copy>(
     ensures one { IfOk result (λ r. AreEnds r.0 r.1) }
     ensures capacity { IfOk result (λ r. capacity_of r.0 ≡ capacity) }
     ensures outbox { IfOk result (λ r. outbox_of r.0 ≡ outbox_for outbox) }
+    ensures room { IfOk result (λ r. HasRoom r.0) }
     ensures new { IfOk result (λ r. (sent r.0 ≡ []) × (received r.1 ≡ [])) }
     ensures announced { IfOk result (λ r. IsAnnounced r.0) }
 {

@@ -60,7 +60,7 @@ impl<T: Copy> Tx<T> {
     ) -> Result<Tx<T>, NoMemory>
         requires { ring.sent end ≡ [] }
         ensures end { IfOk result (λ tx. tx.end ≡ end) }
-        ensures room { IfOk result (λ tx. tx.room ≡ outbox_for outbox) }
+        ensures room { IfOk result (λ tx. (tx.room ≡ outbox_for outbox) × HasRoom tx) }
         ensures sent { IfOk result (λ tx. sent tx ≡ []) }
         ensures announced { IfOk result IsAnnounced }
     {
@@ -80,13 +80,13 @@ impl<T: Copy> Tx<T> {
         })
     }
 
-    /// Sends the item after all posted items. Waits until the ring has room for them, so that none
-    /// is left in the outbox. If the receiver is gone, the item comes back, even if the ring has
-    /// room.
+    /// Sends the item after all posted items, and waits until the ring has room for them. If the
+    /// receiver is gone, the item comes back, even if the ring has room.
     pub fn send<R: Wait>(&mut self, rt: &R, item: T) -> Result<(), Gone<T>>
         ensures ring { SameTx self.old self.new }
         ensures ok { OnOk result (sent self.new ≡ sent self.old ++ item ∷ []) }
         ensures published { OnOk result (posted self.new ≡ []) }
+        ensures room { OnOk result (HasRoom self.new) }
         ensures announced { OnOk result (IsAnnounced self.new) }
         ensures gone { IfErr result (λ g. (g.item ≡ item) × (sent self.new ≡ sent self.old)) }
     {
@@ -118,8 +118,7 @@ impl<T: Copy> Tx<T> {
         self.outbox.len() - self.first
     }
 
-    /// Puts the item into the outbox. It counts as sent, but the receiver gets it only after a
-    /// `publish` or `send`.
+    /// Puts the item into the outbox. It counts as sent, but goes into the ring later.
     #[inline]
     pub fn post(&mut self, item: T)
         requires { HasRoom self.old }
@@ -147,10 +146,9 @@ impl<T: Copy> Tx<T> {
         count
     }
 
-    /// Like [`publish`](Tx::publish), but lets a sleeping receiver sleep on, so that it finds more
-    /// to do when it wakes. Its bell is rung if the ring is full, or if many items were offered
-    /// since it was last rung. A sender that is about to wait for something else calls `publish`
-    /// before.
+    /// Like [`publish`](Tx::publish), but wakes a sleeping receiver only if items are left in the
+    /// outbox, or if many went into the ring since its bell was last rung. So a receiver that wakes
+    /// finds more to do. Before a sender waits for something else, it calls `publish`.
     pub fn offer(&mut self) -> usize
         ensures ring { SameTx self.old self.new }
         ensures sent { sent self.new ≡ sent self.old }
@@ -254,7 +252,7 @@ impl<T: Copy> Tx<T> {
         requires empty { length self.old.outbox.items ≡ 0 }
         ensures ring { SameTx self.old self.new }
         ensures pushed { IsTrue result → sent self.new ≡ sent self.old ++ item ∷ [] }
-        ensures published { posted self.new ≡ [] }
+        ensures published { (posted self.new ≡ []) × HasRoom self.new }
         ensures full { result ≡ false → (sent self.new ≡ sent self.old)
             × (self.new.unannounced ≡ self.old.unannounced) }
         ensures counted { IsTrue result → 0 < self.new.unannounced }
@@ -270,7 +268,7 @@ impl<T: Copy> Tx<T> {
     fn push(&mut self, item: T) -> bool
         ensures ring { SameTx self.old self.new }
         ensures pushed { IsTrue result → sent self.new ≡ sent self.old ++ item ∷ [] }
-        ensures published { IsTrue result → posted self.new ≡ [] }
+        ensures published { IsTrue result → (posted self.new ≡ []) × HasRoom self.new }
         ensures full { result ≡ false → sent self.new ≡ sent self.old }
         ensures announced { IsAnnounced self.new }
     {

@@ -2,7 +2,7 @@
 
 ghost use Rattle.std.specs.Prelude.{IsOkUnless};
 ghost use Rattle.din_trace.specs.Device.{Writes};
-ghost use Rattle.cache_report.specs.Report.{IsCacheName, block, report};
+ghost use Rattle.cache_report.specs.Report.{block, report};
 
 use cache_core::Counts;
 use din_trace::ByteWriter;
@@ -16,7 +16,6 @@ pub fn write_block<W: ByteWriter>(
     counts: &Counts,
     writer: &mut W,
 ) -> Result<(), RunFault>
-    requires { IsCacheName name.now }
     ensures written { Writes W.contents W.failures writer.old writer.new result
         (block name.now counts.now) }
     ensures fault { IsOkUnless result RunFault.Write }
