@@ -1,16 +1,12 @@
 -- Examples of the definitions: the streams and counts of small traces, worked out by hand.
-use Rattle.std.specs.Prelude.{◌≡◌, ℕ, true, false, List, [], ◌∷◌, refl}
+use Rattle.std.specs.Prelude.{◌≡◌, ℕ, true, false, List, [], ◌∷◌}
 use Rattle.cache_core.specs.declared.access.Class.TheVariants as class
 use Rattle.cache_core.specs.History.{Rules, flush}
-use Rattle.cache_core.specs.Residents.{reuse_distance, is_resident, renewals, victim}
-use Rattle.cache_core.specs.Dirty.{is_written, is_dirty, dirty_blocks}
-use Rattle.cache_core.specs.Parts.{outcome_of}
-use Rattle.cache_core.specs.Counts.{counts_of, tally, flushes_in, flushed_back}
 use Rattle.din_trace.specs.declared.record.DinRecord.{DinRecord}
 use Rattle.din_trace.specs.declared.record.Label.{Label}
 use Rattle.din_trace.specs.declared.record.Label.TheVariants as label
 use Rattle.stage_core.specs.Events.{access_of, events}
-use Rattle.stage_core.specs.SecondLevel.{Hierarchy, parts_of, parts_in, second_level_requests}
+use Rattle.stage_core.specs.SecondLevel.{Hierarchy, parts_in, second_level_requests}
 use Rattle.stage_core.specs.SecondLevel.{second_history, totals}
 use Rattle.stage_core.specs.Streams.{order, to_side, from_side}
 use Rattle.stage_core.specs.Network.{messages}
@@ -44,98 +40,53 @@ at_label l a = record { label = l; addr = a }
 abbrev victim_trace : List DinRecord
 victim_trace = at_label label.Write 0 ∷ at_label label.Read 8 ∷ at_label label.Read 16 ∷ []
 
-order-victim : order victim_trace ≡ turn.D ∷ turn.D ∷ turn.D ∷ turn.Finish ∷ []
-order-victim = refl
-
-to_d-victim : to_side side.D victim_trace
-    ≡ to_stage.Ref 1 class.Write 0
-    ∷ to_stage.Ref 2 class.Read 8
-    ∷ to_stage.Ref 3 class.Read 16
-    ∷ to_stage.Finish ∷ []
-to_d-victim = refl
-
-from_d-victim : from_side (parts_in small) side.D victim_trace
-    ≡ from_stage.Part 1 1 (what.Fetch class.Read 0) ∷ from_stage.Done 1 1
-    ∷ from_stage.Part 2 1 (what.Fetch class.Read 8) ∷ from_stage.Done 2 1
-    ∷ from_stage.Part 3 1 (what.Back 0) ∷ from_stage.Part 3 2 (what.Fetch class.Read 16)
-    ∷ from_stage.Done 3 2
-    ∷ from_stage.Finish ∷ []
-unfolding parts_of outcome_of victim renewals is_resident reuse_distance dirty_blocks is_dirty
-    is_written
-from_d-victim = refl
-
--- the history of the second level, the newest request first
-second-victim : second_history (second_level_requests (parts_in small) victim_trace)
-    ≡ access_of class.Read 16 ∷ access_of class.Write 0 ∷ access_of class.Read 8
-    ∷ access_of class.Read 0 ∷ []
-unfolding parts_of outcome_of victim renewals is_resident reuse_distance dirty_blocks is_dirty
-    is_written
-second-victim = refl
-
-misses-victim : (totals small victim_trace).u.misses
-    ≡ record { instr = 0; read = 3; write = 0; misc = 0 }
-unfolding parts_of outcome_of victim renewals is_resident reuse_distance dirty_blocks is_dirty
-    is_written counts_of tally flushes_in flushed_back
-misses-victim = refl
-
--- the number of messages in all five streams
-messages-victim : messages (parts_in small) victim_trace ≡ 18
-unfolding parts_of outcome_of victim renewals is_resident reuse_distance dirty_blocks is_dirty
-    is_written
-messages-victim = refl
-
 -- two writes and a flush
 abbrev flush_trace : List DinRecord
 flush_trace = at_label label.Write 8 ∷ at_label label.Write 0 ∷ at_label label.Flush 0 ∷ []
 
-order-flush : order flush_trace ≡ turn.D ∷ turn.D ∷ turn.Both ∷ turn.Finish ∷ []
-order-flush = refl
-
-to_i-flush : to_side side.I flush_trace ≡ to_stage.Flush 3 ∷ to_stage.Finish ∷ []
-to_i-flush = refl
-
-from_i-flush : from_side (parts_in small) side.I flush_trace ≡ from_stage.Done 3 0
-    ∷ from_stage.Finish ∷ []
-unfolding parts_of outcome_of victim renewals is_resident reuse_distance dirty_blocks is_dirty
-    is_written
-from_i-flush = refl
-
-from_d-flush : from_side (parts_in small) side.D flush_trace
-    ≡ from_stage.Part 1 1 (what.Fetch class.Read 8) ∷ from_stage.Done 1 1
-    ∷ from_stage.Part 2 1 (what.Fetch class.Read 0) ∷ from_stage.Done 2 1
-    ∷ from_stage.Part 3 1 (what.Back 0) ∷ from_stage.Part 3 2 (what.Back 8)
-    ∷ from_stage.Part 3 3 what.FlushAll ∷ from_stage.Done 3 3
-    ∷ from_stage.Finish ∷ []
-unfolding parts_of outcome_of victim renewals is_resident reuse_distance dirty_blocks is_dirty
-    is_written
-from_d-flush = refl
-
-second-flush : second_history (second_level_requests (parts_in small) flush_trace)
-    ≡ flush
-    ∷ access_of class.Write 8
-    ∷ access_of class.Write 0
-    ∷ access_of class.Read 0
-    ∷ access_of class.Read 8 ∷ []
-unfolding parts_of outcome_of victim renewals is_resident reuse_distance dirty_blocks is_dirty
-    is_written
-second-flush = refl
-
-messages-flush : messages (parts_in small) flush_trace ≡ 21
-unfolding parts_of outcome_of victim renewals is_resident reuse_distance dirty_blocks is_dirty
-    is_written
-messages-flush = refl
-
-backs-flush : (totals small flush_trace).u.written_back ≡ 2
-unfolding parts_of outcome_of victim renewals is_resident reuse_distance dirty_blocks is_dirty
-    is_written counts_of tally flushes_in flushed_back
-backs-flush = refl
-
--- for an empty trace, each ring carries only `Finish`
-messages-none : messages (parts_in small) [] ≡ 5
-messages-none = refl
-
--- a flush is inserted after every second reference
-put_in : events record { skip = 0; max = 0; every = 2 } victim_trace
-    ≡ at_label label.Write 0 ∷ at_label label.Read 8 ∷ at_label label.Flush 0
-    ∷ at_label label.Read 16 ∷ []
-put_in = refl
+-- the streams and counts of these traces, worked out by hand
+pub record WorkedExamples : Type 0 where
+  pub order_victim : order victim_trace ≡ turn.D ∷ turn.D ∷ turn.D ∷ turn.Finish ∷ []
+  pub to_d_victim : to_side side.D victim_trace
+      ≡ to_stage.Ref 1 class.Write 0
+      ∷ to_stage.Ref 2 class.Read 8
+      ∷ to_stage.Ref 3 class.Read 16
+      ∷ to_stage.Finish ∷ []
+  pub from_d_victim : from_side (parts_in small) side.D victim_trace
+      ≡ from_stage.Part 1 1 (what.Fetch class.Read 0) ∷ from_stage.Done 1 1
+      ∷ from_stage.Part 2 1 (what.Fetch class.Read 8) ∷ from_stage.Done 2 1
+      ∷ from_stage.Part 3 1 (what.Back 0) ∷ from_stage.Part 3 2 (what.Fetch class.Read 16)
+      ∷ from_stage.Done 3 2
+      ∷ from_stage.Finish ∷ []
+  -- the history of the second level, the newest request first
+  pub second_victim : second_history (second_level_requests (parts_in small) victim_trace)
+      ≡ access_of class.Read 16 ∷ access_of class.Write 0 ∷ access_of class.Read 8
+      ∷ access_of class.Read 0 ∷ []
+  pub misses_victim : (totals small victim_trace).u.misses
+      ≡ record { instr = 0; read = 3; write = 0; misc = 0 }
+  -- the number of messages in all five streams
+  pub messages_victim : messages (parts_in small) victim_trace ≡ 18
+  pub order_flush : order flush_trace ≡ turn.D ∷ turn.D ∷ turn.Both ∷ turn.Finish ∷ []
+  pub to_i_flush : to_side side.I flush_trace ≡ to_stage.Flush 3 ∷ to_stage.Finish ∷ []
+  pub from_i_flush : from_side (parts_in small) side.I flush_trace ≡ from_stage.Done 3 0
+      ∷ from_stage.Finish ∷ []
+  pub from_d_flush : from_side (parts_in small) side.D flush_trace
+      ≡ from_stage.Part 1 1 (what.Fetch class.Read 8) ∷ from_stage.Done 1 1
+      ∷ from_stage.Part 2 1 (what.Fetch class.Read 0) ∷ from_stage.Done 2 1
+      ∷ from_stage.Part 3 1 (what.Back 0) ∷ from_stage.Part 3 2 (what.Back 8)
+      ∷ from_stage.Part 3 3 what.FlushAll ∷ from_stage.Done 3 3
+      ∷ from_stage.Finish ∷ []
+  pub second_flush : second_history (second_level_requests (parts_in small) flush_trace)
+      ≡ flush
+      ∷ access_of class.Write 8
+      ∷ access_of class.Write 0
+      ∷ access_of class.Read 0
+      ∷ access_of class.Read 8 ∷ []
+  pub messages_flush : messages (parts_in small) flush_trace ≡ 21
+  pub backs_flush : (totals small flush_trace).u.written_back ≡ 2
+  -- for an empty trace, each ring carries only `Finish`
+  pub messages_none : messages (parts_in small) [] ≡ 5
+  -- a flush is inserted after every second reference
+  pub put_in : events record { skip = 0; max = 0; every = 2 } victim_trace
+      ≡ at_label label.Write 0 ∷ at_label label.Read 8 ∷ at_label label.Flush 0
+      ∷ at_label label.Read 16 ∷ []

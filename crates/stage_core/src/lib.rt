@@ -39,8 +39,9 @@ pub use config::{CacheName, CacheSpec, Config, ConfigFault};
 pub use l1_stage::L1Stage;
 pub use l2_stage::L2Stage;
 pub use laws::{
-    finish_ends_each_stream, merge_takes_the_requests, second_level_sees_at_most_two,
-    selections_make_at_most_two, stages_answer_their_streams, waiting_threads_have_ended,
+    definitions_meet_worked_examples, finish_ends_each_stream, merge_takes_the_requests,
+    second_level_sees_at_most_two, selections_make_at_most_two, stages_answer_their_streams,
+    waiting_threads_have_ended,
 };
 pub use memory::NoMemory;
 pub use merge::Merge;
