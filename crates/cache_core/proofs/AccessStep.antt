@@ -25,7 +25,7 @@ use Rattle.lru.specs.LruCache.{lru_cache, promoted, put_entries}
 use Rattle.cache_core.proofs.Shadow.{pair, in_shadow-is, after_classify, shadow-step}
 use Rattle.cache_core.proofs.Again.{referenced-stays}
 use Rattle.cache_core.proofs.Referenced.{renewals-referenced}
-use Rattle.cache_core.proofs.Victim.{resident-marked}
+use Rattle.cache_core.proofs.Victim.{resident-renewed}
 use Rattle.cache_core.proofs.Steps.{outcome_of-hit, outcome_of-back, rows-step}
 use Rattle.cache_core.proofs.Steps.{hit-is as row-hit, back-is as row-back}
 
@@ -63,7 +63,7 @@ module _ (g : Geometry) (p : Policy) (h : History) (x : Access) where
   -- a block that hits was accessed before
   was-referenced : hits r (renewals r h) x ≡ true
       → list_any (λ t. nat_eq t b) (referenced_blocks r h) ≡ true
-  was-referenced e = renewals-referenced r h b (resident-marked r (renewals r h) b e)
+  was-referenced e = renewals-referenced r h b (resident-renewed r (renewals r h) b e)
 
   or-referenced : (hit referenced : Bool) → (hit ≡ true → referenced ≡ true)
       → (hit || referenced) ≡ referenced

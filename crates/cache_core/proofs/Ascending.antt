@@ -12,7 +12,7 @@ use Rattle.std.proofs.lemmas.Bool.{or_cases, false_from_ne_true, ltb-true, ltb-f
 use Rattle.std.proofs.lemmas.List.Sorted.{Contains-permutation, IsPermutation-sym}
 use Rattle.std.proofs.lemmas.List.Kept.{Contains-dedup_nat, Contains-from_dedup}
 use Rattle.std.proofs.lemmas.Map.Keys.{sorted_from_strictly_increasing, IsStrictlyIncreasing-dedup}
-use Rattle.cache_core.specs.Dirty.{place, rising}
+use Rattle.cache_core.specs.Dirty.{inserted, rising}
 use Rattle.cache_core.specs.Laws.{IsBelow, Rises}
 use Rattle.cache_core.proofs.Reuse.{has}
 use Rattle.cache_core.proofs.Cases.{by_cases}
@@ -70,33 +70,33 @@ same-rising (x ∷ xs) (y ∷ ys) a b same =
     ap (λ v. v ∷ xs) head ∙ ap (λ l. y ∷ l) (same-rising xs ys a.1 b.1 tails)
 
 -- the list `rising` is strictly ascending
-below-place : (w x : ℕ) (ys : List ℕ) → w < x → IsBelow w ys → IsBelow w (place x ys)
-below-place w x [] l b = (l, tt)
-below-place w x (y ∷ ys) l b =
+below-inserted : (w x : ℕ) (ys : List ℕ) → w < x → IsBelow w ys → IsBelow w (inserted x ys)
+below-inserted w x [] l b = (l, tt)
+below-inserted w x (y ∷ ys) l b =
     (elim (ltb x y) as (λ t. IsBelow w
-    (cond t (x ∷ y ∷ ys) (cond (eqb x y) (y ∷ ys) (y ∷ place x ys)))) [
+    (cond t (x ∷ y ∷ ys) (cond (eqb x y) (y ∷ ys) (y ∷ inserted x ys)))) [
       | true ↦ (l, b)
-      | false ↦ (elim (eqb x y) as (λ t. IsBelow w (cond t (y ∷ ys) (y ∷ place x ys)))
-          [ true ↦ b | false ↦ (b.0, below-place w x ys l b.1) ])
+      | false ↦ (elim (eqb x y) as (λ t. IsBelow w (cond t (y ∷ ys) (y ∷ inserted x ys)))
+          [ true ↦ b | false ↦ (b.0, below-inserted w x ys l b.1) ])
     ])
 
-rises-place : (x : ℕ) (ys : List ℕ) → Rises ys → Rises (place x ys)
-rises-place x [] r = (tt, tt)
-rises-place x (y ∷ ys) r = (elim (ltb x y) as (λ t. ltb x y ≡ t
-    → Rises (cond t (x ∷ y ∷ ys) (cond (eqb x y) (y ∷ ys) (y ∷ place x ys)))) [
+rises-inserted : (x : ℕ) (ys : List ℕ) → Rises ys → Rises (inserted x ys)
+rises-inserted x [] r = (tt, tt)
+rises-inserted x (y ∷ ys) r = (elim (ltb x y) as (λ t. ltb x y ≡ t
+    → Rises (cond t (x ∷ y ∷ ys) (cond (eqb x y) (y ∷ ys) (y ∷ inserted x ys)))) [
       | true ↦ λ e. let l = ltb-true x y e in ((l, below-less x y ys l r.0), r)
       | false ↦ λ e. (elim (eqb x y) as (λ t. eqb x y ≡ t
-          → Rises (cond t (y ∷ ys) (y ∷ place x ys))) [
+          → Rises (cond t (y ∷ ys) (y ∷ inserted x ys))) [
             | true ↦ λ f. r
             | false ↦ λ f. let le = ltb-false x y e in let ne = eqb-false x y f in
-                (below-place y x ys (omega arith) r.0, rises-place x ys r.1)
+                (below-inserted y x ys (omega arith) r.0, rises-inserted x ys r.1)
           ]) refl
     ]) refl
 
 -- `rising` makes a list that rises
 pub rises-rising : (xs : List ℕ) → Rises (rising xs)
 rises-rising [] = tt
-rises-rising (x ∷ xs) = rises-place x (rising xs) (rises-rising xs)
+rises-rising (x ∷ xs) = rises-inserted x (rising xs) (rises-rising xs)
 
 swap-left : (a b c : Bool) → (a || (b || c)) ≡ (b || (a || c))
 swap-left true true c = refl
@@ -109,17 +109,17 @@ pub once-more : (a c : Bool) → (a || c) ≡ (a || (a || c))
 once-more true c = refl
 once-more false c = refl
 
-has-place : (x : ℕ) (ys : List ℕ) (z : ℕ) → has (place x ys) z ≡ (eqb x z || has ys z)
-has-place x [] z = refl
-has-place x (y ∷ ys) z = (elim (ltb x y) as (λ t.
-    has (cond t (x ∷ y ∷ ys) (cond (eqb x y) (y ∷ ys) (y ∷ place x ys))) z
+has-inserted : (x : ℕ) (ys : List ℕ) (z : ℕ) → has (inserted x ys) z ≡ (eqb x z || has ys z)
+has-inserted x [] z = refl
+has-inserted x (y ∷ ys) z = (elim (ltb x y) as (λ t.
+    has (cond t (x ∷ y ∷ ys) (cond (eqb x y) (y ∷ ys) (y ∷ inserted x ys))) z
     ≡ (eqb x z || has (y ∷ ys) z)) [
       | true ↦ refl
       | false ↦ (elim (eqb x y) as (λ t. eqb x y ≡ t
-          → has (cond t (y ∷ ys) (y ∷ place x ys)) z ≡ (eqb x z || has (y ∷ ys) z)) [
+          → has (cond t (y ∷ ys) (y ∷ inserted x ys)) z ≡ (eqb x z || has (y ∷ ys) z)) [
             | true ↦ λ e. once-more (eqb y z) (has ys z)
                 ∙ ap (λ v. eqb v z || (eqb y z || has ys z)) (sym (eqb-true x y e))
-            | false ↦ λ e. ap (λ t. eqb y z || t) (has-place x ys z)
+            | false ↦ λ e. ap (λ t. eqb y z || t) (has-inserted x ys z)
                 ∙ swap-left (eqb y z) (eqb x z) (has ys z)
           ]) refl
     ])
@@ -127,7 +127,7 @@ has-place x (y ∷ ys) z = (elim (ltb x y) as (λ t.
 -- with the same members
 pub has-rising : (xs : List ℕ) (z : ℕ) → has (rising xs) z ≡ has xs z
 has-rising [] z = refl
-has-rising (x ∷ xs) z = has-place x (rising xs) z ∙ ap (λ t. eqb x z || t) (has-rising xs z)
+has-rising (x ∷ xs) z = has-inserted x (rising xs) z ∙ ap (λ t. eqb x z || t) (has-rising xs z)
 
 below-times : (n x : ℕ) (ys : List ℕ) → 0 < n → IsBelow x ys → IsBelow (x * n) (map (λ b. b * n) ys)
 below-times n x [] p b = tt

@@ -1,5 +1,5 @@
 -- Each block that is written back is charged to a write.
-use Rattle.std.proofs.Common.{◌≡◌, ℕ, ◌+◌, ◌≤◌, [], ◌∷◌, length, is_some, refl, ap, arith}
+use Rattle.std.proofs.Common.{◌≡◌, ◌+◌, ◌≤◌, [], ◌∷◌, length, is_some, refl, ap, arith}
 use Rattle.std.proofs.Math.Bool.{and-true}
 use Rattle.cache_core.specs.declared.access.Access.{Access}
 use Rattle.cache_core.specs.History.{Rules, History, access, flush, is_write}

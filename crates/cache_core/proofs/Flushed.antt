@@ -17,7 +17,7 @@ use Rattle.cache_core.specs.Order.{ranked}
 use Rattle.cache_core.specs.Row.{empty_way, row, is_dirty_way, block_addr_of, way_at, row_of}
 use Rattle.cache_core.proofs.Reuse.{has, has-ways_of, has-take, has-filter}
 use Rattle.cache_core.proofs.Turns.{absent}
-use Rattle.cache_core.proofs.Victim.{resident-marked}
+use Rattle.cache_core.proofs.Victim.{resident-renewed}
 use Rattle.cache_core.proofs.Ascending.{same_test, same-rising, rises-rising, has-rising}
 use Rattle.cache_core.proofs.Ascending.{rises-times, has-permutation, has-dedup, rises-dedup}
 
@@ -177,7 +177,7 @@ module _ (r : Rules) (pos : 0 < r.bsize) (setful : 0 < r.sets) (h : History) (xs
       (and_parts r.wback (is_resident r ms b)
       (and_parts (r.wback && is_resident r ms b) (is_written r h b) d).0).1 in
       has-times r.bsize b (dirty_blocks r h) (has-rising (filter (is_dirty r h) ms) b
-      ∙ filter-has (is_dirty r h) ms b (resident-marked r ms b res) d)
+      ∙ filter-has (is_dirty r h) ms b (resident-renewed r ms b res) d)
 
   here-wanted : (z : ℕ) → has block_addrs z ≡ true → has wanted z ≡ true
   unfolding is_dirty row_of

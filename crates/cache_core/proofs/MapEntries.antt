@@ -15,7 +15,7 @@ use Rattle.cache_core.proofs.Shift.{shifted-none, changed-none}
 use Rattle.cache_core.proofs.Shadow.{eqb-comm}
 use Rattle.cache_core.proofs.Cases.{by_cases}
 
--- a set's blocks in order, each with its dirty mark
+-- a set's blocks in order, each with its dirty bit
 abbrev pub Entries : Type 0
 Entries = List (ℕ × Bool)
 

@@ -6,6 +6,7 @@ use Rattle.std.proofs.Common.{arith}
 use Rattle.std.specs.List.{find}
 use Rattle.std.proofs.lemmas.Bool.{eqb-true, false≢true, or_parts, or_from, eq-eqb, or_left}
 use Rattle.std.proofs.lemmas.Bool.{or_right}
+use Rattle.std.proofs.lemmas.List.Sums.{count_by-le-length, length-filter}
 use Rattle.cache_core.proofs.Reuse.{has, has-filter}
 use Rattle.cache_core.proofs.Shift.{without, IsOnce}
 use Rattle.cache_core.proofs.Shadow.{eqb-comm}
@@ -76,12 +77,8 @@ mid-true wb t w e = ap (λ z. wb && z && w) e
 
 -- a filter leaves no more
 pub length-filter_le : (p : ℕ → Bool) (ys : List ℕ) → length (filter p ys) ≤ length ys
-length-filter_le p [] = omega arith
-length-filter_le p (y ∷ ys) = (elim (p y) as (λ t.
-    length (cond t (y ∷ filter p ys) (filter p ys)) ≤ length (y ∷ ys)) [
-      | true ↦ let le = length-filter_le p ys in omega arith
-      | false ↦ let le = length-filter_le p ys in omega arith
-    ])
+length-filter_le p ys =
+    subst (λ n. n ≤ length ys) (sym (length-filter p ys)) (count_by-le-length p ys)
 
 length-without : (x : ℕ) (ys : List ℕ) → has ys x ≡ true → length (without x ys) + 1 ≤ length ys
 length-without x [] h = cc

@@ -7,7 +7,7 @@ use Rattle.std.proofs.lemmas.Bool.{eqb-true, eq-eqb, false≢true, or_left, or_r
 use Rattle.std.proofs.lemmas.Bool.{and_parts, and_from, ltb-true, lt-ltb, not-true}
 use Rattle.std.proofs.lemmas.Bool.{false_from_ne_true}
 use Rattle.cache_core.specs.declared.access.Access.{Access}
-use Rattle.cache_core.specs.History.{Rules, History, access}
+use Rattle.cache_core.specs.History.{Rules, History}
 use Rattle.cache_core.specs.Residents.{hits, uses, renews, renewals, is_resident, leaves, victim}
 use Rattle.cache_core.specs.Dirty.{is_written, is_dirty, dirty_blocks}
 use Rattle.cache_core.specs.Parts.{dirty_victim, outcome_of, part_count}
@@ -19,7 +19,7 @@ use Rattle.cache_core.proofs.Shift.{IsOnce}
 use Rattle.cache_core.proofs.Ascending.{not-itself, rises-rising, has-rising}
 use Rattle.cache_core.proofs.Flushed.{has-filter_both, filter-has}
 use Rattle.cache_core.proofs.Turns.{renewals-yes, renewals-no, block-hit}
-use Rattle.cache_core.proofs.Victim.{resident-marked, no-way, elsewhere, front-is, later-is}
+use Rattle.cache_core.proofs.Victim.{resident-renewed, no-way, elsewhere, front-is, later-is}
 use Rattle.cache_core.proofs.Victim.{lru-same}
 use Rattle.cache_core.proofs.Members.{as_many}
 use Rattle.cache_core.proofs.Cases.{by_cases}
@@ -63,7 +63,7 @@ module _ (r : Rules) (h : History) where
   unfolding dirty_blocks
   dirty-has y d = has-rising (filter (is_dirty r h) (renewals r h)) y
       ∙ filter-has (is_dirty r h) (renewals r h) y
-      (resident-marked r (renewals r h) y (dirty-parts y d).1) d
+      (resident-renewed r (renewals r h) y (dirty-parts y d).1) d
 
   -- and no other
   pub has-dirty : (y : ℕ) → has (dirty_blocks r h) y ≡ true → is_dirty r h y ≡ true

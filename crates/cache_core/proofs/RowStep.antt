@@ -69,7 +69,7 @@ module _ (r : Rules) (pos : 0 < r.bsize) (h : History) (x : Access) where
   abbrev row : List Way
   row = row_of r h s
 
-  -- an access that hits uses the cache
+  -- an access that hits uses its block
   pub uses-hit : hits r ms x ≡ true → uses r ms x ≡ true
   uses-hit e = or_right (not w || r.walloc) (hits r ms x) e
 

@@ -20,7 +20,7 @@ use Rattle.cache_core.proofs.Turns.{block-fifo, block-lru, block-hit, block-unus
 use Rattle.cache_core.proofs.RowTurns.{find-row_of, row_of-other}
 use Rattle.cache_core.proofs.RowStep.{valid_way, row_of-next, uses-hit, uses-miss}
 use Rattle.cache_core.proofs.PushedOut.{out-is}
-use Rattle.cache_core.proofs.Victim.{unmarked, lru-hit}
+use Rattle.cache_core.proofs.Victim.{renews-none, lru-hit}
 use Rattle.cache_core.proofs.Cases.{by_cases}
 
 -- a hit pushes nothing out
@@ -111,7 +111,7 @@ module _ (r : Rules) (pos : 0 < r.bsize) (m : ℕ) (size : r.assoc ≡ suc m) (h
 
   victim-hit : hits r ms x ≡ true → victim r h x ≡ None
   victim-hit e = by_cases r.fifo
-      (λ f. unmarked r h x (block-hit r ms x f e))
+      (λ f. renews-none r h x (block-hit r ms x f e))
       (λ f. lru-hit r h x m size f e (uses-hit r pos h x e))
 
   load-block : hits r ms x ≡ false → uses r ms x ≡ true → renews r ms x ≡ true
@@ -127,7 +127,7 @@ module _ (r : Rules) (pos : 0 < r.bsize) (m : ℕ) (size : r.assoc ≡ suc m) (h
             ∙ out-is r h x m size e (load-block e (uses-miss r pos h x e ∙ u)) pos
             (valid_way block_addr (r.wback && w))
         | false ↦ λ u. out-none r.wback r.walloc w block_addr here u
-            ∙ sym (ap (dirty_victim r h) (unmarked r h x
+            ∙ sym (ap (dirty_victim r h) (renews-none r h x
             (block-unused r ms x (uses-miss r pos h x e ∙ u))))
       ]) refl
 

@@ -52,7 +52,7 @@ module _ (r : Rules) where
       → renews r ms x ≡ t
   block-fifo ms x t f e = cond-true r.fifo (loads r ms x) (uses r ms x) f ∙ e
 
-  -- under LRU an access renews its block where it uses the cache
+  -- under LRU an access renews its block where it uses it
   pub block-lru : (ms : List ℕ) (x : Access) (t : Bool) → r.fifo ≡ false → uses r ms x ≡ t
       → renews r ms x ≡ t
   block-lru ms x t f e = cond-false r.fifo (loads r ms x) (uses r ms x) f ∙ e
@@ -63,7 +63,7 @@ module _ (r : Rules) where
   block-hit ms x f hit = block-fifo ms x false f
       (and_right (uses r ms x) (not (hits r ms x)) (ap not hit))
 
-  -- nor does an access that does not use the cache
+  -- nor does an access that does not use its block
   pub block-unused : (ms : List ℕ) (x : Access) → uses r ms x ≡ false → renews r ms x ≡ false
   block-unused ms x u = by_cases r.fifo
       (λ f. block-fifo ms x false f (and_left (uses r ms x) (not (hits r ms x)) u))

@@ -22,10 +22,10 @@ use Rattle.cache_core.proofs.Members.{last-new, only-last, none-last}
 use Rattle.cache_core.proofs.Cases.{by_cases}
 
 -- a resident block was renewed
-pub resident-marked : (r : Rules) (ms : List ℕ) (y : ℕ) → is_resident r ms y ≡ true
+pub resident-renewed : (r : Rules) (ms : List ℕ) (y : ℕ) → is_resident r ms y ≡ true
     → has ms y ≡ true
 unfolding is_resident
-resident-marked r ms y h = (and_parts (has ms y) (ltb (reuse_distance r ms y) r.assoc) h).0
+resident-renewed r ms y h = (and_parts (has ms y) (ltb (reuse_distance r ms y) r.assoc) h).0
 
 -- a cache without ways has no resident
 pub no-way : (r : Rules) (ms : List ℕ) (y : ℕ) → r.assoc ≡ 0 → is_resident r ms y ≡ true → ⊥
@@ -56,8 +56,8 @@ module _ (r : Rules) (h : History) (x : Access) where
       ∙ and-not (is_resident r ms y)
 
   -- where the access renews nothing, no block leaves
-  pub unmarked : renews r ms x ≡ false → victim r h x ≡ None
-  unmarked e = victim-none (idle-stays e)
+  pub renews-none : renews r ms x ≡ false → victim r h x ≡ None
+  renews-none e = victim-none (idle-stays e)
 
   -- a block of another set stays
   pub elsewhere : (y : ℕ) → eqb s (y % r.sets) ≡ false
@@ -190,8 +190,8 @@ module _ (r : Rules) (h : History) (x : Access) where
         pub last-resident : is_resident r ms last ≡ true
         last-resident = front-is last (eqb-comm s (last % r.sets) ∙ last-set) ∙ last-front
 
-        last-marked : has ms last ≡ true
-        last-marked = resident-marked r ms last last-resident
+        last-renewed : has ms last ≡ true
+        last-renewed = resident-renewed r ms last last-resident
 
         not-b : eqb b last ≡ false
         not-b = eqb-comm b last ∙ (or_parts (eqb last b) false
@@ -217,7 +217,7 @@ module _ (r : Rules) (h : History) (x : Access) where
 
         -- then that one leaves
         pub load-full : victim r h x ≡ Some last
-        load-full = victim-one last full-leaves last-marked
+        load-full = victim-one last full-leaves last-renewed
 
       -- a load makes one block leave at most
       load-one : (y z : ℕ) → leaves r h x y ≡ true → leaves r h x z ≡ true → y ≡ z

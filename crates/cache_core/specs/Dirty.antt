@@ -4,18 +4,19 @@ use Rattle.std.specs.Prelude.{◌∷◌, filter}
 use Rattle.cache_core.specs.History.{access, flush, History, Rules, block_of, is_write}
 use Rattle.cache_core.specs.Residents.{hits, uses, renewals, is_resident}
 
--- an ascending list with this number in its place, unless it is there already
-abbrev pub place : ℕ → List ℕ → List ℕ
-place x [] = x ∷ []
-place x (y ∷ ys) = if nat_lt x y then x ∷ y ∷ ys else (if x == y then y ∷ ys else y ∷ place x ys)
+-- an ascending list with this number inserted, unless it is there already
+abbrev pub inserted : ℕ → List ℕ → List ℕ
+inserted x [] = x ∷ []
+inserted x (y ∷ ys) =
+    if nat_lt x y then x ∷ y ∷ ys else (if x == y then y ∷ ys else y ∷ inserted x ys)
 
 -- the numbers of a list in ascending order, each once
 abbrev pub rising : List ℕ → List ℕ
 rising [] = []
-rising (x ∷ xs) = place x (rising xs)
+rising (x ∷ xs) = inserted x (rising xs)
 
 module _ (r : Rules) where
-  -- whether a write used block b when b was last loaded, or after that
+  -- whether since the last flush a write used block b, when b was last loaded or after that
   unfoldable pub is_written : History → ℕ → Bool
   is_written [] b = false
   is_written (flush ∷ h) b = false

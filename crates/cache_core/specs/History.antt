@@ -23,7 +23,8 @@ pub record Rules : Type 0 where
   pub blocks : ℕ
   -- replacement is FIFO (first in, first out) if true, LRU (least recently used) if false
   pub fifo : Bool
-  -- a write marks its block dirty if true, and is sent to the next level (write through) if false
+  -- a write that uses its block makes it dirty if true; if false, each write is sent to the next
+  -- level (write through)
   pub wback : Bool
   -- a write that misses loads its block
   pub walloc : Bool

@@ -4,7 +4,8 @@ use Rattle.cache_core.specs.History.{Rules, History}
 use Rattle.cache_core.specs.Residents.{in_set, distinct, renewals}
 
 module _ (r : Rules) where
-  -- the blocks of set s in the list, by last use (FIFO: by last load), the latest first
+  -- the renewals of set s in the list, the latest first: of LRU each block once, by its last use,
+  -- and of FIFO once for each load
   abbrev pub ranked : ℕ → List ℕ → List ℕ
   ranked s ms = if r.fifo then in_set r s ms else distinct (in_set r s ms)
 

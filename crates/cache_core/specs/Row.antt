@@ -81,7 +81,8 @@ module _ {X : Type 0} (p : X → Bool) where
   changed g [] = []
   changed g (w ∷ ws) = cond (p w) (g w ∷ ws) (w ∷ changed g ws)
 
--- one access to the row of its set; `seen` is the way that held its block, if there was one
+-- one access to the row of its set; `b` is the first byte of its block, and `seen` the way that
+-- held it, if there was one
 module _ (wback walloc : Bool) (b : ℕ) (write : Bool) (row : List Way) (seen : Option Way)
   where
     -- whether the access uses its block
@@ -111,8 +112,8 @@ module _ (wback walloc : Bool) (b : ℕ) (write : Bool) (row : List Way) (seen :
     pushed_out = if is_used && not (is_some seen) then dirty_block
         (leaving (holds_block b) front row) else None
 
--- the outcome of an access, by whether it writes and hits, the dirty block that it evicts, and
--- whether its block was accessed before and is in the shadow
+-- the outcome of an access, by the two policies of writes, whether it writes and hits, the dirty
+-- block that it evicts, and whether its block was accessed before and is in the shadow
 abbrev pub outcome_made : Bool → Bool → Bool → Bool → Option ℕ → Bool → Bool → Outcome
 outcome_made wback walloc write hit back referenced in_shadow = record {
   hit = hit;

@@ -11,10 +11,9 @@ ghost use Rattle.cache_core.specs.Laws.{OrderedWaysAreResidents};
 use crate::cache::MAX_EVENTS;
 
 /// If the blocks of a set are ordered by last use (FIFO: by last load), the first ones, as many as
-/// there are ways, are the residents by reuse distance. For LRU caches that allocate at writes, the
-/// order is the same for every number of ways: this is the stack property (Mattson and others).
-/// FIFO caches do not have it, nor do those that do not allocate at writes, where a hit in one may
-/// be a miss in another, which renews other blocks.
+/// there are ways, are the residents by reuse distance. This is of one number of ways. That LRU
+/// caches with more ways hold what those with fewer hold, if they allocate at writes, is the stack
+/// property (Mattson and others), which `grid_core` proves over the same definitions.
 pub fn ordered_ways_are_residents()
     ensures { OrderedWaysAreResidents }
 {}

@@ -10,8 +10,10 @@
 //! Proved for every history of a cache: each outcome, the list of each flush and all counts are
 //! those of the definitions in `specs/`, which work on the whole history by reuse distance and have
 //! no ways. If an allocation fails, the cache keeps its counts, and every later access or flush
-//! answers `NoMemory`. `laws` has properties of the definitions themselves. All that a cache holds
-//! is bounded by its size, but for the set of blocks ever accessed, which grows with the trace.
+//! answers `NoMemory`. `laws` has properties of the definitions themselves.
+//!
+//! No contract says how much memory a cache takes. It is bounded by the cache's size, but for the
+//! set of blocks ever accessed, which grows with the trace.
 #![tactic(auto)]
 
 mod access;

@@ -16,7 +16,8 @@ pub enum Repl {
 pub struct Policy {
     /// The replacement.
     pub repl: Repl,
-    /// Write back: a write marks its block dirty. If false, each write is sent on (write through).
+    /// Write back: a write that uses its block makes it dirty. If false, each write is sent on
+    /// (write through).
     pub wback: bool,
     /// Write allocation: a write that misses loads its block. If false, it is only sent on.
     pub walloc: bool,

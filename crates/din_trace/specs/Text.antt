@@ -83,7 +83,8 @@ text_left bound number text limit fails =
     else lines_left bound number (lines text) None)
     else lines_left bound number (ended_lines (take limit text)) (Some TooLong)
 
--- the fault of a text
+-- the fault of a text under a limit of bytes, if it has one; its lines are numbered from 1, and the
+-- first number is the greatest address
 abbrev pub fault : ℕ → List ℕ → ℕ → Option TraceFault
 fault bound text limit = (text_left bound 1 text limit false).fault
 

@@ -1,4 +1,4 @@
-//! A fast path for plain lines: a label, blanks, an optional `0x`, up to 16 digits, and an optional
+//! A fast path for plain lines: a label, blanks, an optional `0x`, 1 to 16 digits, and an optional
 //! comment, all of it in the buffer. Most lines of most traces are plain.
 
 ghost use Rattle.std.specs.Prelude.{◌≡◌, ℕ, ◌+◌, ◌<◌, ◌≤◌, List, ◌++◌, IfSome, length, drop};
@@ -15,7 +15,7 @@ use crate::record::DinRecord;
 const WINDOW: usize = 19;
 
 /// The record of the line at the start, and how many bytes that line has with its LF. The line has
-/// to be a label, blanks, an optional `0x`, up to 16 digits, and an optional comment. The answer is
+/// to be a label, blanks, an optional `0x`, 1 to 16 digits, and an optional comment. The answer is
 /// `None` for any other line, and if too few bytes are held.
 #[inline(always)]
 pub fn plain_line(bytes: &[u8]) -> Option<(DinRecord, usize)>

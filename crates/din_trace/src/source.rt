@@ -10,7 +10,7 @@ ghost use Rattle.din_trace.specs.Source.{reader_of, limit_of, taken_by, room_of,
 ghost use Rattle.din_trace.specs.Source.{IsSettled, MustAsk, Takes};
 
 use crate::backlog::Backlog;
-use crate::device::{ByteReader, DeviceFailed};
+use crate::device::ByteReader;
 use crate::fault::TraceFault;
 use crate::line_reader::MAX_LIMIT;
 use crate::record::DinRecord;

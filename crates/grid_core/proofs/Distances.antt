@@ -13,7 +13,7 @@ use Rattle.cache_core.proofs.Turns.{renewals-yes, block-lru}
 use Rattle.grid_core.specs.Ways.{with_ways, IsStacked, stack_distance}
 
 module _ (r : Rules) (st : IsStacked r) where
-  -- every access uses the cache
+  -- every access uses its block
   pub uses-all : (ms : List ℕ) (x : Access) → uses r ms x ≡ true
   uses-all ms x = or_left (not (is_write x) || r.walloc) (hits r ms x)
       (or_right (not (is_write x)) r.walloc st.allocates)

@@ -16,7 +16,7 @@ use Rattle.cache_core.specs.Kinds.{is_kind, kind_of_miss, referenced_blocks, sha
 use Rattle.cache_core.specs.Parts.{one_if, outcome_of}
 use Rattle.cache_core.specs.Counts.{by_class, tally, total_of}
 use Rattle.cache_core.proofs.Referenced.{renewals-referenced}
-use Rattle.cache_core.proofs.Victim.{resident-marked}
+use Rattle.cache_core.proofs.Victim.{resident-renewed}
 use Rattle.grid_core.specs.Totals.{added, lessened}
 use Rattle.grid_core.specs.Ways.{IsStacked}
 use Rattle.grid_core.proofs.After.{referenced-size}
@@ -133,7 +133,8 @@ module _ (r : Rules) where
   resident-known q same h x e =
       ap (λ n. list_any (λ b. b == x.addr / n) (referenced_blocks r h)) (sym same)
       ∙ ap (λ l. list_any (λ b. b == block_of q x) l) (sym (referenced-size q r same h))
-      ∙ renewals-referenced q h (block_of q x) (resident-marked q (renewals q h) (block_of q x) e)
+      ∙ renewals-referenced q h (block_of q x)
+      (resident-renewed q (renewals q h) (block_of q x) e)
 
   near-known : (h : History) (x : Access) → near h x ≡ true → known h x ≡ true
   near-known = resident-known (shadow_of r) refl

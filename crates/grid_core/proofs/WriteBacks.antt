@@ -18,7 +18,7 @@ use Rattle.cache_core.proofs.Reuse.{has}
 use Rattle.cache_core.proofs.Shift.{IsOnce}
 use Rattle.cache_core.proofs.Turns.{renewals-yes, renewals-no, block-fifo, block-lru}
 use Rattle.cache_core.proofs.Cases.{by_cases}
-use Rattle.cache_core.proofs.Victim.{resident-marked, only-one}
+use Rattle.cache_core.proofs.Victim.{resident-renewed, only-one}
 use Rattle.cache_core.proofs.Owed.{dirty-from, dirty-has, dirty-here, dirty-once, dirty-parts}
 use Rattle.cache_core.proofs.EarlierWrites.{flushes_leave_none_dirty}
 use Rattle.cache_core.proofs.Owed.{has-dirty, inside, leaves-clean, owing}
@@ -170,7 +170,7 @@ module _ (r : Rules) (allocates : r.walloc ≡ true) (back : r.wback ≡ true) (
   none-leaves : victim r h x ≡ None → (y : ℕ) → leaves r h x y ≡ true → ⊥
   unfolding victim
   none-leaves e y l = find-fails (leaves r h x) (renewals r h) y e
-      (resident-marked r (renewals r h) y (and_parts (is_resident r (renewals r h) y) _ l).0) l
+      (resident-renewed r (renewals r h) y (and_parts (is_resident r (renewals r h) y) _ l).0) l
 
   -- where no dirty block leaves
   none-lost : ((y : ℕ) → is_dirty r h y ≡ true → leaves r h x y ≡ true → ⊥)

@@ -1,5 +1,5 @@
 -- Histograms of stack distances: how often accesses found their blocks where (Mattson and others,
--- 1970), and how often writes found them clean (Thompson and Smith, 1989).
+-- 1970), and how often writes found them not dirty (Thompson and Smith, 1989).
 use Rattle.std.specs.Prelude.{◌≡◌, ℕ, ◌<◌, Bool, false, not, ◌&&◌, nat_lt, List, map, drop}
 use Rattle.cache_core.specs.declared.access.Access.{Access}
 use Rattle.cache_core.specs.declared.counts.PerClass.{PerClass}
@@ -18,7 +18,7 @@ use Rattle.grid_core.specs.Ways.{stack_distance}
 abbrev pub past_in : Histogram → ℕ → ℕ → PerClass
 past_in t n k = past n k (map table_of t.distances.items)
 
--- the writes of a histogram that found their blocks clean in n ways
+-- the writes of a histogram that found their blocks not dirty in n ways
 abbrev pub first_in : Histogram → ℕ → PerClass
 first_in t n = total (drop n t.first_writes.items)
 

@@ -28,7 +28,7 @@ is_known_by blocks s b = is_used s.order (number_at blocks b)
 abbrev pub is_known : Shadows → ℕ → Bool
 is_known s = is_known_by (numbered s) s
 
--- no more blocks were used than have numbers
+-- each number that was used is that of a block of the list
 abbrev pub AreNumberedBy : List ℕ → Shadows → Type 0
 AreNumberedBy blocks s = (n : ℕ) → was_used s.order n ≡ true → n < length blocks
 

@@ -93,7 +93,8 @@ StayFirstFrom n m h x = (s : Stack) → (rules_of s).bsize ≡ n → m < (rules_
 abbrev pub IsBehind : ℕ → History → Access → Rules → Type 0
 IsBehind d h x r = min d r.assoc ≤ stack_distance r h (block_of r x)
 
--- so it is in all rows of no more sets, where blocks have n bytes
+-- so it is, with the places of `b`, in all rows of at most `b.last_set + 1` sets, where blocks have
+-- n bytes
 abbrev pub AreBehind : Behind → ℕ → History → Access → Type 0
 AreBehind b n h x = (s : Stack) → (rules_of s).bsize ≡ n → (rules_of s).sets ≤ b.last_set + 1 →
     IsBehind b.places h x (rules_of s)

@@ -96,7 +96,7 @@ abbrev pub memory : GridWordsFault
 memory = Words Memory
 
 -- the fault of the grid, if it has one: the first option one of whose values cannot be read, or a
--- number of threads that cannot be read, or more than 4096 points
+-- number of threads that cannot be read or is too large, or more than 4096 points
 abbrev pub grid_fault : List Row → Option GridWordsFault
 grid_fault rows = option_map_or (λ x. Some (Words (refusal_by_option x))) (first_unreadable rows)
     (if is_none (threads_of rows) then Some Threads

@@ -10,7 +10,7 @@ use Rattle.cache_core.specs.declared.geometry.Geometry.{Geometry}
 use Rattle.cache_core.specs.declared.policy.Policy.{Policy}
 use Rattle.grid_run.specs.Backs.{BackTask, IsPlacedIn, task_of_shelf}
 use Rattle.grid_run.specs.Plans.{IsCellBehind, IsSeatBehind, KeepsBehind, KeepsPlaced, SuitsBehind}
-use Rattle.grid_run.specs.Seats.{IsCellOf, Keeps, KeepsCells, Table, rules_on}
+use Rattle.grid_run.specs.Seats.{IsCellOf, Keeps, KeepsCells, SeatRules, rules_on}
 use Rattle.grid_run.specs.declared.plan.BackShelf.{BackShelf}
 use Rattle.grid_run.specs.declared.seat.Seat.{Seat}
 use Rattle.grid_run.specs.declared.shelf.Shelf.{Shelf}
@@ -96,7 +96,7 @@ module _ (xs : List BackShelf) (k : ℕ) (x : BackShelf) (s : Shelf) (lt : k < l
       })
 
   -- all stay behind their seats
-  pub placed-kept : (on_i on_d : Table) → All (IsPlacedIn on_i on_d) (map task_of_shelf xs)
+  pub placed-kept : (on_i on_d : SeatRules) → All (IsPlacedIn on_i on_d) (map task_of_shelf xs)
       → All (IsPlacedIn on_i on_d) (map task_of_shelf (set xs k (with_shelf x s)))
   unfolding task_of_shelf
   placed-kept on_i on_d all =
@@ -110,7 +110,7 @@ module _ (xs : List BackShelf) (k : ℕ) (x : BackShelf) (s : Shelf) (lt : k < l
       (record { on_i = was.on_i; on_d = was.on_d }) all)
 
 -- all stay behind their seats where the seats stay
-pub placed-grows : (i j d e : Table) → Keeps i j → Keeps d e → (bs : List BackTask)
+pub placed-grows : (i j d e : SeatRules) → Keeps i j → Keeps d e → (bs : List BackTask)
     → All (IsPlacedIn i d) bs → All (IsPlacedIn j e) bs
 placed-grows i j d e on_i on_d bs all =
     All-weaker (IsPlacedIn i d) (IsPlacedIn j e) (λ b own. record {

@@ -12,7 +12,7 @@ use Rattle.stage_core.specs.declared.message.What.{What}
 use Rattle.grid_run.specs.Backs.{AreWaiting, IsPlacedOn, IsSeatIn, RequestsFor}
 use Rattle.grid_run.specs.Backs.{followed_by, queue_seats, seat_on, sent_for}
 use Rattle.grid_run.specs.Fronts.{HasSent, IsSilent, front_rules}
-use Rattle.grid_run.specs.Seats.{Table, rules_of_seat}
+use Rattle.grid_run.specs.Seats.{SeatRules, rules_of_seat}
 use Rattle.grid_run.specs.Sending.{event_of}
 use Rattle.grid_run.specs.declared.front.Front.{Front}
 use Rattle.grid_run.specs.declared.queue.Queue.{Queue}
@@ -69,7 +69,7 @@ waiting-same given before after qs same all k q lt =
     record { all = sym (same k q lt) ∙ (all k q lt).all }
 
 -- silent caches of a side ask for nothing
-pub nothing-asked : (fs : List Front) (old : Table) → map front_rules fs ≡ old → (s : Side)
+pub nothing-asked : (fs : List Front) (old : SeatRules) → map front_rules fs ≡ old → (s : Side)
     (qs : List Queue) → All (IsPlacedOn s old) (map queue_seats qs) → All IsSilent fs
     → (h : History) (q : Request) → All (HasSent h q) fs
     → (given before : RequestsFor) → All (AreWaiting given before) qs
@@ -80,7 +80,8 @@ nothing-asked fs old rules s qs placed silent h q sent given before =
     let p = queue_seats (get_or qs k d) in
     let on = told-at queue_seats (IsPlacedOn s old) qs placed k d lt in
     let none : parts_of (rules_of_seat old (seat_on s p)) s h (event_of q) ≡ [] =
-    subst (λ (rs : Table). parts_of (rules_of_seat rs (seat_on s p)) s h (event_of q) ≡ []) rules
+    subst (λ (rs : SeatRules). parts_of (rules_of_seat rs (seat_on s p)) s h (event_of q) ≡ [])
+    rules
     (silent-at-seat fs (seat_on s p)
-    (subst (λ (rs : Table). IsPlacedOn s rs p) (sym rules) on).seat silent s h q sent) in
+    (subst (λ (rs : SeatRules). IsPlacedOn s rs p) (sym rules) on).seat silent s h q sent) in
     sym (append-nil (before p)) ∙ ap (λ (ws : List What). before p ++ ws) (sym none))

@@ -15,7 +15,7 @@ use Rattle.grid_run.specs.Backs.{queue_seats, seats_of_task, sent_behind, task_o
 use Rattle.grid_run.specs.Banks.{WasAsked}
 use Rattle.grid_run.specs.FirstLevels.{FirstTask, WasGiven, first_task, sent_by}
 use Rattle.grid_run.specs.Fronts.{front_rules}
-use Rattle.grid_run.specs.Seats.{Table, rules_of_seat}
+use Rattle.grid_run.specs.Seats.{SeatRules, rules_of_seat}
 use Rattle.grid_run.specs.Lanes.{HasGiven, HasTaken}
 use Rattle.grid_run.specs.declared.bank.Bank.{Bank}
 use Rattle.grid_run.specs.declared.first_levels.FirstLevels.{FirstLevels}
@@ -55,7 +55,7 @@ few-asked sees makes l lent records are few taken =
     )
 
 -- where second levels are behind seats of a lane, so are their queues
-pub seated : (i d : Table) (shelves : List BackShelf)
+pub seated : (i d : SeatRules) (shelves : List BackShelf)
     → All (IsPlacedIn i d) (map task_of_shelf shelves)
     → All (AreSeatsIn i d) (map (λ shelf. seats_of_task (task_of_shelf shelf)) shelves)
 seated i d shelves placed =

@@ -19,7 +19,7 @@ use Rattle.grid_run.specs.FirstLevels.{FirstTask, HasServed}
 use Rattle.grid_run.specs.Fronts.{front_rules}
 use Rattle.grid_run.specs.Lanes.{LaneTask, lane_task}
 use Rattle.grid_run.specs.Rows.{IsBackOf, IsPlaceIn}
-use Rattle.grid_run.specs.Seats.{Table, rules_of_seat}
+use Rattle.grid_run.specs.Seats.{SeatRules, rules_of_seat}
 use Rattle.grid_run.specs.declared.back.Back.{Back}
 use Rattle.grid_run.specs.declared.first_levels.FirstLevels.{FirstLevels}
 use Rattle.grid_run.specs.declared.lane.Lane.{Lane}
@@ -47,16 +47,16 @@ served-by-same given s f es served =
     record { i = served.i; d = served.d; queues = served.queues }
 
 -- seats of caches of both sides are seats of caches of each
-pub seated-on-i : {i d : Table} (ps : List BothSeats) → All (AreSeatsIn i d) ps
+pub seated-on-i : {i d : SeatRules} (ps : List BothSeats) → All (AreSeatsIn i d) ps
     → All (IsPlacedOn side.I i) ps
 seated-on-i ps all k p lt = record { seat = (all k p lt).on_i }
 
-pub seated-on-d : {i d : Table} (ps : List BothSeats) → All (AreSeatsIn i d) ps
+pub seated-on-d : {i d : SeatRules} (ps : List BothSeats) → All (AreSeatsIn i d) ps
     → All (IsPlacedOn side.D d) ps
 seated-on-d ps all k p lt = record { seat = (all k p lt).on_d }
 
 -- what both sides send for one more event comes after all before
-pub both-sides : (i d : Table) (es : List DinRecord) (e : DinRecord) (p : BothSeats)
+pub both-sides : (i d : SeatRules) (es : List DinRecord) (e : DinRecord) (p : BothSeats)
     → followed_by (followed_by (sent_behind i d es) (sent_on_side side.I i es e))
     (sent_on_side side.D d es e) p
     ≡ sent_behind i d (es ++ e ∷ []) p
@@ -66,12 +66,12 @@ both-sides i d es e p =
     ∙ sym (second_level_requests-more (parts_at i d p) es e)
 
 -- what waits behind caches of the same rules
-pub served-same : {i i' d d' : Table} (given : RequestsFor) (es : List DinRecord)
+pub served-same : {i i' d d' : SeatRules} (given : RequestsFor) (es : List DinRecord)
     (qs : List Queue) → i ≡ i' → d ≡ d' → All (AreWaiting given (sent_behind i' d' es)) qs
     → All (AreWaiting given (sent_behind i d es)) qs
 served-same {i' = i'} {d = d} given es qs on_i on_d all =
-    subst (λ (t : Table). All (AreWaiting given (sent_behind t d es)) qs) (sym on_i)
-    (subst (λ (t : Table). All (AreWaiting given (sent_behind i' t es)) qs) (sym on_d) all)
+    subst (λ (t : SeatRules). All (AreWaiting given (sent_behind t d es)) qs) (sym on_i)
+    (subst (λ (t : SeatRules). All (AreWaiting given (sent_behind i' t es)) qs) (sym on_d) all)
 
 module _ (l : Lane) (c : Hierarchy) (s : Selection) (p : Place)
     (place : IsPlaceIn (lane_task l) c s p) (b : Back)
@@ -102,19 +102,19 @@ module _ (l : Lane) (c : Hierarchy) (s : Selection) (p : Place)
       (ap (rules_of_seat ds) back-there.on_d ∙ place.d.rules)
 
 -- first levels of equal parts
-abbrev first_of : Selection → Table → Table → List BothSeats → FirstTask
+abbrev first_of : Selection → SeatRules → SeatRules → List BothSeats → FirstTask
 first_of s i d ps = record { selection = s; i = i; d = d; seats = ps }
 
-pub same-first : {s s' : Selection} {i i' d d' : Table} {ps ps' : List BothSeats} → s ≡ s'
+pub same-first : {s s' : Selection} {i i' d d' : SeatRules} {ps ps' : List BothSeats} → s ≡ s'
     → i ≡ i' → d ≡ d' → ps ≡ ps' → first_of s i d ps ≡ first_of s' i' d' ps'
 same-first o p q r = cc
 
 -- lanes of equal parts
-abbrev lane_of : Selection → Table → Table → List BackTask → LaneTask
+abbrev lane_of : Selection → SeatRules → SeatRules → List BackTask → LaneTask
 lane_of s i d bs = record { selection = s; i = i; d = d; backs = bs }
 
-pub same-lane : {s s' : Selection} {i i' d d' : Table} {bs bs' : List BackTask} → s ≡ s' → i ≡ i'
-    → d ≡ d' → bs ≡ bs' → lane_of s i d bs ≡ lane_of s' i' d' bs'
+pub same-lane : {s s' : Selection} {i i' d d' : SeatRules} {bs bs' : List BackTask} → s ≡ s'
+    → i ≡ i' → d ≡ d' → bs ≡ bs' → lane_of s i d bs ≡ lane_of s' i' d' bs'
 same-lane o p q r = cc
 
 -- second levels and queues of the same shelves are behind the same seats

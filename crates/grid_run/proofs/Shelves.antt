@@ -13,7 +13,7 @@ use Rattle.grid_core.specs.Written.{no_rules}
 use Rattle.grid_core.proofs.Geometries.{ways-are}
 use Rattle.grid_run.specs.Backs.{IsSeatIn}
 use Rattle.grid_run.specs.Plans.{IsSameShape, Suits}
-use Rattle.grid_run.specs.Seats.{IsCellOf, IsSeatOf, Keeps, KeepsCells, Table, rules_of_seat}
+use Rattle.grid_run.specs.Seats.{IsCellOf, IsSeatOf, Keeps, KeepsCells, SeatRules, rules_of_seat}
 use Rattle.grid_run.specs.Seats.{rules_on}
 use Rattle.grid_run.specs.declared.seat.Seat.{Seat}
 use Rattle.grid_run.specs.declared.shelf.Shelf.{Shelf}
@@ -90,11 +90,11 @@ alike-added b (Err why) gs gs' g is same all one =
     subst (All (λ d. bsize_of d ≡ b)) (sym same) all
 
 -- a seat by the cell of its family
-seat-of : (t : Table) (r : Rules) (s : Seat) → s.family < length t
+seat-of : (t : SeatRules) (r : Rules) (s : Seat) → s.family < length t
     → IsCellOf (get_or t s.family []) r s.cell → IsSeatOf t r s
 seat-of t r s lt own = record { family = lt; cell = own.inside; rules = own.rules }
 
-cell-of : (t : Table) (r : Rules) (s : Seat) → IsSeatOf t r s
+cell-of : (t : SeatRules) (r : Rules) (s : Seat) → IsSeatOf t r s
     → IsCellOf (get_or t s.family []) r s.cell
 cell-of t r s own = record { inside = own.cell; rules = own.rules }
 
@@ -120,7 +120,7 @@ module _ (xs : List Shelf) (i : ℕ) (x y : Shelf) (lt : i < length xs) where
       let t = map rules_on xs in
       let here : get_or t i [] ≡ rules_on x =
       get_or-map rules_on xs i x [] lt ∙ ap rules_on (sym at) in
-      subst (λ (l : Table). IsSeatOf l r s) (sym (map-set rules_on xs i y))
+      subst (λ (l : SeatRules). IsSeatOf l r s) (sym (map-set rules_on xs i y))
       (seat-of (set t i (rules_on y)) r s (inside-set t i s.family (rules_on y) own.family)
       (at-set (λ l. IsCellOf l r s.cell) t i s.family (rules_on y) [] family-inside
       (λ old. keeps r s.cell (subst (λ l. IsCellOf l r s.cell) here old))
@@ -135,16 +135,16 @@ module _ (xs : List Shelf) (i : ℕ) (x y : Shelf) (lt : i < length xs) where
       let r = rules_from g p in
       let own = subst (λ (q : Policy). IsCellOf (rules_on y) (rules_from g q) cell) suits.policy
       found in
-      subst (λ (l : Table). IsSeatOf l r (record { family = i; cell = cell }))
+      subst (λ (l : SeatRules). IsSeatOf l r (record { family = i; cell = cell }))
       (sym (map-set rules_on xs i y))
       (seat-of (set t i (rules_on y)) r (record { family = i; cell = cell })
       (inside-set t i i (rules_on y) family-inside)
       (at-changed (λ l. IsCellOf l r cell) t i (rules_on y) [] family-inside own))
 
 -- a seat of a cache is one of the table, and stays one
-pub seat-there : {t : Table} {r : Rules} {s : Seat} → IsSeatOf t r s → IsSeatIn t s
+pub seat-there : {t : SeatRules} {r : Rules} {s : Seat} → IsSeatOf t r s → IsSeatIn t s
 seat-there own = record { family = own.family; cell = own.cell }
 
-pub seat-stays : (t u : Table) → Keeps t u → (s : Seat) → IsSeatIn t s → IsSeatIn u s
+pub seat-stays : (t u : SeatRules) → Keeps t u → (s : Seat) → IsSeatIn t s → IsSeatIn u s
 seat-stays t u keeps s own = seat-there
     (keeps (rules_of_seat t s) s (record { family = own.family; cell = own.cell; rules = refl }))

@@ -7,7 +7,7 @@ use Rattle.stage_core.specs.declared.message.Side.{Side}
 use Rattle.stage_core.specs.declared.message.Side.TheVariants as side
 use Rattle.stage_core.specs.declared.message.What.{What}
 use Rattle.grid_run.specs.Families.{rules_in}
-use Rattle.grid_run.specs.Seats.{Table, rules_of_seat, rules_on}
+use Rattle.grid_run.specs.Seats.{SeatRules, rules_of_seat, rules_on}
 use Rattle.grid_run.specs.Sending.{NothingWaitsFor, SecondAsked}
 use Rattle.grid_run.specs.declared.back.Back.{Back}
 use Rattle.grid_run.specs.declared.plan.BackShelf.{BackShelf}
@@ -42,7 +42,7 @@ abbrev pub queue_seats : Queue → BothSeats
 queue_seats q = q.seats
 
 -- the seat is one of the table
-pub record IsSeatIn (t : Table) (s : Seat) : Type 0 where
+pub record IsSeatIn (t : SeatRules) (s : Seat) : Type 0 where
   pub family : s.family < length t
   pub cell : s.cell < length (get_or t s.family [])
 
@@ -52,16 +52,16 @@ seat_on side.I p = p.i
 seat_on side.D p = p.d
 
 -- the seat on a side is one of the table
-pub record IsPlacedOn (s : Side) (fronts : Table) (p : BothSeats) : Type 0 where
+pub record IsPlacedOn (s : Side) (fronts : SeatRules) (p : BothSeats) : Type 0 where
   pub seat : IsSeatIn fronts (seat_on s p)
 
 -- both seats are there
-pub record AreSeatsIn (i d : Table) (p : BothSeats) : Type 0 where
+pub record AreSeatsIn (i d : SeatRules) (p : BothSeats) : Type 0 where
   pub on_i : IsSeatIn i p.i
   pub on_d : IsSeatIn d p.d
 
 -- both seats in front of second levels are there
-abbrev pub IsPlacedIn : Table → Table → BackTask → Type 0
+abbrev pub IsPlacedIn : SeatRules → SeatRules → BackTask → Type 0
 IsPlacedIn i d t = AreSeatsIn i d (seats_of_task t)
 
 -- for the seats of each two first-level caches, some requests
@@ -77,24 +77,24 @@ abbrev pub followed_by : RequestsFor → RequestsFor → RequestsFor
 followed_by first then p = first p ++ then p
 
 -- what the cache of a side sends for a request to it after a history, by the rules of its caches
-abbrev pub sent_for : Side → Table → History → Event → RequestsFor
+abbrev pub sent_for : Side → SeatRules → History → Event → RequestsFor
 sent_for s fronts h q p = parts_of (rules_of_seat fronts (seat_on s p)) s h q
 
 -- what it sends for the event e, which comes after the events es
-abbrev pub sent_on_side : Side → Table → List DinRecord → DinRecord → RequestsFor
+abbrev pub sent_on_side : Side → SeatRules → List DinRecord → DinRecord → RequestsFor
 sent_on_side s fronts es e p = sent_up (parts_of (rules_of_seat fronts (seat_on s p))) s es e
 
 -- the rules of the caches of a side
-abbrev pub table_on : Side → Table → Table → Table
-table_on side.I i d = i
-table_on side.D i d = d
+abbrev pub rules_on_side : Side → SeatRules → SeatRules → SeatRules
+rules_on_side side.I i d = i
+rules_on_side side.D i d = d
 
 -- what the caches at both seats send
-abbrev pub parts_at : Table → Table → BothSeats → Parts
-parts_at i d p s h q = parts_of (rules_of_seat (table_on s i d) (seat_on s p)) s h q
+abbrev pub parts_at : SeatRules → SeatRules → BothSeats → Parts
+parts_at i d p s h q = parts_of (rules_of_seat (rules_on_side s i d) (seat_on s p)) s h q
 
 -- all that caches of these rules sent for these events
-abbrev pub sent_behind : Table → Table → List DinRecord → RequestsFor
+abbrev pub sent_behind : SeatRules → SeatRules → List DinRecord → RequestsFor
 sent_behind i d es p = second_level_requests (parts_at i d p) es
 
 -- all requests for the seats of a queue are those of before, and then those that wait in it
@@ -110,7 +110,7 @@ pub record HasNone (q : Queue) : Type 0 where
 pub record WereAsked (blocks : List ℕ) (requests : RequestsFor) (b : Back) : Type 0 where
   pub second : SecondAsked blocks (requests b.seats) b.second
 
--- a second level can serve so many
+-- for no two seats are there more requests than a second level can serve
 pub record AreFew (requests : RequestsFor) : Type 0 where
   pub few : (p : BothSeats) → length (requests p) ≤ 2 ^ 44
 

@@ -9,7 +9,7 @@ use Rattle.stage_core.specs.declared.selection.Selection.{Selection}
 use Rattle.grid_run.specs.Backs.{AreSeatsIn, AreWaiting, RequestsFor, queue_seats}
 use Rattle.grid_run.specs.Backs.{seats_of_task, sent_behind, task_of_shelf}
 use Rattle.grid_run.specs.Fronts.{FrontAt, front_rules}
-use Rattle.grid_run.specs.Seats.{Table, rules_on}
+use Rattle.grid_run.specs.Seats.{SeatRules, rules_on}
 use Rattle.grid_run.specs.declared.first_levels.FirstLevels.{FirstLevels}
 use Rattle.grid_run.specs.declared.plan.LanePlan.{LanePlan}
 use Rattle.grid_run.specs.declared.seat.BothSeats.{BothSeats}
@@ -18,8 +18,8 @@ use Rattle.grid_run.specs.declared.seat.BothSeats.{BothSeats}
 -- seats to which second levels listen
 pub record FirstTask : Type 0 where
   pub selection : Selection
-  pub i : Table
-  pub d : Table
+  pub i : SeatRules
+  pub d : SeatRules
   pub seats : List BothSeats
 
 -- what these do

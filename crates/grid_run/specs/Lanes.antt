@@ -7,15 +7,15 @@ use Rattle.grid_run.specs.Backs.{BackTask, IsPlacedIn, queue_seats, seats_of_tas
 use Rattle.grid_run.specs.Banks.{NothingWaitsIn, WasAsked, tasks_of_banks}
 use Rattle.grid_run.specs.FirstLevels.{WasGiven, first_task, sent_by}
 use Rattle.grid_run.specs.Fronts.{front_rules}
-use Rattle.grid_run.specs.Seats.{Table, rules_on}
+use Rattle.grid_run.specs.Seats.{SeatRules, rules_on}
 use Rattle.grid_run.specs.declared.lane.Lane.{Lane}
 use Rattle.grid_run.specs.declared.plan.LanePlan.{LanePlan}
 
 -- what a lane does: its selection, the rules of its first-level caches, and its second levels
 pub record LaneTask : Type 0 where
   pub selection : Selection
-  pub i : Table
-  pub d : Table
+  pub i : SeatRules
+  pub d : SeatRules
   pub backs : List BackTask
 
 -- what this lane does
@@ -53,7 +53,7 @@ pub record HasGiven (past records : List DinRecord) (l : Lane) : Type 0 where
   pub matched : AreMatched l
 
 -- a lane has taken these records: its first levels have served what is selected of them, and its
--- second levels were given what these sent for some of them
+-- second levels were given what these sent for `past`, which are no more
 pub record HasTaken (records : List DinRecord) (l : Lane) : Type 0 where
   pub past : List DinRecord
   pub some : length past ≤ length records

@@ -10,7 +10,7 @@ use Rattle.stage_core.specs.declared.selection.Selection.{Selection}
 use Rattle.grid_run.specs.Backs.{BackTask, IsPlacedIn, IsSeatIn}
 use Rattle.grid_run.specs.Lanes.{LaneTask}
 use Rattle.grid_run.specs.Rows.{IsPlaceIn, IsPlaceOf}
-use Rattle.grid_run.specs.Seats.{IsCellOf, Table}
+use Rattle.grid_run.specs.Seats.{IsCellOf, SeatRules}
 use Rattle.grid_run.specs.declared.plan.BackShelf.{BackShelf}
 use Rattle.grid_run.specs.declared.plan.LanePlan.{LanePlan}
 use Rattle.grid_run.specs.declared.plan.Place.{Place}
@@ -69,7 +69,7 @@ KeepsBehind old new = (i d : Seat) (r : Rules) (s : Seat) →
 
 -- all second levels stay behind seats that are there, if these two seats are there
 abbrev pub KeepsPlaced : Seat → Seat → List BackTask → List BackTask → Type 0
-KeepsPlaced i d old new = (on_i on_d : Table) → IsSeatIn on_i i → IsSeatIn on_d d →
+KeepsPlaced i d old new = (on_i on_d : SeatRules) → IsSeatIn on_i i → IsSeatIn on_d d →
     All (IsPlacedIn on_i on_d) old → All (IsPlacedIn on_i on_d) new
 
 -- each place of a configuration in a lane stays one of it

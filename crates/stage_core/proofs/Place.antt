@@ -1,4 +1,5 @@
--- `along` and `over`: two lists in a row, and one more item.
+-- What is made of the items of a list, each with those before it: of two lists in a row, and of one
+-- more item.
 use Rattle.std.proofs.Common.{◌≡◌, List, [], ◌∷◌, ◌++◌, refl, sym, ap, ◌∙◌, append_assoc}
 use Rattle.std.proofs.Common.{append-nil}
 use Rattle.stage_core.specs.Places.{flat_map_after, flat_map_with_past}

@@ -62,7 +62,8 @@ pub record RingsCarry (n : Threads) : Type 0 where
   pub from : (s : Side) →
       (n.stage s).from.posted ≡ n.merge.from s ++ (n.from s ++ (n.stage s).from.held)
 
--- on each ring, the splitter has posted exactly the messages of its events
+-- on each ring, the splitter has posted exactly the messages of its events, and behind them the end
+-- if it is closed
 pub record HasPosted (t : SplitterThread) : Type 0 where
   pub order : t.order.posted ≡ map (λ e. turn_of e.label) t.events ++ list_if t.closed turn.Finish
   pub to : (s : Side)

@@ -7,7 +7,7 @@ ghost use Rattle.stage_core.specs.SecondLevel.{access_parts};
 ghost use Rattle.stage_core.specs.Streams.{answer};
 
 use crate::memory::NoMemory;
-use crate::message::{FromStage, Side, ToStage, What};
+use crate::message::{FromStage, Side, ToStage};
 use crate::outbox::Outbox;
 use crate::parts::{fetch_part, flush_part, through_part};
 use cache_core::{Access, Cache, Counts, Geometry, MAX_EVENTS, Outcome, Policy};

@@ -2,6 +2,7 @@
 use Rattle.std.proofs.Common.{◌≡◌, ℕ, Bool, true, false, cond, List, [], ◌∷◌, ◌++◌, length, refl}
 use Rattle.std.proofs.Common.{sym, ap, ◌∙◌, append_assoc, append-nil, subst, Option, Some, None}
 use Rattle.std.proofs.Common.{nat_lt}
+use Rattle.std.proofs.lemmas.Option.{cond_some}
 use Rattle.std.specs.Option.{option_map}
 use Rattle.stage_core.specs.SecondLevel.{Parts}
 use Rattle.stage_core.specs.Network.Pushes.{Push, Order, To, pushes, turns_in, sent_to}
@@ -31,10 +32,6 @@ pub option_map-some : {A B : Type 0} (f : A → B) (o : Option A) (y : B) → op
 option_map-some f None y h = absurd (cc)
 option_map-some f (Some x) y h = (x, refl, cc)
 
-cond-some : {A : Type 0} (b : Bool) (x y : A) → cond b (Some x) None ≡ Some y → x ≡ y
-cond-some true x y h = cc
-cond-some false x y h = absurd (cc)
-
 -- what is there although a test could take it away is there without the test
 pub cond-none-some : {A : Type 0} (b : Bool) (o : Option A) (y : A) → cond b None o ≡ Some y
     → o ≡ Some y
@@ -44,7 +41,7 @@ cond-none-some false o y h = h
 -- a push that is possible puts the message last
 pub push-some : {A : Type 0} (capacity : ℕ) (x : A) (r r' : Ring A) → push capacity x r ≡ Some r'
     → with_message x r ≡ r'
-push-some capacity x r r' h = cond-some (nat_lt (length r.waiting) capacity) _ r' h
+push-some capacity x r r' h = (cond_some (nat_lt (length r.waiting) capacity) _ r' h).1
 
 carried-push : {A : Type 0} (x : A) (r : Ring A) → carried (with_message x r) ≡ carried r ++ x ∷ []
 carried-push x r = sym (append_assoc r.popped r.waiting (x ∷ []))

@@ -1,4 +1,5 @@
--- Laws of the network. They hold whatever the first level sends and however small the rings are.
+-- Laws of the network. They hold whatever the first level sends and whatever the rings hold; two of
+-- them ask for room for one message.
 use Rattle.std.specs.Prelude.{◌≡◌, ℕ, ◌*◌, ◌<◌, ◌≤◌, List, ◌++◌, length, Some, None}
 use Rattle.din_trace.specs.declared.record.DinRecord.{DinRecord}
 use Rattle.stage_core.specs.SecondLevel.{Parts, second_level_requests}

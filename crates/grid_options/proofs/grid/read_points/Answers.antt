@@ -1,8 +1,9 @@
 use Rattle.std.proofs.Common.{◌+◌, List, [], ◌∷◌, ◌++◌, map, subst, sym, take}
+use Rattle.std.proofs.lemmas.Slice.Zip.{all_zipped_more}
 use Rattle.std.specs.List.{AllZip}
 use Rattle.grid_options.specs.Grid.{IsPoint}
 use Rattle.grid_options.specs.declared.grid.GridPoint.{GridPoint}
-use Rattle.grid_options.proofs.ListLemmas.{seen_more, zip_push}
+use Rattle.grid_options.proofs.ListLemmas.{seen_more}
 use Rattle.grid_options.specs.Points.{texts_of}
 use Rattle.grid_options.proofs.grid.read_points.Goals as goal
 
@@ -15,7 +16,7 @@ loop-texts-preserved c =
     let p = c.in_ok-point_of.field-0 in
     let point : R (texts_of x) p = subst (λ ts. R (map (λ t. t.now) ts) p)
     c.as_slice.ensures.value c.in_ok-point_of.ensures in
-    let zipped = zip_push R (map texts_of (take i xs)) c.loop-texts.read.items (texts_of x) p
+    let zipped = all_zipped_more R (map texts_of (take i xs)) c.loop-texts.read.items (texts_of x) p
     c.loop-texts.invariant point in
     subst (λ ys. AllZip R (map texts_of (take (i + 1) xs)) ys)
     (sym {A = List GridPoint} c.in_ok-push.ensures.items)

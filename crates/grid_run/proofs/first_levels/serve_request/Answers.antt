@@ -3,7 +3,7 @@ use Rattle.std.specs.List.{All}
 use Rattle.std.proofs.lemmas.Result.{on_ok_weaker}
 use Rattle.grid_run.specs.Backs.{AreWaiting, followed_by, sent_for}
 use Rattle.grid_run.specs.Fronts.{HasSent, IsSilent, front_rules}
-use Rattle.grid_run.specs.Seats.{Table}
+use Rattle.grid_run.specs.Seats.{SeatRules}
 use Rattle.grid_run.specs.Sending.{event_of}
 use Rattle.grid_run.specs.declared.front.Front.{Front}
 use Rattle.grid_run.proofs.Behind.{nothing-asked}
@@ -13,7 +13,7 @@ pub returns-then-are_silent-clause-asked : goal.returns-then-are_silent-clause-a
 returns-then-are_silent-clause-asked c = λ given h before all was.
     let q = c.args.request in
     let bs = c.args.queues.now.items in
-    let old : Table = map front_rules c.args.fronts.now.items in
+    let old : SeatRules = map front_rules c.args.fronts.now.items in
     let silent = subst (λ (l : List Front). All IsSilent l) c.deref.ensures.value
     (c.if-are_silent.ensures refl) in
     nothing-asked c.serve_fronts.new.fronts.items old c.serve_fronts.ensures.rules c.args.side bs
@@ -34,13 +34,13 @@ returns-clause-asked c =
     let s = c.args.side in
     let q = c.args.request in
     let bs = c.ask_queues.new.queues.items in
-    let old : Table = map front_rules c.args.fronts.now.items in
-    let now : Table = map front_rules c.deref-2.result.now in
+    let old : SeatRules = map front_rules c.args.fronts.now.items in
+    let now : SeatRules = map front_rules c.deref-2.result.now in
     let same : now ≡ old = ap (map front_rules) c.deref-2.ensures.value
     ∙ c.serve_fronts.ensures.rules in
     on_ok_weaker c.ask_queues.result (λ asked given h before all was.
     let sent = subst (λ (l : List Front). All (HasSent h q) l) (sym c.deref-2.ensures.value)
     (c.in_ok-serve_fronts.ensures.sent h all) in
-    subst (λ (fs : Table). All (AreWaiting given (followed_by before (sent_for s fs h
+    subst (λ (fs : SeatRules). All (AreWaiting given (followed_by before (sent_for s fs h
     (event_of q)))) bs)
     same (asked given h q before sent was)) c.ask_queues.ensures.asked

@@ -6,7 +6,7 @@ use Rattle.stage_core.specs.Events.{history}
 use Rattle.stage_core.specs.declared.message.What.{What}
 use Rattle.grid_run.specs.Backs.{queue_seats, followed_by, seat_on, sent_for, sent_on_side}
 use Rattle.grid_run.specs.Fronts.{FrontAt, front_rules}
-use Rattle.grid_run.specs.Seats.{Table, rules_of_seat}
+use Rattle.grid_run.specs.Seats.{SeatRules, rules_of_seat}
 use Rattle.grid_run.specs.Sending.{event_of}
 use Rattle.grid_run.specs.declared.front.Front.{Front}
 use Rattle.grid_run.proofs.Behind.{waiting-same, nothing-asked}
@@ -24,7 +24,7 @@ returns-then-serve_again-clause-asked c = λ given es before all was.
     let s = c.args.side in
     let q = c.in-Some.request in
     let bs = c.args.queues.now.items in
-    let fronts : Table = map front_rules c.args.fronts.now.items in
+    let fronts : SeatRules = map front_rules c.args.fronts.now.items in
     let again = c.if-serve_again.ensures in
     waiting-same given (followed_by before (sent_for s fronts (history s es) (event_of q)))
     (followed_by before (sent_on_side s fronts es c.args.event)) bs
