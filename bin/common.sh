@@ -3,9 +3,9 @@
 
 # A function of the caller's, which the shell has taken over, would stand in for the tool of its
 # name.
-while read -r _ _ theirs; do
-    unset -f -- "$theirs" || true
-done <<<"$(declare -F)"
+while builtin read -r _ _ theirs; do
+    builtin unset -f -- "$theirs" || true
+done <<<"$(builtin declare -F)"
 
 # A relative name leads from where the command runs, and from nowhere else. A pipe that says nothing
 # is waited for. A trace is unpacked, whatever else gzip and xz are told to do by default.

@@ -39,7 +39,9 @@ fi
 
 # What the caller says of stars, words, files and texts, and functions with the names of tools.
 # shellcheck disable=SC2016  # the words of functions
-own=('BASH_FUNC_cat%%=() { command cat -n "$@"; }' 'BASH_FUNC_cd%%=() { builtin cd "$@" && pwd; }')
+own=('BASH_FUNC_cat%%=() { command cat -n "$@"; }' 'BASH_FUNC_cd%%=() { builtin cd "$@" && pwd; }'
+    'BASH_FUNC_readlink%%=() { pwd; }' 'BASH_FUNC_read%%=() { return 1; }'
+    'BASH_FUNC_declare%%=() { return 1; }' 'BASH_FUNC_unset%%=() { return 1; }')
 for option in SHELLOPTS=noglob SHELLOPTS=keyword SHELLOPTS=noclobber "${own[@]}"; do
     for again in '' ' again'; do
         ends "a task with $option$again" 0 '' \
