@@ -222,6 +222,27 @@ for threads in {0..8}; do
         --threads "$threads"
 done
 
+# starts THREADS: prints how many threads the program starts, where it may work on so many.
+starts() {
+    strace -f -e trace=clone,clone3 -o "$work/calls" "$program" "${several[@]}" --threads "$1" \
+        <"$work/long.din" >"$work/out" 2>"$work/err"
+    if cmp -s "$work/out" "$work/several"; then
+        grep -c CLONE_THREAD "$work/calls"
+    else
+        echo 'another table'
+    fi
+}
+if strace true 2>/dev/null; then
+    "$program" "${several[@]}" <"$work/long.din" >"$work/several"
+    if [ "$(starts 1)" = 0 ] && [[ $(starts 2) =~ ^[1-9] ]]; then
+        pass 'one thread starts no other'
+    else
+        fail 'one thread starts no other'
+    fi
+else
+    skip 'one thread starts no other' 'strace'
+fi
+
 fail_to_print 'dinero_grid: table write failed
 ' "${caches[@]}" --l1-dsize 8,16
 help_names skipcount maxcount flushcount threads
