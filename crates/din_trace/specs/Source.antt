@@ -1,5 +1,8 @@
 -- What the contracts say of a source: its reader, how many bytes it took, and what it has left.
-use Rattle.std.specs.Prelude.{◌≡◌, ℕ, ◌+◌, false, List, length, Option}
+use Rattle.std.specs.Prelude.{◌≡◌, ℕ, ◌+◌, false, List, length, Option, Result, MatchResult}
+use Rattle.std.specs.Prelude.{IfNone}
+use Rattle.din_trace.specs.declared.record.DinRecord.{DinRecord}
+use Rattle.din_trace.specs.declared.fault.TraceFault.{TraceFault}
 use Rattle.din_trace.specs.declared.source.Source.{Source}
 use Rattle.din_trace.specs.declared.backlog.State.TheVariants as state
 use Rattle.din_trace.specs.Text.{Remaining}
@@ -30,6 +33,11 @@ HasLeft source script l = backlog.HasLeft source.backlog script l
 -- it has ended or failed, and asks its reader no more
 unfoldable pub IsSettled : {R : Type 0} → Source R → Type 0
 IsSettled source = is_reading source.backlog.state ≡ false
+
+-- after an answer that is no record, it is settled
+abbrev pub SettlesAt : {R : Type 0} → Result (Option DinRecord) TraceFault → Source R → Type 0
+SettlesAt answer source =
+    MatchResult answer (λ found. IfNone found (IsSettled source)) (λ _. IsSettled source)
 
 -- it is reading, and has judged every byte that it holds: it has to ask its reader
 unfoldable pub MustAsk : {R : Type 0} → Source R → Type 0

@@ -1,5 +1,8 @@
 -- Whether a source is reading, or has ended or failed.
-use Rattle.std.specs.Prelude.{◌≡◌, Bool, true, false, Option, is_none, ⊤}
+use Rattle.std.specs.Prelude.{◌≡◌, Bool, true, false, Option, is_none, ⊤, Result, MatchResult}
+use Rattle.std.specs.Prelude.{IfNone}
+use Rattle.din_trace.specs.declared.record.DinRecord.{DinRecord}
+use Rattle.din_trace.specs.declared.fault.TraceFault.{TraceFault}
 use Rattle.din_trace.specs.declared.fault.Why.{Why}
 use Rattle.din_trace.specs.declared.backlog.State.{State}
 use Rattle.din_trace.specs.declared.backlog.State.TheVariants as state
@@ -22,3 +25,9 @@ abbrev pub Closes : Fate → State → Type 0
 Closes Open state = ⊤
 Closes Ended state = is_reading state ≡ false
 Closes Failed state = is_reading state ≡ false
+
+-- after an answer that is no record, a source is no longer reading
+abbrev pub ClosesAt : Result (Option DinRecord) TraceFault → State → Type 0
+ClosesAt answer state =
+    MatchResult answer (λ found. IfNone found (is_reading state ≡ false))
+    (λ _. is_reading state ≡ false)

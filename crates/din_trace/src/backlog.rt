@@ -7,7 +7,7 @@ ghost use Rattle.std.specs.Io.KnownBytes.{Consumes, Keeps, IsAtEnd};
 ghost use Rattle.din_trace.specs.Device.{once_more};
 ghost use Rattle.din_trace.specs.declared.buffer.TheConstants.{ROOM};
 ghost use Rattle.din_trace.specs.Line.{ADDRESS_MAX};
-ghost use Rattle.din_trace.specs.State.{is_sound, is_reading};
+ghost use Rattle.din_trace.specs.State.{is_sound, is_reading, ClosesAt};
 ghost use Rattle.din_trace.specs.Text.{Remaining, text_left};
 ghost use Rattle.din_trace.specs.Remaining.{Script};
 
@@ -85,6 +85,7 @@ impl Backlog {
             × (self.new.filled ≡ self.old.filled)) }
         ensures taken { taken self.new ≡ taken self.old }
         ensures limit { self.new.limit ≡ self.old.limit }
+        ensures closes { IfSome result (λ answer. ClosesAt answer self.new.state) }
         ensures records { IfSome result (λ answer. TakesRoom answer self.old self.new) }
         ensures room { room self.new ≤ room self.old }
     {
@@ -120,6 +121,7 @@ impl Backlog {
             → l ≡ record { records = []; fault = Some TraceFault.Read }) }
         ensures taken { taken self.new ≡ taken self.old }
         ensures limit { self.new.limit ≡ self.old.limit }
+        ensures closes { IfSome result (λ answer. ClosesAt answer self.new.state) }
         ensures records { IfSome result (λ answer. TakesRoom answer self.old self.new) }
         ensures room { room self.new ≤ room self.old }
     {
@@ -168,6 +170,7 @@ impl Backlog {
             × (self.new.at ≡ self.new.filled)) }
         ensures taken { taken self.new ≡ taken self.old }
         ensures limit { self.new.limit ≡ self.old.limit }
+        ensures closes { IfSome result (λ answer. ClosesAt answer self.new.state) }
         ensures records { IfSome result (λ answer. TakesRoom answer self.old self.new) }
         ensures room { room self.new ≤ room self.old }
     {

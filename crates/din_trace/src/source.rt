@@ -7,7 +7,7 @@ ghost use Rattle.din_trace.specs.Line.{ADDRESS_MAX};
 ghost use Rattle.din_trace.specs.Text.{Remaining, text_left};
 ghost use Rattle.din_trace.specs.Remaining.{Script, Fate, Open, Follows, first_answer, after_first};
 ghost use Rattle.din_trace.specs.Source.{reader_of, limit_of, taken_by, room_of, HasLeft};
-ghost use Rattle.din_trace.specs.Source.{IsSettled, MustAsk, Takes};
+ghost use Rattle.din_trace.specs.Source.{IsSettled, MustAsk, SettlesAt, Takes};
 
 use crate::backlog::Backlog;
 use crate::device::ByteReader;
@@ -59,6 +59,7 @@ impl<R: ByteReader> Source<R> {
             → HasLeft self.old (record { given = []; fails = true }) l
             → l ≡ record { records = []; fault = Some TraceFault.Read }) }
         ensures settled { IsSettled self.old → IsSome result × (self.new ≡ self.old) }
+        ensures ends { IfSome result (λ answer. SettlesAt answer self.new) }
         ensures taken { taken_by self.new ≡ taken_by self.old }
         ensures limit { limit_of self.new ≡ limit_of self.old }
         ensures bound { taken_by self.new ≤ limit_of self.new + 1 }
@@ -88,7 +89,9 @@ impl<R: ByteReader> Source<R> {
         // there is the answer, so no complete line was left unanswered.
         ensures failed { (R.failures (reader_of self.new) ≡ R.failures (reader_of self.old))
             ⊎ (result ≡ Err TraceFault.Read) }
+        // After the end or a fault the reader is asked no more.
         ensures settled { IsSettled self.old → self.new ≡ self.old }
+        ensures ends { SettlesAt result self.new }
         ensures limit { limit_of self.new ≡ limit_of self.old }
         ensures bound { taken_by self.new ≤ limit_of self.new + 1 }
         // So at most `limit` records are answered, whatever the reader does.
@@ -118,6 +121,7 @@ impl<R: ByteReader> Source<R> {
             → (result ≡ first_answer l) × HasLeft self.new later (after_first l)) }
         ensures failed { (R.failures (reader_of self.new) ≡ R.failures (reader_of self.old))
             ⊎ (result ≡ Err TraceFault.Read) }
+        ensures ends { SettlesAt result self.new }
         ensures limit { limit_of self.new ≡ limit_of self.old }
         ensures bound { taken_by self.new ≤ limit_of self.new + 1 }
         ensures records { IfOk result (λ found. IsSome found
@@ -157,9 +161,11 @@ impl<R: ByteReader> Source<R> {
         ensures failed { (R.failures (reader_of self.new) ≡ R.failures (reader_of self.old))
             ⊎ (result ≡ Err TraceFault.Read) }
         ensures settled { IsSettled self.old → self.new ≡ self.old }
+        ensures ends { IsSettled self.new }
         ensures bound { taken_by self.new ≤ limit_of self.new + 1 }
         ensures limit { limit_of self.new ≡ limit_of self.old }
         ensures at_most { IfOk result (λ records. vec_len records ≤ room_of self.old) }
+        ensures no_room { room_of self.new ≡ 0 }
     {
         let mut records = Vec::new(alloc);
         'records: loop {
