@@ -1,5 +1,5 @@
 -- What a contract sees of a `Marked`.
-use Rattle.std.specs.Prelude.{ℕ, Bool, List, map}
+use Rattle.std.specs.Prelude.{ℕ, Bool, List, map, length}
 use Rattle.marked_list.specs.declared.marked.Marked.{Marked}
 use Rattle.marked_list.specs.Log.{uses_of, is_stamped}
 use Rattle.marked_list.specs.Marks.{size_of}
@@ -16,3 +16,7 @@ marked_sizes m = map size_of m.marks.items
 -- whether a block was ever used
 unfoldable pub was_used : Marked → ℕ → Bool
 was_used m b = is_stamped m.uses b
+
+-- how many uses it keeps, dead ones and living ones
+unfoldable pub kept_uses : Marked → ℕ
+kept_uses m = length (uses_of m.uses)

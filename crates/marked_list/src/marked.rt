@@ -1,6 +1,6 @@
 //! One list of blocks in order of last use, for all sizes.
 
-ghost use Rattle.std.specs.Prelude.{◌≡◌, ◌<◌, length, map, true};
+ghost use Rattle.std.specs.Prelude.{◌≡◌, ◌<◌, ◌≤◌, ◌+◌, ◌*◌, length, map, true};
 ghost use Rattle.marked_list.specs.Laws.{IsRising};
 ghost use Rattle.marked_list.specs.Log.{uses_of};
 ghost use Rattle.marked_list.specs.Uses.{living};
@@ -23,6 +23,7 @@ pub struct Marked {
     ghost marked: { AreMarks (uses_of uses) marks.items },
     ghost counted: { used ≡ length (living (uses_of uses)) },
     ghost rises: { rising ≡ true → IsRising (map size_of marks.items) },
+    ghost short: { length (uses_of uses) ≤ 4096 + 2 * used },
 }
 
 /// How many different blocks were used after a use, by the last use of the block before it.
@@ -36,12 +37,13 @@ fn counted(used: usize, last: Option<usize>) -> usize
     }
 }
 
-#[tactic(auto, unfolding(crate::specs::Marked::order_of, crate::specs::Marked::marked_sizes, crate::specs::Marked::was_used))]
+#[tactic(auto, unfolding(crate::specs::Marked::order_of, crate::specs::Marked::marked_sizes, crate::specs::Marked::was_used, crate::specs::Marked::kept_uses))]
 impl Marked {
-    ghost use Rattle.std.specs.Prelude.{◌≡◌, ◌<◌, ◌==◌, ◌||◌, ℕ, [], false, IfOk, OnOk, OnErr};
+    ghost use Rattle.std.specs.Prelude.{◌≡◌, ◌<◌, ◌≤◌, ◌+◌, ◌*◌, ◌==◌, ◌||◌, ℕ, [], false, length};
+    ghost use Rattle.std.specs.Prelude.{IfOk, OnOk, OnErr, IsErr};
     ghost use Rattle.std.specs.List.{All};
     ghost use Rattle.marked_list.specs.Recency.{level_of, brought_front};
-    ghost use Rattle.marked_list.specs.Marked.{order_of, marked_sizes, was_used};
+    ghost use Rattle.marked_list.specs.Marked.{kept_uses, order_of, marked_sizes, was_used};
 
     /// A list for these sizes, with no block. The sizes are numbers of blocks, in any order; a use
     /// takes fewer steps if they rise.
@@ -62,6 +64,7 @@ impl Marked {
 
     /// Forgets all uses but the last ones.
     fn shorten(&mut self)
+        ensures short { length (uses_of self.new.uses) < 4096 + 2 * self.new.used }
         ensures order { order_of self.new ≡ order_of self.old }
         ensures used { (q : ℕ) → was_used self.new q ≡ was_used self.old q }
         ensures sizes { marked_sizes self.new ≡ marked_sizes self.old }
@@ -72,7 +75,8 @@ impl Marked {
 
     /// Serves a use of a block, as `touch` does.
     fn serve(&mut self, number: usize) -> Result<usize, AllocError>
-        requires { number < u32.MAX }
+        requires low { number < u32.MAX }
+        requires short { length (uses_of self.old.uses) < 4096 + 2 * self.old.used }
         ensures level { IfOk result (λ level.
             level ≡ level_of (marked_sizes self.old) (order_of self.old) number) }
         ensures order { OnOk result (order_of self.new ≡ brought_front number (order_of self.old)) }
@@ -99,7 +103,8 @@ impl Marked {
     /// Uses a block, and answers its level before: the index of the first size for which it was
     /// among the blocks used last, or the number of sizes. After an error nothing is changed.
     /// A number of `u32::MAX` or more answers an error, as if memory were wanting. So does a use
-    /// for which the list has no place left, which takes some 2^31 blocks or more.
+    /// for which the list has no place left: it has places for `u32::MAX - 1` uses, and keeps at
+    /// most two for each block and 4,096 more, so that takes some 2^31 blocks or more.
     pub fn touch(&mut self, number: usize) -> Result<usize, AllocError>
         ensures level { IfOk result (λ level.
             level ≡ level_of (marked_sizes self.old) (order_of self.old) number) }
@@ -109,6 +114,8 @@ impl Marked {
             was_used self.new q ≡ (number == q || was_used self.old q)) }
         ensures unused { OnErr result ((q : ℕ) → was_used self.new q ≡ was_used self.old q) }
         ensures sizes { marked_sizes self.new ≡ marked_sizes self.old }
+        ensures few { kept_uses self.new ≤ 4096 + 2 * length (order_of self.new) }
+        ensures high { u32.MAX ≤ number → IsErr result }
     {
         if number >= u32::MAX as usize {
             return Err(AllocError);

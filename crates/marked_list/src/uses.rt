@@ -153,8 +153,8 @@ fn behind_living(log: &[u32], place: usize) -> usize
 
 #[tactic(auto, unfolding(crate::specs::Log::uses_of, crate::specs::Log::is_stamped))]
 impl Uses {
-    ghost use Rattle.std.specs.Prelude.{◌≡◌, ◌≢◌, ◌<◌, ◌≤◌, ◌-◌, ◌==◌, ◌||◌, [], ℕ, length, take};
-    ghost use Rattle.std.specs.Prelude.{get_or, true, false, OnOk, OnErr};
+    ghost use Rattle.std.specs.Prelude.{◌≡◌, ◌≢◌, ◌<◌, ◌≤◌, ◌+◌, ◌-◌, ◌*◌, ◌==◌, ◌||◌, [], ℕ};
+    ghost use Rattle.std.specs.Prelude.{length, take, get_or, true, false, OnOk, OnErr};
     ghost use Rattle.marked_list.specs.Uses.{dead, last_in, living, since, used_next};
     ghost use Rattle.marked_list.specs.Log.{uses_of, is_stamped};
 
@@ -180,7 +180,9 @@ impl Uses {
 
     /// Whether so many uses are to be shortened to the last ones, of which there are `used`. With
     /// this test, all calls of `shorten` together take a few steps for each use.
-    pub(crate) fn is_long(&self, used: usize) -> bool {
+    pub(crate) fn is_long(&self, used: usize) -> bool
+        ensures { result ≡ false → length (uses_of self.now) < 4096 + 2 * used }
+    {
         let uses = self.log.len();
         uses >= 4096 && uses / 2 > used
     }

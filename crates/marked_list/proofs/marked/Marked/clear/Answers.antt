@@ -1,4 +1,4 @@
-use Rattle.std.proofs.Common.{ℕ, List, [], length, map, sym, ap, subst, ◌∙◌}
+use Rattle.std.proofs.Common.{◌≤◌, ℕ, List, [], length, map, sym, ap, subst, ◌∙◌, arith}
 use Rattle.marked_list.specs.Laws.{IsRising}
 use Rattle.marked_list.specs.Log.{uses_of}
 use Rattle.marked_list.specs.Marks.{AreMarks, size_of}
@@ -18,6 +18,7 @@ invariant_of-self c =
       counted = ap (λ (l : List ℕ). length (living l)) none;
       rises = λ e. subst IsRising (sym (ap (map size_of) c.restart_each.ensures
           ∙ sizes-restarted old.marks.items)) (old.rises e);
+      short = subst (λ (l : List ℕ). length l ≤ 4096) none (omega arith);
     }
 
 pub returns-clause-sizes : goal.returns-clause-sizes

@@ -1,4 +1,4 @@
-use Rattle.std.proofs.Common.{ℕ, List, [], length, map, sym, ap, subst, ◌∙◌}
+use Rattle.std.proofs.Common.{◌≤◌, ℕ, List, [], length, map, sym, ap, subst, ◌∙◌, arith}
 use Rattle.marked_list.specs.Laws.{IsRising}
 use Rattle.marked_list.specs.declared.marks.Mark.{Mark}
 use Rattle.marked_list.specs.Marks.{AreMarks, size_of}
@@ -18,6 +18,7 @@ invariant_of-result c =
       counted = ap (λ (l : List ℕ). length (living l)) none;
       rises = λ e. subst (λ (l : List Mark). IsRising (map size_of l)) (sym c.in_ok-marks.ensures)
           (subst IsRising (sym (sizes-fresh sizes)) (c.is_rising.ensures e));
+      short = subst (λ (l : List ℕ). length l ≤ 4096) none (omega arith);
     }
 
 pub returns-clause-sizes : goal.returns-clause-sizes

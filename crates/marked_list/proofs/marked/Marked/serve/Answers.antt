@@ -1,4 +1,5 @@
-use Rattle.std.proofs.Common.{◌≢◌, ℕ, List, length, sym, ap, subst, ◌∙◌, arith}
+use Rattle.std.proofs.Common.{◌≢◌, ◌≤◌, ℕ, List, Option, Some, None, length, sym, ap, subst, ◌∙◌}
+use Rattle.std.proofs.Common.{arith}
 use Rattle.std.proofs.lemmas.List.{length-reverse}
 use Rattle.marked_list.specs.Laws.{IsRising}
 use Rattle.marked_list.specs.declared.marks.Mark.{Mark}
@@ -12,8 +13,12 @@ use Rattle.marked_list.proofs.Counted.{count-next, living-le}
 use Rattle.marked_list.proofs.Living.{living-next, length-buried}
 use Rattle.marked_list.proofs.marked.Marked.serve.Goals as goal
 
+counted-le : (last : Option ℕ) (n : ℕ) → n ≤ counted_with last n
+counted-le None n = omega arith
+counted-le (Some place) n = omega arith
+
 pub last_use-last-requires : goal.last_use-last-requires
-last_use-last-requires c = let low = c.requires in omega arith
+last_use-last-requires c = let low = c.requires.low in omega arith
 
 pub counted-self-requires : goal.counted-self-requires
 unfolding uses_of
@@ -38,7 +43,7 @@ invariant_of-self-2 c =
     let old = c.args.self.now in
     let b = c.args.number in
     let ms = uses_of old.uses in
-    let low : b ≢ dead = omega (arith, c.requires) in
+    let low : b ≢ dead = omega (arith, c.requires.low) in
     let added = c.in_ok-add.ensures.added in
     let after : IsUseAfter ms b c.last_use-last.result old.used = record {
       low = low;
@@ -55,6 +60,11 @@ invariant_of-self-2 c =
           ∙ sym (count-next ms b low old.uses.once)
           ∙ sym (ap (λ l. length (living l)) added);
       rises = λ e. subst IsRising (sym c.move_each-level.ensures.sizes) (old.rises e);
+      short =
+          let longer = ap (λ (l : List ℕ). length l) added in
+          let same = length-buried b ms in
+          let more = counted-le c.last_use-last.result old.used in
+          omega (arith, c.requires.short, longer, same, more, c.counted-self.ensures);
     }
 
 pub returns-clause-level : goal.returns-clause-level
@@ -64,11 +74,11 @@ returns-clause-level c =
     let b = c.args.number in
     c.move_each-level.ensures.level
     ∙ ap (λ o. index_of (λ (k : Mark). covers k.place o) old.marks.items) c.last_use-last.ensures
-    ∙ level-marks (uses_of old.uses) b (omega (arith, c.requires)) old.marks.items old.marked
+    ∙ level-marks (uses_of old.uses) b (omega (arith, c.requires.low)) old.marks.items old.marked
 
 pub returns-clause-order : goal.returns-clause-order
 unfolding order_of
 returns-clause-order c =
     let b = c.args.number in
     let ms = uses_of c.args.self.now.uses in
-    ap living c.in_ok-add.ensures.added ∙ living-next b ms (omega (arith, c.requires))
+    ap living c.in_ok-add.ensures.added ∙ living-next b ms (omega (arith, c.requires.low))

@@ -1,4 +1,4 @@
-use Rattle.std.proofs.Common.{ℕ, List, length, map, sym, ap, subst, ◌∙◌}
+use Rattle.std.proofs.Common.{ℕ, List, length, map, sym, ap, subst, ◌∙◌, arith}
 use Rattle.marked_list.specs.Laws.{IsRising}
 use Rattle.marked_list.specs.Log.{uses_of}
 use Rattle.marked_list.specs.Marks.{AreMarks, settled, size_of}
@@ -22,7 +22,14 @@ invariant_of-self c =
           ∙ sym (ap (λ l. length (living l)) last);
       rises = λ e. subst IsRising (sym (ap (map size_of) c.settle_each.ensures
           ∙ sizes-settled old.used old.marks.items)) (old.rises e);
+      short = let same = ap (λ (l : List ℕ). length l) last in omega (arith, same, old.counted);
     }
+
+pub returns-clause-short : goal.returns-clause-short
+returns-clause-short c =
+    let old = c.args.self.now in
+    let same = ap (λ (l : List ℕ). length l) c.shorten.ensures.uses in
+    omega (arith, same, old.counted)
 
 pub returns-clause-order : goal.returns-clause-order
 unfolding order_of
