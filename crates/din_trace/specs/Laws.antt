@@ -1,12 +1,13 @@
 -- The laws of lines and texts.
-use Rattle.std.specs.Prelude.{◌≡◌, ◌≢◌, ℕ, ◌+◌, ◌<◌, ◌≤◌, List, [], ◌∷◌, ◌++◌, None, Some, length}
-use Rattle.std.specs.Prelude.{Bool, true, false}
+use Rattle.std.specs.Prelude.{◌≡◌, ◌≢◌, ℕ, ◌+◌, ◌<◌, ◌≤◌, List, [], ◌∷◌, ◌++◌, length, take}
+use Rattle.std.specs.Prelude.{Bool, true, false, Option, None, Some}
 use Rattle.std.specs.List.{All, flat_map}
+use Rattle.din_trace.specs.declared.fault.TraceFault.{TraceFault}
 use Rattle.din_trace.specs.declared.fault.TraceFault.TheVariants.{Bad, TooLong, Read, Memory}
 use Rattle.din_trace.specs.declared.fault.Why.{Why}
 use Rattle.din_trace.specs.Line.{Form, Faulty, HasForm, form}
 use Rattle.din_trace.specs.Text.{records, fault, failed_fault, text_left, lines, ended_lines}
-use Rattle.din_trace.specs.Text.{open_line}
+use Rattle.din_trace.specs.Text.{open_line, line_records, Remaining}
 
 -- each line has exactly one form, the one found from left to right
 abbrev pub EachLineHasOneForm : Type 0
@@ -29,18 +30,36 @@ TextsAreTheirLines = (text : List ℕ) → IsCut text
 abbrev pub IsGood : ℕ → List ℕ → Type 0
 IsGood bound line = (why : Why) → form bound line ≢ Faulty why
 
--- the fault of a text is that of its first faulty line, if the lines are numbered from 1; where no
--- line is faulty, there is none
-pub record HasFirstFault (bound : ℕ) (text : List ℕ) (limit : ℕ) : Type 0 where
+-- of these lines, numbered from 1, the records of those before the first faulty one are left, and
+-- its fault; where no line is faulty, the records of all, and the other fault or the end
+pub record StopsAtFirstFault (bound : ℕ) (judged : List (List ℕ)) (otherwise : Option TraceFault)
+    (left : Remaining) : Type 0 where
   pub first : (before after : List (List ℕ)) (line : List ℕ) (why : Why) →
-      lines text ≡ before ++ line ∷ after → All (IsGood bound) before →
-      form bound line ≡ Faulty why → fault bound text limit ≡ Some (Bad (length before + 1) why)
-  pub none : All (IsGood bound) (lines text) → fault bound text limit ≡ None
+      judged ≡ before ++ line ∷ after → All (IsGood bound) before →
+      form bound line ≡ Faulty why →
+      left ≡ record {
+        records = line_records bound before;
+        fault = Some (Bad (length before + 1) why);
+      }
+  pub none : All (IsGood bound) judged →
+      left ≡ record { records = line_records bound judged; fault = otherwise }
 
--- so it is for each text within the limit
+-- which lines of a text are judged, and what is answered where none of them is faulty
+pub record HasFirstFault (bound : ℕ) (text : List ℕ) (limit : ℕ) : Type 0 where
+  -- all lines of a text within the limit, and then the end
+  pub ended : length text ≤ limit
+      → StopsAtFirstFault bound (lines text) None (text_left bound 1 text limit false)
+  -- if the reader fails after such a text, those that an LF ends, and then `Read`
+  pub failed : length text ≤ limit
+      → StopsAtFirstFault bound (ended_lines text) (Some Read) (text_left bound 1 text limit true)
+  -- of a longer text, those that an LF within the limit ends, and then `TooLong`
+  pub too_long : (fails : Bool) → limit < length text
+      → StopsAtFirstFault bound (ended_lines (take limit text)) (Some TooLong)
+      (text_left bound 1 text limit fails)
+
+-- so it is for each text
 abbrev pub FaultIsOfFirstFaultyLine : Type 0
-FaultIsOfFirstFaultyLine = (bound : ℕ) (text : List ℕ) (limit : ℕ) → length text ≤ limit →
-    HasFirstFault bound text limit
+FaultIsOfFirstFaultyLine = (bound : ℕ) (text : List ℕ) (limit : ℕ) → HasFirstFault bound text limit
 
 -- a text without a fault has no fault under a greater bound on addresses, and the same records
 abbrev pub WiderAddressesKeepRecords : Type 0

@@ -52,7 +52,8 @@ pub fn texts_are_their_lines()
     ensures { TextsAreTheirLines }
 {}
 
-/// Law: the fault of a text within its limit is that of its first faulty line.
+/// Law: what is left of a text stops at the first faulty line, with the records before it. Where no
+/// line that is judged is faulty, it ends, was too long, or could not be read.
 pub fn fault_is_of_first_faulty_line()
     ensures { FaultIsOfFirstFaultyLine }
 {}
