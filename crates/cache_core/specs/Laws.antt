@@ -10,7 +10,8 @@ use Rattle.cache_core.specs.Residents.{is_resident, leaves, renewals}
 use Rattle.cache_core.specs.Order.{residents_of}
 use Rattle.cache_core.specs.Dirty.{is_dirty, dirty_blocks}
 use Rattle.cache_core.specs.Parts.{one_if, outcome_of, part_count}
-use Rattle.cache_core.specs.Counts.{counts_of}
+use Rattle.cache_core.specs.Counts.{counts_of, no_counts}
+use Rattle.cache_core.specs.Counting.{with_access, with_flush}
 
 -- if the blocks of a set are ordered by last use (FIFO: by last load), the latest first, the
 -- residents of the set are the first ones, as many as it has ways
@@ -76,3 +77,16 @@ DirtyBlocksRise = (r : Rules) (h : History) → Rises (dirty_blocks r h)
 abbrev pub DirtyBlocksAreDirty : Type 0
 DirtyBlocksAreDirty = (r : Rules) (h : History) (b : ℕ) →
     list_any (λ m. m == b) (dirty_blocks r h) ≡ is_dirty r h b
+
+-- the counts over a whole history go on from none, event by event: with each access by its outcome,
+-- and with each flush by the number of dirty blocks before it
+pub record CountsGoOn (r : Rules) : Type 0 where
+  pub none : counts_of r [] ≡ no_counts
+  pub accesses : (h : History) (x : Access) →
+      counts_of r (access x ∷ h) ≡ with_access x (outcome_of r h x) (counts_of r h)
+  pub flushes : (h : History) →
+      counts_of r (flush ∷ h) ≡ with_flush (length (dirty_blocks r h)) (counts_of r h)
+
+-- so it is for all rules
+abbrev pub CountsGoOnByEvents : Type 0
+CountsGoOnByEvents = (r : Rules) → CountsGoOn r

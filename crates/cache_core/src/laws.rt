@@ -6,7 +6,7 @@ ghost use Rattle.cache_core.specs.Laws.{AtMostOneLeaves, WriteBacksAreOfWrites};
 ghost use Rattle.cache_core.specs.Laws.{WriteBacksHaveEarlierWrites, PartsAreCharged};
 ghost use Rattle.cache_core.specs.Laws.{FlushesLeaveNoneDirty, DirtyBlocksAreDirty};
 ghost use Rattle.cache_core.specs.Laws.{DirtyBlocksRise, OneLruSetHasNoConflict};
-ghost use Rattle.cache_core.specs.Laws.{OrderedWaysAreResidents};
+ghost use Rattle.cache_core.specs.Laws.{OrderedWaysAreResidents, CountsGoOnByEvents};
 
 use crate::cache::MAX_EVENTS;
 
@@ -44,6 +44,12 @@ pub fn write_backs_are_charged()
 pub fn dirty_blocks_are_the_dirty_ones()
     ensures rises { DirtyBlocksRise }
     ensures dirty { DirtyBlocksAreDirty }
+{}
+
+/// The counts over a whole history are those that `Counts::add_access` and `add_flush` make of no
+/// counts, event by event.
+pub fn counts_go_on_by_events()
+    ensures { CountsGoOnByEvents }
 {}
 
 /// The value of `MAX_EVENTS`: more events than any trace within the limits makes.

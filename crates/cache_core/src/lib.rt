@@ -35,8 +35,8 @@ pub use counts::{Counts, PerClass};
 pub use geometry::{Geometry, GeometryFault};
 pub use kinds::Prior;
 pub use laws::{
-    at_most_one_block_leaves, definitions_meet_worked_examples, dirty_blocks_are_the_dirty_ones,
-    max_events_is_two_to_the_forty_four, one_lru_set_has_no_conflict, ordered_ways_are_residents,
-    write_backs_are_charged,
+    at_most_one_block_leaves, counts_go_on_by_events, definitions_meet_worked_examples,
+    dirty_blocks_are_the_dirty_ones, max_events_is_two_to_the_forty_four,
+    one_lru_set_has_no_conflict, ordered_ways_are_residents, write_backs_are_charged,
 };
 pub use policy::{Policy, Repl};
