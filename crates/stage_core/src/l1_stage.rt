@@ -65,7 +65,7 @@ fn put_access(
 #[tactic(auto, unfolding(crate::specs::Standing::cache_of, crate::specs::Standing::side_of, crate::specs::Standing::outbox_of, crate::specs::Standing::took_finish))]
 impl L1Stage {
     ghost use Rattle.std.specs.Prelude.{◌≡◌, ◌<◌, ◌+◌, ◌↔◌, ◌++◌, ◌∷◌, [], IsTrue, IsNone, IsErr};
-    ghost use Rattle.std.specs.Prelude.{IfOk, OnOk, OnErr, List, true, false, length};
+    ghost use Rattle.std.specs.Prelude.{IfOk, OnOk, OnErr, IsOk, List, true, false, length};
     ghost use Rattle.std.specs.Prelude.{option_to_list};
     ghost use Rattle.cache_core.specs.History.{History, access as accessed, flush as flushed};
     ghost use Rattle.cache_core.specs.Counts.{KindsAddUp, counts_of};
@@ -201,6 +201,7 @@ impl L1Stage {
         ensures sent { OnOk result (outbox_of self.new ≡ from_stage.Finish ∷ []) }
         ensures finish { OnOk result (took_finish self.new ≡ true) }
         ensures works { OnOk result (has_failed (cache_of self.old) ≡ false) }
+        ensures taken { has_failed (cache_of self.old) ≡ false → IsOk result }
         ensures refused { OnErr result ((has_failed (cache_of self.old) ≡ true)
             × (outbox_of self.new ≡ outbox_of self.old)
             × (took_finish self.new ≡ took_finish self.old)) }
@@ -216,11 +217,12 @@ impl L1Stage {
     }
 
     /// Receives a message, and puts the answer to it into the outbox. After an error the stage has
-    /// failed: its outbox is empty, and every later call answers `NoMemory`.
+    /// failed: its outbox is empty, and every later call answers `NoMemory`. A stage that has not
+    /// failed always takes Finish.
     #[inline(always)]
     pub fn on(&mut self, message: ToStage) -> Result<(), NoMemory>
         requires ready { IsReady self.old }
-        requires room { served_of (cache_of self.old) < MAX_EVENTS }
+        requires room { is_finish message ≡ false → served_of (cache_of self.old) < MAX_EVENTS }
         ensures sent { OnOk result ((before : List ToStage) → StageStandsFor self.old before →
             outbox_of self.new
             ≡ reply (parts_of (rules_of (cache_of self.old))) (side_of self.old) before message) }
@@ -234,6 +236,8 @@ impl L1Stage {
         ensures refused { OnErr result (HasFailedSince (cache_of self.old) (cache_of self.new)) }
         ensures stays_ready { OnErr result (IsReady self.new) }
         ensures failed { has_failed (cache_of self.old) ≡ true → IsErr result }
+        ensures taken { is_finish message ≡ true → has_failed (cache_of self.old) ≡ false →
+            IsOk result }
         ensures side { side_of self.new ≡ side_of self.old }
         ensures rules { rules_of (cache_of self.new) ≡ rules_of (cache_of self.old) }
     {
