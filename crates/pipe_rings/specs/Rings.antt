@@ -54,9 +54,9 @@ module _ {T : Type 0} where
   abbrev pub AreEnds : Tx T → Rx T → Type 0
   AreEnds tx rx = ring.IsPair tx.end rx.end
 
-  -- both are the sending end of the same ring
+  -- both are the sending end of the same ring, with outboxes of the same capacity
   abbrev pub SameTx : Tx T → Tx T → Type 0
-  SameTx was now = ring.SameProducer was.end now.end
+  SameTx was now = ring.SameProducer was.end now.end × (now.room ≡ was.room)
 
   -- both are the receiving end of the same ring
   abbrev pub SameRx : Rx T → Rx T → Type 0

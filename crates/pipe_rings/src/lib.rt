@@ -14,8 +14,8 @@
 //! Proved: a successful call appends its item to the list of sent or received items, and nothing
 //! else changes these lists. Posted items count as sent, so publishing does not change the list. A
 //! successful `send` leaves none in the outbox. An item that is handed back was not sent. The sent
-//! items are the received ones, followed by as many items as `settle` counts. A ring has the
-//! capacity that was asked for, and keeps it.
+//! items are the received ones, followed by as many items as `settle` counts. A ring and an outbox
+//! have the capacity that was asked for, and keep it.
 //!
 //! Only tested: that `send` and `recv` report a lost peer only if it was dropped, that a sleeping
 //! end is woken, and that the allocations for a ring succeed.
@@ -31,7 +31,7 @@ mod yields;
 ghost use Rattle.std.specs.Prelude.{◌≡◌, ◌≤◌, [], IfOk};
 ghost use Rattle.pipe_rings.specs.Rings.{sent, received, capacity_of, outbox_of, outbox_for};
 ghost use Rattle.pipe_rings.specs.Rings.{AreEnds, SameTx, SameRx, IsBehindBy, IsAnnounced};
-ghost use Rattle.pipe_rings.specs.Rings.{HasRoom};
+ghost use Rattle.pipe_rings.specs.Rings.{HasRoom, posted, unannounced_of};
 
 pub use bell::Bell;
 pub use memory::NoMemory;
@@ -90,11 +90,13 @@ pub fn ring_from<T: Copy>(
 }
 
 /// How many items were sent and not yet received, those in the outbox and the batch included.
-#[tactic(auto, unfolding(crate::specs::Rings::sent, crate::specs::Rings::received, crate::specs::Rings::posted))]
+#[tactic(auto, unfolding(crate::specs::Rings::sent, crate::specs::Rings::received, crate::specs::Rings::posted, crate::specs::Rings::HasRoom))]
 pub fn settle<T: Copy>(tx: &mut Tx<T>, rx: &mut Rx<T>) -> usize
     requires { AreEnds tx.old rx.old }
     ensures sender { SameTx tx.old tx.new × (sent tx.new ≡ sent tx.old) }
     ensures receiver { SameRx rx.old rx.new × (received rx.new ≡ received rx.old) }
+    ensures outbox { (posted tx.new ≡ posted tx.old) × (HasRoom tx.old → HasRoom tx.new) }
+    ensures counted { unannounced_of tx.new ≡ unannounced_of tx.old }
     ensures left { IsBehindBy result (sent tx.new) (received rx.new) }
 {
     rx.end.slots_beside(&mut tx.end) + rx.left + tx.posted()

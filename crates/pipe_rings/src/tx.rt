@@ -45,7 +45,7 @@ pub struct Gone<T> {
 #[tactic(auto, unfolding(crate::specs::Rings::sent, crate::specs::Rings::posted, crate::specs::Rings::HasRoom, crate::specs::Rings::LookedForRoom))]
 impl<T: Copy> Tx<T> {
     ghost use Rattle.std.specs.Prelude.{◌≡◌, ◌<◌, [], ◌∷◌, ◌++◌, ◌↔◌, OnOk, IfErr, IsTrue, false};
-    ghost use Rattle.std.specs.Prelude.{length, ◌+◌, ◌-◌, ◌^◌, ◌⊎◌, min, IfOk};
+    ghost use Rattle.std.specs.Prelude.{length, ◌≤◌, ◌+◌, ◌-◌, ◌^◌, min, IfOk};
     ghost use Rattle.pipe_rings.specs.Rings.{sent, posted, SameTx, HasRoom, LookedForRoom};
     ghost use Rattle.pipe_rings.specs.Rings.{IsAnnounced, unannounced_of, outbox_for};
 
@@ -125,7 +125,7 @@ impl<T: Copy> Tx<T> {
         ensures ring { SameTx self.old self.new }
         ensures sent { sent self.new ≡ sent self.old ++ item ∷ [] }
         ensures posted { posted self.new ≡ posted self.old ++ item ∷ [] }
-        ensures announced { IsAnnounced self.old → IsAnnounced self.new }
+        ensures counted { unannounced_of self.new ≡ unannounced_of self.old }
     {
         self.outbox.push_reserved(item);
     }
@@ -157,8 +157,8 @@ impl<T: Copy> Tx<T> {
         ensures room { HasRoom self.old → HasRoom self.new }
         ensures emptied { length (posted self.new) ≡ 0 → HasRoom self.new }
         // All is announced if items are left in the outbox, or if many were to be announced.
-        ensures told { (IsAnnounced self.new)
-            ⊎ ((length (posted self.new) ≡ 0) × (unannounced_of self.new < MOST_UNANNOUNCED)) }
+        ensures told { 0 < length (posted self.new) → IsAnnounced self.new }
+        ensures many { MOST_UNANNOUNCED ≤ unannounced_of self.old + result → IsAnnounced self.new }
         // If not, what went into the ring is counted until it is announced.
         ensures counted { length (posted self.new) ≡ 0
             → unannounced_of self.old + result < MOST_UNANNOUNCED
@@ -201,7 +201,7 @@ impl<T: Copy> Tx<T> {
         ensures sent { sent self.new ≡ sent self.old }
         ensures posted { posted self.new ≡ posted self.old }
         ensures room { HasRoom self.old → HasRoom self.new }
-        ensures announced { IsAnnounced self.old → IsAnnounced self.new }
+        ensures counted { unannounced_of self.new ≡ unannounced_of self.old }
     {
         self.end.is_abandoned()
     }
