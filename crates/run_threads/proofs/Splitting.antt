@@ -36,9 +36,9 @@ use Rattle.run_threads.specs.Waits.{splitter_at}
 
 pub same-ends : (ends : SplitterEnds) → SameSplitterEnds ends ends
 same-ends ends = record {
-  order = ((refl, refl, refl, refl), refl);
-  to_i = ((refl, refl, refl, refl), refl);
-  to_d = ((refl, refl, refl, refl), refl);
+  order = (((refl, refl, refl, refl), refl), refl);
+  to_i = (((refl, refl, refl, refl), refl), refl);
+  to_d = (((refl, refl, refl, refl), refl), refl);
 }
 
 pub ends-stay : (a b c : SplitterEnds) → SameSplitterEnds a b → SameSplitterEnds b c

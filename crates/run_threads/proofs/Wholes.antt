@@ -46,7 +46,7 @@ use Rattle.run_threads.proofs.Splitting.{same-ends}
 pub same-stage_ends : (ends : StageEnds) → SameStageEnds ends ends
 same-stage_ends ends = record {
   from_splitter = ((refl, refl, refl, refl), refl);
-  to_merge = ((refl, refl, refl, refl), refl);
+  to_merge = (((refl, refl, refl, refl), refl), refl);
 }
 
 -- rings keep their capacity if the splitter and the stages have the same ends
@@ -54,11 +54,11 @@ pub capacity-kept : (n : ℕ) (was now : Rings) → HaveCapacity n was
     → SameSplitterEnds was.splitter now.splitter → SameStageEnds was.i now.i
     → SameStageEnds was.d now.d → HaveCapacity n now
 capacity-kept n was now room splitter i d = record {
-  order = splitter.order.1 ∙ room.order;
-  to_i = splitter.to_i.1 ∙ room.to_i;
-  to_d = splitter.to_d.1 ∙ room.to_d;
-  from_i = i.to_merge.1 ∙ room.from_i;
-  from_d = d.to_merge.1 ∙ room.from_d;
+  order = splitter.order.0.1 ∙ room.order;
+  to_i = splitter.to_i.0.1 ∙ room.to_i;
+  to_d = splitter.to_d.0.1 ∙ room.to_d;
+  from_i = i.to_merge.0.1 ∙ room.from_i;
+  from_d = d.to_merge.0.1 ∙ room.from_d;
 }
 
 -- if exactly these messages were sent on a ring and all were received, the ring is whole

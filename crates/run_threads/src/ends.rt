@@ -29,7 +29,7 @@ impl SplitterEnds {
     /// Whether there is room to post the messages of one more event.
     #[inline]
     pub(crate) fn have_room(&self) -> bool
-        ensures { IsTrue result → HaveRoom self.now }
+        ensures { IsTrue result ↔ HaveRoom self.now }
     {
         self.order.has_room() && self.to_i.has_room() && self.to_d.has_room()
     }
@@ -57,7 +57,7 @@ impl SplitterEnds {
         ensures sent { SentSame self.old self.new }
         ensures looked { LookedEverywhere self.new }
         ensures fewer { held self.new ≤ held self.old }
-        ensures moved { IsTrue result → held self.new < held self.old }
+        ensures moved { IsTrue result ↔ held self.new < held self.old }
         ensures emptied { held self.new ≡ 0 → HaveRoom self.new }
         ensures announced { AllAnnounced self.new }
     {
@@ -71,6 +71,7 @@ impl SplitterEnds {
     pub(crate) fn offer(&mut self)
         ensures rings { SameSplitterEnds self.old self.new }
         ensures sent { SentSame self.old self.new }
+        ensures looked { LookedEverywhere self.new }
     {
         self.to_i.offer();
         self.to_d.offer();

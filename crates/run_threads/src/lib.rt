@@ -11,9 +11,10 @@
 //! thread waits at the joins, too.
 //!
 //! The modules: `ends` has the rings, and which end each thread owns. `gate` lets tests hold
-//! threads. `split`, `stage_thread` and `merge_thread` are the bodies of the threads. `pipeline`
-//! starts the threads and collects their results, `gap` keeps their machines apart in memory, and
-//! `joins` joins them. `fault` has the faults of a run, and which of several is answered.
+//! threads. `split`, `stage_thread` and `merge_thread` are the bodies of the threads, and `feed` is
+//! what the first of them reads. `pipeline` starts the threads and collects their results, `gap`
+//! keeps their machines apart in memory, and `joins` joins them. `fault` has the faults of a run,
+//! and which of several is answered.
 //!
 //! What programs need of this, sim_run passes on; `fault_of_source` is for its run on one thread.
 //! All else that is public here is for the tests of single threads, and of runs that are given up.
@@ -31,6 +32,7 @@
 
 mod ends;
 mod fault;
+mod feed;
 mod gap;
 mod gate;
 mod joins;

@@ -15,8 +15,8 @@ ghost use Rattle.run_threads.specs.Waits.{MergeUsed, OnlyFrom, end_from};
 
 use crate::ends::MergeEnds;
 use crate::fault::{NoThread, Stop};
-use crate::gate::{Gate, Who};
-use crate::waits::{BodyRuntime, await_from, await_turn, pass};
+use crate::gate::Gate;
+use crate::waits::{BodyRuntime, await_from, await_turn, pass_merge};
 use cache_core::MAX_EVENTS;
 use stage_core::{FromStage, L2Stage, Merge, Side, Turn, Want};
 use std::snapshot::Snapshot;
@@ -125,7 +125,7 @@ fn take_from<H: Wait, G: Gate>(
         → MergeServed merge.new began start u.new ends.new) }
 {
     let message = next_from(rt, side, merge, ends)?;
-    let count = pass(rt, gate, Who::Merge, count)?;
+    let count = pass_merge(rt, gate, ends, count)?;
     take_and_serve(merge, u, message)?;
     Ok(count)
 }
@@ -147,7 +147,7 @@ fn merge_all<H: Wait, G: Gate>(
         match merge.wants() {
             Want::Order => {
                 let turn = next_turn(rt, &merge, ends)?;
-                received = pass(rt, gate, Who::Merge, received)?;
+                received = pass_merge(rt, gate, ends, received)?;
                 merge.turn(turn);
             }
             Want::I => {

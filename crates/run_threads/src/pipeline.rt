@@ -20,6 +20,7 @@ ghost use Rattle.run_threads.specs.Waits.{splitter_at};
 
 use crate::ends::{Rings, SplitterEnds};
 use crate::fault::{RunFault, gravest};
+use crate::feed::Feed;
 use crate::gap::gap;
 use crate::gate::{Gate, Who};
 use crate::joins::{all_ended, join_merge, join_stage, why_stopped, wind_up};
@@ -231,25 +232,26 @@ pub fn run_in<'s, E, T: Threads, H: Wait + Sync, R: ByteReader + Drop, G: Gate>(
     requires paired { ArePaired rings }
     requires unused { AreUnused rings }
     ensures met { IfErr result.1 IsMet }
+    ensures unread { result.1 ≡ Err RunFault.Threads → result.0 ≡ source }
     ensures reads { (given : List ℕ) × (fate : Fate)
         × Takes R.remaining R.failures source result.0 given fate
         × ((ring : ℕ) (before later : Script) (l : Remaining) → HaveCapacity ring rings
         → Follows fate given before later → HasLeft source before l
         → RunsOver ring (hierarchy_in machines) selection l (HasLeft result.0 later) result.1) }
 {
-    let mut source = source;
     let mut started = match start(scope, rt, body_rt, gate, machines, rings) {
         Ok(started) => started,
         Err(fault) => return (source, Err(fault)),
     };
-    let fed = split(body_rt, gate, selection, &mut source, &mut started.splitter);
-    (source, finish(rt, started, fed))
+    let mut feed = Feed::of(source);
+    let fed = split(body_rt, gate, selection, &mut feed, &mut started.splitter);
+    (feed.into_source(), finish(rt, started, fed))
 }
 
 /// Simulates the selected records of a source in four threads: the splitter runs in the caller's
 /// thread, and the other three are one for each first-level stage and one for the merge with the
-/// second level. Returns when all of them have ended. The source comes back with the result. Each
-/// number of the selection is at most 2^40.
+/// second level. Returns when all of them have ended. The source comes back with the result, and
+/// unread if a thread was not granted. Each number of the selection is at most 2^40.
 pub fn run_pipeline<H: Threads + Wait + Sync, R: ByteReader + Drop, G: Gate>(
     rt: &H,
     alloc: Global,
@@ -261,9 +263,9 @@ pub fn run_pipeline<H: Threads + Wait + Sync, R: ByteReader + Drop, G: Gate>(
     requires bounded { IsBounded selection.now }
     // `Trace` never holds `TraceFault::Memory`, and `Write` is never answered.
     ensures met { IfErr result.1 IsMet }
-    // Whatever the reader did, `Ok` means that the source ended without a fault, and that all of
-    // its selected events were simulated. After an error, the records that are left are the last of
-    // those that were left before.
+    ensures unread { result.1 ≡ Err RunFault.Threads → result.0 ≡ source }
+    // Whatever the reader did, `Ok` means that the source ended without a fault, and that all its
+    // selected events were simulated. After an error, the last of the records before are left.
     ensures reads { (given : List ℕ) × (fate : Fate)
         × Takes R.remaining R.failures source result.0 given fate
         × ((before later : Script) (l : Remaining)
@@ -285,6 +287,7 @@ pub fn run_pipeline<H: Threads + Wait + Sync, R: ByteReader + Drop, G: Gate>(
             requires paired { ArePaired rings }
             requires unused { AreUnused rings }
             ensures met { IfErr result.1 IsMet }
+            ensures unread { result.1 ≡ Err RunFault.Threads → result.0 ≡ source }
             ensures reads { (given : List ℕ) × (fate : Fate)
                 × Takes R.remaining R.failures source result.0 given fate
                 × ((ring : ℕ) (before later : Script) (l : Remaining) → HaveCapacity ring rings

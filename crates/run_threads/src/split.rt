@@ -21,9 +21,10 @@ ghost use Rattle.run_threads.specs.declared.waits.Until.TheVariants as Until;
 
 use crate::ends::{BETWEEN_OFFERS, SplitterEnds};
 use crate::fault::{RunFault, Stop, fault_of_source};
-use crate::gate::{Gate, Who};
-use crate::waits::{BodyRuntime, Until, await_rooms};
-use din_trace::{ByteReader, DinRecord, MAX_LIMIT, Source, TraceFault};
+use crate::feed::Feed;
+use crate::gate::Gate;
+use crate::waits::{BodyRuntime, Until, await_rooms, pass_splitter};
+use din_trace::{ByteReader, DinRecord, MAX_LIMIT, TraceFault};
 use stage_core::{Picked, Routed, Selection, Selector, Splitter};
 use std::sync::Wait;
 
@@ -56,40 +57,11 @@ fn publish<H: Wait>(rt: &BodyRuntime<H>, ends: &mut SplitterEnds, until: Until) 
     unreachable!()
 }
 
-/// The next record, if the reader has to be asked. That may take long, so all posted messages have
-/// to be published before.
-fn ask<R: ByteReader>(
-    source: &mut Source<R>,
-    ends: &SplitterEnds,
-) -> Result<Option<DinRecord>, TraceFault>
-    requires published { AllPublished ends.now }
-    ensures reads { (given : List ℕ) × (fate : Fate)
-        × Takes R.remaining R.failures source.old source.new given fate
-        × ((before later : Script) (l : Remaining)
-        → Follows fate given before later → HasLeft source.old before l
-        → (result ≡ first_answer l) × HasLeft source.new later (after_first l)) }
-    ensures settled { IsSettled source.old → source.new ≡ source.old }
-    ensures records { IfOk result (λ found. IsSome found
-        → room_of source.new < room_of source.old) }
-    ensures room { room_of source.old ≤ MAX_LIMIT }
-{
-    source.next()
-}
-
-/// Passes the gate with a record. A gate that is not open may hold this thread for long, so all
-/// posted messages have to be published before.
-#[inline]
-fn arrive<H: Wait, G: Gate>(rt: &BodyRuntime<H>, gate: &G, ends: &SplitterEnds, nth: u64)
-    requires published { (G.open gate.now ≡ true) ⊎ AllPublished ends.now }
-{
-    rt.arrive(gate, Who::Splitter, nth);
-}
-
 /// The next record of the source, or its end or fault. Publishes all messages before a long wait.
 fn next_record<H: Wait, R: ByteReader, G: Gate>(
     rt: &BodyRuntime<H>,
     gate: &G,
-    source: &mut Source<R>,
+    source: &mut Feed<R>,
     ends: &mut SplitterEnds,
 ) -> Result<Result<Option<DinRecord>, TraceFault>, Stop>
     requires whole { PostedWhole ends.old }
@@ -119,7 +91,7 @@ fn next_record<H: Wait, R: ByteReader, G: Gate>(
         return Ok(answer);
     }
     publish(rt, ends, Until::Published)?;
-    Ok(ask(source, ends))
+    Ok(source.ask(ends))
 }
 
 /// Sends the messages of one event, or those of the end.
@@ -217,7 +189,7 @@ pub fn split<H: Wait, R: ByteReader, G: Gate>(
     rt: &BodyRuntime<H>,
     gate: &G,
     selection: Selection,
-    source: &mut Source<R>,
+    source: &mut Feed<R>,
     ends: &mut SplitterEnds,
 ) -> Result<(), RunFault>
     requires bounded { IsBounded selection }
@@ -243,7 +215,7 @@ pub fn split<H: Wait, R: ByteReader, G: Gate>(
         };
         match answer {
             Ok(Some(next)) => {
-                arrive(rt, gate, ends, selector.offered() + 1);
+                pass_splitter(rt, gate, ends, selector.offered() + 1);
                 let picked = selector.offer(next);
                 if send_picked(rt, &mut splitter, ends, picked).is_err() {
                     return Err(RunFault::Cut);

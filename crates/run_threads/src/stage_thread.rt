@@ -1,6 +1,6 @@
 //! The thread of a first-level stage.
 
-ghost use Rattle.std.specs.Prelude.{◌≡◌, ◌⊎◌, ◌+◌, ◌<◌, ◌≤◌, [], ◌∷◌, ◌++◌, true, false};
+ghost use Rattle.std.specs.Prelude.{◌≡◌, [], ◌∷◌, ◌++◌, false};
 ghost use Rattle.std.specs.Prelude.{IsTrue, OnOk, IfOk, IfErr};
 ghost use Rattle.std.specs.List.{list_any};
 ghost use Rattle.pipe_rings.specs.Rings.{sent, received, HasRoom, SameTx, SameRx, IsAnnounced};
@@ -17,7 +17,7 @@ ghost use Rattle.run_threads.specs.declared.waits.Until.TheVariants as Until;
 use crate::ends::{BETWEEN_OFFERS, StageEnds};
 use crate::fault::{NoThread, Stop};
 use crate::gate::{Gate, Who};
-use crate::waits::{BodyRuntime, Until, await_message, await_room, pass};
+use crate::waits::{BodyRuntime, Until, await_message, await_room, pass_stage};
 use cache_core::MAX_EVENTS;
 use stage_core::{L1Stage, ToStage};
 use std::snapshot::Snapshot;
@@ -72,24 +72,6 @@ fn publish<H: Wait>(
         }
     }
     unreachable!()
-}
-
-/// Passes the gate with a message. A gate that is not open may hold this thread for long, so all
-/// answers have to be published before.
-#[inline]
-fn arrive<H: Wait, G: Gate>(
-    rt: &BodyRuntime<H>,
-    gate: &G,
-    who: Who,
-    ends: &StageEnds,
-    received: u64,
-) -> Result<u64, Stop>
-    requires published { (G.open gate.now ≡ true) ⊎ AnswersPublished ends.now }
-    ensures counted { IfOk result (λ nth. nth ≡ received + 1) }
-    ensures below { IfOk result (λ nth. nth < MAX_EVENTS) }
-    ensures cut { IfErr result (λ why. (why ≡ Stop.Cut) × (MAX_EVENTS ≤ received + 1)) }
-{
-    pass(rt, gate, who, received)
 }
 
 /// Receives the next message.
@@ -194,7 +176,7 @@ fn serve_all<H: Wait, G: Gate>(
     let mut count = 0;
     for _ in rt.forever() {
         let message = receive(rt, stage, ends)?;
-        count = arrive(rt, gate, who, ends, count)?;
+        count = pass_stage(rt, gate, who, ends, count)?;
         if stage.served() >= MAX_EVENTS {
             return Err(Stop::Cut);
         }

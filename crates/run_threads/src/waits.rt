@@ -3,10 +3,12 @@
 //! do. `await_item` is private: the two of the merge wait in it.
 //!
 //! The body of a thread has no runtime, only a [`BodyRuntime`], whose runtime no other module can
-//! reach. Without a runtime no end of a ring can be asked to wait. By [`pass`] a stage or the merge
-//! passes its gate, and by [`BodyRuntime::arrive`] the splitter. There a gate may hold a body, too.
+//! reach. Without a runtime no end of a ring can be asked to wait, and no gate can be passed. Each
+//! body passes its gate by its own function: [`pass_splitter`], [`pass_stage`] or [`pass_merge`]. A
+//! gate may hold a body, so the first two require that all that was sent is published.
 
 ghost use Rattle.std.specs.Prelude.{◌≡◌, ◌+◌, ◌<◌, ◌≤◌, [], ◌∷◌, ◌++◌, length, OnOk, IfOk, IfErr};
+ghost use Rattle.std.specs.Prelude.{◌⊎◌, true};
 ghost use Rattle.pipe_rings.specs.Rings.{sent, posted, received, SameTx, SameRx};
 ghost use Rattle.pipe_rings.specs.Rings.{LookedForRoom, LookedForItem, IsAnnounced};
 ghost use Rattle.stage_core.specs.Merging.{wanted, want_of};
@@ -15,7 +17,8 @@ ghost use Rattle.stage_core.specs.declared.message.Want.TheVariants as want;
 ghost use Rattle.run_threads.specs.declared.fault.Stop.{Stop};
 ghost use Rattle.run_threads.specs.Ends.{SameSplitterEnds, SentSame};
 ghost use Rattle.run_threads.specs.Waits.{SplitterMay, LookedEverywhere, OfStage, MergeUsed, held};
-ghost use Rattle.run_threads.specs.Waits.{AllAnnounced, AnswersPublished, OnlyFrom, end_from};
+ghost use Rattle.run_threads.specs.Waits.{AllAnnounced, AllPublished, AnswersPublished, OnlyFrom};
+ghost use Rattle.run_threads.specs.Waits.{end_from};
 
 use crate::ends::{MergeEnds, SplitterEnds, StageEnds};
 use crate::fault::Stop;
@@ -25,8 +28,8 @@ use pipe_rings::Rx;
 use stage_core::{FromStage, L1Stage, Merge, Side, ToStage, Turn};
 use std::sync::{Forever, Wait};
 
-/// The runtime, as the body of a thread has it: it lets the body wait in the functions of this
-/// module, go round without end and pass its gate, and nothing else.
+/// The runtime, as the body of a thread has it: it lets the body wait and pass its gate in the
+/// functions of this module, and go round without end, and nothing else.
 #[derive(Drop)]
 pub struct BodyRuntime<H> {
     rt: H,
@@ -47,18 +50,12 @@ impl<H: Wait> BodyRuntime<H> {
     pub(crate) fn forever(&self) -> Forever<'_, H> {
         self.rt.forever()
     }
-
-    /// Calls the gate, which may hold this thread.
-    #[inline(always)]
-    pub(crate) fn arrive<G: Gate>(&self, gate: &G, who: Who, nth: u64) {
-        gate.arrive(&self.rt, who, nth);
-    }
 }
 
 /// Counts one more message and passes the gate with it. The contract of a thread does not say how
 /// many messages it will receive, so the thread stops if the count would reach `MAX_EVENTS`.
 #[inline]
-pub fn pass<H: Wait, G: Gate>(
+fn pass<H: Wait, G: Gate>(
     rt: &BodyRuntime<H>,
     gate: &G,
     who: Who,
@@ -72,8 +69,50 @@ pub fn pass<H: Wait, G: Gate>(
         return Err(Stop::Cut);
     }
     let nth = received + 1;
-    rt.arrive(gate, who, nth);
+    gate.arrive(&rt.rt, who, nth);
     Ok(nth)
+}
+
+/// The splitter passes its gate with a record. A gate that is not open may hold it for long, so all
+/// posted messages have to be published before.
+#[inline]
+pub fn pass_splitter<H: Wait, G: Gate>(rt: &BodyRuntime<H>, gate: &G, ends: &SplitterEnds, nth: u64)
+    requires published { (G.open gate.now ≡ true) ⊎ AllPublished ends.now }
+{
+    gate.arrive(&rt.rt, Who::Splitter, nth);
+}
+
+/// A stage passes its gate with a message. A gate that is not open may hold it for long, so all
+/// answers have to be published before.
+#[inline]
+pub fn pass_stage<H: Wait, G: Gate>(
+    rt: &BodyRuntime<H>,
+    gate: &G,
+    who: Who,
+    ends: &StageEnds,
+    received: u64,
+) -> Result<u64, Stop>
+    requires published { (G.open gate.now ≡ true) ⊎ AnswersPublished ends.now }
+    ensures counted { IfOk result (λ nth. nth ≡ received + 1) }
+    ensures below { IfOk result (λ nth. nth < MAX_EVENTS) }
+    ensures cut { IfErr result (λ why. (why ≡ Stop.Cut) × (MAX_EVENTS ≤ received + 1)) }
+{
+    pass(rt, gate, who, received)
+}
+
+/// The merge, which sends nothing, passes its gate with a message.
+#[inline]
+pub fn pass_merge<H: Wait, G: Gate>(
+    rt: &BodyRuntime<H>,
+    gate: &G,
+    _ends: &MergeEnds,
+    received: u64,
+) -> Result<u64, Stop>
+    ensures counted { IfOk result (λ nth. nth ≡ received + 1) }
+    ensures below { IfOk result (λ nth. nth < MAX_EVENTS) }
+    ensures cut { IfErr result (λ why. (why ≡ Stop.Cut) × (MAX_EVENTS ≤ received + 1)) }
+{
+    pass(rt, gate, Who::Merge, received)
 }
 
 /// How far to publish posted messages.

@@ -24,7 +24,7 @@ returns-in-Err-clause-reads g c = (
 
 pub returns-clause-reads : goal.returns-clause-reads
 returns-clause-reads g c =
-    let reads = c.split-fed.ensures.reads in
+    let reads = rw (c.of-feed.ensures, sym c.into_source.ensures) at c.split-fed.ensures.reads in
     let same = c.in-Ok.ensures.machines in
     let fed : (ring : ℕ) → HaveCapacity ring c.args.rings → HaveCapacity ring _ =
     λ ring room. capacity-kept ring _ _
@@ -34,7 +34,7 @@ returns-clause-reads g c =
       reads.1,
       reads.2,
       λ ring first last l room is left. runs-over ring (hierarchy_in c.args.machines)
-          c.args.selection l (HasLeft c.split-fed.new.source last) c.split-fed.new.ends
+          c.args.selection l (HasLeft c.into_source.result last) c.split-fed.new.ends
           c.split-fed.result c.finish.result (reads.3 first last l is left) c.finish.ensures.fed
           (IfOk-weaker c.finish.result _ _ (λ (s : Settled) whole es sent.
           subst (λ (m : Machines). HasRun ring (hierarchy_in m) es s) same

@@ -17,5 +17,5 @@ returns-in_err-publish-clause-reads g c = (
 pub returns-clause-reads : goal.returns-clause-reads
 returns-clause-reads g c =
     answers-asked g.R.ByteReader.remaining g.R.ByteReader.failures c.args.source.now
-    c.at_hand.new.self c.ask.new.source c.ask.result c.in_default.ensures.reads.0
+    c.at_hand.new.self c.ask.new.self c.ask.result c.in_default.ensures.reads.0
     c.in_default.ensures.reads.1 c.ask.ensures.reads c.ask.ensures.settled
