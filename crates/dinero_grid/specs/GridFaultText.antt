@@ -34,6 +34,10 @@ fault_line fault =
     if asks_for_help fault then []
     else codes "dinero_grid: " ++ (message_of fault ++ 10 ∷ [])
 
+-- the line that says, as clap does, what is wrong with words
+abbrev pub explanation : List ℕ → List ℕ
+explanation said = codes "dinero_grid: " ++ (said ++ 10 ∷ [])
+
 -- the exit status for a grid without a table
 abbrev pub run_status : GridFault → ℕ
 run_status (run.Trace fault) = trace_status fault

@@ -7,15 +7,16 @@
 //!
 //! Proved: `run` writes the table that the definitions give for the text of its reader and the
 //! words after the program's name, or says why not; the line and the status of a fault are those of
-//! `specs/GridFaultText`. Only tested: that `main` passes the right words and streams, and the line
-//! before that of the fault, which names a refused option or word.
+//! `specs/GridFaultText`. Before that line, `explain` writes at most one, and only if clap refuses
+//! the words. Only tested: that `main` passes the right words and streams, and that the line of
+//! `explain` names the refused option or word.
 #![tactic(auto)]
 
 mod asked;
 mod fault;
 
-ghost use Rattle.std.specs.Prelude.{◌≡◌, ◌≢◌, ℕ, List, Some, None, Result, Ok, Err, OnOk, IfOk};
-ghost use Rattle.std.specs.Prelude.{IfErr, map, string_bytes};
+ghost use Rattle.std.specs.Prelude.{◌≡◌, ◌≢◌, ◌≤◌, ◌⊎◌, ℕ, List, Some, None, Result, Ok, Err};
+ghost use Rattle.std.specs.Prelude.{OnOk, IfOk, IfErr, map, string_bytes};
 ghost use Rattle.std.specs.List.{All};
 ghost use Rattle.std.specs.Io.KnownBytes.{Appends};
 ghost use Rattle.din_trace.specs.Device.{Writes, once_more};
@@ -23,10 +24,12 @@ ghost use Rattle.din_trace.specs.Line.{ADDRESS_MAX};
 ghost use Rattle.din_trace.specs.Text.{fault};
 ghost use Rattle.din_trace.specs.Faults.{GaveAll, IsFaultOf};
 ghost use Rattle.grid_options.specs.Grid.{AnswersGridWords};
+ghost use Rattle.grid_options.specs.Refusals.{HasNoControls};
+ghost use Rattle.grid_options.specs.declared.grid.ParsedGrid.{ParsedGrid};
 ghost use Rattle.grid_run.specs.Grids.{table_of};
 ghost use Rattle.grid_run.specs.declared.grid.Grid.{Grid};
 ghost use Rattle.dinero_grid.specs.AskedRows.{IsBoundedPoint, IsGridFor, has_refused};
-ghost use Rattle.dinero_grid.specs.GridFaultText.{fault_line, status_after};
+ghost use Rattle.dinero_grid.specs.GridFaultText.{explanation, fault_line, status_after};
 ghost use Rattle.dinero_grid.specs.GridRuns.{AreAccepted, HasTable};
 
 use crate::asked::{grid_for, has_refused};
@@ -37,7 +40,7 @@ use grid_options::{
     GridWordsFault, ParsedGrid, grid_help_text, grid_refusal_text, parse_grid_words,
 };
 use grid_run::{GridFault, simulate_grid};
-use std::alloc::Global;
+use std::alloc::{AllocError, Global};
 use std::io::{BufWriter, Read, Write};
 use std::process::ExitCode;
 use std::thread::Threads;
@@ -50,7 +53,8 @@ const THREADS: usize = 4;
 /// How many threads work: as many as are asked for, or if that is 0, one for each core that the
 /// program may use.
 fn threads_for<T: Threads>(rt: &T, asked: usize) -> usize
-    ensures { asked ≢ 0 → result ≡ asked }
+    ensures given { asked ≢ 0 → result ≡ asked }
+    ensures some { 1 ≤ result }
 {
     if asked != 0 {
         return asked;
@@ -145,7 +149,18 @@ fn run_through_buffer<T: Threads + Sync, R: Read + Drop + Send, W: Write + Drop>
     words: &[String],
     input: R,
     output: W,
-) -> Result<bool, Fault> {
+) -> Result<bool, Fault>
+    ensures faultless { (text : List ℕ) → R.remaining input ≡ Some text
+        → OnOk result (fault ADDRESS_MAX text MAX_LIMIT ≡ None) }
+    ensures asked { IfOk result (λ some. (parsed : ParsedGrid)
+        × AnswersGridWords (map string_bytes words.now) (Ok parsed)
+        × (some ≡ has_refused parsed.points.items)) }
+    ensures words { (why : GridWordsFault) → result ≡ Err (Fault.Words why)
+        → AnswersGridWords (map string_bytes words.now) (Err why) }
+    ensures accepted { (why : GridFault) → result ≡ Err (Fault.Run why)
+        → (why ≡ GridFault.Memory) ⊎ AreAccepted (map string_bytes words.now) }
+    ensures memory { result ≢ Err (Fault.Run (GridFault.Trace TraceFault.Memory)) }
+{
     let Ok(output) = BufWriter::new(alloc, output) else {
         return Err(Fault::Run(GridFault::Memory));
     };
@@ -164,14 +179,41 @@ fn write_help(rt: &HostRuntime) -> Result<bool, Fault> {
     }
 }
 
-/// Prints what clap says of words that it refuses. If that cannot be printed, only the line of the
-/// fault is.
-fn explain(rt: &HostRuntime, words: &[String]) {
-    let Ok(Some(said)) = grid_refusal_text(rt.alloc(), words) else {
+/// The line of what clap says of words that it refuses.
+fn explanation(alloc: Global, said: &str) -> Result<String, AllocError>
+    ensures { IfOk result (λ line. string_bytes line ≡ explanation said.now) }
+{
+    let mut line = String::from_str(alloc, "dinero_grid: ")?;
+    line.push_str(said)?;
+    line.push('\n')?;
+    Ok(line)
+}
+
+/// If the run has ended because clap refuses the words, this writes what it says of them, in one
+/// line. If that line cannot be made or written, only that of the fault is written, by `conclude`.
+fn explain<W: ByteWriter>(
+    alloc: Global,
+    words: &[String],
+    ended: &Result<bool, Fault>,
+    errors: &mut W,
+)
+    ensures silent { ended.now ≢ Err (Fault.Words (GridWordsFault.Words WordsFault.Words))
+        → errors.new ≡ errors.old }
+    ensures line { (errors.new ≡ errors.old)
+        ⊎ ((said : List ℕ) × HasNoControls said × (told : Result Unit DeviceFailed)
+        × Writes W.contents W.failures errors.old errors.new told (explanation said)) }
+{
+    if !matches!(
+        ended,
+        Err(Fault::Words(GridWordsFault::Words(WordsFault::Words)))
+    ) {
+        return;
+    }
+    let Ok(Some(said)) = grid_refusal_text(alloc, words) else {
         return;
     };
-    if let Ok(line) = format!(in rt.alloc(); "dinero_grid: {said}\n") {
-        let _ = rt.stderr().write_all(line.as_bytes());
+    if let Ok(line) = explanation(alloc, said.as_str()) {
+        let _ = errors.put(line.as_bytes());
     }
 }
 
@@ -214,13 +256,12 @@ fn conclude<W: ByteWriter>(ended: Result<bool, Fault>, errors: &mut W) -> u8
 }
 
 fn main(rt: HostRuntime) -> ExitCode {
+    let mut errors = FromWrite::new(rt.stderr());
     let ran = match words_of(&rt) {
         Ok(words) => {
             let words = words.as_slice();
             let ran = run_through_buffer(&rt, rt.alloc(), words, rt.stdin(), rt.stdout());
-            if ran == Err(Fault::Words(GridWordsFault::Words(WordsFault::Words))) {
-                explain(&rt, words);
-            }
+            explain(rt.alloc(), words, &ran, &mut errors);
             ran
         }
         Err(fault) => Err(fault),
@@ -229,5 +270,5 @@ fn main(rt: HostRuntime) -> ExitCode {
         Err(Fault::Words(GridWordsFault::Words(WordsFault::Help))) => write_help(&rt),
         ran => ran,
     };
-    ExitCode::from(conclude(ended, &mut FromWrite::new(rt.stderr())))
+    ExitCode::from(conclude(ended, &mut errors))
 }

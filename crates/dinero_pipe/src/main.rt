@@ -13,7 +13,7 @@ mod fault;
 #[cfg(test)]
 mod tests;
 
-ghost use Rattle.std.specs.Prelude.{◌≡◌, ◌≢◌, ℕ, List, Some, None, Result, Err, OnOk, IfErr};
+ghost use Rattle.std.specs.Prelude.{◌≡◌, ◌≢◌, ◌⊎◌, ℕ, List, Some, None, Result, Err, OnOk, IfErr};
 ghost use Rattle.std.specs.Prelude.{map, string_bytes};
 ghost use Rattle.std.specs.Io.KnownBytes.{Appends};
 ghost use Rattle.din_trace.specs.Device.{Writes, once_more};
@@ -117,7 +117,16 @@ fn run_through_buffer<H: Threads + Wait + Sync, R: Read + Drop, W: Write + Drop>
     words: &[String],
     input: R,
     output: W,
-) -> Result<(), Fault> {
+) -> Result<(), Fault>
+    ensures faultless { (text : List ℕ) → R.remaining input ≡ Some text
+        → OnOk result (fault ADDRESS_MAX text MAX_LIMIT ≡ None) }
+    ensures asked { OnOk result (AreAccepted (map string_bytes words.now)) }
+    ensures words { (why : WordsFault) → result ≡ Err (Fault.Words why)
+        → AnswersWords (map string_bytes words.now) (Err why) }
+    ensures accepted { (why : RunFault) → result ≡ Err (Fault.Run why)
+        → (why ≡ RunFault.Memory) ⊎ AreAccepted (map string_bytes words.now) }
+    ensures memory { result ≢ Err (Fault.Run (RunFault.Trace TraceFault.Memory)) }
+{
     let Ok(output) = BufWriter::new(alloc, output) else {
         return Err(Fault::Run(RunFault::Memory));
     };

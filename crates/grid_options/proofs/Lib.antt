@@ -1,3 +1,4 @@
+pub mod ControlLemmas
 pub mod ListLemmas
 pub mod ProductLemmas
 pub mod ValuesLemmas

@@ -1,10 +1,12 @@
 //! What is said of words that are refused.
 
-ghost use Rattle.std.specs.Prelude.{◌≡◌, ◌⊎◌, [], IfOk, None, map, string_bytes, true};
+ghost use Rattle.std.specs.Prelude.{◌≡◌, ◌⊎◌, ◌∷◌, [], IfOk, IfSome, None, OnOk, false, map};
+ghost use Rattle.std.specs.Prelude.{string_bytes, true};
+ghost use Rattle.std.specs.Char.{is_control};
 ghost use Rattle.clap.specs.Words.{IsAmong, fault_of, takes};
 ghost use Rattle.din_trace.specs.Device.{Writes};
 ghost use Rattle.grid_options.specs.Grid.{grid_app};
-ghost use Rattle.grid_options.specs.Refusals.{grid_fault_text};
+ghost use Rattle.grid_options.specs.Refusals.{HasNoControls, grid_fault_text};
 
 use crate::command::grid_command;
 use crate::fault::GridWordsFault;
@@ -27,28 +29,49 @@ pub fn put_grid_words<W: ByteWriter>(
     }
 }
 
+/// The character, or a question mark for one that could steer a terminal.
+fn shown_character(character: char) -> char
+    ensures { is_control result ≡ false }
+{
+    if character.is_control() {
+        '?'
+    } else {
+        character
+    }
+}
+
+/// Adds a blank behind a text that is not empty.
+fn add_gap(text: &mut String) -> Result<(), AllocError>
+    requires { HasNoControls (string_bytes text.old) }
+    ensures { OnOk result (HasNoControls (string_bytes text.new)) }
+{
+    if !text.is_empty() {
+        text.push(' ')?;
+    }
+    Ok(())
+}
+
 /// Adds a line, with a question mark for each character that could steer a terminal.
-fn add_line(text: &mut String, line: &str) -> Result<(), AllocError> {
+fn add_line(text: &mut String, line: &str) -> Result<(), AllocError>
+    requires { HasNoControls (string_bytes text.old) }
+    ensures { OnOk result (HasNoControls (string_bytes text.new)) }
+{
     for character in line.chars() {
-        text.push(if character.is_control() {
-            '?'
-        } else {
-            character
-        })?;
+        text.push(shown_character(character))?;
     }
     Ok(())
 }
 
 /// The first paragraph of a text of clap, in one line.
-fn first_paragraph(alloc: Global, said: &str) -> Result<String, AllocError> {
+fn first_paragraph(alloc: Global, said: &str) -> Result<String, AllocError>
+    ensures { IfOk result (λ text. HasNoControls (string_bytes text)) }
+{
     let mut text = String::new(alloc);
     for line in said.strip_prefix("error: ").unwrap_or(said).lines() {
         if line.is_empty() {
             return Ok(text);
         }
-        if !text.is_empty() {
-            text.push(' ')?;
-        }
+        add_gap(&mut text)?;
         add_line(&mut text, line.trim())?;
     }
     Ok(text)
@@ -56,13 +79,17 @@ fn first_paragraph(alloc: Global, said: &str) -> Result<String, AllocError> {
 
 /// What clap says of words that it refuses, in one line and without the program's name: which
 /// option or word it is, and what is wrong with it. `None` where it takes the words, and also where
-/// it names no reason to refuse them, or where help is asked for. The contract says nothing about
-/// the text.
+/// it names no reason to refuse them, or where help is asked for. Of the text itself the contract
+/// only says that it has no control character.
 pub fn grid_refusal_text(alloc: Global, words: &[String]) -> Result<Option<String>, NoMemory>
     ensures taken { takes grid_app (map string_bytes words.now) ≡ true
         → IfOk result (λ text. text ≡ None) }
     ensures told { let kinds = fault_of grid_app (map string_bytes words.now) in
         IfOk result (λ text. text ≡ None → (kinds ≡ []) ⊎ IsAmong ErrorKind.DisplayHelp kinds) }
+    ensures silent { let kinds = fault_of grid_app (map string_bytes words.now) in
+        (kinds ≡ []) ⊎ (kinds ≡ ErrorKind.DisplayHelp ∷ []) → IfOk result (λ text. text ≡ None) }
+    ensures harmless { IfOk result (λ text.
+        IfSome text (λ said. HasNoControls (string_bytes said))) }
 {
     let Ok(command) = grid_command(alloc) else {
         return Err(NoMemory);
