@@ -141,7 +141,7 @@ module _ (xs : List Shelf) (i : ℕ) (x y : Shelf) (lt : i < length xs) where
       (inside-set t i i (rules_on y) family-inside)
       (at-changed (λ l. IsCellOf l r cell) t i (rules_on y) [] family-inside own))
 
--- a seat of a cache is one of the table, and stays one
+-- a seat of a cache is one of those whose rules these are, and stays one
 pub seat-there : {t : SeatRules} {r : Rules} {s : Seat} → IsSeatOf t r s → IsSeatIn t s
 seat-there own = record { family = own.family; cell = own.cell }
 

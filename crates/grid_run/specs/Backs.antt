@@ -41,7 +41,7 @@ back_seats b = b.seats
 abbrev pub queue_seats : Queue → BothSeats
 queue_seats q = q.seats
 
--- the seat is one of the table
+-- the seat is one of those whose rules these are
 pub record IsSeatIn (t : SeatRules) (s : Seat) : Type 0 where
   pub family : s.family < length t
   pub cell : s.cell < length (get_or t s.family [])
@@ -51,7 +51,7 @@ abbrev pub seat_on : Side → BothSeats → Seat
 seat_on side.I p = p.i
 seat_on side.D p = p.d
 
--- the seat on a side is one of the table
+-- the seat on a side is one of those whose rules these are
 pub record IsPlacedOn (s : Side) (fronts : SeatRules) (p : BothSeats) : Type 0 where
   pub seat : IsSeatIn fronts (seat_on s p)
 
