@@ -28,6 +28,19 @@ call() {
     judge "$name" "$want" "$output" "$line"
 }
 
+# leave_trace LINE WORD..: words that are refused before the trace is asked for, so all of it is
+# left to read.
+leave_trace() {
+    local line=$1
+    shift
+    {
+        "$program" "$@" 2>"$work/err"
+        status=$?
+        cat
+    } <"$trace" >"$work/out"
+    judge 'refused words, and no byte of the trace is read' 2 "$trace" "$line"
+}
+
 # fail_to_print LINE WORD..: outputs that are full or closed, for these words and for help.
 fail_to_print() {
     local line=$1

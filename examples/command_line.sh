@@ -142,6 +142,8 @@ call 'a part of a trace' 0 "$work/part" '' "$work/part.din" "${caches[@]}" --ski
 call 'a long trace' 0 "$work/long" '' "$work/long.din" "${caches[@]}"
 call 'a bad number' 2 "$nothing" 'dinero_pipe: --maxcount: not a number
 ' "$trace" "${caches[@]}" --maxcount two
+leave_trace 'dinero_pipe: --maxcount: not a number
+' "${caches[@]}" --maxcount two
 call 'a bad letter' 2 "$nothing" 'dinero_pipe: --l1-irepl: not a lawful letter
 ' "$trace" "${caches[@]}" --l1-irepl r
 call 'too many ways' 2 "$nothing" 'dinero_pipe: l1-icache: associativity is too large

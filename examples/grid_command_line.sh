@@ -155,6 +155,8 @@ call 'an empty value' 2 "$nothing" 'dinero_grid: --l1-dsize: not a number
 ' "$trace" "${caches[@]}" --l1-dsize 8,,16
 call 'a list where there is none' 2 "$nothing" 'dinero_grid: --maxcount: not a number
 ' "$trace" "${caches[@]}" --l1-dsize 8 --maxcount 1,2
+leave_trace 'dinero_grid: --maxcount: not a number
+' "${caches[@]}" --l1-dsize 8 --maxcount 1,2
 call 'a bad letter in a list' 2 "$nothing" 'dinero_grid: --l1-drepl: not a lawful letter
 ' "$trace" "${caches[@]}" --l1-dsize 8 --l1-drepl l,x
 full=(--l1-isize 1k --l1-ibsize 4 --l1-iassoc 02 --l1-dbsize 4 --l1-dwalloc n --l2-usize 32
