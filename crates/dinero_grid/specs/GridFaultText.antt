@@ -1,10 +1,12 @@
 -- The line and the exit status of each fault.
 use Rattle.std.specs.Prelude.{ℕ, List, [], ◌∷◌, ◌++◌, codes, Bool, true, false}
-use Rattle.std.specs.Prelude.{if◌then◌else◌, Result, Ok, Err}
+use Rattle.std.specs.Prelude.{if◌then◌else◌, Option, Result, Ok, Err}
+use Rattle.din_trace.specs.Device.{Writes}
+use Rattle.din_trace.specs.declared.device.DeviceFailed.{DeviceFailed}
 use Rattle.dinero_options.specs.Refusals.{words_status}
 use Rattle.dinero_options.specs.TraceRefusals.{trace_fault_text, trace_status}
 use Rattle.dinero_options.specs.declared.fault.WordsFault.TheVariants as words
-use Rattle.grid_options.specs.Refusals.{grid_fault_text}
+use Rattle.grid_options.specs.Refusals.{HasNoControls, grid_fault_text}
 use Rattle.grid_options.specs.declared.fault.GridWordsFault.{GridWordsFault}
 use Rattle.grid_options.specs.declared.fault.GridWordsFault.TheVariants as grid_words
 use Rattle.grid_run.specs.declared.fault.GridFault.{GridFault}
@@ -37,6 +39,14 @@ fault_line fault =
 -- the line that says, as clap does, what is wrong with words
 abbrev pub explanation : List ℕ → List ℕ
 explanation said = codes "dinero_grid: " ++ (said ++ 10 ∷ [])
+
+-- a writer was given a line that says what is wrong with words, and has written it or has failed
+pub record Explains {W : Type 0} (contents : W → Option (List ℕ)) (failures : W → ℕ) (old new : W)
+    : Type 0 where
+  pub said : List ℕ
+  pub harmless : HasNoControls said
+  pub told : Result Unit DeviceFailed
+  pub written : Writes contents failures old new told (explanation said)
 
 -- the exit status for a grid without a table
 abbrev pub run_status : GridFault → ℕ

@@ -16,7 +16,7 @@ mod asked;
 mod fault;
 
 ghost use Rattle.std.specs.Prelude.{◌≡◌, ◌≢◌, ◌≤◌, ◌⊎◌, ℕ, List, Some, None, Result, Ok, Err};
-ghost use Rattle.std.specs.Prelude.{OnOk, IfOk, IfErr, map, string_bytes};
+ghost use Rattle.std.specs.Prelude.{OnOk, OnErr, IfOk, IfErr, map, string_bytes};
 ghost use Rattle.std.specs.List.{All};
 ghost use Rattle.std.specs.Io.KnownBytes.{Appends};
 ghost use Rattle.din_trace.specs.Device.{Writes, once_more};
@@ -24,18 +24,18 @@ ghost use Rattle.din_trace.specs.Line.{ADDRESS_MAX};
 ghost use Rattle.din_trace.specs.Text.{fault};
 ghost use Rattle.din_trace.specs.Faults.{GaveAll, IsFaultOf};
 ghost use Rattle.grid_options.specs.Grid.{AnswersGridWords};
-ghost use Rattle.grid_options.specs.Refusals.{HasNoControls};
+ghost use Rattle.grid_options.specs.Refusals.{IsUnexplained};
 ghost use Rattle.grid_options.specs.declared.grid.ParsedGrid.{ParsedGrid};
 ghost use Rattle.grid_run.specs.Grids.{table_of};
 ghost use Rattle.grid_run.specs.declared.grid.Grid.{Grid};
 ghost use Rattle.dinero_grid.specs.AskedRows.{IsBoundedPoint, IsGridFor, has_refused};
-ghost use Rattle.dinero_grid.specs.GridFaultText.{explanation, fault_line, status_after};
+ghost use Rattle.dinero_grid.specs.GridFaultText.{Explains, explanation, fault_line, status_after};
 ghost use Rattle.dinero_grid.specs.GridRuns.{AreAccepted, HasTable};
 
 use crate::asked::{grid_for, has_refused};
 use crate::fault::{Fault, fault_text, status};
 use din_trace::{ByteReader, ByteWriter, DeviceFailed, FromRead, FromWrite, MAX_LIMIT, TraceFault};
-use dinero_options::{WordsFault, unreadable_arguments_fault};
+use dinero_options::{NoMemory, WordsFault, unreadable_arguments_fault};
 use grid_options::{
     GridWordsFault, ParsedGrid, grid_help_text, grid_refusal_text, parse_grid_words,
 };
@@ -196,25 +196,30 @@ fn explain<W: ByteWriter>(
     words: &[String],
     ended: &Result<bool, Fault>,
     errors: &mut W,
-)
+) -> Result<(), NoMemory>
     ensures silent { ended.now ≢ Err (Fault.Words (GridWordsFault.Words WordsFault.Words))
         → errors.new ≡ errors.old }
     ensures line { (errors.new ≡ errors.old)
-        ⊎ ((said : List ℕ) × HasNoControls said × (told : Result Unit DeviceFailed)
-        × Writes W.contents W.failures errors.old errors.new told (explanation said)) }
+        ⊎ Explains W.contents W.failures errors.old errors.new }
+    ensures told { ended.now ≡ Err (Fault.Words (GridWordsFault.Words WordsFault.Words))
+        → OnOk result (IsUnexplained (map string_bytes words.now)
+        ⊎ Explains W.contents W.failures errors.old errors.new) }
+    ensures memory { OnErr result (errors.new ≡ errors.old) }
 {
     if !matches!(
         ended,
         Err(Fault::Words(GridWordsFault::Words(WordsFault::Words)))
     ) {
-        return;
+        return Ok(());
     }
-    let Ok(Some(said)) = grid_refusal_text(alloc, words) else {
-        return;
+    let Some(said) = grid_refusal_text(alloc, words)? else {
+        return Ok(());
     };
-    if let Ok(line) = explanation(alloc, said.as_str()) {
-        let _ = errors.put(line.as_bytes());
-    }
+    let Ok(line) = explanation(alloc, said.as_str()) else {
+        return Err(NoMemory);
+    };
+    let _ = errors.put(line.as_bytes());
+    Ok(())
 }
 
 /// The words after the program's name.
@@ -261,7 +266,7 @@ fn main(rt: HostRuntime) -> ExitCode {
         Ok(words) => {
             let words = words.as_slice();
             let ran = run_through_buffer(&rt, rt.alloc(), words, rt.stdin(), rt.stdout());
-            explain(rt.alloc(), words, &ran, &mut errors);
+            let _ = explain(rt.alloc(), words, &ran, &mut errors);
             ran
         }
         Err(fault) => Err(fault),

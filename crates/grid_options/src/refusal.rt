@@ -3,10 +3,10 @@
 ghost use Rattle.std.specs.Prelude.{◌≡◌, ◌⊎◌, ◌∷◌, [], IfOk, IfSome, None, OnOk, false, map};
 ghost use Rattle.std.specs.Prelude.{string_bytes, true};
 ghost use Rattle.std.specs.Char.{is_control};
-ghost use Rattle.clap.specs.Words.{IsAmong, fault_of, takes};
+ghost use Rattle.clap.specs.Words.{fault_of, takes};
 ghost use Rattle.din_trace.specs.Device.{Writes};
 ghost use Rattle.grid_options.specs.Grid.{grid_app};
-ghost use Rattle.grid_options.specs.Refusals.{HasNoControls, grid_fault_text};
+ghost use Rattle.grid_options.specs.Refusals.{HasNoControls, IsUnexplained, grid_fault_text};
 
 use crate::command::grid_command;
 use crate::fault::GridWordsFault;
@@ -84,8 +84,7 @@ fn first_paragraph(alloc: Global, said: &str) -> Result<String, AllocError>
 pub fn grid_refusal_text(alloc: Global, words: &[String]) -> Result<Option<String>, NoMemory>
     ensures taken { takes grid_app (map string_bytes words.now) ≡ true
         → IfOk result (λ text. text ≡ None) }
-    ensures told { let kinds = fault_of grid_app (map string_bytes words.now) in
-        IfOk result (λ text. text ≡ None → (kinds ≡ []) ⊎ IsAmong ErrorKind.DisplayHelp kinds) }
+    ensures told { IfOk result (λ text. text ≡ None → IsUnexplained (map string_bytes words.now)) }
     ensures silent { let kinds = fault_of grid_app (map string_bytes words.now) in
         (kinds ≡ []) ⊎ (kinds ≡ ErrorKind.DisplayHelp ∷ []) → IfOk result (λ text. text ≡ None) }
     ensures harmless { IfOk result (λ text.
