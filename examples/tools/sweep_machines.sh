@@ -132,12 +132,19 @@ not simulated (column fault)" ] &&
     shared "$out" | tail -n 4 | cmp -s - <(tail -n 4 "$work/rows")
 verdict 'sweep whose first run is killed' $?
 
-# A simulator that goes on when it is told to end.
-printf '#!/bin/sh\n[ /dev/stdin -ef /dev/null ] && exec "%s" "$@"\ntrap "" TERM\nsleep 60\n' \
-    "$simulator" >"$work/failing"
-start env CALLS="$work/calls" GRID="$work/failing" "$noting/sweep" --jobs 1 "${grid[@]}" \
-    -- kinds.din
-until_true compgen -G "$TMPDIR/*/raw.*" >/dev/null
+# A simulator that goes on when it is told to end. It leaves a mark once it does.
+printf '#!/bin/sh\n[ /dev/stdin -ef /dev/null ] && exec "%s" "$@"\n%s\n%s\nsleep 60\n' \
+    "$simulator" 'trap "" TERM' ': >"$MARK"' >"$work/failing"
+
+# start_endless WORD..: a sweep of it, which has begun a run.
+start_endless() {
+    rm -f "$work/endless"
+    start env CALLS="$work/calls" MARK="$work/endless" GRID="$work/failing" "$noting/sweep" \
+        --jobs 1 "$@" "${grid[@]}" -- kinds.din
+    until_true test -e "$work/endless"
+}
+
+start_endless
 kill -TERM "$started"
 status=0
 wait "$started" 2>/dev/null || status=$?
@@ -146,9 +153,7 @@ verdict 'sweep that is sent TERM while its simulator does not end' $?
 
 # A sweep that is killed alone leaves a run behind, which does not keep the log to itself.
 rm -f left.log
-start env CALLS="$work/calls" GRID="$work/failing" "$noting/sweep" --resume left.log --jobs 1 \
-    "${grid[@]}" -- kinds.din
-until_true compgen -G "$TMPDIR/*/raw.*" >/dev/null
+start_endless --resume left.log
 {
     kill -KILL "$started"
     wait "$started"
