@@ -2,8 +2,8 @@
 //! input once, and writes a table with a line for each configuration to standard output.
 //!
 //! The library grid_options reads the words, and grid_run reads the trace and writes the table.
-//! `asked` makes the rows of the table from the points that the words ask for. `fault` has the line
-//! and the exit status of each fault.
+//! `asked` makes the rows of the table from the points that the words ask for, `table` the table
+//! from these and the trace. `fault` has the line and the exit status of each fault.
 //!
 //! Proved: `run` writes the table that the definitions give for the text of its reader and the
 //! words after the program's name, or says why not; the line and the status of a fault are those of
@@ -14,117 +14,59 @@
 
 mod asked;
 mod fault;
+mod table;
 
-ghost use Rattle.std.specs.Prelude.{◌≡◌, ◌≢◌, ◌≤◌, ◌⊎◌, ℕ, List, Some, None, Result, Ok, Err};
-ghost use Rattle.std.specs.Prelude.{OnOk, OnErr, IfOk, IfErr, map, string_bytes};
-ghost use Rattle.std.specs.List.{All};
-ghost use Rattle.std.specs.Io.KnownBytes.{Appends};
+ghost use Rattle.std.specs.Prelude.{◌≡◌, ◌≢◌, ◌⊎◌, ℕ, List, Some, None, Result, Ok, Err};
+ghost use Rattle.std.specs.Prelude.{OnOk, OnErr, IfOk, IfErr, false, map, string_bytes};
 ghost use Rattle.din_trace.specs.Device.{Writes, once_more};
 ghost use Rattle.din_trace.specs.Line.{ADDRESS_MAX};
 ghost use Rattle.din_trace.specs.Text.{fault};
-ghost use Rattle.din_trace.specs.Faults.{GaveAll, IsFaultOf};
+ghost use Rattle.dinero_options.specs.Streams.{HasGiven, IsFaultWithin};
 ghost use Rattle.grid_options.specs.Grid.{AnswersGridWords};
 ghost use Rattle.grid_options.specs.Refusals.{IsUnexplained};
 ghost use Rattle.grid_options.specs.declared.grid.ParsedGrid.{ParsedGrid};
-ghost use Rattle.grid_run.specs.Grids.{table_of};
-ghost use Rattle.grid_run.specs.declared.grid.Grid.{Grid};
-ghost use Rattle.dinero_grid.specs.AskedRows.{IsBoundedPoint, IsGridFor, has_refused};
+ghost use Rattle.dinero_grid.specs.AskedRows.{has_refused};
 ghost use Rattle.dinero_grid.specs.GridFaultText.{Explains, explanation, fault_line, status_after};
 ghost use Rattle.dinero_grid.specs.GridRuns.{AreAccepted, HasTable};
 
-use crate::asked::{grid_for, has_refused};
 use crate::fault::{Fault, fault_text, status};
-use din_trace::{ByteReader, ByteWriter, DeviceFailed, FromRead, FromWrite, MAX_LIMIT, TraceFault};
+use crate::table::table;
+use din_trace::{ByteWriter, DeviceFailed, FromRead, FromWrite, MAX_LIMIT, TraceFault};
 use dinero_options::{NoMemory, WordsFault, unreadable_arguments_fault};
-use grid_options::{
-    GridWordsFault, ParsedGrid, grid_help_text, grid_refusal_text, parse_grid_words,
-};
-use grid_run::{GridFault, simulate_grid};
+use grid_options::{GridWordsFault, grid_help_text, grid_refusal_text, parse_grid_words};
+use grid_run::GridFault;
 use std::alloc::{AllocError, Global};
+use std::env;
 use std::io::{BufWriter, Read, Write};
 use std::process::ExitCode;
 use std::thread::Threads;
-use std::{env, thread};
-
-/// How many threads work if the command line leaves it to the machine, and the machine doesn't say
-/// how many it has.
-const THREADS: usize = 4;
-
-/// How many threads work: as many as are asked for, or if that is 0, one for each core that the
-/// program may use.
-fn threads_for<T: Threads>(rt: &T, asked: usize) -> usize
-    ensures given { asked ≢ 0 → result ≡ asked }
-    ensures some { 1 ≤ result }
-{
-    if asked != 0 {
-        return asked;
-    }
-    match thread::available_parallelism(rt) {
-        Ok(count) => count.get(),
-        Err(_) => THREADS,
-    }
-}
-
-/// Reads a trace of at most 2^40 bytes once, and writes the table of the grid that is asked for.
-/// Answers whether some configuration was refused.
-fn table<T: Threads + Sync, R: ByteReader + Drop + Send, W: ByteWriter>(
-    rt: &T,
-    alloc: Global,
-    asked: ParsedGrid,
-    reader: R,
-    writer: &mut W,
-) -> Result<bool, GridFault>
-    requires { All IsBoundedPoint asked.points.items }
-    ensures table { (text : List ℕ) → R.remaining reader ≡ Some text → OnOk result
-        ((fault ADDRESS_MAX text MAX_LIMIT ≡ None)
-        × ((grid : Grid) × IsGridFor asked grid
-        × Appends (W.contents writer.old) (W.contents writer.new) (table_of grid text))) }
-    ensures whole { OnOk result ((text : List ℕ) × GaveAll R.remaining R.failures reader text
-        × (fault ADDRESS_MAX text MAX_LIMIT ≡ None)
-        × ((grid : Grid) × IsGridFor asked grid
-        × Appends (W.contents writer.old) (W.contents writer.new) (table_of grid text))) }
-    ensures refused { IfOk result (λ some. some ≡ has_refused asked.points.items) }
-    ensures trace { (text : List ℕ) → R.remaining reader ≡ Some text
-        → (why : TraceFault) → result ≡ Err (GridFault.Trace why)
-        → IsFaultOf R.remaining R.failures reader text MAX_LIMIT why }
-    ensures memory { result ≢ Err (GridFault.Trace TraceFault.Memory) }
-    ensures sound { OnOk result (W.failures writer.new ≡ W.failures writer.old) }
-    ensures write { result ≡ Err GridFault.Write
-        → W.failures writer.new ≡ once_more (W.failures writer.old) }
-    ensures unwritten { IfErr result (λ why. why ≢ GridFault.Write → writer.new ≡ writer.old) }
-{
-    let some_refused = has_refused(&asked.points);
-    let threads = threads_for(rt, asked.threads);
-    let Ok(grid) = grid_for(alloc, asked) else {
-        return Err(GridFault::Memory);
-    };
-    simulate_grid(rt, alloc, &grid, reader, MAX_LIMIT, threads, writer)?;
-    Ok(some_refused)
-}
 
 /// Reads the trace that the reader gives once, and writes the table of the grid that the words
-/// after the program's name ask for. Answers whether some configuration was refused.
-fn run<T: Threads + Sync, R: ByteReader + Drop + Send, W: ByteWriter>(
+/// after the program's name ask for. Answers whether some configuration was refused. If the words
+/// are refused, nothing is read.
+fn run<T: Threads + Sync, R: Read + Send, W: ByteWriter>(
     rt: &T,
     alloc: Global,
     words: &[String],
-    reader: R,
+    input: &mut R,
     writer: &mut W,
 ) -> Result<bool, Fault>
-    ensures table { (text : List ℕ) → R.remaining reader ≡ Some text → IfOk result (λ some.
+    ensures table { (text : List ℕ) → R.remaining input.old ≡ Some text → IfOk result (λ some.
         (fault ADDRESS_MAX text MAX_LIMIT ≡ None) × HasTable (map string_bytes words.now) text some
         (W.contents writer.old) (W.contents writer.new)) }
     ensures whole { IfOk result (λ some. (text : List ℕ)
-        × GaveAll R.remaining R.failures reader text × (fault ADDRESS_MAX text MAX_LIMIT ≡ None)
+        × HasGiven R.remaining input.old text × (fault ADDRESS_MAX text MAX_LIMIT ≡ None)
         × HasTable (map string_bytes words.now) text some
         (W.contents writer.old) (W.contents writer.new)) }
     ensures words { (why : GridWordsFault) → result ≡ Err (Fault.Words why)
         → AnswersGridWords (map string_bytes words.now) (Err why) }
+    ensures unread { (why : GridWordsFault) → result ≡ Err (Fault.Words why)
+        → input.new ≡ input.old }
     ensures accepted { (why : GridFault) → result ≡ Err (Fault.Run why)
         → AreAccepted (map string_bytes words.now) }
-    ensures trace { (text : List ℕ) → R.remaining reader ≡ Some text
+    ensures trace { (text : List ℕ) → R.remaining input.old ≡ Some text
         → (why : TraceFault) → result ≡ Err (Fault.Run (GridFault.Trace why))
-        → IsFaultOf R.remaining R.failures reader text MAX_LIMIT why }
+        → IsFaultWithin text MAX_LIMIT why }
     ensures memory { result ≢ Err (Fault.Run (GridFault.Trace TraceFault.Memory)) }
     ensures sound { OnOk result (W.failures writer.new ≡ W.failures writer.old) }
     ensures write { result ≡ Err (Fault.Run GridFault.Write)
@@ -136,44 +78,56 @@ fn run<T: Threads + Sync, R: ByteReader + Drop + Send, W: ByteWriter>(
         Ok(asked) => asked,
         Err(fault) => return Err(Fault::Words(fault)),
     };
-    match table(rt, alloc, asked, reader, writer) {
+    match table(rt, alloc, asked, FromRead::new(input), writer) {
         Ok(some_refused) => Ok(some_refused),
         Err(fault) => Err(Fault::Run(fault)),
     }
 }
 
-/// As `run`, from any reader to any writer, through a buffer.
-fn run_through_buffer<T: Threads + Sync, R: Read + Drop + Send, W: Write + Drop>(
+/// As `run`, to any writer of std, through a buffer.
+fn run_through_buffer<T: Threads + Sync, R: Read + Send, W: Write + Drop>(
     rt: &T,
     alloc: Global,
     words: &[String],
-    input: R,
+    input: &mut R,
     output: W,
 ) -> Result<bool, Fault>
-    ensures faultless { (text : List ℕ) → R.remaining input ≡ Some text
+    ensures faultless { (text : List ℕ) → R.remaining input.old ≡ Some text
         → OnOk result (fault ADDRESS_MAX text MAX_LIMIT ≡ None) }
     ensures asked { IfOk result (λ some. (parsed : ParsedGrid)
         × AnswersGridWords (map string_bytes words.now) (Ok parsed)
         × (some ≡ has_refused parsed.points.items)) }
     ensures words { (why : GridWordsFault) → result ≡ Err (Fault.Words why)
         → AnswersGridWords (map string_bytes words.now) (Err why) }
+    ensures unread { (why : GridWordsFault) → result ≡ Err (Fault.Words why)
+        → input.new ≡ input.old }
     ensures accepted { (why : GridFault) → result ≡ Err (Fault.Run why)
         → (why ≡ GridFault.Memory) ⊎ AreAccepted (map string_bytes words.now) }
+    ensures trace { (text : List ℕ) → R.remaining input.old ≡ Some text
+        → (why : TraceFault) → result ≡ Err (Fault.Run (GridFault.Trace why))
+        → IsFaultWithin text MAX_LIMIT why }
     ensures memory { result ≢ Err (Fault.Run (GridFault.Trace TraceFault.Memory)) }
 {
     let Ok(output) = BufWriter::new(alloc, output) else {
         return Err(Fault::Run(GridFault::Memory));
     };
-    let mut writer = FromWrite::new(output);
-    run(rt, alloc, words, FromRead::new(input), &mut writer)
+    run(rt, alloc, words, input, &mut FromWrite::new(output))
 }
 
-/// Writes the help to standard output.
-fn write_help(rt: &HostRuntime) -> Result<bool, Fault> {
-    let Ok(text) = grid_help_text(rt.alloc()) else {
+/// Writes the help.
+fn write_help<W: ByteWriter>(alloc: Global, output: &mut W) -> Result<bool, Fault>
+    ensures well { IfOk result (λ some_refused. some_refused ≡ false) }
+    ensures sound { OnOk result (W.failures output.new ≡ W.failures output.old) }
+    ensures write { result ≡ Err (Fault.Run GridFault.Write)
+        → W.failures output.new ≡ once_more (W.failures output.old) }
+    ensures unwritten { IfErr result (λ why. why ≢ Fault.Run GridFault.Write
+        → (why ≡ Fault.Words (GridWordsFault.Words WordsFault.Memory))
+        × (output.new ≡ output.old)) }
+{
+    let Ok(text) = grid_help_text(alloc) else {
         return Err(Fault::Words(GridWordsFault::Words(WordsFault::Memory)));
     };
-    match rt.stdout().write_all(text.as_bytes()) {
+    match output.put(text.as_bytes()) {
         Ok(()) => Ok(false),
         Err(_) => Err(Fault::Run(GridFault::Write)),
     }
@@ -262,17 +216,20 @@ fn conclude<W: ByteWriter>(ended: Result<bool, Fault>, errors: &mut W) -> u8
 
 fn main(rt: HostRuntime) -> ExitCode {
     let mut errors = FromWrite::new(rt.stderr());
+    let alloc = rt.alloc();
     let ran = match words_of(&rt) {
         Ok(words) => {
             let words = words.as_slice();
-            let ran = run_through_buffer(&rt, rt.alloc(), words, rt.stdin(), rt.stdout());
-            let _ = explain(rt.alloc(), words, &ran, &mut errors);
+            let ran = run_through_buffer(&rt, alloc, words, &mut rt.stdin(), rt.stdout());
+            let _ = explain(alloc, words, &ran, &mut errors);
             ran
         }
         Err(fault) => Err(fault),
     };
     let ended = match ran {
-        Err(Fault::Words(GridWordsFault::Words(WordsFault::Help))) => write_help(&rt),
+        Err(Fault::Words(GridWordsFault::Words(WordsFault::Help))) => {
+            write_help(alloc, &mut FromWrite::new(rt.stdout()))
+        }
         ran => ran,
     };
     ExitCode::from(conclude(ended, &mut errors))

@@ -2,3 +2,4 @@ pub mod AnswerLemmas
 pub mod CountLemmas
 pub mod FirstLemmas
 pub mod LineLemmas
+pub mod StreamLemmas

@@ -23,6 +23,7 @@ ghost use Rattle.din_trace.specs.Faults.{GaveAll, IsFaultOf};
 ghost use Rattle.stage_core.specs.Events.{IsBounded};
 ghost use Rattle.sim_run.specs.TraceReport.{report_of};
 ghost use Rattle.dinero_options.specs.Answer.{AnswersWords};
+ghost use Rattle.dinero_options.specs.Streams.{HasGiven, IsFaultWithin};
 ghost use Rattle.dinero_pipe.specs.FaultText.{fault_line, status_after};
 ghost use Rattle.dinero_pipe.specs.Runs.{AreAccepted, HasReport};
 
@@ -72,27 +73,29 @@ fn report<H: Threads + Wait + Sync, R: ByteReader + Drop, W: ByteWriter>(
 }
 
 /// Simulates the trace that the reader gives in the caches that the words after the program's name
-/// ask for, and writes its report.
-fn run<H: Threads + Wait + Sync, R: ByteReader + Drop, W: ByteWriter>(
+/// ask for, and writes its report. If the words are refused, nothing is read.
+fn run<H: Threads + Wait + Sync, R: Read, W: ByteWriter>(
     rt: &H,
     alloc: Global,
     words: &[String],
-    reader: R,
+    input: &mut R,
     writer: &mut W,
 ) -> Result<(), Fault>
-    ensures report { (text : List ℕ) → R.remaining reader ≡ Some text → OnOk result
+    ensures report { (text : List ℕ) → R.remaining input.old ≡ Some text → OnOk result
         ((fault ADDRESS_MAX text MAX_LIMIT ≡ None) × HasReport (map string_bytes words.now) text
         (W.contents writer.old) (W.contents writer.new)) }
-    ensures whole { OnOk result ((text : List ℕ) × GaveAll R.remaining R.failures reader text
+    ensures whole { OnOk result ((text : List ℕ) × HasGiven R.remaining input.old text
         × (fault ADDRESS_MAX text MAX_LIMIT ≡ None) × HasReport (map string_bytes words.now) text
         (W.contents writer.old) (W.contents writer.new)) }
     ensures words { (why : WordsFault) → result ≡ Err (Fault.Words why)
         → AnswersWords (map string_bytes words.now) (Err why) }
+    ensures unread { (why : WordsFault) → result ≡ Err (Fault.Words why)
+        → input.new ≡ input.old }
     ensures accepted { (why : RunFault) → result ≡ Err (Fault.Run why)
         → AreAccepted (map string_bytes words.now) }
-    ensures trace { (text : List ℕ) → R.remaining reader ≡ Some text
+    ensures trace { (text : List ℕ) → R.remaining input.old ≡ Some text
         → (why : TraceFault) → result ≡ Err (Fault.Run (RunFault.Trace why))
-        → IsFaultOf R.remaining R.failures reader text MAX_LIMIT why }
+        → IsFaultWithin text MAX_LIMIT why }
     ensures memory { result ≢ Err (Fault.Run (RunFault.Trace TraceFault.Memory)) }
     ensures sound { OnOk result (W.failures writer.new ≡ W.failures writer.old) }
     ensures write { result ≡ Err (Fault.Run RunFault.Write)
@@ -104,42 +107,52 @@ fn run<H: Threads + Wait + Sync, R: ByteReader + Drop, W: ByteWriter>(
         Ok(asked) => asked,
         Err(fault) => return Err(Fault::Words(fault)),
     };
-    match report(rt, alloc, &config, &selection, reader, writer) {
+    match report(rt, alloc, &config, &selection, FromRead::new(input), writer) {
         Ok(()) => Ok(()),
         Err(fault) => Err(Fault::Run(fault)),
     }
 }
 
-/// As `run`, from any reader to any writer, in one write through a buffer.
-fn run_through_buffer<H: Threads + Wait + Sync, R: Read + Drop, W: Write + Drop>(
+/// As `run`, to any writer of std, in one write through a buffer.
+fn run_through_buffer<H: Threads + Wait + Sync, R: Read, W: Write + Drop>(
     rt: &H,
     alloc: Global,
     words: &[String],
-    input: R,
+    input: &mut R,
     output: W,
 ) -> Result<(), Fault>
-    ensures faultless { (text : List ℕ) → R.remaining input ≡ Some text
+    ensures faultless { (text : List ℕ) → R.remaining input.old ≡ Some text
         → OnOk result (fault ADDRESS_MAX text MAX_LIMIT ≡ None) }
     ensures asked { OnOk result (AreAccepted (map string_bytes words.now)) }
     ensures words { (why : WordsFault) → result ≡ Err (Fault.Words why)
         → AnswersWords (map string_bytes words.now) (Err why) }
+    ensures unread { (why : WordsFault) → result ≡ Err (Fault.Words why)
+        → input.new ≡ input.old }
     ensures accepted { (why : RunFault) → result ≡ Err (Fault.Run why)
         → (why ≡ RunFault.Memory) ⊎ AreAccepted (map string_bytes words.now) }
+    ensures trace { (text : List ℕ) → R.remaining input.old ≡ Some text
+        → (why : TraceFault) → result ≡ Err (Fault.Run (RunFault.Trace why))
+        → IsFaultWithin text MAX_LIMIT why }
     ensures memory { result ≢ Err (Fault.Run (RunFault.Trace TraceFault.Memory)) }
 {
     let Ok(output) = BufWriter::new(alloc, output) else {
         return Err(Fault::Run(RunFault::Memory));
     };
-    let mut writer = FromWrite::new(output);
-    run(rt, alloc, words, FromRead::new(input), &mut writer)
+    run(rt, alloc, words, input, &mut FromWrite::new(output))
 }
 
-/// Writes the help to standard output.
-fn write_help(rt: &HostRuntime) -> Result<(), Fault> {
-    let Ok(text) = help_text(rt.alloc()) else {
+/// Writes the help.
+fn write_help<W: ByteWriter>(alloc: Global, output: &mut W) -> Result<(), Fault>
+    ensures sound { OnOk result (W.failures output.new ≡ W.failures output.old) }
+    ensures write { result ≡ Err (Fault.Run RunFault.Write)
+        → W.failures output.new ≡ once_more (W.failures output.old) }
+    ensures unwritten { IfErr result (λ why. why ≢ Fault.Run RunFault.Write
+        → (why ≡ Fault.Words WordsFault.Memory) × (output.new ≡ output.old)) }
+{
+    let Ok(text) = help_text(alloc) else {
         return Err(Fault::Words(WordsFault::Memory));
     };
-    match rt.stdout().write_all(text.as_bytes()) {
+    match output.put(text.as_bytes()) {
         Ok(()) => Ok(()),
         Err(_) => Err(Fault::Run(RunFault::Write)),
     }
@@ -176,12 +189,17 @@ fn conclude<W: ByteWriter>(ended: Result<(), Fault>, errors: &mut W) -> u8
 }
 
 fn main(rt: HostRuntime) -> ExitCode {
+    let alloc = rt.alloc();
     let ran = match words_of(&rt) {
-        Ok(words) => run_through_buffer(&rt, rt.alloc(), words.as_slice(), rt.stdin(), rt.stdout()),
+        Ok(words) => {
+            run_through_buffer(&rt, alloc, words.as_slice(), &mut rt.stdin(), rt.stdout())
+        }
         Err(fault) => Err(fault),
     };
     let ended = match ran {
-        Err(Fault::Words(WordsFault::Help)) => write_help(&rt),
+        Err(Fault::Words(WordsFault::Help)) => {
+            write_help(alloc, &mut FromWrite::new(rt.stdout()))
+        }
         ran => ran,
     };
     ExitCode::from(conclude(ended, &mut FromWrite::new(rt.stderr())))

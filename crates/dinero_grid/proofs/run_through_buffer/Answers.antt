@@ -1,11 +1,9 @@
-use Rattle.std.proofs.Common.{◌∙◌}
 use Rattle.std.proofs.lemmas.Result.{IfOk-weaker}
 use Rattle.dinero_grid.proofs.run_through_buffer.Goals as goal
 
 pub returns-clause-faultless : goal.returns-clause-faultless
 returns-clause-faultless g c text known =
-    IfOk-weaker c.run.result _ _ (λ some told. told.0)
-    (c.run.ensures.table text (c.new-2.ensures.remaining ∙ known))
+    IfOk-weaker c.run.result _ _ (λ some told. told.0) (c.run.ensures.table text known)
 
 pub returns-clause-asked : goal.returns-clause-asked
 returns-clause-asked g c =

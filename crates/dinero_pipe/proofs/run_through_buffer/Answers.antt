@@ -1,11 +1,9 @@
-use Rattle.std.proofs.Common.{◌∙◌}
 use Rattle.std.proofs.lemmas.Result.{on_ok_weaker}
 use Rattle.dinero_pipe.proofs.run_through_buffer.Goals as goal
 
 pub returns-clause-faultless : goal.returns-clause-faultless
 returns-clause-faultless g c text known =
-    on_ok_weaker c.run.result (λ told. told.0)
-    (c.run.ensures.report text (c.new-2.ensures.remaining ∙ known))
+    on_ok_weaker c.run.result (λ told. told.0) (c.run.ensures.report text known)
 
 pub returns-clause-asked : goal.returns-clause-asked
 returns-clause-asked g c =

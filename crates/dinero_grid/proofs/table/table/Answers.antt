@@ -1,6 +1,6 @@
 use Rattle.std.proofs.Common.{rules, ◌≡◌, Err}
 use Rattle.grid_run.specs.declared.fault.GridFault.TheVariants.{Trace}
-use Rattle.dinero_grid.proofs.table.Goals as goal
+use Rattle.dinero_grid.proofs.table.table.Goals as goal
 
 pub returns-in_err-simulate_grid-clause-trace : goal.returns-in_err-simulate_grid-clause-trace
 returns-in_err-simulate_grid-clause-trace g c text known why is =
