@@ -220,7 +220,8 @@ test_refusals_without_parallel() {
         env PATH="$1" "$sweep" --hosts file "${grid[@]}" -- kinds.din
 }
 
-# A server of ssh for this user alone, and a list with this machine's address.
+# A server of ssh for this user alone, and a list with this machine's address. What a shell of the
+# user's reads at its start may have something to say, so it finds nothing there.
 start_sshd() {
     local folder=$work/ssh port=$((20000 + RANDOM % 10000))
     mkdir "$folder"
@@ -235,6 +236,7 @@ PidFile none
 StrictModes no
 UsePAM no
 PasswordAuthentication no
+SetEnv HOME=$folder
 END
     env -u TMPDIR "$(command -v sshd)" -D -e -f "$folder/conf" 2>"$folder/log" &
     daemons+=($!)
