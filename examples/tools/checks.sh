@@ -146,12 +146,18 @@ END
     echo "$work/slow"
 }
 
+# start_marked COMMAND..: as start, and waits until something that the command calls has left the
+# mark.
+start_marked() {
+    rm -f "$work/still"
+    MARK=$work/still start "$@"
+    until_true test -e "$work/still"
+}
+
 # signalled SIGNAL FOLDER COMMAND..: the signal is sent to the command and all that it began, as a
 # terminal does, once a tool of the folder has left its mark. Was that how the command ended?
 signalled() {
-    rm -f "$work/still"
-    MARK=$work/still PATH=$2:$PATH start "${@:3}"
-    until_true test -e "$work/still"
+    start_marked env PATH="$2:$PATH" "${@:3}"
     kill "-$1" -- "-$started"
     status=0
     wait "$started" 2>/dev/null || status=$?

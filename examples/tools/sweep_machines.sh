@@ -138,10 +138,8 @@ printf '#!/bin/sh\n[ /dev/stdin -ef /dev/null ] && exec "%s" "$@"\n%s\n%s\nsleep
 
 # start_endless WORD..: a sweep of it, which has begun a run.
 start_endless() {
-    rm -f "$work/endless"
-    start env CALLS="$work/calls" MARK="$work/endless" GRID="$work/failing" "$noting/sweep" \
-        --jobs 1 "$@" "${grid[@]}" -- kinds.din
-    until_true test -e "$work/endless"
+    start_marked env CALLS="$work/calls" GRID="$work/failing" "$noting/sweep" --jobs 1 "$@" \
+        "${grid[@]}" -- kinds.din
 }
 
 start_endless

@@ -90,10 +90,8 @@ fi
 exec "$REAL" "$@"
 END
     chmod +x "$work/waiting"
-    rm -f "$work/still"
-    start env MARK="$work/still" REAL="$simulator" CALLS="$work/calls" GRID="$work/waiting" \
-        "$noting/sweep" --resume known --restart --jobs 1 "${grid[@]}" -- known.din
-    until_true test -e "$work/still"
+    start_marked env REAL="$simulator" CALLS="$work/calls" GRID="$work/waiting" "$noting/sweep" \
+        --resume known --restart --jobs 1 "${grid[@]}" -- known.din
     "$sweep" --resume known "${grid[@]}" -- known.din >"$work/other" 2>&1
     [ $? -eq 4 ] && [ "$(<"$work/other")" = 'sweep: known is written by another sweep' ] &&
         [ "$(wc -l <known)" -eq 1 ]
