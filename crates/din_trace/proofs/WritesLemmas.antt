@@ -1,6 +1,6 @@
 -- Calls that write, one after another.
-use Rattle.std.proofs.Common.{◌≡◌, ◌∙◌, ℕ, List, ◌++◌, Option, Result, Ok, Err, ap}
-use Rattle.std.specs.Io.KnownBytes.{Appends}
+use Rattle.std.proofs.Common.{◌≡◌, ◌∙◌, ℕ, List, ◌++◌, Option, None, Some, Result, Ok, Err, ap}
+use Rattle.std.specs.Io.KnownBytes.{Appends, Keeps}
 use Rattle.std.proofs.KnownBytes.{Appends-trans}
 use Rattle.din_trace.specs.Device.{Writes, once_more}
 
@@ -30,3 +30,11 @@ module _ {W S F : Type 0} {contents : W → Option (List ℕ)} {failures : W →
   pub writes_as : (s : Result S F) (a b : List ℕ) → a ≡ b → Writes contents failures old new s a
       → Writes contents failures old new s b
   writes_as s a b e h = rw (← e) h
+
+-- what was appended stays if the bytes then stay as they are
+pub appended_kept : (x y z : Option (List ℕ)) (a : List ℕ) → Appends x y a → Keeps y z
+    → Appends x z a
+appended_kept None y z a took kept = tt
+appended_kept (Some xs) None z a took kept = absurd took
+appended_kept (Some xs) (Some ys) None a took kept = absurd kept
+appended_kept (Some xs) (Some ys) (Some zs) a took kept = kept ∙ took

@@ -3,6 +3,8 @@
 use Rattle.std.specs.Prelude.{◌≡◌, ℕ, ◌+◌, ◌%◌, ◌^◌, ◌≤◌, List, length, Option, Result, IfOk, OnOk}
 use Rattle.std.specs.Prelude.{OnErr}
 use Rattle.std.specs.Io.KnownBytes.{ReadConsumes, Appends}
+use Rattle.std.specs.Io.Buffered.{writer_buffer, writer_inner}
+use Rattle.std.specs.declared.io.buffered.BufWriter.{BufWriter}
 use Rattle.din_trace.specs.declared.device.FromRead.{FromRead}
 use Rattle.din_trace.specs.declared.device.FromWrite.{FromWrite}
 
@@ -43,3 +45,12 @@ held_bytes contents writer = contents writer.inner
 -- how many times a `FromWrite` has failed
 unfoldable pub write_failures : {W : Type 0} → FromWrite W → ℕ
 write_failures writer = writer.failures
+
+-- the bytes that wait in the buffer of a `FromWrite` over a buffered writer
+unfoldable pub waiting_bytes : {W A : Type 0} → FromWrite (BufWriter W A) → List ℕ
+waiting_bytes writer = writer_buffer writer.inner
+
+-- the bytes that the writer behind that buffer holds, where they are known
+unfoldable pub behind_bytes : {W A : Type 0} → (W → Option (List ℕ)) → FromWrite (BufWriter W A)
+    → Option (List ℕ)
+behind_bytes contents writer = contents (writer_inner writer.inner)

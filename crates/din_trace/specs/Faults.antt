@@ -8,7 +8,8 @@ use Rattle.din_trace.specs.Line.{ADDRESS_MAX}
 use Rattle.din_trace.specs.Text.{fault, failed_fault}
 
 -- the reader gave the text, came to its end, and never failed: some reader of this type has all
--- of that behind it, and has failed as often as this one
+-- of that behind it, and has failed as often as this one; if the reader's bytes are not known, this
+-- holds of every text
 pub record GaveAll {R : Type 0} (remaining : R → Option (List ℕ)) (failures : R → ℕ) (reader : R)
     (text : List ℕ) : Type 0 where
   pub last : R

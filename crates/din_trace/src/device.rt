@@ -1,10 +1,12 @@
 //! Readers and writers of bytes.
 
-ghost use Rattle.std.specs.Prelude.{◌≡◌, ℕ, Option, List, [], None};
+ghost use Rattle.std.specs.Prelude.{◌≡◌, ℕ, Option, List, [], None, OnOk};
+ghost use Rattle.std.specs.Io.Buffered.{writer_contents};
+ghost use Rattle.std.specs.Io.KnownBytes.{Keeps};
 ghost use Rattle.din_trace.specs.Device.{once_more, Reads, Writes, unread_bytes, read_failures};
-ghost use Rattle.din_trace.specs.Device.{held_bytes, write_failures};
+ghost use Rattle.din_trace.specs.Device.{held_bytes, write_failures, waiting_bytes, behind_bytes};
 
-use std::io::{Read, Write};
+use std::io::{BufWriter, Read, Write};
 
 /// A call of a reader or writer failed.
 #[derive(Clone, Copy, Debug, PartialEq, Eq)]
@@ -118,5 +120,23 @@ impl<W: Write> ByteWriter for FromWrite<W> {
             Ok(()) => Ok(()),
             Err(_) => Err(counted(&mut self.failures)),
         }
+    }
+}
+
+#[tactic(auto, unfolding(crate::specs::Device::held_bytes, crate::specs::Device::write_failures, crate::specs::Device::waiting_bytes, crate::specs::Device::behind_bytes))]
+impl<W: Write + Drop> FromWrite<BufWriter<W>> {
+    /// As `flush`, which promises the same of any writer, and so nothing of a buffer. After this
+    /// one the buffer is empty, and the writer behind it has all bytes.
+    pub fn flush_buffer(&mut self) -> Result<(), DeviceFailed>
+        ensures told { Writes (held_bytes (writer_contents W.contents)) write_failures
+            self.old self.new result [] }
+        ensures emptied { OnOk result (waiting_bytes self.new ≡ []) }
+        ensures passed { OnOk result (Keeps (held_bytes (writer_contents W.contents) self.old)
+            (behind_bytes W.contents self.new)) }
+    {
+        let Ok(()) = self.inner.flush() else {
+            return Err(counted(&mut self.failures));
+        };
+        Ok(())
     }
 }

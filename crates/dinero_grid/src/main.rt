@@ -16,16 +16,16 @@ mod asked;
 mod fault;
 mod table;
 
-ghost use Rattle.std.specs.Prelude.{◌≡◌, ◌≢◌, ◌⊎◌, ℕ, List, Some, None, Result, Ok, Err};
+ghost use Rattle.std.specs.Prelude.{◌≡◌, ◌≢◌, ◌⊎◌, ℕ, List, [], Some, None, Result, Err};
 ghost use Rattle.std.specs.Prelude.{OnOk, OnErr, IfOk, IfErr, false, map, string_bytes};
-ghost use Rattle.din_trace.specs.Device.{Writes, once_more};
+ghost use Rattle.std.specs.Io.Buffered.{writer_contents};
+ghost use Rattle.din_trace.specs.Device.{Writes, once_more, held_bytes, behind_bytes};
+ghost use Rattle.din_trace.specs.Device.{waiting_bytes, write_failures};
 ghost use Rattle.din_trace.specs.Line.{ADDRESS_MAX};
 ghost use Rattle.din_trace.specs.Text.{fault};
 ghost use Rattle.dinero_options.specs.Streams.{HasGiven, IsFaultWithin};
 ghost use Rattle.grid_options.specs.Grid.{AnswersGridWords};
 ghost use Rattle.grid_options.specs.Refusals.{IsUnexplained};
-ghost use Rattle.grid_options.specs.declared.grid.ParsedGrid.{ParsedGrid};
-ghost use Rattle.dinero_grid.specs.AskedRows.{has_refused};
 ghost use Rattle.dinero_grid.specs.GridFaultText.{Explains, explanation, fault_line, status_after};
 ghost use Rattle.dinero_grid.specs.GridRuns.{AreAccepted, HasTable};
 
@@ -42,22 +42,25 @@ use std::process::ExitCode;
 use std::thread::Threads;
 
 /// Reads the trace that the reader gives once, and writes the table of the grid that the words
-/// after the program's name ask for. Answers whether some configuration was refused. If the words
-/// are refused, nothing is read.
-fn run<T: Threads + Sync, R: Read + Send, W: ByteWriter>(
+/// after the program's name ask for, which then has left the buffer. Answers whether some
+/// configuration was refused. If the words are refused, nothing is read.
+fn run<T: Threads + Sync, R: Read + Send, W: Write + Drop>(
     rt: &T,
     alloc: Global,
     words: &[String],
     input: &mut R,
-    writer: &mut W,
+    output: &mut FromWrite<BufWriter<W>>,
 ) -> Result<bool, Fault>
     ensures table { (text : List ℕ) → R.remaining input.old ≡ Some text → IfOk result (λ some.
         (fault ADDRESS_MAX text MAX_LIMIT ≡ None) × HasTable (map string_bytes words.now) text some
-        (W.contents writer.old) (W.contents writer.new)) }
+        (held_bytes (writer_contents W.contents) output.old)
+        (behind_bytes W.contents output.new)) }
     ensures whole { IfOk result (λ some. (text : List ℕ)
         × HasGiven R.remaining input.old text × (fault ADDRESS_MAX text MAX_LIMIT ≡ None)
         × HasTable (map string_bytes words.now) text some
-        (W.contents writer.old) (W.contents writer.new)) }
+        (held_bytes (writer_contents W.contents) output.old)
+        (behind_bytes W.contents output.new)) }
+    ensures emptied { OnOk result (waiting_bytes output.new ≡ []) }
     ensures words { (why : GridWordsFault) → result ≡ Err (Fault.Words why)
         → AnswersGridWords (map string_bytes words.now) (Err why) }
     ensures unread { (why : GridWordsFault) → result ≡ Err (Fault.Words why)
@@ -68,50 +71,20 @@ fn run<T: Threads + Sync, R: Read + Send, W: ByteWriter>(
         → (why : TraceFault) → result ≡ Err (Fault.Run (GridFault.Trace why))
         → IsFaultWithin text MAX_LIMIT why }
     ensures memory { result ≢ Err (Fault.Run (GridFault.Trace TraceFault.Memory)) }
-    ensures sound { OnOk result (W.failures writer.new ≡ W.failures writer.old) }
+    ensures sound { OnOk result (write_failures output.new ≡ write_failures output.old) }
     ensures write { result ≡ Err (Fault.Run GridFault.Write)
-        → W.failures writer.new ≡ once_more (W.failures writer.old) }
+        → write_failures output.new ≡ once_more (write_failures output.old) }
     ensures unwritten { IfErr result (λ why. why ≢ Fault.Run GridFault.Write
-        → writer.new ≡ writer.old) }
+        → output.new ≡ output.old) }
 {
     let asked = match parse_grid_words(alloc, words) {
         Ok(asked) => asked,
         Err(fault) => return Err(Fault::Words(fault)),
     };
-    match table(rt, alloc, asked, FromRead::new(input), writer) {
+    match table(rt, alloc, asked, FromRead::new(input), output) {
         Ok(some_refused) => Ok(some_refused),
         Err(fault) => Err(Fault::Run(fault)),
     }
-}
-
-/// As `run`, to any writer of std, through a buffer.
-fn run_through_buffer<T: Threads + Sync, R: Read + Send, W: Write + Drop>(
-    rt: &T,
-    alloc: Global,
-    words: &[String],
-    input: &mut R,
-    output: W,
-) -> Result<bool, Fault>
-    ensures faultless { (text : List ℕ) → R.remaining input.old ≡ Some text
-        → OnOk result (fault ADDRESS_MAX text MAX_LIMIT ≡ None) }
-    ensures asked { IfOk result (λ some. (parsed : ParsedGrid)
-        × AnswersGridWords (map string_bytes words.now) (Ok parsed)
-        × (some ≡ has_refused parsed.points.items)) }
-    ensures words { (why : GridWordsFault) → result ≡ Err (Fault.Words why)
-        → AnswersGridWords (map string_bytes words.now) (Err why) }
-    ensures unread { (why : GridWordsFault) → result ≡ Err (Fault.Words why)
-        → input.new ≡ input.old }
-    ensures accepted { (why : GridFault) → result ≡ Err (Fault.Run why)
-        → (why ≡ GridFault.Memory) ⊎ AreAccepted (map string_bytes words.now) }
-    ensures trace { (text : List ℕ) → R.remaining input.old ≡ Some text
-        → (why : TraceFault) → result ≡ Err (Fault.Run (GridFault.Trace why))
-        → IsFaultWithin text MAX_LIMIT why }
-    ensures memory { result ≢ Err (Fault.Run (GridFault.Trace TraceFault.Memory)) }
-{
-    let Ok(output) = BufWriter::new(alloc, output) else {
-        return Err(Fault::Run(GridFault::Memory));
-    };
-    run(rt, alloc, words, input, &mut FromWrite::new(output))
 }
 
 /// Writes the help.
@@ -217,14 +190,15 @@ fn conclude<W: ByteWriter>(ended: Result<bool, Fault>, errors: &mut W) -> u8
 fn main(rt: HostRuntime) -> ExitCode {
     let mut errors = FromWrite::new(rt.stderr());
     let alloc = rt.alloc();
-    let ran = match words_of(&rt) {
-        Ok(words) => {
-            let words = words.as_slice();
-            let ran = run_through_buffer(&rt, alloc, words, &mut rt.stdin(), rt.stdout());
-            let _ = explain(alloc, words, &ran, &mut errors);
+    let ran = match (words_of(&rt), BufWriter::new(alloc, rt.stdout())) {
+        (Ok(words), Ok(buffer)) => {
+            let mut output = FromWrite::new(buffer);
+            let ran = run(&rt, alloc, words.as_slice(), &mut rt.stdin(), &mut output);
+            let _ = explain(alloc, words.as_slice(), &ran, &mut errors);
             ran
         }
-        Err(fault) => Err(fault),
+        (Err(fault), _) => Err(fault),
+        (Ok(_), Err(_)) => Err(Fault::Run(GridFault::Memory)),
     };
     let ended = match ran {
         Err(Fault::Words(GridWordsFault::Words(WordsFault::Help))) => {

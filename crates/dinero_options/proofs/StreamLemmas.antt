@@ -1,5 +1,5 @@
 -- What a run over a reader of std says of it.
-use Rattle.std.proofs.Common.{◌≡◌, ◌⊎◌, inl, inr, ℕ, List, Option}
+use Rattle.std.proofs.Common.{inl, inr, ℕ, List, Option}
 use Rattle.din_trace.specs.declared.fault.TraceFault.{TraceFault}
 use Rattle.din_trace.specs.Faults.{IsFaultOf}
 use Rattle.dinero_options.specs.Streams.{IsFaultWithin}

@@ -5,7 +5,8 @@ use Rattle.din_trace.specs.declared.fault.TraceFault.{TraceFault}
 use Rattle.din_trace.specs.Line.{ADDRESS_MAX}
 use Rattle.din_trace.specs.Text.{fault, failed_fault}
 
--- the reader gave the text and came to its end: some reader of this type has all of that behind it
+-- the reader gave the text and came to its end: some reader of this type has all of that behind it;
+-- if the reader's bytes are not known, this holds of every text
 pub record HasGiven {R : Type 0} (remaining : R → Option (List ℕ)) (reader : R) (text : List ℕ)
     : Type 0 where
   pub last : R

@@ -13,10 +13,12 @@ mod fault;
 #[cfg(test)]
 mod tests;
 
-ghost use Rattle.std.specs.Prelude.{◌≡◌, ◌≢◌, ◌⊎◌, ℕ, List, Some, None, Result, Err, OnOk, IfErr};
+ghost use Rattle.std.specs.Prelude.{◌≡◌, ◌≢◌, ℕ, List, [], Some, None, Result, Err, OnOk, IfErr};
 ghost use Rattle.std.specs.Prelude.{map, string_bytes};
+ghost use Rattle.std.specs.Io.Buffered.{writer_contents};
 ghost use Rattle.std.specs.Io.KnownBytes.{Appends};
-ghost use Rattle.din_trace.specs.Device.{Writes, once_more};
+ghost use Rattle.din_trace.specs.Device.{Writes, once_more, held_bytes, behind_bytes};
+ghost use Rattle.din_trace.specs.Device.{waiting_bytes, write_failures};
 ghost use Rattle.din_trace.specs.Line.{ADDRESS_MAX};
 ghost use Rattle.din_trace.specs.Text.{fault};
 ghost use Rattle.din_trace.specs.Faults.{GaveAll, IsFaultOf};
@@ -39,54 +41,63 @@ use std::process::ExitCode;
 use std::sync::Wait;
 use std::thread::Threads;
 
-/// Simulates the trace that the reader gives, of at most 2^40 bytes, and writes its report.
-fn report<H: Threads + Wait + Sync, R: ByteReader + Drop, W: ByteWriter>(
+/// Simulates the trace that the reader gives, of at most 2^40 bytes, and writes its report, which
+/// then has left the buffer.
+fn report<H: Threads + Wait + Sync, R: ByteReader + Drop, W: Write + Drop>(
     rt: &H,
     alloc: Global,
     config: &Config,
     selection: &Selection,
     reader: R,
-    writer: &mut W,
+    output: &mut FromWrite<BufWriter<W>>,
 ) -> Result<(), RunFault>
     requires { IsBounded selection.now }
     ensures report { (text : List ℕ) → R.remaining reader ≡ Some text → OnOk result
         ((fault ADDRESS_MAX text MAX_LIMIT ≡ None)
-        × Appends (W.contents writer.old) (W.contents writer.new)
-        (report_of config.now selection.now text)) }
+        × Appends (held_bytes (writer_contents W.contents) output.old)
+        (behind_bytes W.contents output.new) (report_of config.now selection.now text)) }
     ensures whole { OnOk result ((text : List ℕ) × GaveAll R.remaining R.failures reader text
         × (fault ADDRESS_MAX text MAX_LIMIT ≡ None)
-        × Appends (W.contents writer.old) (W.contents writer.new)
-        (report_of config.now selection.now text)) }
+        × Appends (held_bytes (writer_contents W.contents) output.old)
+        (behind_bytes W.contents output.new) (report_of config.now selection.now text)) }
+    ensures emptied { OnOk result (waiting_bytes output.new ≡ []) }
     ensures trace { (text : List ℕ) → R.remaining reader ≡ Some text
         → (why : TraceFault) → result ≡ Err (RunFault.Trace why)
         → IsFaultOf R.remaining R.failures reader text MAX_LIMIT why }
     ensures memory { result ≢ Err (RunFault.Trace TraceFault.Memory) }
-    ensures sound { OnOk result (W.failures writer.new ≡ W.failures writer.old) }
+    ensures sound { OnOk result (write_failures output.new ≡ write_failures output.old) }
     ensures write { result ≡ Err RunFault.Write
-        → W.failures writer.new ≡ once_more (W.failures writer.old) }
-    ensures unwritten { IfErr result (λ why. why ≢ RunFault.Write → writer.new ≡ writer.old) }
+        → write_failures output.new ≡ once_more (write_failures output.old) }
+    ensures unwritten { IfErr result (λ why. why ≢ RunFault.Write → output.new ≡ output.old) }
 {
     let _settled = simulate(
-        rt, alloc, config, selection, reader, MAX_LIMIT, &OpenGate, writer,
+        rt, alloc, config, selection, reader, MAX_LIMIT, &OpenGate, output,
     )?;
-    Ok(())
+    match output.flush_buffer() {
+        Ok(()) => Ok(()),
+        Err(_) => Err(RunFault::Write),
+    }
 }
 
 /// Simulates the trace that the reader gives in the caches that the words after the program's name
-/// ask for, and writes its report. If the words are refused, nothing is read.
-fn run<H: Threads + Wait + Sync, R: Read, W: ByteWriter>(
+/// ask for, and writes its report, which then has left the buffer. If the words are refused,
+/// nothing is read.
+fn run<H: Threads + Wait + Sync, R: Read, W: Write + Drop>(
     rt: &H,
     alloc: Global,
     words: &[String],
     input: &mut R,
-    writer: &mut W,
+    output: &mut FromWrite<BufWriter<W>>,
 ) -> Result<(), Fault>
     ensures report { (text : List ℕ) → R.remaining input.old ≡ Some text → OnOk result
         ((fault ADDRESS_MAX text MAX_LIMIT ≡ None) × HasReport (map string_bytes words.now) text
-        (W.contents writer.old) (W.contents writer.new)) }
+        (held_bytes (writer_contents W.contents) output.old)
+        (behind_bytes W.contents output.new)) }
     ensures whole { OnOk result ((text : List ℕ) × HasGiven R.remaining input.old text
         × (fault ADDRESS_MAX text MAX_LIMIT ≡ None) × HasReport (map string_bytes words.now) text
-        (W.contents writer.old) (W.contents writer.new)) }
+        (held_bytes (writer_contents W.contents) output.old)
+        (behind_bytes W.contents output.new)) }
+    ensures emptied { OnOk result (waiting_bytes output.new ≡ []) }
     ensures words { (why : WordsFault) → result ≡ Err (Fault.Words why)
         → AnswersWords (map string_bytes words.now) (Err why) }
     ensures unread { (why : WordsFault) → result ≡ Err (Fault.Words why)
@@ -97,48 +108,20 @@ fn run<H: Threads + Wait + Sync, R: Read, W: ByteWriter>(
         → (why : TraceFault) → result ≡ Err (Fault.Run (RunFault.Trace why))
         → IsFaultWithin text MAX_LIMIT why }
     ensures memory { result ≢ Err (Fault.Run (RunFault.Trace TraceFault.Memory)) }
-    ensures sound { OnOk result (W.failures writer.new ≡ W.failures writer.old) }
+    ensures sound { OnOk result (write_failures output.new ≡ write_failures output.old) }
     ensures write { result ≡ Err (Fault.Run RunFault.Write)
-        → W.failures writer.new ≡ once_more (W.failures writer.old) }
+        → write_failures output.new ≡ once_more (write_failures output.old) }
     ensures unwritten { IfErr result (λ why. why ≢ Fault.Run RunFault.Write
-        → writer.new ≡ writer.old) }
+        → output.new ≡ output.old) }
 {
     let (config, selection) = match parse_words(alloc, words) {
         Ok(asked) => asked,
         Err(fault) => return Err(Fault::Words(fault)),
     };
-    match report(rt, alloc, &config, &selection, FromRead::new(input), writer) {
+    match report(rt, alloc, &config, &selection, FromRead::new(input), output) {
         Ok(()) => Ok(()),
         Err(fault) => Err(Fault::Run(fault)),
     }
-}
-
-/// As `run`, to any writer of std, in one write through a buffer.
-fn run_through_buffer<H: Threads + Wait + Sync, R: Read, W: Write + Drop>(
-    rt: &H,
-    alloc: Global,
-    words: &[String],
-    input: &mut R,
-    output: W,
-) -> Result<(), Fault>
-    ensures faultless { (text : List ℕ) → R.remaining input.old ≡ Some text
-        → OnOk result (fault ADDRESS_MAX text MAX_LIMIT ≡ None) }
-    ensures asked { OnOk result (AreAccepted (map string_bytes words.now)) }
-    ensures words { (why : WordsFault) → result ≡ Err (Fault.Words why)
-        → AnswersWords (map string_bytes words.now) (Err why) }
-    ensures unread { (why : WordsFault) → result ≡ Err (Fault.Words why)
-        → input.new ≡ input.old }
-    ensures accepted { (why : RunFault) → result ≡ Err (Fault.Run why)
-        → (why ≡ RunFault.Memory) ⊎ AreAccepted (map string_bytes words.now) }
-    ensures trace { (text : List ℕ) → R.remaining input.old ≡ Some text
-        → (why : TraceFault) → result ≡ Err (Fault.Run (RunFault.Trace why))
-        → IsFaultWithin text MAX_LIMIT why }
-    ensures memory { result ≢ Err (Fault.Run (RunFault.Trace TraceFault.Memory)) }
-{
-    let Ok(output) = BufWriter::new(alloc, output) else {
-        return Err(Fault::Run(RunFault::Memory));
-    };
-    run(rt, alloc, words, input, &mut FromWrite::new(output))
 }
 
 /// Writes the help.
@@ -190,11 +173,13 @@ fn conclude<W: ByteWriter>(ended: Result<(), Fault>, errors: &mut W) -> u8
 
 fn main(rt: HostRuntime) -> ExitCode {
     let alloc = rt.alloc();
-    let ran = match words_of(&rt) {
-        Ok(words) => {
-            run_through_buffer(&rt, alloc, words.as_slice(), &mut rt.stdin(), rt.stdout())
+    let ran = match (words_of(&rt), BufWriter::new(alloc, rt.stdout())) {
+        (Ok(words), Ok(buffer)) => {
+            let mut output = FromWrite::new(buffer);
+            run(&rt, alloc, words.as_slice(), &mut rt.stdin(), &mut output)
         }
-        Err(fault) => Err(fault),
+        (Err(fault), _) => Err(fault),
+        (Ok(_), Err(_)) => Err(Fault::Run(RunFault::Memory)),
     };
     let ended = match ran {
         Err(Fault::Words(WordsFault::Help)) => {

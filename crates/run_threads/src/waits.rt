@@ -100,7 +100,8 @@ pub fn pass_stage<H: Wait, G: Gate>(
     pass(rt, gate, who, received)
 }
 
-/// The merge, which sends nothing, passes its gate with a message.
+/// The merge, which sends nothing, passes its gate with a message. It gives its ends here so that
+/// only the merge can call this: another thread might pass with messages that are not published.
 #[inline]
 pub fn pass_merge<H: Wait, G: Gate>(
     rt: &BodyRuntime<H>,

@@ -4,6 +4,7 @@ use super::fakes::{FAIL, INTERRUPTED, Stop, Tape, WHOLE, in_pieces};
 use super::same;
 use din_trace::{ByteReader, ByteWriter, DeviceFailed, FromRead, FromWrite};
 use std::alloc::Global;
+use std::io::{BufWriter, Write};
 use std::process::Abort;
 
 /// The answer of a reader that failed.
@@ -139,6 +140,7 @@ fn put_on_tape(rt: &impl Abort, failing: u64, calls: Calls<'_>, flushes: u64) {
         failing,
         taken: 0,
         flushes: 0,
+        flushed: 0,
     };
     put_all(rt, &mut FromWrite::new(&mut tape), calls);
     assert!(rt; tape.taken == 9 && tape.flushes == flushes);
@@ -159,4 +161,25 @@ fn fails_where_the_writer_does(rt: HostRuntime) {
         (None, Ok(())),
     ];
     put_on_tape(&rt, 2, CALLS, 1);
+}
+
+/// Puts nine bytes, and flushes the buffer twice: the writer behind it fails once.
+fn put_and_flush_twice<W: Write + Drop>(rt: &impl Abort, buffer: BufWriter<W>) {
+    let mut writer = FromWrite::new(buffer);
+    same(rt, &put(&mut writer, Some(b"l1-icache")), &Ok(()), "put", 0);
+    same(rt, &writer.flush_buffer(), &Err(DeviceFailed), "flush", 1);
+    same(rt, &writer.flush_buffer(), &Ok(()), "flush", 2);
+}
+
+#[test]
+fn a_flushed_buffer_has_passed_all_bytes_on(rt: HostRuntime) {
+    let mut tape = Tape {
+        failing: 1,
+        taken: 0,
+        flushes: 0,
+        flushed: 0,
+    };
+    let buffer = BufWriter::new(rt.alloc(), &mut tape).expect(&rt, "memory");
+    put_and_flush_twice(&rt, buffer);
+    assert!(rt; tape.flushes == 1 && tape.flushed == 9);
 }

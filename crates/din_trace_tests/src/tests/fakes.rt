@@ -68,6 +68,8 @@ pub struct Tape {
     pub failing: u64,
     pub taken: u64,
     pub flushes: u64,
+    /// How many bytes it had taken when it was last flushed.
+    pub flushed: u64,
 }
 
 impl Tape {
@@ -93,6 +95,7 @@ impl Write for Tape {
     fn flush(&mut self) -> io::Result<()> {
         self.try_once()?;
         self.flushes = self.flushes.saturating_add(1);
+        self.flushed = self.taken;
         Ok(())
     }
 }

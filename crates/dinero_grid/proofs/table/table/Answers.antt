@@ -1,4 +1,5 @@
 use Rattle.std.proofs.Common.{rules, ◌≡◌, Err}
+use Rattle.din_trace.proofs.WritesLemmas.{appended_kept}
 use Rattle.grid_run.specs.declared.fault.GridFault.TheVariants.{Trace}
 use Rattle.dinero_grid.proofs.table.table.Goals as goal
 
@@ -7,12 +8,26 @@ returns-in_err-simulate_grid-clause-trace g c text known why is =
     let met : c.simulate_grid.result ≡ Err (Trace why) = search rules in
     c.simulate_grid.ensures.trace text known why met
 
-pub returns-clause-table : goal.returns-clause-table
-returns-clause-table g c text known =
-    let told = c.in_ok-simulate_grid.ensures.table text known in
-    (told.0, (c.in-Ok.grid, c.in-Ok.ensures.grid, told.1))
+pub returns-in-Ok-flush_buffer-clause-table : goal.returns-in-Ok-flush_buffer-clause-table
+returns-in-Ok-flush_buffer-clause-table g c text known =
+    let told = c.in_ok-simulate_grid.ensures.table text known in (
+      told.0,
+      (
+        c.in-Ok.grid,
+        c.in-Ok.ensures.grid,
+        appended_kept _ _ _ _ told.1 c.in-Ok-flush_buffer.ensures.passed,
+      ),
+    )
 
-pub returns-clause-whole : goal.returns-clause-whole
-returns-clause-whole g c =
-    let told = c.in_ok-simulate_grid.ensures.whole in
-    (told.0, told.1, told.2, (c.in-Ok.grid, c.in-Ok.ensures.grid, told.3))
+pub returns-in-Ok-flush_buffer-clause-whole : goal.returns-in-Ok-flush_buffer-clause-whole
+returns-in-Ok-flush_buffer-clause-whole g c =
+    let told = c.in_ok-simulate_grid.ensures.whole in (
+      told.0,
+      told.1,
+      told.2,
+      (
+        c.in-Ok.grid,
+        c.in-Ok.ensures.grid,
+        appended_kept _ _ _ _ told.3 c.in-Ok-flush_buffer.ensures.passed,
+      ),
+    )
