@@ -87,6 +87,26 @@ class WrongBody:
         return f"{self.crate}/{self.name}"
 
 
+def without_arguments(text):
+    """The text without what stands in angle brackets."""
+    while "<" in text:
+        bare = re.sub(r"<[^<>]*>", "", text)
+        text = bare if bare != text else text.replace("<", "")
+    return text
+
+
+def of_one_kind(line):
+    """How the prover goes on after the name of a generic type, if the `impl` of this line is for
+    one kind of it: with the words of its arguments. It adds nothing if these are parameters of the
+    `impl`."""
+    found = re.match(r"impl(?:<(.*?)>)? (?:\w+::)*\w+<(.*)> ", line)
+    if not found:
+        return ""
+    parameters = re.findall(r"\w+", re.sub(r":[^,]*", "", without_arguments(found[1] or "")))
+    words = re.findall(r"\w+", found[2])
+    return "" if set(words) <= set(parameters) else "".join("+" + it for it in words)
+
+
 def type_above(lines, number):
     """The type whose `impl` holds the line, followed by the trait, if there is one; or the trait
     whose own text holds it. And whether there is a trait."""
@@ -95,11 +115,8 @@ def type_above(lines, number):
         if trait:
             return trait[1], True
         if line.startswith("impl"):
-            while "<" in line:
-                bare = re.sub(r"<[^<>]*>", "", line)
-                line = bare if bare != line else line.replace("<", "")
-            names = re.findall(r"\w+", line.split(" where")[0])[1:]
-            return names[-1] + (names[0] if "for" in names else ""), "for" in names
+            names = re.findall(r"\w+", without_arguments(line).split(" where")[0])[1:]
+            return names[-1] + (names[0] if "for" in names else of_one_kind(line)), "for" in names
         if line == "}":
             break
     return None, False

@@ -125,8 +125,8 @@ impl<W: Write> ByteWriter for FromWrite<W> {
 
 #[tactic(auto, unfolding(crate::specs::Device::held_bytes, crate::specs::Device::write_failures, crate::specs::Device::waiting_bytes, crate::specs::Device::behind_bytes))]
 impl<W: Write + Drop> FromWrite<BufWriter<W>> {
-    /// As `flush`, which promises the same of any writer, and so nothing of a buffer. After this
-    /// one the buffer is empty, and the writer behind it has all bytes.
+    /// As `flush`, which promises the same of any writer, and so nothing of a buffer. If this one
+    /// does not fail, the buffer is empty after it, and the writer behind it has all bytes.
     pub fn flush_buffer(&mut self) -> Result<(), DeviceFailed>
         ensures told { Writes (held_bytes (writer_contents W.contents)) write_failures
             self.old self.new result [] }

@@ -80,6 +80,8 @@ pub fn table<T: Threads + Sync, R: ByteReader + Drop + Send, W: Write + Drop>(
         return Err(GridFault::Memory);
     };
     simulate_grid(rt, alloc, &grid, reader, MAX_LIMIT, threads, output)?;
+    // `simulate_grid` flushes its writer too, but what it promises of any writer says nothing of a
+    // buffer. So this flush finds the buffer empty, and promises that it is.
     match output.flush_buffer() {
         Ok(()) => Ok(some_refused),
         Err(_) => Err(GridFault::Write),

@@ -73,6 +73,8 @@ fn report<H: Threads + Wait + Sync, R: ByteReader + Drop, W: Write + Drop>(
     let _settled = simulate(
         rt, alloc, config, selection, reader, MAX_LIMIT, &OpenGate, output,
     )?;
+    // `simulate` flushes its writer too, but what it promises of any writer says nothing of a
+    // buffer. So this flush finds the buffer empty, and promises that it is.
     match output.flush_buffer() {
         Ok(()) => Ok(()),
         Err(_) => Err(RunFault::Write),
