@@ -27,7 +27,7 @@ use Rattle.grid_core.specs.Recent.{IsAgain, used_last, written_last}
 use Rattle.grid_core.specs.Shadows.{HoldsOrder, recent_in, shadow_sizes}
 use Rattle.grid_core.specs.Shapes.{HaveBsize}
 use Rattle.grid_core.specs.Slots.{next_slots}
-use Rattle.grid_core.specs.Standing.{StandsFor, StaysFirst, rules_of}
+use Rattle.grid_core.specs.Standing.{StandsFor, StaysFirst, rules_of, row_slots}
 use Rattle.grid_core.specs.State.{IsAfter, IsRanked, base_rules}
 use Rattle.grid_core.specs.Ways.{IsStacked}
 use Rattle.grid_core.specs.Written.{no_rules}
@@ -118,7 +118,7 @@ module _ (n : ℕ) (h : History) (x : Access) (last : used_last n (x.addr / n) h
     stands-again st =
         let r = rules_of s in
         let b = block_of r x in
-        let xs = s.slots.items in
+        let xs = row_slots s in
         let inside : b % r.sets < r.sets = mod-lt b (some-sets s) in
         let stays = row-again r (stacked s) b (some-ways s) h (is_write x) (last-in r same)
         written-in in

@@ -1,6 +1,6 @@
 -- As many slots of the rows are dirty as blocks.
 use Rattle.std.proofs.Common.{◌≡◌, ℕ, zero, suc, ◌*◌, ◌%◌, ◌<◌, ◌≤◌, Bool, true, false, cond}
-use Rattle.std.proofs.Common.{◌&&◌, eqb, ltb, List, [], ◌∷◌, ◌++◌, length, take, drop, map}
+use Rattle.std.proofs.Common.{◌&&◌, eqb, ltb, List, [], ◌∷◌, ◌++◌, length, take, map}
 use Rattle.std.proofs.Common.{filter, replicate, refl, sym, ap, subst, ◌∙◌, inl, inr, arith}
 use Rattle.std.proofs.Math.Nat.{mod-lt}
 use Rattle.std.proofs.lemmas.Bool.{eqb-true, eq-eqb, false≢true, or_left, or_right, or_cases}
@@ -11,19 +11,18 @@ use Rattle.cache_core.specs.History.{Rules, History}
 use Rattle.cache_core.specs.Residents.{renewals, is_resident}
 use Rattle.cache_core.specs.Dirty.{is_written, is_dirty, dirty_blocks}
 use Rattle.cache_core.specs.Order.{ranked}
-use Rattle.cache_core.specs.Row.{row}
 use Rattle.cache_core.proofs.Reuse.{has, has-take}
 use Rattle.cache_core.proofs.Shift.{IsOnce, IsOnce-filter, IsOnce-take}
 use Rattle.cache_core.proofs.Turns.{absent, IsOnce-ranked}
 use Rattle.cache_core.proofs.Members.{has-append}
 use Rattle.cache_core.proofs.Flushed.{has-filter_both, filter-has}
 use Rattle.cache_core.proofs.Owed.{dirty-has, dirty-once, has-dirty}
-use Rattle.grid_core.specs.declared.slots.Slot.{Slot}
+use Rattle.grid_core.specs.Slot.{Slot, no_slot}
 use Rattle.grid_core.specs.declared.stack.Stack.{Stack}
 use Rattle.grid_core.specs.Ways.{with_ways, IsStacked}
 use Rattle.grid_core.specs.Levels.{dirty_level}
-use Rattle.grid_core.specs.Slots.{no_slot, dirty_bytes, dirty_in_rows}
-use Rattle.grid_core.specs.Standing.{slot_at, slots_of, rules_of, StandsFor}
+use Rattle.grid_core.specs.Slots.{dirty_bytes, dirty_in_rows}
+use Rattle.grid_core.specs.Standing.{slot_at, slots_of, rules_of, StandsFor, row_slots}
 use Rattle.grid_core.proofs.Distances.{resident-take}
 use Rattle.grid_core.proofs.Levels.{written-level}
 use Rattle.grid_core.proofs.Onces.{once-length}
@@ -150,10 +149,9 @@ module _ (r : Rules) (st : IsStacked r) (n : ℕ) (pos : 0 < n) (le : n ≤ r.as
           | false ↦ count-shown j k bs
         ])
 
-    module _ (xs : List Slot)
-        (rows : (t : ℕ) → t < r.sets → row r.assoc t xs ≡ slots_of r h t) where
+    module _ (xs : ℕ → List Slot) (rows : (t : ℕ) → t < r.sets → xs t ≡ slots_of r h t) where
       abbrev part : ℕ → List Slot
-      part t = take n (drop (t * r.assoc) xs)
+      part t = take n (xs t)
 
       count-row : (t : ℕ) → t < r.sets
           → length (dirty_bytes bsize r.wback n (part t)) ≡ length (dirty_of t)
@@ -161,17 +159,17 @@ module _ (r : Rules) (st : IsStacked r) (n : ℕ) (pos : 0 < n) (le : n ≤ r.as
       count-row t below =
           let ranks = ranked r t ms in
           ap (λ l. length (dirty_bytes bsize r.wback n l))
-          (sym (take-take n r.assoc (drop (t * r.assoc) xs) le) ∙ ap (take n) (rows t below)
+          (ap (take n) (rows t below)
           ∙ take-take n r.assoc (map (slot_at r h) ranks ++ replicate r.assoc no_slot) le)
           ∙ count-shown n r.assoc ranks
 
       count-rows : (k : ℕ) → k ≤ r.sets
-          → length (dirty_in_rows bsize r.wback n r.assoc xs k) ≡ length (dirty_to k)
+          → length (dirty_in_rows bsize r.wback n xs k) ≡ length (dirty_to k)
       count-rows zero below = refl
       count-rows (suc k) below =
           let before = count-rows k (omega arith) in
           let here = count-row k (omega arith) in
-          let all = length-append (dirty_in_rows bsize r.wback n r.assoc xs k)
+          let all = length-append (dirty_in_rows bsize r.wback n xs k)
           (dirty_bytes bsize r.wback n (part k)) in
           let both = length-append (dirty_to k) (dirty_of k) in
           omega arith
@@ -179,9 +177,9 @@ module _ (r : Rules) (st : IsStacked r) (n : ℕ) (pos : 0 < n) (le : n ≤ r.as
 -- as many slots of a stack are dirty in n ways as a cache of n ways has dirty blocks
 pub dirty-slots : (s : Stack) (h : History) → StandsFor s h → (n : ℕ) → 0 < n
     → n ≤ (rules_of s).assoc → (bsize : ℕ)
-    → length (dirty_in_rows bsize (rules_of s).wback n (rules_of s).assoc s.slots.items
+    → length (dirty_in_rows bsize (rules_of s).wback n (row_slots s)
     (rules_of s).sets) ≡ length (dirty_blocks (with_ways n (rules_of s)) h)
 dirty-slots s h stands n pos le bsize =
-    count-rows (rules_of s) (stacked s) n pos le h bsize s.slots.items stands.rows (rules_of s).sets
+    count-rows (rules_of s) (stacked s) n pos le h bsize (row_slots s) stands.rows (rules_of s).sets
     (omega arith)
     ∙ all-sets (rules_of s) (stacked s) n pos le h (some-sets s)

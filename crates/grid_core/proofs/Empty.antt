@@ -1,16 +1,14 @@
 -- Before the first access.
-use Rattle.std.proofs.Common.{◌≡◌, ℕ, ◌+◌, ◌-◌, ◌*◌, ◌<◌, ◌≤◌, true, false, cond, List, [], ◌∷◌}
+use Rattle.std.proofs.Common.{◌≡◌, ℕ, true, false, cond, List, [], ◌∷◌}
 use Rattle.std.proofs.Common.{◌++◌, take}
 use Rattle.std.proofs.Common.{map, replicate, refl, sym, ap, ◌∙◌, arith}
-use Rattle.std.proofs.Math.Nat.{mul-le-mul_right}
-use Rattle.std.proofs.lemmas.List.{take-replicate, drop-replicate}
+use Rattle.std.proofs.lemmas.List.{take-replicate}
 use Rattle.cache_core.specs.History.{Rules, History, flush}
 use Rattle.cache_core.specs.Residents.{renewals}
 use Rattle.cache_core.specs.Order.{ranked}
-use Rattle.cache_core.specs.Row.{row}
 use Rattle.cache_core.proofs.Nothing.{renewals-start, renewals-flush}
-use Rattle.grid_core.specs.Slots.{no_slot}
 use Rattle.grid_core.specs.Standing.{slot_at, slots_of}
+use Rattle.grid_core.specs.Slot.{no_slot}
 
 module _ (r : Rules) where
   ranked-none : (s : ℕ) → ranked r s [] ≡ []
@@ -25,20 +23,9 @@ module _ (r : Rules) where
         ∙ ap (λ l. take r.assoc (map (slot_at r h) l ++ replicate r.assoc no_slot)) (ranked-none s)
         ∙ take-replicate r.assoc r.assoc no_slot (omega arith)
 
-    -- all rows are empty
-    rows-none : (t : ℕ) → t < r.sets
-        → row r.assoc t (replicate (r.sets * r.assoc) no_slot) ≡ slots_of r h t
-    rows-none t below =
-        let fits : (t + 1) * r.assoc ≤ r.sets * r.assoc = mul-le-mul_right r.assoc (omega arith) in
-        ap (take r.assoc) (drop-replicate (t * r.assoc) (r.sets * r.assoc) no_slot)
-        ∙ take-replicate r.assoc (r.sets * r.assoc - t * r.assoc) no_slot (omega arith)
-        ∙ sym (slots-none t)
+  -- all slots are empty at the start, and after a flush
+  pub slots-start : (t : ℕ) → replicate r.assoc no_slot ≡ slots_of r [] t
+  slots-start t = sym (slots-none [] (renewals-start r) t)
 
-  -- all rows are empty at the start, and after a flush
-  pub rows-empty : (t : ℕ) → t < r.sets
-      → row r.assoc t (replicate (r.sets * r.assoc) no_slot) ≡ slots_of r [] t
-  rows-empty = rows-none [] (renewals-start r)
-
-  pub rows-flushed : (h : History) (t : ℕ) → t < r.sets
-      → row r.assoc t (replicate (r.sets * r.assoc) no_slot) ≡ slots_of r (flush ∷ h) t
-  rows-flushed h = rows-none (flush ∷ h) (renewals-flush r h)
+  pub slots-flushed : (h : History) (t : ℕ) → replicate r.assoc no_slot ≡ slots_of r (flush ∷ h) t
+  slots-flushed h t = sym (slots-none (flush ∷ h) (renewals-flush r h) t)

@@ -13,8 +13,8 @@ use Rattle.cache_core.specs.Geometry.{bsize_of, assoc_of}
 use Rattle.cache_core.proofs.Lawful.{sane_of}
 use Rattle.cache_core.specs.Row.{shifted}
 use Rattle.marked_list.specs.Recency.{index_of}
-use Rattle.grid_core.specs.declared.slots.Slot.{Slot}
-use Rattle.grid_core.specs.Slots.{holds, used_slot, slot_level, level_after, next_slots}
+use Rattle.grid_core.specs.Slot.{Slot, used_slot}
+use Rattle.grid_core.specs.Slots.{holds, slot_level, level_after, next_slots}
 
 -- no index is above the length
 pub index-le : {X : Type 0} (p : X → Bool) (xs : List X) → index_of p xs ≤ length xs
@@ -77,6 +77,17 @@ read-first b (s ∷ xs) e = (elim (holds b s) as (λ t. holds b s ≡ t
       | false ↦ λ h e. absurd (omega arith)
     ]) refl e
 
+-- a write to the block that is first makes it dirty
+pub write-first : (b : ℕ) (xs : List Slot) → 0 ≡ index_of (holds b) xs → 0 < length xs
+    → next_slots b true xs ≡ used_slot b 0 ∷ drop 1 xs
+write-first b [] e some = absurd (omega arith)
+write-first b (s ∷ xs) e some = (elim (holds b s) as (λ t.
+    0 ≡ cond t 0 (suc (index_of (holds b) xs))
+    → used_slot b 0 ∷ cond t xs (shifted (holds b) s xs) ≡ used_slot b 0 ∷ xs) [
+      | true ↦ λ e. refl
+      | false ↦ λ e. absurd (omega arith)
+    ]) e
+
 -- in an empty row there is nothing to change
 pub write-empty : (b : ℕ) (write : Bool) (xs : List Slot) → length xs ≤ 0
     → next_slots b write xs ≡ xs
@@ -84,7 +95,7 @@ write-empty b write [] e = refl
 write-empty b write (s ∷ xs) e = absurd (omega arith)
 
 -- the slot that leaves a row
-pub last-is : (p : Slot → Bool) (xs : List Slot) (position : ℕ) → position ≡ index_of p xs
+pub last-is : {X : Type 0} (p : X → Bool) (xs : List X) (position : ℕ) → position ≡ index_of p xs
     → (last : ℕ) → 0 < length xs
     → last ≡ cond (ltb position (length xs)) position (length xs - 1)
     → (last < length xs) × (last ≤ index_of p xs)
@@ -100,7 +111,7 @@ last-is p xs position is last some e = (elim (ltb position (length xs)) as (λ t
     ]) refl e
 
 -- the slots up to a place are copied behind the first, which is then replaced
-pub copied-first : (xs ys : List Slot) (last : ℕ) (c : Slot) → last < length xs
+pub copied-first : {X : Type 0} (xs ys : List X) (last : ℕ) (c : X) → last < length xs
     → ys ≡ copy_within xs 0 last 1 → set ys 0 c ≡ c ∷ (take last xs ++ drop (suc last) xs)
 copied-first [] ys last c lt e = absurd (omega arith)
 copied-first (x ∷ xs) ys last c lt e = ap (λ l. set l 0 c) (e ∙ paste-one)

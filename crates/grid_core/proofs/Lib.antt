@@ -9,12 +9,12 @@ pub mod Fronts
 pub mod SlotTurns
 pub mod Victims
 pub mod StackStep
+pub mod Strides
 pub mod Outcomes
 pub mod StackRules
 pub mod Empty
 pub mod MoreSets
 pub mod Narrowed
-pub mod Bytes
 pub mod Onces
 pub mod WriteBacks
 pub mod DirtySlots
@@ -44,3 +44,5 @@ pub mod WrittenBack
 pub mod CountsOf
 pub mod StackBounds
 pub mod Shadings
+pub mod WordRows
+pub mod Words

@@ -3,13 +3,13 @@
 use Rattle.std.proofs.Common.{◌≡◌, ℕ, zero, suc, ◌+◌, ◌*◌, ◌<◌, ◌≤◌, Bool, true, false, cond, ◌&&◌}
 use Rattle.std.proofs.Common.{eqb, ltb, List, [], ◌∷◌, ◌++◌, length, take, drop, map, filter}
 use Rattle.std.proofs.Common.{replicate, refl, sym, ap, subst, ◌∙◌, inl, inr, arith}
-use Rattle.std.specs.List.{dedup, All}
+use Rattle.std.specs.List.{dedup}
 use Rattle.std.specs.List.Sorted.{IsPermutation, IsSorted}
 use Rattle.std.specs.Ordering.{nat_cmp}
 use Rattle.std.proofs.Math.Nat.{mul-le-mul_right}
 use Rattle.std.proofs.lemmas.Bool.{cases_lt}
-use Rattle.std.proofs.Math.Seq.{get_or-take, drop-append_seam, take-length}
-use Rattle.std.proofs.lemmas.List.{length-take, length-take-le, length-drop, length-append}
+use Rattle.std.proofs.Math.Seq.{drop-append_seam, take-length}
+use Rattle.std.proofs.lemmas.List.{length-take-le, length-drop, length-append}
 use Rattle.std.proofs.lemmas.List.{length-map}
 use Rattle.std.proofs.lemmas.List.{take-take, take-append-le, drop-append-le, map-append}
 use Rattle.std.proofs.lemmas.List.Elements.{filter-append}
@@ -20,23 +20,12 @@ use Rattle.cache_core.specs.Dirty.{dirty_blocks}
 use Rattle.cache_core.specs.Order.{ranked}
 use Rattle.cache_core.specs.Row.{empty_way, row, is_dirty_way, block_addr_of, way_at, row_of}
 use Rattle.cache_core.proofs.Flushed.{flushed-is}
-use Rattle.grid_core.specs.declared.slots.Slot.{Slot}
+use Rattle.grid_core.specs.Slot.{Slot, no_slot}
 use Rattle.grid_core.specs.Ways.{with_ways, IsStacked}
-use Rattle.grid_core.specs.Slots.{no_slot, dirty_bytes, dirty_in_rows}
+use Rattle.grid_core.specs.Slots.{dirty_bytes, dirty_in_rows}
 use Rattle.grid_core.specs.Standing.{slot_at, slots_of}
 use Rattle.grid_core.proofs.Distances.{renewals-same}
 use Rattle.grid_core.proofs.Levels.{written-level}
-
--- what holds of each of the first holds of each of fewer
-pub all-fewer : (P : Slot → Type 0) (most n : ℕ) (ys : List Slot) → n ≤ most → All P (take most ys)
-    → All P (take n ys)
-all-fewer P most n ys le all k d lt =
-    let short = length-take n ys in
-    let long = length-take most ys in
-    let near : k < n = omega arith in
-    let far : k < most = omega arith in
-    let inside : k < length (take most ys) = omega arith in
-    subst P (get_or-take most ys k d far ∙ sym (get_or-take n ys k d near)) (all k d inside)
 
 module _ (bsize : ℕ) (wback : Bool) (n : ℕ) where
   -- a slot as a way of the cache of n ways
@@ -59,16 +48,16 @@ module _ (bsize : ℕ) (wback : Bool) (n : ℕ) where
   bytes-row (s ∷ xs) = one-more s.valid (wback && ltb s.level n) (way_in s)
       (filter is_dirty_way (map way_in xs)) (dirty_bytes bsize wback n xs) (bytes-row xs)
 
-  module _ (most : ℕ) (xs : List Slot) where
+  module _ (xs : ℕ → List Slot) where
     abbrev part : ℕ → List Slot
-    part k = take n (drop (k * most) xs)
+    part k = take n (xs k)
 
     -- the ways of the first k rows
     abbrev pub narrowed : ℕ → List Way
     narrowed zero = []
     narrowed (suc k) = narrowed k ++ map way_in (part k)
 
-    pub bytes-rows : (k : ℕ) → dirty_in_rows bsize wback n most xs k
+    pub bytes-rows : (k : ℕ) → dirty_in_rows bsize wback n xs k
         ≡ map block_addr_of (filter is_dirty_way (narrowed k))
     bytes-rows zero = refl
     bytes-rows (suc k) = ap (λ l. l ++ dirty_bytes bsize wback n (part k)) (bytes-rows k)
@@ -78,13 +67,9 @@ module _ (bsize : ℕ) (wback : Bool) (n : ℕ) where
         ∙ map-append block_addr_of (filter is_dirty_way (narrowed k))
         (filter is_dirty_way (map way_in (part k))))
 
-    module _ (sets : ℕ) (long : length xs ≡ sets * most) (le : n ≤ most) where
+    module _ (sets : ℕ) (long : (k : ℕ) → k < sets → n ≤ length (xs k)) where
       length-part : (k : ℕ) → k < sets → length (map way_in (part k)) ≡ n
-      length-part k below =
-          let up : (k + 1) * most ≤ sets * most = mul-le-mul_right most (omega arith) in
-          let rest = length-drop (k * most) xs in
-          let room : n ≤ length (drop (k * most) xs) = omega arith in
-          length-map (part k) way_in ∙ length-take-le n (drop (k * most) xs) room
+      length-part k below = length-map (part k) way_in ∙ length-take-le n (xs k) (long k below)
 
       pub length-narrowed : (k : ℕ) → k ≤ sets → length (narrowed k) ≡ k * n
       length-narrowed zero below = omega arith
@@ -163,25 +148,24 @@ module _ (r : Rules) (st : IsStacked r) (n : ℕ) (pos : 0 < n) (le : n ≤ r.as
       ∙ ap (λ ms. take n (map (way_at q h) (ranked r t ms) ++ replicate n empty_way))
       (sym (renewals-same r st n h))
 
-  module _ (bytes : 0 < r.bsize) (setful : 0 < r.sets) (xs : List Slot)
-      (long : length xs ≡ r.sets * r.assoc)
-      (rows : (t : ℕ) → t < r.sets → row r.assoc t xs ≡ slots_of r h t) where
+  module _ (bytes : 0 < r.bsize) (setful : 0 < r.sets) (xs : ℕ → List Slot)
+      (long : (t : ℕ) → t < r.sets → n ≤ length (xs t))
+      (rows : (t : ℕ) → t < r.sets → xs t ≡ slots_of r h t) where
     rows-narrowed : (t : ℕ) → t < r.sets
-        → row n t (narrowed r.bsize r.wback n r.assoc xs r.sets) ≡ row_of q h t
+        → row n t (narrowed r.bsize r.wback n xs r.sets) ≡ row_of q h t
     rows-narrowed t below =
-        row-narrowed r.bsize r.wback n r.assoc xs r.sets long le r.sets (omega arith) t below
-        ∙ ap (map (way_in r.bsize r.wback n))
-        (sym (take-take n r.assoc (drop (t * r.assoc) xs) le) ∙ ap (take n) (rows t below))
+        row-narrowed r.bsize r.wback n xs r.sets long r.sets (omega arith) t below
+        ∙ ap (λ l. map (way_in r.bsize r.wback n) (take n l)) (rows t below)
         ∙ part-row t
 
     -- sorted and without repetitions, the first bytes of the dirty slots are those of the dirty
     -- blocks of the cache of n ways
     pub dirty-is : (ys : List ℕ)
-        → IsPermutation (dirty_in_rows r.bsize r.wback n r.assoc xs r.sets) ys → IsSorted nat_cmp ys
+        → IsPermutation (dirty_in_rows r.bsize r.wback n xs r.sets) ys → IsSorted nat_cmp ys
         → dedup eqb ys ≡ map (λ b. b * r.bsize) (dirty_blocks q h)
-    dirty-is ys p s = flushed-is q bytes setful h (narrowed r.bsize r.wback n r.assoc xs r.sets)
-        (length-narrowed r.bsize r.wback n r.assoc xs r.sets long le r.sets (omega arith))
+    dirty-is ys p s = flushed-is q bytes setful h (narrowed r.bsize r.wback n xs r.sets)
+        (length-narrowed r.bsize r.wback n xs r.sets long r.sets (omega arith))
         rows-narrowed ys
-        (subst (λ (l : List ℕ). IsPermutation l ys) (bytes-rows r.bsize r.wback n r.assoc xs r.sets)
+        (subst (λ (l : List ℕ). IsPermutation l ys) (bytes-rows r.bsize r.wback n xs r.sets)
         p)
         s

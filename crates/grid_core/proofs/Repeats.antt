@@ -15,13 +15,14 @@ use Rattle.grid_core.specs.declared.recent.Recent.{Recent}
 use Rattle.grid_core.specs.Levels.{dirty_level}
 use Rattle.grid_core.specs.Recent.{IsAgain, IsRecent, after_use, none_recent, used_last}
 use Rattle.grid_core.specs.Recent.{written_last}
-use Rattle.grid_core.specs.Slots.{holds, level_after, next_slots, used_slot}
+use Rattle.grid_core.specs.Slots.{holds, level_after, next_slots}
 use Rattle.grid_core.specs.Standing.{slots_of}
 use Rattle.grid_core.specs.Ways.{IsStacked, stack_distance}
 use Rattle.grid_core.proofs.Distances.{renews-all}
 use Rattle.grid_core.proofs.Fronts.{low-level, read-first}
 use Rattle.grid_core.proofs.Levels.{level-step}
 use Rattle.grid_core.proofs.SlotTurns.{index-slots, seen-level}
+use Rattle.grid_core.specs.Slot.{used_slot}
 
 module _ (n b : ℕ) where
   -- what was written last was used last

@@ -19,10 +19,10 @@ use Rattle.cache_core.proofs.Shadow.{eqb-comm}
 use Rattle.cache_core.proofs.Turns.{ranked-other, ranked-lru, IsOnce-ranked, absent, renewals-yes}
 use Rattle.cache_core.proofs.Cases.{by_cases}
 use Rattle.marked_list.specs.Recency.{index_of}
-use Rattle.grid_core.specs.declared.slots.Slot.{Slot}
+use Rattle.grid_core.specs.Slot.{Slot, used_slot, no_slot}
 use Rattle.grid_core.specs.Ways.{IsStacked, stack_distance}
 use Rattle.grid_core.specs.Levels.{dirty_level}
-use Rattle.grid_core.specs.Slots.{holds, used_slot, no_slot, slot_level, level_after}
+use Rattle.grid_core.specs.Slots.{holds, slot_level, level_after}
 use Rattle.grid_core.specs.Slots.{next_slots, stays_in}
 use Rattle.grid_core.specs.Standing.{slot_at, slots_of}
 use Rattle.grid_core.proofs.Distances.{renews-all, distance-place}

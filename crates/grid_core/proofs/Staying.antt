@@ -5,10 +5,9 @@ use Rattle.std.proofs.lemmas.Bool.{lt-ltb}
 use Rattle.cache_core.specs.declared.access.Access.{Access}
 use Rattle.cache_core.specs.History.{History, access, block_of, is_write}
 use Rattle.cache_core.specs.Residents.{hits, renewals}
-use Rattle.cache_core.specs.Row.{row}
 use Rattle.grid_core.specs.declared.stack.Stack.{Stack}
 use Rattle.grid_core.specs.Slots.{next_slots}
-use Rattle.grid_core.specs.Standing.{StandsFor, StaysFirst, rules_of, slots_of}
+use Rattle.grid_core.specs.Standing.{StandsFor, StaysFirst, rules_of, slots_of, row_slots}
 use Rattle.grid_core.specs.Ways.{with_ways}
 use Rattle.grid_core.proofs.Distances.{hits-distance}
 use Rattle.grid_core.proofs.Repeats.{row-first}
@@ -18,11 +17,11 @@ use Rattle.grid_core.proofs.StackStep.{rows-next}
 module _ (s : Stack) (h : History) (x : Access) (first : StaysFirst (rules_of s) h x) where
   -- the rows are those after the access
   pub rows-stay : StandsFor s h → (t : ℕ) → t < (rules_of s).sets
-      → row (rules_of s).assoc t s.slots.items ≡ slots_of (rules_of s) (access x ∷ h) t
+      → row_slots s t ≡ slots_of (rules_of s) (access x ∷ h) t
   rows-stay st =
       let r = rules_of s in
       let b = block_of r x in
-      let xs = s.slots.items in
+      let xs = row_slots s in
       let inside : b % r.sets < r.sets = mod-lt b (some-sets s) in
       rows-next r (stacked s) h x xs st.rows inside xs
       (st.rows (b % r.sets) inside

@@ -17,10 +17,9 @@ use Rattle.cache_core.specs.Order.{ranked}
 use Rattle.cache_core.proofs.Shift.{padded}
 use Rattle.cache_core.proofs.Members.{mid-true}
 use Rattle.cache_core.proofs.Victim.{last-resident, load-full, load-room}
-use Rattle.grid_core.specs.declared.slots.Slot.{Slot}
+use Rattle.grid_core.specs.Slot.{Slot, no_slot}
 use Rattle.grid_core.specs.Ways.{with_ways, IsStacked}
 use Rattle.grid_core.specs.Levels.{dirty_level}
-use Rattle.grid_core.specs.Slots.{no_slot}
 use Rattle.grid_core.specs.Pushed.{dirty_in}
 use Rattle.grid_core.specs.Standing.{slot_at, slots_of}
 use Rattle.grid_core.proofs.Distances.{renews-all, renewals-same, stacked-ways}

@@ -13,9 +13,9 @@ use Rattle.cache_core.specs.Residents.{is_resident, renewals, victim}
 use Rattle.grid_core.specs.declared.stack.Stack.{Stack}
 use Rattle.grid_core.specs.Histograms.{clean_ways, first_in, writes_first}
 use Rattle.grid_core.specs.Levels.{dirty_level}
-use Rattle.cache_core.specs.Geometry.{sets_of}
 use Rattle.grid_core.specs.Slots.{dirty_in_rows, level_after}
-use Rattle.grid_core.specs.Standing.{IsCountedIn, StandsFor, dirty_slots, rules_of, written_at}
+use Rattle.grid_core.specs.Standing.{IsCountedIn, StandsFor, row_slots, dirty_slots, rules_of}
+use Rattle.grid_core.specs.Standing.{written_at}
 use Rattle.grid_core.specs.Ways.{IsStacked, stack_distance, with_ways}
 use Rattle.grid_core.specs.WriteBacks.{is_first_write}
 use Rattle.grid_core.proofs.DirtySlots.{dirty-slots}
@@ -97,10 +97,9 @@ module _ (r : Rules) (st : IsStacked r) (n : ℕ) (some : 0 < n) (fits : n ≤ r
 
 -- the dirty slots in the words of the rules
 slots-are : (s : Stack) (n : ℕ) → dirty_slots s n ≡ length (dirty_in_rows 1 (rules_of s).wback n
-    (rules_of s).assoc s.slots.items (rules_of s).sets)
+    (row_slots s) (rules_of s).sets)
 unfolding rules_of
-slots-are s n = ap (λ w. length (dirty_in_rows 1 s.wback n w s.slots.items (sets_of s.geometry)))
-    s.width
+slots-are s n = refl
 
 -- what the rows say was written back is what was
 pub written-is : (sizes : List ℕ) (s : Stack) (h : History) → StandsFor s h

@@ -2,6 +2,7 @@ pub mod Ways
 pub mod Levels
 pub mod WriteBacks
 pub mod FullyAssociative
+pub mod Slot
 pub mod Pushed
 pub mod Slots
 pub mod Hits

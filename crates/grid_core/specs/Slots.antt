@@ -1,13 +1,13 @@
 -- A row of slots, and what one access does to it.
-use Rattle.std.specs.Prelude.{ℕ, zero, suc, ◌*◌, ◌^◌}
-use Rattle.std.specs.Prelude.{◌<◌, Bool, true, false, not, ◌&&◌, ◌||◌, ◌==◌}
+use Rattle.std.specs.Prelude.{ℕ, zero, suc, ◌*◌}
+use Rattle.std.specs.Prelude.{Bool, false, not, ◌&&◌, ◌||◌, ◌==◌}
 use Rattle.std.specs.Prelude.{nat_lt, if◌then◌else◌, get_or, ◌-◌, List, [], ◌∷◌, ◌++◌, length}
-use Rattle.std.specs.Prelude.{take, drop, min}
-use Rattle.std.specs.List.{find, All}
+use Rattle.std.specs.Prelude.{take, min}
+use Rattle.std.specs.List.{find}
 use Rattle.std.specs.Option.{option_map_or}
 use Rattle.cache_core.specs.Row.{shifted, row}
 use Rattle.marked_list.specs.Recency.{index_of}
-use Rattle.grid_core.specs.declared.slots.Slot.{Slot}
+use Rattle.grid_core.specs.Slot.{Slot, used_slot, no_slot}
 use Rattle.grid_core.specs.Pushed.{is_dirty_slot}
 
 -- the slot holds block b
@@ -17,14 +17,6 @@ holds b s = s.valid && s.block == b
 -- the dirty level of a slot
 abbrev pub slot_level : Slot → ℕ
 slot_level s = s.level
-
--- a slot that holds block b, of this level
-abbrev pub used_slot : ℕ → ℕ → Slot
-used_slot b l = record { block = b; valid = true; level = l }
-
--- an empty slot
-abbrev pub no_slot : Slot
-no_slot = record { block = 0; valid = false; level = 0 }
 
 -- the dirty level of block b in a row, or the length of the row if it is not there
 abbrev pub level_in : ℕ → List Slot → ℕ
@@ -54,10 +46,6 @@ abbrev pub next_slots : ℕ → Bool → List Slot → List Slot
 next_slots b write row = shifted (holds b) (used_slot b (level_after write (level_in b row)
     (index_of (holds b) row))) row
 
--- each block of a row has a first byte, where blocks have n bytes
-abbrev pub HaveBytes : ℕ → List Slot → Type 0
-HaveBytes n row = All (λ s. s.block * n < 2 ^ 64) row
-
 module _ (bsize : ℕ) (wback : Bool) (n : ℕ) where
   -- the first bytes of the blocks of a row that are dirty in a cache of n ways
   abbrev pub dirty_bytes : List Slot → List ℕ
@@ -65,9 +53,8 @@ module _ (bsize : ℕ) (wback : Bool) (n : ℕ) where
   dirty_bytes (s ∷ row) = if is_dirty_slot wback n s then s.block * bsize ∷ dirty_bytes row
       else dirty_bytes row
 
-  -- the same of the first n slots of each row, from the first row on: a row has `most` slots, and
-  -- the last number says how many rows are gone through
-  abbrev pub dirty_in_rows : ℕ → List Slot → ℕ → List ℕ
-  dirty_in_rows most xs zero = []
-  dirty_in_rows most xs (suc k) = dirty_in_rows most xs k
-      ++ dirty_bytes (take n (drop (k * most) xs))
+  -- the same of the first n slots of each row, from the first row on: the number says how many
+  -- rows are gone through
+  abbrev pub dirty_in_rows : (ℕ → List Slot) → ℕ → List ℕ
+  dirty_in_rows rows zero = []
+  dirty_in_rows rows (suc k) = dirty_in_rows rows k ++ dirty_bytes (take n (rows k))

@@ -14,10 +14,10 @@ use Rattle.cache_core.specs.Order.{ranked}
 use Rattle.cache_core.specs.Row.{row}
 use Rattle.cache_core.specs.Standing.{rules_from}
 use Rattle.cache_core.specs.Geometry.{bsize_of, sets_of}
-use Rattle.grid_core.specs.declared.slots.Slot.{Slot}
+use Rattle.grid_core.specs.Slot.{Slot, no_slot, slot_of, slots_in, stride_of, used_slot}
 use Rattle.grid_core.specs.declared.stack.Stack.{Stack}
 use Rattle.grid_core.specs.declared.stacks.Behind.{Behind}
-use Rattle.grid_core.specs.Slots.{used_slot, no_slot, dirty_in_rows, stays_in}
+use Rattle.grid_core.specs.Slots.{dirty_in_rows, stays_in}
 use Rattle.grid_core.specs.Histograms.{HasCounted, IsWithinHistogram, first_in, histogram_levels}
 use Rattle.grid_core.specs.Pushed.{dirty_in}
 use Rattle.grid_core.specs.Ways.{with_ways, stack_distance}
@@ -41,10 +41,14 @@ module _ (r : Rules) where
   slots_of h s = take r.assoc (map (slot_at h) (ranked r s (renewals r h))
       ++ replicate r.assoc no_slot)
 
+-- the slots of a row
+abbrev pub row_slots : Stack → ℕ → List Slot
+row_slots s t = slots_in (stride_of s.geometry) (sets_of s.geometry) t (row s.ways t s.slots.items)
+
 -- the stack stands for the history: each row is what the history gives
 pub record StandsFor (s : Stack) (h : History) : Type 0 where
   pub rows : (t : ℕ) → t < (rules_of s).sets →
-      row (rules_of s).assoc t s.slots.items ≡ slots_of (rules_of s) h t
+      row_slots s t ≡ slots_of (rules_of s) h t
 
 -- there is a history that all these rows stand for
 abbrev pub HaveLived : List Stack → Type 0
@@ -57,7 +61,8 @@ found_in s = s.found
 -- the slot behind the first n of the row of the last access, or the one that the row lost
 abbrev pub behind_in : Stack → ℕ → Slot
 behind_in s n =
-    if nat_lt n s.ways then get_or s.slots.items (s.set * s.ways + n) no_slot else s.lost
+    if nat_lt n s.ways then get_or (row_slots s s.set) n no_slot
+    else slot_of (stride_of s.geometry) (sets_of s.geometry) s.set s.lost
 
 -- the first byte of the block that a cache of n ways wrote back at the last access, if it missed
 abbrev pub back_at : Stack → ℕ → Option ℕ
@@ -75,7 +80,7 @@ pub record HasMoved (h : History) (x : Access) (s : Stack) : Type 0 where
 abbrev pub stays_at : Stack → Access → Bool
 stays_at s x =
     let b = x.addr / bsize_of s.geometry in
-    stays_in b (is_write x) (row s.ways (b % sets_of s.geometry) s.slots.items)
+    stays_in b (is_write x) (row_slots s (b % sets_of s.geometry))
 
 -- after the history h the block of the access x is the first of its set, and if x writes, dirty in
 -- all numbers of ways: x changes no row
@@ -121,7 +126,7 @@ IsWithinStack n s = IsWithinHistogram n s.histogram
 
 -- how many slots are dirty in n ways
 abbrev pub dirty_slots : Stack → ℕ → ℕ
-dirty_slots s n = length (dirty_in_rows 1 s.wback n s.ways s.slots.items (sets_of s.geometry))
+dirty_slots s n = length (dirty_in_rows 1 s.wback n (row_slots s) (sets_of s.geometry))
 
 -- how many blocks a cache of n ways has written back
 abbrev pub written_at : Stack → ℕ → ℕ

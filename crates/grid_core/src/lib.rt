@@ -10,18 +10,19 @@
 //!
 //! LRU caches that allocate at writes are served together (`stacked`). Those of as many sets share
 //! one row for each set, in order of last use (`stack`, `slots`): the position of a block tells for
-//! every number of ways whether it hits, and its dirty level whether it is written back. `front` is
-//! one access to a row, and `stacks` serves the rows of all numbers of sets, which `shapes` and
-//! `parts` make. Where blocks stood is counted once for each number of sets (`histogram`), and the
-//! counts of each cache follow from that (`cells`). `outcome` tells what one access did in one of
-//! them, and `sums` adds counts. One list with a mark for each size is the shadow of all these
-//! caches (`shadows`). `block_numbers` and `at_hand` number the blocks for it, and `recent` knows
-//! the block that was used last.
+//! every number of ways whether it hits, and its dirty level whether it is written back. A `word`
+//! keeps a block and its level. `front` is one access to a row, where its block is `sought`, and
+//! `stacks` serves the rows of all numbers of sets, which `shapes` and `parts` make. Where blocks
+//! stood is counted once for each number of sets (`histogram`), and the counts of each cache follow
+//! from that (`cells`). `outcome` tells what one access did in one of them, and `sums` adds counts.
+//! One list with a mark for each size is the shadow of all these caches (`shadows`).
+//! `block_numbers` and `at_hand` number the blocks for it, and `recent` knows the block that was
+//! used last.
 //!
-//! The others, and those of more than 64 ways, keep their own blocks and counts (`single`), and are
-//! served one after another (`singles`). They are told which blocks were accessed, and what their
-//! shadows hold (`shading`). A `shade` is a shadow of its own, for caches that do not allocate at
-//! writes; `shades` are served one after another too.
+//! The others, and those of too many ways for a row (`plan`), keep their own blocks and counts
+//! (`single`), and are served one after another (`singles`). They are told which blocks were
+//! accessed, and what their shadows hold (`shading`). A `shade` is a shadow of its own, for caches
+//! that do not allocate at writes; `shades` are served one after another too.
 //!
 //! `laws` has what the definitions say of caches of different sizes.
 //!
@@ -50,10 +51,12 @@ mod shapes;
 mod single;
 mod singles;
 mod slots;
+mod sought;
 mod stack;
 mod stacked;
 mod stacks;
 mod sums;
+mod word;
 
 pub use block_numbers::BlockNumbers;
 pub use engine::Engine;

@@ -4,6 +4,7 @@ ghost use Rattle.std.specs.Prelude.{◌≡◌, ◌<◌, ◌+◌, ◌-◌, ℕ, l
 ghost use Rattle.std.specs.List.{All};
 ghost use Rattle.std.specs.List.Sorted.{IsPermutation, IsNonDecreasingBy};
 ghost use Rattle.cache_core.specs.Geometry.{bsize_of, blocks_of, sets_of};
+ghost use Rattle.grid_core.specs.Slot.{HasWords};
 ghost use Rattle.grid_core.specs.Standing.{IsEmptyStack, rules_of, stack_rules};
 ghost use Rattle.grid_core.specs.declared.cells.Shape.{Shape as Cut};
 ghost use Rattle.grid_core.specs.Shapes.{has_size, HaveBsize, IsSuitedShape};
@@ -43,7 +44,8 @@ fn rows_for(
     levels: usize,
     wback: bool,
 ) -> Result<Vec<Stack>, AllocError>
-    requires { All (λ g. bsize_of g ≡ bsize_of first) geometries.now }
+    requires one_size { All (λ g. bsize_of g ≡ bsize_of first) geometries.now }
+    requires words { All HasWords geometries.now }
     ensures one_size { IfOk result (λ stacks. HaveBsize (bsize_of first) stacks.items) }
     ensures empty { IfOk result (λ stacks. All (IsEmptyStack levels) stacks.items) }
 {
@@ -66,6 +68,7 @@ fn shape_for(
 ) -> Result<Shape, AllocError>
     requires size { has_size sizes.now (blocks_of geometry) ≡ true }
     requires few { length sizes.now < usize.MAX }
+    requires words { HasWords geometry × All HasWords geometries.now }
     ensures own { IfOk result (λ s. IsShapeFor sizes.now stacks.new.items geometry wback s) }
     ensures kept { OnOk result ((s : Cut) → IsSuitedShape stacks.old.items s →
         IsSuitedShape stacks.new.items s) }
@@ -97,6 +100,7 @@ pub(crate) fn parts_for(
     requires sizes { All (λ g. has_size sizes.now (blocks_of g) ≡ true) geometries.now }
     requires few { length sizes.now < usize.MAX }
     requires one_size { All (λ g. bsize_of g ≡ bsize_of first) geometries.now }
+    requires words { All HasWords geometries.now }
     ensures rules { IfOk result (λ parts. map shape_rules parts.shapes.items
         ≡ map (λ g. stack_rules g wback) geometries.now) }
     ensures ranked { IfOk result (λ parts.

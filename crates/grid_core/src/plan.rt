@@ -12,6 +12,7 @@ ghost use Rattle.grid_core.specs.Plans.{IsNew, IsNewShade};
 ghost use Rattle.grid_core.specs.Shades.{shade_rules};
 ghost use Rattle.grid_core.specs.Shading.{IsShaded};
 ghost use Rattle.grid_core.specs.Singles.{single_rules, single_shading};
+ghost use Rattle.grid_core.specs.Slot.{HasWords};
 
 use crate::places::{Place, Seat};
 use crate::shade::Shade;
@@ -22,7 +23,7 @@ use cache_core::{Geometry, Policy};
 use std::alloc::{AllocError, Global};
 
 /// The most ways of a cache that is served together with others: a longer row is slow to search.
-const MOST_TOGETHER: usize = 64;
+const MOST_TOGETHER: u64 = 64;
 
 /// What an engine is made of: a seat for each geometry, the geometries of the caches that are
 /// served together, the shadows of caches that do not allocate at writes, and the caches of their
@@ -35,12 +36,21 @@ pub(crate) struct Plan {
     pub singles: Vec<Single>,
 }
 
+/// Whether a cache has few enough ways for a row that it shares with others: words can keep the
+/// slots, and they are searched fast.
+fn has_row(geometry: Geometry) -> bool
+    ensures { result ≡ true → HasWords geometry }
+{
+    geometry.assoc() <= MOST_TOGETHER && geometry.assoc() + 2 <= geometry.sets() * geometry.bsize()
+}
+
 /// Whether a cache has a stack order, and few enough ways for it.
 fn has_stack(geometry: Geometry, policy: Policy) -> bool
     ensures lru { result ≡ true → is_fifo policy ≡ false }
     ensures allocates { result ≡ true → policy.walloc ≡ true }
+    ensures words { result ≡ true → HasWords geometry }
 {
-    is_lru(policy) && policy.walloc && geometry.assoc() as usize <= MOST_TOGETHER
+    is_lru(policy) && policy.walloc && has_row(geometry)
 }
 
 /// A new cache of its own, and its index.
@@ -107,6 +117,8 @@ fn seat_for(
     ensures same { (b : ℕ) → OnOk result (bsize_of geometry ≡ b →
         All (λ g. bsize_of g ≡ b) together.old.items →
         All (λ g. bsize_of g ≡ b) together.new.items) }
+    ensures words { OnOk result (All HasWords together.old.items →
+        All HasWords together.new.items) }
     ensures fresh { OnOk result (All IsNew singles.old.items → All IsNew singles.new.items) }
     ensures fresh_shades { OnOk result (All IsNewShade shades.old.items →
         All IsNewShade shades.new.items) }
@@ -142,6 +154,7 @@ pub(crate) fn plan_for(
         (map single_shading plan.singles.items)) }
     ensures same { IfOk result (λ plan.
         All (λ g. bsize_of g ≡ bsize_of first) plan.together.items) }
+    ensures words { IfOk result (λ plan. All HasWords plan.together.items) }
     ensures fresh { IfOk result (λ plan. All IsNew plan.singles.items) }
     ensures fresh_shades { IfOk result (λ plan. All IsNewShade plan.shades.items) }
 {

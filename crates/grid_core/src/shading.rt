@@ -11,6 +11,7 @@ ghost use Rattle.grid_core.specs.Numbers.{GoesOn};
 ghost use Rattle.grid_core.specs.Places.{IsPlace, planned_rules, shadow_placed};
 ghost use Rattle.grid_core.specs.Plans.{IsAsLarge, IsShadowAt, IsNewShade};
 ghost use Rattle.grid_core.specs.Shades.{shade_rules};
+ghost use Rattle.grid_core.specs.Slot.{HasWords};
 
 use crate::places::Place;
 use crate::shade::Shade;
@@ -48,6 +49,8 @@ fn as_large(together: &mut Vec<Geometry>, geometry: Geometry) -> Result<usize, A
     ensures same { (b : ℕ) → OnOk result (bsize_of geometry ≡ b →
         All (λ g. bsize_of g ≡ b) together.old.items →
         All (λ g. bsize_of g ≡ b) together.new.items) }
+    ensures words { OnOk result (All HasWords together.old.items →
+        All HasWords together.new.items) }
 {
     if let Some(index) = find_as_large(together, geometry) {
         return Ok(index);
@@ -65,6 +68,8 @@ fn know_blocks(together: &mut Vec<Geometry>, geometry: Geometry) -> Result<(), A
     ensures same { (b : ℕ) → OnOk result (bsize_of geometry ≡ b →
         All (λ g. bsize_of g ≡ b) together.old.items →
         All (λ g. bsize_of g ≡ b) together.new.items) }
+    ensures words { OnOk result (All HasWords together.old.items →
+        All HasWords together.new.items) }
 {
     if together.is_empty() {
         together.push(with_assoc(geometry, 1))?;
@@ -152,6 +157,8 @@ pub(crate) fn shade_for(
     ensures same { (b : ℕ) → OnOk result (bsize_of geometry ≡ b →
         All (λ g. bsize_of g ≡ b) together.old.items →
         All (λ g. bsize_of g ≡ b) together.new.items) }
+    ensures words { OnOk result (All HasWords together.old.items →
+        All HasWords together.new.items) }
     ensures fresh { OnOk result (All IsNewShade shades.old.items →
         All IsNewShade shades.new.items) }
 {

@@ -7,6 +7,7 @@ ghost use Rattle.cache_core.specs.Geometry.{assoc_of, blocks_of, bsize_of};
 ghost use Rattle.cache_core.specs.Dirty.{rising};
 ghost use Rattle.cache_core.specs.Policy.{is_fifo};
 ghost use Rattle.marked_list.specs.Recency.{index_of};
+ghost use Rattle.grid_core.specs.Slot.{HasWords};
 ghost use Rattle.grid_core.specs.Standing.{IsEmptyStack};
 ghost use Rattle.grid_core.specs.Shapes.{IsWider, IsSuited, HaveBsize, has_size};
 
@@ -84,7 +85,8 @@ fn is_wider(geometry: Geometry, other: Geometry) -> bool
 
 /// The wider of two geometries, if they have as many sets; else the first.
 fn wider(geometry: Geometry, other: Geometry) -> Geometry
-    ensures { (g : Geometry) → IsWider g geometry → IsWider g result }
+    ensures wider { (g : Geometry) → IsWider g geometry → IsWider g result }
+    ensures words { HasWords geometry → HasWords other → HasWords result }
 {
     if is_wider(geometry, other) {
         return other;
@@ -94,7 +96,8 @@ fn wider(geometry: Geometry, other: Geometry) -> Geometry
 
 /// The widest geometry of as many sets.
 fn widest(geometries: &[Geometry], geometry: Geometry) -> Geometry
-    ensures { IsWider geometry result }
+    ensures wider { IsWider geometry result }
+    ensures words { HasWords geometry → All HasWords geometries.now → HasWords result }
 {
     let mut best = geometry;
     for other in geometries {
@@ -125,6 +128,7 @@ pub(crate) fn stack_for(
     levels: usize,
     wback: bool,
 ) -> Result<usize, AllocError>
+    requires words { HasWords geometry × All HasWords geometries.now }
     ensures suited { IfOk result (λ index.
         IsSuited stacks.new.items geometry (assoc_of geometry) wback index) }
     ensures kept { OnOk result ((g : Geometry) (ways index : ℕ) (w : Bool) →

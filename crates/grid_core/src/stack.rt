@@ -1,16 +1,15 @@
 //! The rows of one number of sets, for caches of every number of ways up to the widest.
 
-ghost use Rattle.std.specs.Prelude.{◌≡◌, ◌<◌, ◌+◌, ◌*◌, ◌^◌, ℕ, vec_len};
+ghost use Rattle.std.specs.Prelude.{◌≡◌, ◌≤◌, ◌<◌, ◌+◌, ◌*◌, vec_len};
 ghost use Rattle.cache_core.specs.Geometry.{bsize_of, sets_of, assoc_of};
-ghost use Rattle.cache_core.specs.Row.{row};
 ghost use Rattle.grid_core.specs.Histograms.{histogram_ways};
-ghost use Rattle.grid_core.specs.Slots.{HaveBytes};
+ghost use Rattle.grid_core.specs.Slot.{stride_of};
 
 use crate::front::{stays, turn_in};
 use crate::histogram::Histogram;
-use crate::slots::{
-    Slot, clear_in, count_dirty, dirty_byte, dirty_rising, empty_slot, empty_slots,
-};
+use crate::slots::{clear_in, count_dirty, dirty_rising, empty_slots};
+use crate::sought::Sought;
+use crate::word::{EMPTY, dirty_byte};
 use cache_core::{Access, Geometry, MAX_EVENTS, PerClass};
 use std::alloc::{AllocError, Global};
 
@@ -21,33 +20,37 @@ pub(crate) struct Stack {
     ways: usize,
     /// The number of the last set.
     last_set: u64,
+    /// How many bytes lie between two blocks of one set that follow one another.
+    stride: u64,
     wback: bool,
-    slots: Vec<Slot>,
+    /// The word of each slot, one row after another.
+    slots: Vec<u64>,
     /// The set of the last access that was not passed over.
     set: usize,
     /// Where the block of the last access stood in its row before: first, if it was passed over.
     found: usize,
-    /// The slot that the row of `set` lost at that access, or an empty one.
-    lost: Slot,
+    /// The word of the slot that the row of `set` lost at that access, or of an empty one.
+    lost: u64,
     /// Where the blocks of all accesses stood before.
     histogram: Histogram,
     ghost width: { ways ≡ assoc_of geometry },
     ghost numbered: { last_set + 1 ≡ sets_of geometry },
     ghost room: { vec_len slots ≡ sets_of geometry * ways },
-    ghost bytes: { (t : ℕ) → t < sets_of geometry →
-        HaveBytes (bsize_of geometry) (row ways t slots.items) },
+    ghost apart: { stride ≡ stride_of geometry },
+    ghost short: { ways + 2 ≤ stride_of geometry },
     ghost inside: { set < sets_of geometry },
-    ghost fits: { lost.block * bsize_of geometry < 2 ^ 64 },
     ghost counted: { histogram_ways histogram ≡ ways },
 }
 
 #[tactic(auto, unfolding(crate::specs::Standing::rules_of, crate::specs::Standing::found_in))]
 impl Stack {
-    ghost use Rattle.std.specs.Prelude.{◌≡◌, ◌<◌, ◌≤◌, ◌+◌, ◌*◌, ◌%◌, ◌^◌, ◌∷◌, ℕ, List, true, []};
+    ghost use Rattle.std.specs.Prelude.{◌≡◌, ◌<◌, ◌≤◌, ◌+◌, ◌*◌, ◌/◌, ◌%◌, ◌∷◌, ℕ, List};
+    ghost use Rattle.std.specs.Prelude.{true, []};
     ghost use Rattle.std.specs.Prelude.{IfOk, map};
     ghost use Rattle.cache_core.specs.History.{History, access as accessed};
     ghost use Rattle.cache_core.specs.History.{flush as flushed};
     ghost use Rattle.cache_core.specs.Dirty.{dirty_blocks};
+    ghost use Rattle.grid_core.specs.Slot.{HasWords, slot_of};
     ghost use Rattle.grid_core.specs.Ways.{with_ways};
     ghost use Rattle.grid_core.specs.Standing.{StandsFor, rules_of, stack_rules};
     ghost use Rattle.grid_core.specs.Standing.{HasMoved, found_in, behind_in, back_at, Suits};
@@ -64,6 +67,7 @@ impl Stack {
         levels: usize,
         wback: bool,
     ) -> Result<Stack, AllocError>
+        requires { HasWords geometry }
         ensures stands { IfOk result (λ stack. StandsFor stack []) }
         ensures counted { IfOk result (λ stack. (sizes : List ℕ) → IsCountedIn sizes [] stack) }
         ensures within { IfOk result (IsWithinStack 0) }
@@ -77,39 +81,51 @@ impl Stack {
             geometry,
             ways,
             last_set: sets - 1,
+            stride: sets * geometry.bsize(),
             wback,
             slots,
             set: 0,
             found: 0,
-            lost: empty_slot(),
+            lost: EMPTY,
             histogram: Histogram::new(alloc, ways, levels)?,
         })
     }
 
-    /// The set of a block.
-    fn set_of(&self, block: u64) -> usize
-        ensures { result ≡ block % sets_of self.now.geometry }
+    /// The block of this number and address, as its row is searched for it.
+    fn sought(&self, block: u64, addr: u64) -> Sought
+        requires { block ≡ addr / bsize_of self.now.geometry }
+        ensures block { result.block ≡ block }
+        ensures set { result.set ≡ result.block % sets_of self.now.geometry }
+        ensures sets { result.sets ≡ sets_of self.now.geometry }
+        ensures stride { result.stride ≡ stride_of self.now.geometry }
     {
-        (block & self.last_set) as usize
+        Sought {
+            block,
+            sets: self.last_set + 1,
+            set: block & self.last_set,
+            stride: self.stride,
+            base: addr & !(self.stride - 1),
+        }
     }
 
-    /// Whether the block of an access is the first of its set, and dirty in all numbers of ways if
-    /// this is a write: then the access changes no row.
-    pub fn stays(&self, access: Access) -> bool
+    /// Whether the block of an access, which has this number, is the first of its set, and dirty in
+    /// all numbers of ways if this is a write: then the access changes no row.
+    pub fn stays(&self, access: Access, block: u64) -> bool
+        requires { block ≡ access.addr / bsize_of self.now.geometry }
         ensures is { result ≡ stays_at self.now access }
         ensures first { result ≡ true → (h : History) → StandsFor self.now h →
             StaysFirst (rules_of self.now) h access }
     {
         let write = access.writes();
-        let block = self.geometry.block(access.addr);
-        let set = self.set_of(block);
-        stays(&self.slots, set, self.ways, block, write)
+        let sought = self.sought(block, access.addr);
+        stays(&self.slots, sought.set as usize, self.ways, sought, write)
     }
 
-    /// Serves one access, whose block has this level in the shadows, and is not among the first
-    /// `from` of its set: the block is then the one used last there. Where it stood before is
-    /// counted and stays known, and so does what was pushed out.
-    pub fn serve(&mut self, access: Access, level: usize, from: usize)
+    /// Serves one access, whose block has this number and this level in the shadows, and is not
+    /// among the first `from` of its set: the block is then the one used last there. Where it stood
+    /// before is counted and stays known, and so does what was pushed out.
+    pub fn serve(&mut self, access: Access, block: u64, level: usize, from: usize)
+        requires block { block ≡ access.addr / bsize_of self.old.geometry }
         requires level { level < told_in self.old }
         requires within { (n : ℕ) × IsWithinStack n self.old × (n < MAX_EVENTS) }
         requires behind { ∥ ((h : History) × StandsFor self.old h
@@ -125,10 +141,10 @@ impl Stack {
         ensures rules { rules_of self.new ≡ rules_of self.old }
     {
         let write = access.writes();
-        let block = self.geometry.block(access.addr);
-        let set = self.set_of(block);
+        let sought = self.sought(block, access.addr);
+        let set = sought.set as usize;
         let from = from.min(self.ways);
-        let turned = turn_in(&mut self.slots, set, self.ways, block, from, write);
+        let turned = turn_in(&mut self.slots, set, self.ways, sought, from, write);
         self.histogram
             .note(turned.position, turned.clean, level, access);
         self.set = set;
@@ -186,11 +202,11 @@ impl Stack {
         self.wback
     }
 
-    /// The slot behind the first `ways` of the row of the last access that was not passed over, or
-    /// the one that the row lost.
-    fn slot_behind(&self, ways: usize) -> Slot
-        ensures is { result ≡ behind_in self.now ways }
-        ensures fits { result.block * bsize_of self.now.geometry < 2 ^ 64 }
+    /// The word of the slot behind the first `ways` of the row of the last access that was not
+    /// passed over, or of the one that the row lost.
+    fn word_behind(&self, ways: usize) -> u64
+        ensures { slot_of (stride_of self.now.geometry) (sets_of self.now.geometry) self.now.set
+            result ≡ behind_in self.now ways }
     {
         if ways < self.ways {
             return self.slots[self.set * self.ways + ways];
@@ -203,9 +219,9 @@ impl Stack {
     pub fn back(&self, ways: usize) -> Option<u64>
         ensures { result ≡ back_at self.now ways }
     {
-        let slot = self.slot_behind(ways);
-        let bsize = self.geometry.bsize();
-        dirty_byte(slot, bsize, self.wback, ways)
+        let word = self.word_behind(ways);
+        let start = self.set as u64 * self.geometry.bsize();
+        dirty_byte(word, self.stride, start, self.wback, ways)
     }
 
     /// The first bytes of the blocks that the cache of `ways` ways holds dirty, in rising order,
@@ -240,7 +256,7 @@ impl Stack {
         ensures { result ≡ dirty_slots self.now ways }
     {
         let sets = self.geometry.sets() as usize;
-        count_dirty(&self.slots, sets, self.ways, self.wback, ways) as u64
+        count_dirty(&self.slots, sets, self.ways, self.stride, self.wback, ways) as u64
     }
 
     /// How many blocks the cache of `ways` ways has written back so far: the writes that found

@@ -73,6 +73,7 @@ impl Stacked {
     ghost use Rattle.grid_core.specs.Shadows.{recent_in};
     ghost use Rattle.grid_core.specs.FullyAssociative.{shadow_misses};
     ghost use Rattle.grid_core.specs.Cells.{items_of};
+    ghost use Rattle.grid_core.specs.Slot.{HasWords};
     ghost use Rattle.grid_core.specs.Standing.{stack_rules};
     ghost use Rattle.grid_core.specs.Numbered.{blocks_in};
     ghost use Rattle.grid_core.specs.Numbers.{GoesOn};
@@ -88,7 +89,8 @@ impl Stacked {
         first: Geometry,
         wback: bool,
     ) -> Result<Stacked, AllocError>
-        requires { All (λ g. bsize_of g ≡ bsize_of first) geometries.now }
+        requires one_size { All (λ g. bsize_of g ≡ bsize_of first) geometries.now }
+        requires words { All HasWords geometries.now }
         ensures stands { IfOk result (λ stacked. StackedStandsFor stacked []) }
         ensures rules { IfOk result (λ stacked.
             stacked_rules stacked ≡ map (λ g. stack_rules g wback) geometries.now) }
@@ -138,7 +140,7 @@ impl Stacked {
         self.served += 1;
     }
 
-    /// Serves one access to this block in all caches.
+    /// Serves one access, whose block has this number, in all caches.
     fn serve(&mut self, access: Access, block: u64) -> Result<(), AllocError>
         requires few { stacked_served self.old < MAX_EVENTS }
         requires block { block ≡ access.addr / bsize_of self.old.geometry }
@@ -155,7 +157,7 @@ impl Stacked {
         let Ok(prior) = self.shadows.touch(block, access) else {
             return Err(AllocError);
         };
-        serve_rows(&mut self.stacks, access, prior.level);
+        serve_rows(&mut self.stacks, access, block, prior.level);
         self.alike.fetches.count(access, true);
         self.alike.firsts.count(access, !prior.known);
         self.write = access.writes();

@@ -1,6 +1,6 @@
 //! The rows of all numbers of sets.
 
-ghost use Rattle.std.specs.Prelude.{◌≡◌, ◌<◌, ◌+◌, ◌∷◌, List, ℕ, map};
+ghost use Rattle.std.specs.Prelude.{◌≡◌, ◌<◌, ◌+◌, ◌/◌, ◌∷◌, List, ℕ, map};
 ghost use Rattle.std.specs.Prelude.{nat_lt, if◌then◌else◌};
 ghost use Rattle.std.specs.List.{All};
 ghost use Rattle.cache_core.specs.History.{History, access as accessed, flush as flushed};
@@ -33,7 +33,8 @@ fn places_in(behind: Behind, last_set: u64) -> usize
 
 /// The last set of the rows of the fewest sets that an access leaves as they are: so it does in all
 /// rows of more sets. The rows of the fewest stand last.
-fn least_staying(stacks: &[Stack], access: Access) -> u64
+fn least_staying(stacks: &[Stack], access: Access, block: u64) -> u64
+    requires { (n : ℕ) × HaveBsize n stacks.now × (block ≡ access.addr / n) }
     ensures { (n : ℕ) (h : History) → HaveBsize n stacks.now →
         All (λ s. StandsFor s h) stacks.now → StayFirstFrom n result h access }
 {
@@ -41,17 +42,25 @@ fn least_staying(stacks: &[Stack], access: Access) -> u64
     'rising: while left > 0 {
         left -= 1;
         let stack = &stacks[left];
-        if stack.stays(access) {
+        if stack.stays(access, block) {
             return stack.last_set();
         }
     }
     u64::MAX
 }
 
-/// Serves an access, whose block has this level in the shadows, in the rows of one number of sets.
-/// In rows of more sets than `least`, its block stays first: those are passed over. Answers where
-/// the block is not in rows of fewer sets.
-fn serve_one(stack: &mut Stack, access: Access, level: usize, least: u64, behind: Behind) -> Behind
+/// Serves an access, whose block has this number and this level in the shadows, in the rows of one
+/// number of sets. In rows of more sets than `least`, its block stays first: those are passed over.
+/// Answers where the block is not in rows of fewer sets.
+fn serve_one(
+    stack: &mut Stack,
+    access: Access,
+    block: u64,
+    level: usize,
+    least: u64,
+    behind: Behind,
+) -> Behind
+    requires block { block ≡ access.addr / (rules_of stack.old).bsize }
     requires level { level < told_in stack.old }
     requires within { (n : ℕ) × IsWithinStack n stack.old × (n < MAX_EVENTS) }
     requires behind { ∥ ((h : History) × StandsFor stack.old h
@@ -78,15 +87,16 @@ fn serve_one(stack: &mut Stack, access: Access, level: usize, least: u64, behind
         return behind;
     }
     let from = places_in(behind, last_set);
-    stack.serve(access, level, from);
+    stack.serve(access, block, level, from);
     Behind {
         last_set,
         places: stack.position(),
     }
 }
 
-/// Serves an access, whose block has this level in the shadows, in all rows.
-pub(crate) fn serve_rows(stacks: &mut Vec<Stack>, access: Access, level: usize)
+/// Serves an access, whose block has this number and this level in the shadows, in all rows.
+pub(crate) fn serve_rows(stacks: &mut Vec<Stack>, access: Access, block: u64, level: usize)
+    requires block { (n : ℕ) × HaveBsize n stacks.old.items × (block ≡ access.addr / n) }
     requires levels { All (λ s. level < told_in s) stacks.old.items }
     requires within { (n : ℕ) × All (IsWithinStack n) stacks.old.items × (n < MAX_EVENTS) }
     requires lived { (n : ℕ) × HaveBsize n stacks.old.items × HaveLived stacks.old.items }
@@ -105,13 +115,13 @@ pub(crate) fn serve_rows(stacks: &mut Vec<Stack>, access: Access, level: usize)
     ensures levels { map told_in stacks.new.items ≡ map told_in stacks.old.items }
     ensures rules { map rules_of stacks.new.items ≡ map rules_of stacks.old.items }
 {
-    let least = least_staying(stacks, access);
+    let least = least_staying(stacks, access, block);
     let mut behind = Behind {
         last_set: 0,
         places: 0,
     };
     for stack in stacks.iter_mut() {
-        behind = serve_one(stack, access, level, least, behind);
+        behind = serve_one(stack, access, block, level, least, behind);
     }
 }
 

@@ -19,8 +19,11 @@ fn next_random(state: &mut u64) -> u64 {
     *state >> 33
 }
 
-/// A pseudo-random access to one of some blocks of four bytes: low ones and the highest. Most go to
-/// a few of them.
+/// How many bytes a block has: enough for up to 32 ways of one set to share rows.
+const BLOCK: u64 = 64;
+
+/// A pseudo-random access to one of some blocks: low ones and the highest. Most go to a few of
+/// them.
 fn access_of(state: &mut u64, blocks: u64) -> Access {
     let class = match next_random(state) % 8 {
         0 => Class::Instr,
@@ -31,22 +34,35 @@ fn access_of(state: &mut u64, blocks: u64) -> Access {
     let wide = next_random(state) % 4;
     let few = if wide == 0 { blocks } else { blocks / 8 };
     let block = next_random(state).checked_rem(few).unwrap_or(0);
-    let offset = block.wrapping_mul(4).wrapping_add(next_random(state) % 4);
+    let offset = block
+        .wrapping_mul(BLOCK)
+        .wrapping_add(next_random(state) % BLOCK);
     let addr = if block % 3 == 0 { !offset } else { offset };
     Access { class, addr }
 }
 
-/// All geometries of blocks of four bytes with these sizes and numbers of ways.
-fn geometries_of(rt: &impl Abort, alloc: Global, sizes: &[u64], ways: &[u64]) -> Vec<Geometry> {
+/// All geometries of so many blocks of `bsize` bytes, with these numbers of ways.
+fn geometries_with(
+    rt: &impl Abort,
+    alloc: Global,
+    bsize: u64,
+    blocks: &[u64],
+    ways: &[u64],
+) -> Vec<Geometry> {
     let mut geometries = Vec::new(alloc);
-    for size in sizes.iter() {
+    for count in blocks.iter() {
         for way in ways.iter() {
-            if let Ok(geometry) = Geometry::new(*size, 4, *way) {
+            if let Ok(geometry) = Geometry::new(count.wrapping_mul(bsize), bsize, *way) {
                 geometries.push(geometry).expect(rt, "memory");
             }
         }
     }
     geometries
+}
+
+/// The same, of `BLOCK` bytes each.
+fn geometries_of(rt: &impl Abort, alloc: Global, blocks: &[u64], ways: &[u64]) -> Vec<Geometry> {
+    geometries_with(rt, alloc, BLOCK, blocks, ways)
 }
 
 /// The fully associative geometry of the same size.
@@ -224,7 +240,7 @@ fn are_alike(
 
 #[test]
 fn six_cells_are_single_caches(rt: HostRuntime) -> Result<(), Fail> {
-    let geometries = geometries_of(&rt, rt.alloc(), &[32, 64, 128], &[1, 4]);
+    let geometries = geometries_of(&rt, rt.alloc(), &[8, 16, 32], &[1, 4]);
     let long = Long {
         turns: 600,
         blocks: 256,
@@ -238,8 +254,8 @@ fn six_cells_are_single_caches(rt: HostRuntime) -> Result<(), Fail> {
 
 /// Geometries of up to 256 ways.
 fn many_geometries(rt: &impl Abort, alloc: Global) -> Vec<Geometry> {
-    let sizes = [16, 32, 64, 128, 256, 512, 1024];
-    geometries_of(rt, alloc, &sizes, &[1, 2, 4, 8, 16, 32, 64, 128, 256])
+    let blocks = [4, 8, 16, 32, 64, 128, 256];
+    geometries_of(rt, alloc, &blocks, &[1, 2, 4, 8, 16, 32, 64, 128, 256])
 }
 
 #[test]
@@ -268,8 +284,8 @@ fn many_fifo_cells_are_single_caches(rt: HostRuntime) -> Result<(), Fail> {
 
 #[test]
 fn sixty_cells_are_single_caches(rt: HostRuntime) -> Result<(), Fail> {
-    let sizes = [16, 32, 64, 128, 256, 512, 1024, 2048, 4096, 8192, 16_384];
-    let geometries = geometries_of(&rt, rt.alloc(), &sizes, &[1, 2, 4, 8, 16, 32]);
+    let blocks = [4, 8, 16, 32, 64, 128, 256, 512, 1024, 2048, 4096];
+    let geometries = geometries_of(&rt, rt.alloc(), &blocks, &[1, 2, 4, 8, 16, 32]);
     assert_eq!(&rt; geometries.len(), 60);
     let long = Long {
         turns: 1_000,

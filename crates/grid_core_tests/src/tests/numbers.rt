@@ -14,8 +14,8 @@ struct Pair {
     caches: Vec<Cache>,
 }
 
-fn pair_of(rt: &impl Abort, alloc: Global, sizes: &[u64], policy: Policy) -> Pair {
-    let geometries = geometries_of(rt, alloc, sizes, &[1, 2, 4]);
+fn pair_of(rt: &impl Abort, alloc: Global, blocks: &[u64], policy: Policy) -> Pair {
+    let geometries = geometries_of(rt, alloc, blocks, &[1, 2, 4]);
     let first = geometries.first().copied().expect(rt, "a geometry");
     assert!(rt; share_block_size(&geometries, first));
     Pair {
@@ -59,9 +59,9 @@ fn engines_that_share_numbers_are_single_caches(rt: HostRuntime) -> Result<(), F
         ..lru
     };
     let mut numbers = BlockNumbers::new(alloc);
-    let mut small = pair_of(&rt, alloc, &[16, 32], lru);
-    let mut large = pair_of(&rt, alloc, &[64, 256], lru);
-    let mut apart = pair_of(&rt, alloc, &[32, 64], fifo);
+    let mut small = pair_of(&rt, alloc, &[4, 8], lru);
+    let mut large = pair_of(&rt, alloc, &[16, 64], lru);
+    let mut apart = pair_of(&rt, alloc, &[8, 16], fifo);
     for part in 0..9u64 {
         serve_some(&rt, alloc, &mut small, &mut numbers, part);
         serve_some(&rt, alloc, &mut large, &mut numbers, part.wrapping_mul(7));
@@ -97,8 +97,8 @@ fn a_block_that_another_engine_used_is_accessed_first(rt: HostRuntime) -> Result
         walloc: true,
     };
     let mut numbers = BlockNumbers::new(alloc);
-    let mut one = pair_of(&rt, alloc, &[16], policy).engine;
-    let mut other = pair_of(&rt, alloc, &[16], policy).engine;
+    let mut one = pair_of(&rt, alloc, &[4], policy).engine;
+    let mut other = pair_of(&rt, alloc, &[4], policy).engine;
     let once = PerClass {
         read: 1,
         ..PerClass::default()

@@ -50,6 +50,7 @@ loop-geometry-preserved c =
       same = c.in_ok-seat.ensures.same (bsize_of c.args.first)
           (ap bsize_of c.geometry-item.is ∙ c.requires i e inside)
           c.loop-geometry.invariant.same;
+      words = c.in_ok-seat.ensures.words c.loop-geometry.invariant.words;
       fresh = c.in_ok-seat.ensures.fresh c.loop-geometry.invariant.fresh;
       fresh_shades = c.in_ok-seat.ensures.fresh_shades c.loop-geometry.invariant.fresh_shades;
     }

@@ -7,6 +7,7 @@ use Rattle.grid_core.specs.Plans.{IsNew, IsNewShade}
 use Rattle.grid_core.specs.Shades.{shade_rules}
 use Rattle.grid_core.specs.Shading.{IsShaded}
 use Rattle.grid_core.specs.Singles.{single_rules, single_shading}
+use Rattle.grid_core.specs.Slot.{HasWords}
 use Rattle.grid_core.proofs.plan.plan_for.Given as goal
 
 -- there is a seat for each geometry that was passed
@@ -19,6 +20,7 @@ invariant-loop-geometry l = record {
   shaded : All (IsShaded (planned_rules l.policy.wback l.together.items)
       (map shade_rules l.shades.items)) (map single_shading l.singles.items);
   same : All (λ g. bsize_of g ≡ bsize_of l.fn.first) l.together.items;
+  words : All HasWords l.together.items;
   fresh : All IsNew l.singles.items;
   fresh_shades : All IsNewShade l.shades.items;
 }

@@ -1,6 +1,7 @@
 use Rattle.std.proofs.Common.{length, map, sym, subst, ◌∙◌}
 use Rattle.std.proofs.lemmas.List.{length-map}
-use Rattle.std.proofs.lemmas.List.Elements.{All-weaker}
+use Rattle.std.specs.List.{All}
+use Rattle.std.proofs.lemmas.List.Elements.{All-push, All-weaker}
 use Rattle.cache_core.specs.declared.geometry.Geometry.{Geometry}
 use Rattle.cache_core.specs.History.{Rules}
 use Rattle.cache_core.specs.Standing.{rules_from}
@@ -8,6 +9,7 @@ use Rattle.grid_core.specs.Places.{IsPlace, planned_rules}
 use Rattle.grid_core.specs.Shades.{shade_rules}
 use Rattle.grid_core.specs.Shading.{IsShaded}
 use Rattle.grid_core.specs.Singles.{single_rules, single_shading}
+use Rattle.grid_core.specs.Slot.{HasWords}
 use Rattle.grid_core.specs.Standing.{stack_rules}
 use Rattle.grid_core.proofs.Seats.{seated-together, seated-apart, goes-on-map, goes-on-push}
 use Rattle.grid_core.proofs.Seats.{goes-on-same, joins-all, shaded-apart, shaded-longer}
@@ -50,6 +52,12 @@ returns-then-has_stack-clause-shades c =
 pub returns-then-has_stack-clause-same : goal.returns-then-has_stack-clause-same
 returns-then-has_stack-clause-same c = λ b one all. joins-all b c.args.together.now.items
     c.seat_together.new.together.items c.args.geometry c.in_ok-seat.ensures.joins one all
+
+pub returns-then-has_stack-clause-words : goal.returns-then-has_stack-clause-words
+returns-then-has_stack-clause-words c = λ all. subst (All HasWords)
+    (sym c.in_ok-seat.ensures.joins)
+    (All-push HasWords c.args.together.now.items c.args.geometry all
+    (c.has_stack.ensures.words c.if-has_stack.true))
 
 pub returns-clause-seated : goal.returns-clause-seated
 returns-clause-seated c =

@@ -15,7 +15,7 @@ returns-clause-sizes c = λ n same all.
     ∙ map-append rules_of old (v ∷ [])))
     (All-push P (map rules_of old) (rules_of v) all
     (ap (λ (r : Rules). r.bsize) c.in_ok-stack.ensures.rules
-    ∙ c.widest-wide.ensures.same_bsize ∙ same))
+    ∙ c.widest-wide.ensures.wider.same_bsize ∙ same))
 
 pub returns-clause-empty : goal.returns-clause-empty
 returns-clause-empty c = λ all.

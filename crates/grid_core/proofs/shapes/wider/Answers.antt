@@ -1,8 +1,8 @@
 use Rattle.std.proofs.Common.{◌∙◌, arith}
 use Rattle.grid_core.proofs.shapes.wider.Goals as goal
 
-pub returns-then-is_wider : goal.returns-then-is_wider
-returns-then-is_wider c = λ g before.
+pub returns-then-is_wider-clause-wider : goal.returns-then-is_wider-clause-wider
+returns-then-is_wider-clause-wider c = λ g before.
     let more = c.is_wider.ensures c.if-is_wider.true in
     let low = before.fits in
     let high = more.fits in

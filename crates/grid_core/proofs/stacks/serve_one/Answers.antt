@@ -7,6 +7,10 @@ use Rattle.grid_core.proofs.Counted.{bound-more}
 use Rattle.grid_core.proofs.FewerSets.{behind-fewer, behind-searched}
 use Rattle.grid_core.proofs.stacks.serve_one.Goals as goal
 
+pub serve-requires-clause-block : goal.serve-requires-clause-block
+unfolding rules_of
+serve-requires-clause-block c = c.requires.block
+
 pub serve-requires-clause-behind : goal.serve-requires-clause-behind
 serve-requires-clause-behind c =
     let old = c.args.stack.now in

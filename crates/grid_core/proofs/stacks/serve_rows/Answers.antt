@@ -1,4 +1,4 @@
-use Rattle.std.proofs.Common.{◌≡◌, ℕ, ◌<◌, length, sym, subst, arith}
+use Rattle.std.proofs.Common.{◌≡◌, ℕ, ◌/◌, ◌<◌, length, sym, ap, subst, ◌∙◌, arith}
 use Rattle.std.specs.List.{All}
 use Rattle.std.proofs.Math.Logic.{∥∥₁_map}
 use Rattle.cache_core.specs.History.{History}
@@ -21,7 +21,11 @@ serve_one-behind-requires c =
     let n = c.requires.lived.0 in
     let size = still was lent (λ s. (rules_of s).bsize ≡ n) inside
     (size-at n stacks c.requires.lived.1) e in
+    let m = c.requires.block.0 in
+    let its = still was lent (λ s. (rules_of s).bsize ≡ m) inside
+    (size-at m stacks c.requires.block.1) e in
     record {
+      block = c.requires.block.2 ∙ ap (λ n. c.args.access.addr / n) (sym its);
       level = still was lent (λ s. c.args.level < told_in s) inside c.requires.levels e;
       within = (within.0, still was lent (IsWithinStack within.0) inside within.1 e, within.2);
       behind = ∥∥₁_map c.requires.lived.2 (λ w. (
@@ -31,6 +35,9 @@ serve_one-behind-requires c =
             (c.loop-stack.invariant.behind n w.0 c.requires.lived.1 w.1),
       ));
     }
+
+pub least_staying-least-requires : goal.least_staying-least-requires
+least_staying-least-requires c = rw c.deref.ensures.value c.requires.block
 
 pub loop-stack-preserved : goal.loop-stack-preserved
 loop-stack-preserved c =

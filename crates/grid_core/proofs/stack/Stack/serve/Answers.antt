@@ -1,30 +1,25 @@
-use Rattle.std.proofs.Common.{◌*◌, ◌/◌, ◌<◌, ◌≤◌, ◌^◌}
-use Rattle.std.proofs.Common.{refl, sym, subst, arith}
+use Rattle.std.proofs.Common.{refl, ap, ◌∙◌, arith}
 use Rattle.std.proofs.Math.Bridge.{le_prop}
 use Rattle.std.proofs.Math.Logic.{∥∥₁_elim}
-use Rattle.std.proofs.Math.Nat.{div-mul-le_self}
-use Rattle.cache_core.specs.Geometry.{bsize_of, sets_of}
+use Rattle.cache_core.specs.Geometry.{sets_of}
 use Rattle.cache_core.specs.Row.{row}
-use Rattle.cache_core.proofs.Lawful.{sane_of}
-use Rattle.marked_list.specs.Recency.{index_of}
-use Rattle.grid_core.specs.declared.slots.Slot.{Slot}
+use Rattle.grid_core.specs.Slot.{slots_in, stride_of}
 use Rattle.grid_core.specs.Slots.{holds}
-use Rattle.grid_core.specs.Standing.{rules_of, found_in}
+use Rattle.grid_core.specs.Standing.{row_slots, rules_of, found_in}
 use Rattle.grid_core.proofs.StackStep.{back-turned, clean-turned, distance-turned}
-use Rattle.grid_core.proofs.StackStep.{lost-fits, row-room, row-whole, rows-turned, set-below}
-use Rattle.grid_core.proofs.Bytes.{bytes-next}
+use Rattle.grid_core.proofs.StackStep.{row-room, row-whole, rows-turned, set-below}
 use Rattle.grid_core.proofs.Counted.{counted-next}
-use Rattle.grid_core.proofs.Fronts.{few-ways, index-le}
+use Rattle.grid_core.proofs.Fronts.{index-le}
 use Rattle.grid_core.proofs.stack.Stack.serve.Goals as goal
 
 pub turn_in-turned-requires-clause-room : goal.turn_in-turned-requires-clause-room
 turn_in-turned-requires-clause-room c =
-    row-room c.args.self.now c.block-block.result c.set_of-set.ensures
+    row-room c.args.self.now c.sought-sought.result.block c.sought-sought.ensures.set
 
-pub turn_in-turned-requires-clause-small : goal.turn_in-turned-requires-clause-small
-turn_in-turned-requires-clause-small c =
-    let few = few-ways c.args.self.now.geometry in
-    let w = c.args.self.now.width in
+pub turn_in-turned-requires-clause-short : goal.turn_in-turned-requires-clause-short
+turn_in-turned-requires-clause-short c =
+    let short = c.args.self.now.short in
+    let stride = c.sought-sought.ensures.stride in
     omega arith
 
 pub turn_in-turned-requires-clause-far : goal.turn_in-turned-requires-clause-far
@@ -32,70 +27,56 @@ unfolding rules_of
 turn_in-turned-requires-clause-far c =
     let wide = c.args.self.now.width in
     let from = c.min-from.ensures in
-    ∥∥₁_elim c.requires.behind le_prop (λ w.
-    let at = distance-turned c.args.self.now w.0 w.1 c.args.access c.block-block.ensures
-    c.set_of-set.ensures c.writes-write.ensures refl in
+    let e = c.sought-sought.ensures in
+    rw (e.stride, e.sets) (∥∥₁_elim c.requires.behind le_prop (λ w.
+    let at = distance-turned c.args.self.now w.0 w.1 c.args.access
+    (e.block ∙ c.requires.block) e.set c.writes-write.ensures refl in
     let before = w.2 in
-    omega arith)
+    omega arith))
 
 pub returns-clause-stands : goal.returns-clause-stands
 unfolding rules_of
-returns-clause-stands c = λ h st. record {
-  rows = rows-turned c.args.self.now h st c.args.access c.block-block.ensures
-      c.set_of-set.ensures c.writes-write.ensures
-      c.turn_in-turned.new.slots.items c.turn_in-turned.ensures.slots
-      c.turn_in-turned.ensures.others;
-}
+returns-clause-stands c = λ h st.
+    let old = c.args.self.now in
+    let g = old.geometry in
+    let e = c.sought-sought.ensures in
+    let turned = rw (e.stride, e.sets) at c.turn_in-turned.ensures in
+    record {
+      rows = rows-turned old h st c.args.access (e.block ∙ c.requires.block) e.set
+          c.writes-write.ensures
+          (λ t. slots_in (stride_of g) (sets_of g) t
+          (row old.ways t c.turn_in-turned.new.slots.items))
+          turned.slots
+          (λ t apart. ap (slots_in (stride_of g) (sets_of g) t)
+          (c.turn_in-turned.ensures.others t apart));
+    }
 
 pub returns-clause-moved : goal.returns-clause-moved
 unfolding rules_of found_in
-returns-clause-moved c = λ h st. record {
-  found = distance-turned c.args.self.now h st c.args.access c.block-block.ensures
-      c.set_of-set.ensures c.writes-write.ensures c.turn_in-turned.ensures.position;
-  backs = back-turned c.args.self.now h st c.args.access c.block-block.ensures
-      c.set_of-set.ensures c.writes-write.ensures
-      c.turn_in-turned.new.slots.items c.turn_in-turned.result.lost
-      c.turn_in-turned.ensures.slots c.turn_in-turned.ensures.lost;
-}
-
-pub invariant_of-self-clause-bytes : goal.invariant_of-self-clause-bytes
-invariant_of-self-clause-bytes c =
+returns-clause-moved c = λ h st.
     let old = c.args.self.now in
-    let g = old.geometry in
-    let lt = set-below old c.block-block.result c.set_of-set.ensures in
-    let addr = c.args.access.addr in
-    let down : addr / bsize_of g * bsize_of g ≤ addr = div-mul-le_self addr (bsize_of g) in
-    let fits : c.block-block.result * bsize_of g < 2 ^ 64 =
-    rw c.block-block.ensures (omega arith) in
-    bytes-next (bsize_of g) (sets_of g) old.ways c.block-block.result c.set_of-set.result
-    c.writes-write.result old.slots.items c.turn_in-turned.new.slots.items fits lt old.bytes
-    c.turn_in-turned.ensures.slots c.turn_in-turned.ensures.others
+    let e = c.sought-sought.ensures in
+    let turned = rw (e.stride, e.sets) at c.turn_in-turned.ensures in
+    record {
+      found = distance-turned old h st c.args.access (e.block ∙ c.requires.block) e.set
+          c.writes-write.ensures turned.position;
+      backs = back-turned old h st c.args.access (e.block ∙ c.requires.block) e.set
+          c.writes-write.ensures _ _ turned.slots turned.lost;
+    }
 
 pub invariant_of-self-clause-inside : goal.invariant_of-self-clause-inside
 invariant_of-self-clause-inside c =
-    set-below c.args.self.now c.block-block.result c.set_of-set.ensures
-
-pub invariant_of-self-clause-fits : goal.invariant_of-self-clause-fits
-invariant_of-self-clause-fits c =
-    let old = c.args.self.now in
-    let g = old.geometry in
-    let old-row = row old.ways c.set_of-set.result old.slots.items in
-    let lt = set-below old c.block-block.result c.set_of-set.ensures in
-    let long = row-whole old c.set_of-set.result lt in
-    let wide = old.width in
-    let some = (sane_of g).assoc_pos in
-    subst (λ (v : Slot). v.block * bsize_of g < 2 ^ 64) (sym c.turn_in-turned.ensures.lost)
-    (lost-fits (bsize_of g) (index_of (holds c.block-block.result) old-row) old-row (omega arith)
-    (old.bytes c.set_of-set.result lt))
+    set-below c.args.self.now c.sought-sought.result.block c.sought-sought.ensures.set
 
 pub note-requires-clause-distance : goal.note-requires-clause-distance
 note-requires-clause-distance c =
     let old = c.args.self.now in
-    let old-row = row old.ways c.set_of-set.result old.slots.items in
-    let long = row-whole old c.set_of-set.result
-    (set-below old c.block-block.result c.set_of-set.ensures) in
-    let low = index-le (holds c.block-block.result) old-row in
-    let is = c.turn_in-turned.ensures.position in
+    let s = c.sought-sought.result in
+    let e = c.sought-sought.ensures in
+    let turned = rw (e.stride, e.sets) at c.turn_in-turned.ensures in
+    let long = row-whole old s.set (set-below old s.block e.set) in
+    let low = index-le (holds s.block) (row_slots old s.set) in
+    let is = turned.position in
     let told = old.counted in
     omega arith
 
@@ -110,11 +91,13 @@ unfolding rules_of
 returns-clause-counted c = λ sizes h st low counted.
     let old = c.args.self.now in
     let x = c.args.access in
-    let turned = c.turn_in-turned.result in
-    counted-next (rules_of old) sizes h x old.histogram c.note.new.self turned.position
-    turned.clean c.args.level
-    (distance-turned old h st x c.block-block.ensures c.set_of-set.ensures
-    c.writes-write.ensures c.turn_in-turned.ensures.position)
-    (clean-turned old h st x c.block-block.ensures c.set_of-set.ensures
-    c.writes-write.ensures c.turn_in-turned.ensures.clean)
+    let result = c.turn_in-turned.result in
+    let e = c.sought-sought.ensures in
+    let turned = rw (e.stride, e.sets) at c.turn_in-turned.ensures in
+    counted-next (rules_of old) sizes h x old.histogram c.note.new.self result.position
+    result.clean c.args.level
+    (distance-turned old h st x (e.block ∙ c.requires.block) e.set c.writes-write.ensures
+    turned.position)
+    (clean-turned old h st x (e.block ∙ c.requires.block) e.set c.writes-write.ensures
+    turned.clean)
     low c.note.ensures.past c.note.ensures.first counted

@@ -26,6 +26,11 @@ use Rattle.grid_core.proofs.stacked.Stacked.serve.Goals as goal
 pub touch-requires : goal.touch-requires
 touch-requires c = within-events c.args.self.now c.args.self.now.leveled
 
+pub serve_rows-requires-clause-block : goal.serve_rows-requires-clause-block
+serve_rows-requires-clause-block c =
+    let old = c.args.self.now in
+    (bsize_of old.geometry, old.one_size, c.requires.block)
+
 pub serve_rows-requires-clause-levels : goal.serve_rows-requires-clause-levels
 serve_rows-requires-clause-levels c =
     let old = c.args.self.now in
