@@ -2,18 +2,16 @@
 use Rattle.std.proofs.Common.{◌≡◌, ℕ, zero, suc, ◌+◌, ◌*◌, ◌<◌, ◌≤◌, Bool, true, false, cond, ◌||◌}
 use Rattle.std.proofs.Common.{eqb, ltb, List, [], ◌∷◌, length, map, get_or, Contains, refl, sym, ap}
 use Rattle.std.proofs.Common.{subst, ◌∙◌, inl, inr, arith}
-use Rattle.std.specs.List.{AllByRecursion, dedup}
-use Rattle.std.specs.List.Sorted.{IsPermutation, IsSorted, IsStrictlySortedBy}
-use Rattle.std.specs.Ordering.{nat_cmp}
-use Rattle.std.specs.declared.cmp.Ordering.TheVariants.{Less, Equal, Greater}
+use Rattle.std.specs.List.{dedup}
+use Rattle.std.specs.List.Sorted.{IsPermutation, IsStrictlyIncreasing}
 use Rattle.std.proofs.Math.Nat.{mul-le-mul_right}
 use Rattle.std.proofs.lemmas.Bool.{eqb-true, eq-eqb, eqb-false, false≢true, or_left, or_right}
 use Rattle.std.proofs.lemmas.Bool.{or_cases, false_from_ne_true, ltb-true, ltb-false}
 use Rattle.std.proofs.lemmas.List.Sorted.{Contains-permutation, IsPermutation-sym}
-use Rattle.std.proofs.lemmas.List.Kept.{Contains-dedup_nat, Contains-from_dedup}
-use Rattle.std.proofs.lemmas.Map.Keys.{sorted_from_strictly_increasing, IsStrictlyIncreasing-dedup}
+use Rattle.std.proofs.lemmas.List.Kept.{AllPairs-from_increasing, Contains-dedup_nat}
+use Rattle.std.proofs.lemmas.List.Kept.{Contains-from_dedup}
+use Rattle.std.proofs.lemmas.List.{get_or-map, length-map}
 use Rattle.cache_core.specs.Dirty.{inserted, rising}
-use Rattle.cache_core.specs.Laws.{IsBelow, Rises}
 use Rattle.cache_core.proofs.Reuse.{has}
 use Rattle.cache_core.proofs.Cases.{by_cases}
 
@@ -23,24 +21,42 @@ same_test true b f g = sym (f refl)
 same_test false true f g = g refl
 same_test false false f g = refl
 
-below-has : (x : ℕ) (ys : List ℕ) → IsBelow x ys → (z : ℕ) → has ys z ≡ true → x < z
-below-has x [] b z h = cc
-below-has x (y ∷ ys) b z h = elim (or_cases (eqb y z) (has ys z) h) [
-  | inl e ↦ subst (λ v. x < v) (eqb-true y z e) b.0
-  | inr t ↦ below-has x ys b.1 z t
+-- `has` and `Contains` say the same
+contains-has : (xs : List ℕ) (z : ℕ) → has xs z ≡ true → Contains xs z
+contains-has [] z h = cc
+contains-has (x ∷ xs) z h = elim (or_cases (eqb x z) (has xs z) h) [
+  | inl e ↦ (0, omega arith, eqb-true x z e)
+  | inr t ↦ let c = contains-has xs z t in (suc c.0, (let l = c.1 in omega arith), c.2)
 ]
 
-below-less : (w x : ℕ) (ys : List ℕ) → w < x → IsBelow x ys → IsBelow w ys
-below-less w x [] l b = tt
-below-less w x (y ∷ ys) l b = (let lt = b.0 in omega arith, below-less w x ys l b.1)
+-- the first of a rising list is below each other member
+first-below : (x : ℕ) (ys : List ℕ) → IsStrictlyIncreasing (x ∷ ys) → (z : ℕ) → has ys z ≡ true
+    → x < z
+first-below x ys r z h = let c = contains-has ys z h in
+    subst (λ v. x < v) c.2 (AllPairs-from_increasing (x ∷ ys) r zero (suc c.0) z (omega arith)
+    (let l = c.1 in omega arith))
 
--- a number below all of a list is not in it
-pub not-itself : (x : ℕ) (ys : List ℕ) → IsBelow x ys → has ys x ≡ false
-not-itself x ys b = false_from_ne_true (has ys x) (λ h. let lt = below-has x ys b x h in
+-- and the others rise
+pub rest-rises : (x : ℕ) (ys : List ℕ) → IsStrictlyIncreasing (x ∷ ys) → IsStrictlyIncreasing ys
+rest-rises x ys r k l =
+    AllPairs-from_increasing (x ∷ ys) r (suc k) (suc (k + 1)) 0 (omega arith) (omega arith)
+
+-- a rising list rises from a number before it that is below all its members
+rises-after : (x : ℕ) (ys : List ℕ) → ((z : ℕ) → has ys z ≡ true → x < z)
+    → IsStrictlyIncreasing ys → IsStrictlyIncreasing (x ∷ ys)
+rises-after x [] below r k l = absurd (omega arith)
+rises-after x (y ∷ ys) below r zero l = below y (or_left (eqb y y) (has ys y) (eq-eqb y y refl))
+rises-after x (y ∷ ys) below r (suc k) l = let e : suc (k + 1) ≡ suc k + 1 = omega arith in
+    subst (λ n. get_or (y ∷ ys) k 0 < get_or (x ∷ y ∷ ys) n 0) e (r k (omega arith))
+
+-- the first of a rising list is not in it again
+pub not-itself : (x : ℕ) (ys : List ℕ) → IsStrictlyIncreasing (x ∷ ys) → has ys x ≡ false
+not-itself x ys r = false_from_ne_true (has ys x) (λ h. let lt = first-below x ys r x h in
     absurd (omega arith))
 
 -- two rising lists with the same members are the same list
-pub same-rising : (xs ys : List ℕ) → Rises xs → Rises ys → ((z : ℕ) → has xs z ≡ has ys z) → xs ≡ ys
+pub same-rising : (xs ys : List ℕ) → IsStrictlyIncreasing xs → IsStrictlyIncreasing ys
+    → ((z : ℕ) → has xs z ≡ has ys z) → xs ≡ ys
 same-rising [] [] a b same = refl
 same-rising [] (y ∷ ys) a b same =
     absurd (false≢true (same y ∙ or_left (eqb y y) (has ys y) (eq-eqb y y refl)))
@@ -55,48 +71,20 @@ same-rising (x ∷ xs) (y ∷ ys) a b same =
       | inl e ↦ sym (eqb-true y x e)
       | inr t ↦ elim (or_cases (eqb x y) (has xs y) in_x) [
         | inl e ↦ eqb-true x y e
-        | inr u ↦ let up = below-has y ys b.0 x t in let down = below-has x xs a.0 y u in
+        | inr u ↦ let up = first-below y ys b x t in let down = first-below x xs a y u in
             absurd (omega arith)
       ]
     ] in
     let tails : (z : ℕ) → has xs z ≡ has ys z = λ z.
     by_cases (eqb x z)
     (λ e. let here : x ≡ z = eqb-true x z e in
-    subst (λ v. has xs v ≡ false) here (not-itself x xs a.0)
-    ∙ sym (subst (λ v. has ys v ≡ false) (sym head ∙ here) (not-itself y ys b.0)))
+    subst (λ v. has xs v ≡ false) here (not-itself x xs a)
+    ∙ sym (subst (λ v. has ys v ≡ false) (sym head ∙ here) (not-itself y ys b)))
     (λ e. let whole : (eqb x z || has xs z) ≡ (eqb y z || has ys z) = same z in
     let other : eqb y z ≡ false = subst (λ v. eqb v z ≡ false) head e in
     sym (ap (λ t. t || has xs z) e) ∙ whole ∙ ap (λ t. t || has ys z) other) in
-    ap (λ v. v ∷ xs) head ∙ ap (λ l. y ∷ l) (same-rising xs ys a.1 b.1 tails)
-
--- the list `rising` is strictly ascending
-below-inserted : (w x : ℕ) (ys : List ℕ) → w < x → IsBelow w ys → IsBelow w (inserted x ys)
-below-inserted w x [] l b = (l, tt)
-below-inserted w x (y ∷ ys) l b =
-    (elim (ltb x y) as (λ t. IsBelow w
-    (cond t (x ∷ y ∷ ys) (cond (eqb x y) (y ∷ ys) (y ∷ inserted x ys)))) [
-      | true ↦ (l, b)
-      | false ↦ (elim (eqb x y) as (λ t. IsBelow w (cond t (y ∷ ys) (y ∷ inserted x ys)))
-          [ true ↦ b | false ↦ (b.0, below-inserted w x ys l b.1) ])
-    ])
-
-rises-inserted : (x : ℕ) (ys : List ℕ) → Rises ys → Rises (inserted x ys)
-rises-inserted x [] r = (tt, tt)
-rises-inserted x (y ∷ ys) r = (elim (ltb x y) as (λ t. ltb x y ≡ t
-    → Rises (cond t (x ∷ y ∷ ys) (cond (eqb x y) (y ∷ ys) (y ∷ inserted x ys)))) [
-      | true ↦ λ e. let l = ltb-true x y e in ((l, below-less x y ys l r.0), r)
-      | false ↦ λ e. (elim (eqb x y) as (λ t. eqb x y ≡ t
-          → Rises (cond t (y ∷ ys) (y ∷ inserted x ys))) [
-            | true ↦ λ f. r
-            | false ↦ λ f. let le = ltb-false x y e in let ne = eqb-false x y f in
-                (below-inserted y x ys (omega arith) r.0, rises-inserted x ys r.1)
-          ]) refl
-    ]) refl
-
--- `rising` makes a list that rises
-pub rises-rising : (xs : List ℕ) → Rises (rising xs)
-rises-rising [] = tt
-rises-rising (x ∷ xs) = rises-inserted x (rising xs) (rises-rising xs)
+    ap (λ v. v ∷ xs) head ∙ ap (λ l. y ∷ l)
+    (same-rising xs ys (rest-rises x xs a) (rest-rises y ys b) tails)
 
 swap-left : (a b c : Bool) → (a || (b || c)) ≡ (b || (a || c))
 swap-left true true c = refl
@@ -124,31 +112,53 @@ has-inserted x (y ∷ ys) z = (elim (ltb x y) as (λ t.
           ]) refl
     ])
 
+-- a rising list in which a number is inserted rises
+rises-inserted : (x : ℕ) (ys : List ℕ) → IsStrictlyIncreasing ys
+    → IsStrictlyIncreasing (inserted x ys)
+rises-inserted x [] r = rises-after x [] (λ z h. absurd (false≢true h)) r
+rises-inserted x (y ∷ ys) r = (elim (ltb x y) as (λ t. ltb x y ≡ t
+    → IsStrictlyIncreasing (cond t (x ∷ y ∷ ys) (cond (eqb x y) (y ∷ ys) (y ∷ inserted x ys)))) [
+      | true ↦ λ e. let l = ltb-true x y e in
+          rises-after x (y ∷ ys) (λ z h. elim (or_cases (eqb y z) (has ys z) h) [
+            | inl s ↦ subst (λ v. x < v) (eqb-true y z s) l
+            | inr t ↦ let up = first-below y ys r z t in omega arith
+          ]) r
+      | false ↦ λ e. (elim (eqb x y) as (λ t. eqb x y ≡ t
+          → IsStrictlyIncreasing (cond t (y ∷ ys) (y ∷ inserted x ys))) [
+            | true ↦ λ f. r
+            | false ↦ λ f. let le = ltb-false x y e in let ne = eqb-false x y f in
+                rises-after y (inserted x ys) (λ z h.
+                elim (or_cases (eqb x z) (has ys z) (sym (has-inserted x ys z) ∙ h)) [
+                  | inl s ↦ subst (λ v. y < v) (eqb-true x z s) (omega arith)
+                  | inr t ↦ first-below y ys r z t
+                ]) (rises-inserted x ys (rest-rises y ys r))
+          ]) refl
+    ]) refl
+
+-- `rising` makes a list that rises
+pub rises-rising : (xs : List ℕ) → IsStrictlyIncreasing (rising xs)
+rises-rising [] = λ k l. absurd (omega arith)
+rises-rising (x ∷ xs) = rises-inserted x (rising xs) (rises-rising xs)
+
 -- with the same members
 pub has-rising : (xs : List ℕ) (z : ℕ) → has (rising xs) z ≡ has xs z
 has-rising [] z = refl
 has-rising (x ∷ xs) z = has-inserted x (rising xs) z ∙ ap (λ t. eqb x z || t) (has-rising xs z)
 
-below-times : (n x : ℕ) (ys : List ℕ) → 0 < n → IsBelow x ys → IsBelow (x * n) (map (λ b. b * n) ys)
-below-times n x [] p b = tt
-below-times n x (y ∷ ys) p b = (
-  let l = b.0 in let m : (x + 1) * n ≤ y * n = mul-le-mul_right n (omega arith) in
-      omega arith,
-  below-times n x ys p b.1,
-)
-
 -- the multiples of a rising list rise
-pub rises-times : (n : ℕ) (xs : List ℕ) → 0 < n → Rises xs → Rises (map (λ b. b * n) xs)
-rises-times n [] p r = tt
-rises-times n (x ∷ xs) p r = (below-times n x xs p r.0, rises-times n xs p r.1)
-
--- `has` and `Contains` say the same
-contains-has : (xs : List ℕ) (z : ℕ) → has xs z ≡ true → Contains xs z
-contains-has [] z h = cc
-contains-has (x ∷ xs) z h = elim (or_cases (eqb x z) (has xs z) h) [
-  | inl e ↦ (0, omega arith, eqb-true x z e)
-  | inr t ↦ let c = contains-has xs z t in (suc c.0, (let l = c.1 in omega arith), c.2)
-]
+pub rises-times : (n : ℕ) (xs : List ℕ) → 0 < n → IsStrictlyIncreasing xs
+    → IsStrictlyIncreasing (map (λ b. b * n) xs)
+rises-times n xs p r k l =
+    let long = length-map xs (λ b. b * n) in
+    let x = get_or xs k 0 in
+    let y = get_or xs (k + 1) 0 in
+    let lt : x < y = r k (omega arith) in
+    let m : (x + 1) * n ≤ y * n = mul-le-mul_right n (omega arith) in
+    let a : get_or (map (λ b. b * n) xs) k 0 ≡ x * n =
+    get_or-map (λ b. b * n) xs k 0 0 (omega arith) in
+    let b : get_or (map (λ b. b * n) xs) (k + 1) 0 ≡ y * n =
+    get_or-map (λ b. b * n) xs (k + 1) 0 0 (omega arith) in
+    omega arith
 
 -- what stands at an index is a member
 pub has-at : (xs : List ℕ) (z k : ℕ) → k < length xs → get_or xs k z ≡ z → has xs z ≡ true
@@ -171,27 +181,3 @@ pub has-dedup : (xs : List ℕ) (z : ℕ) → has (dedup eqb xs) z ≡ has xs z
 has-dedup xs z = same_test (has (dedup eqb xs) z) (has xs z)
     (λ h. has-contains xs z (Contains-from_dedup eqb xs z (contains-has (dedup eqb xs) z h)))
     (λ h. has-contains (dedup eqb xs) z (Contains-dedup_nat xs z (contains-has xs z h)))
-
-less-is : (x y : ℕ) → nat_cmp x y ≡ Less → x < y
-less-is x y e = (elim (ltb x y) as (λ t. ltb x y ≡ t
-    → cond t Less (cond (eqb x y) Equal Greater) ≡ Less → x < y) [
-      | true ↦ λ q g. ltb-true x y q
-      | false ↦ λ q g. absurd (never (eqb x y) g)
-    ]) refl e where
-      never : (t : Bool) → cond t Equal Greater ≡ Less → ⊥
-      never true h = cc
-      never false h = cc
-
-below-from : (x : ℕ) (ys : List ℕ) → AllByRecursion (λ y. nat_cmp x y ≡ Less) ys → IsBelow x ys
-below-from x [] a = tt
-below-from x (y ∷ ys) a = (less-is x y a.0, below-from x ys a.1)
-
-rises-from : (xs : List ℕ) → IsStrictlySortedBy nat_cmp xs → Rises xs
-unfolding IsStrictlySortedBy
-rises-from [] s = tt
-rises-from (x ∷ xs) s = (below-from x xs s.0, rises-from xs s.1)
-
--- a sorted list is strictly ascending after `dedup`
-pub rises-dedup : (xs : List ℕ) → IsSorted nat_cmp xs → Rises (dedup eqb xs)
-rises-dedup xs s = rises-from (dedup eqb xs)
-    (sorted_from_strictly_increasing (dedup eqb xs) (IsStrictlyIncreasing-dedup xs s))

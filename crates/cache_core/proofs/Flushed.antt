@@ -9,6 +9,7 @@ use Rattle.std.proofs.Math.Nat.{mod-lt}
 use Rattle.std.proofs.lemmas.Bool.{eqb-true, eq-eqb, false≢true, or_left, or_right, or_cases}
 use Rattle.std.proofs.lemmas.Bool.{and_parts, and_from, true_from_ne_false}
 use Rattle.std.proofs.lemmas.List.{length-drop, drop-drop}
+use Rattle.std.proofs.lemmas.Map.Keys.{IsStrictlyIncreasing-dedup}
 use Rattle.cache_core.specs.declared.ways.Way.{Way}
 use Rattle.cache_core.specs.History.{Rules, History}
 use Rattle.cache_core.specs.Residents.{renewals, is_resident}
@@ -19,7 +20,7 @@ use Rattle.cache_core.proofs.Reuse.{has, has-ways_of, has-take, has-filter}
 use Rattle.cache_core.proofs.Turns.{absent}
 use Rattle.cache_core.proofs.Victim.{resident-renewed}
 use Rattle.cache_core.proofs.Ascending.{same_test, same-rising, rises-rising, has-rising}
-use Rattle.cache_core.proofs.Ascending.{rises-times, has-permutation, has-dedup, rises-dedup}
+use Rattle.cache_core.proofs.Ascending.{rises-times, has-permutation, has-dedup}
 
 -- whether some dirty way has this first byte
 abbrev holds_dirty : ℕ → Way → Bool
@@ -221,7 +222,7 @@ module _ (r : Rules) (pos : 0 < r.bsize) (setful : 0 < r.sets) (h : History) (xs
   pub flushed-is : (ys : List ℕ) → IsPermutation block_addrs ys → IsSorted nat_cmp ys
       → dedup eqb ys ≡ wanted
   unfolding dirty_blocks
-  flushed-is ys p s = same-rising (dedup eqb ys) wanted (rises-dedup ys s)
+  flushed-is ys p s = same-rising (dedup eqb ys) wanted (IsStrictlyIncreasing-dedup ys s)
       (rises-times r.bsize (dirty_blocks r h) pos (rises-rising (filter (is_dirty r h) ms)))
       (λ z. has-dedup ys z ∙ has-permutation block_addrs ys z p
       ∙ same_test (has block_addrs z) (has wanted z) (here-wanted z) (wanted-here z))

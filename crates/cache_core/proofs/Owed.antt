@@ -3,6 +3,7 @@ use Rattle.std.proofs.Common.{◌≡◌, ℕ, zero, suc, ◌+◌, ◌*◌, ◌%�
 use Rattle.std.proofs.Common.{◌&&◌, ◌||◌, eqb, ltb, List, [], ◌∷◌, length, take, filter, Option}
 use Rattle.std.proofs.Common.{Some, None, is_some, inl, inr, refl, sym, ap, subst, ◌∙◌, arith}
 use Rattle.std.specs.List.{find}
+use Rattle.std.specs.List.Sorted.{IsStrictlyIncreasing}
 use Rattle.std.proofs.lemmas.Bool.{eqb-true, eq-eqb, false≢true, or_left, or_right, or_cases}
 use Rattle.std.proofs.lemmas.Bool.{and_parts, and_from, ltb-true, lt-ltb, not-true}
 use Rattle.std.proofs.lemmas.Bool.{false_from_ne_true}
@@ -12,11 +13,10 @@ use Rattle.cache_core.specs.Residents.{hits, uses, renews, renewals, is_resident
 use Rattle.cache_core.specs.Dirty.{is_written, is_dirty, dirty_blocks}
 use Rattle.cache_core.specs.Parts.{dirty_victim, outcome_of, part_count}
 use Rattle.cache_core.specs.Order.{ranked}
-use Rattle.cache_core.specs.Laws.{Rises}
 use Rattle.cache_core.proofs.AtAccess.{at_access}
 use Rattle.cache_core.proofs.Reuse.{has, has-take}
 use Rattle.cache_core.proofs.Shift.{IsOnce}
-use Rattle.cache_core.proofs.Ascending.{not-itself, rises-rising, has-rising}
+use Rattle.cache_core.proofs.Ascending.{not-itself, rest-rises, rises-rising, has-rising}
 use Rattle.cache_core.proofs.Flushed.{has-filter_both, filter-has}
 use Rattle.cache_core.proofs.Turns.{renewals-yes, renewals-no, block-hit}
 use Rattle.cache_core.proofs.Victim.{resident-renewed, no-way, elsewhere, front-is, later-is}
@@ -24,9 +24,9 @@ use Rattle.cache_core.proofs.Victim.{lru-same}
 use Rattle.cache_core.proofs.Members.{as_many}
 use Rattle.cache_core.proofs.Cases.{by_cases}
 
-rises-once : (xs : List ℕ) → Rises xs → IsOnce xs
+rises-once : (xs : List ℕ) → IsStrictlyIncreasing xs → IsOnce xs
 rises-once [] r = tt
-rises-once (x ∷ xs) r = (not-itself x xs r.0, rises-once xs r.1)
+rises-once (x ∷ xs) r = (not-itself x xs r, rises-once xs (rest-rises x xs r))
 
 take-mono : (m y : ℕ) (l : List ℕ) → has (take m l) y ≡ true → has (take (suc m) l) y ≡ true
 take-mono m y l h = let p = and_parts (has l y) (ltb _ m) (sym (has-take m l y) ∙ h) in

@@ -1,8 +1,9 @@
 -- Laws: properties that follow from the definitions alone.
-use Rattle.std.specs.Prelude.{◌≡◌, ◌≢◌, ℕ, ◌+◌, ◌%◌, ◌<◌, ◌≤◌, ◌==◌}
-use Rattle.std.specs.Prelude.{true, false, List, [], ◌∷◌}
+use Rattle.std.specs.Prelude.{◌≡◌, ◌≢◌, ℕ, ◌+◌, ◌%◌, ◌≤◌, ◌==◌}
+use Rattle.std.specs.Prelude.{true, false, [], ◌∷◌}
 use Rattle.std.specs.Prelude.{length, Some, is_some}
 use Rattle.std.specs.List.{list_any}
+use Rattle.std.specs.List.Sorted.{IsStrictlyIncreasing}
 use Rattle.cache_core.specs.declared.access.Access.{Access}
 use Rattle.cache_core.specs.declared.access.MissKind.TheVariants.{Conflict}
 use Rattle.cache_core.specs.History.{Event, access, flush, History, Rules, is_write}
@@ -59,19 +60,9 @@ PartsAreCharged = (r : Rules) (h : History) (x : Access) →
 abbrev pub FlushesLeaveNoneDirty : Type 0
 FlushesLeaveNoneDirty = (r : Rules) (h : History) → dirty_blocks r (flush ∷ h) ≡ []
 
--- the number is below all numbers of the list
-abbrev pub IsBelow : ℕ → List ℕ → Type 0
-IsBelow x [] = Unit {0}
-IsBelow x (y ∷ ys) = (x < y) × IsBelow x ys
-
--- each number of the list is below all that follow it
-abbrev pub Rises : List ℕ → Type 0
-Rises [] = Unit {0}
-Rises (x ∷ xs) = IsBelow x xs × Rises xs
-
 -- the list of the dirty blocks is strictly ascending, so no block is in it twice
 abbrev pub DirtyBlocksRise : Type 0
-DirtyBlocksRise = (r : Rules) (h : History) → Rises (dirty_blocks r h)
+DirtyBlocksRise = (r : Rules) (h : History) → IsStrictlyIncreasing (dirty_blocks r h)
 
 -- the list of the dirty blocks has exactly the blocks that are dirty
 abbrev pub DirtyBlocksAreDirty : Type 0

@@ -3,6 +3,7 @@ use Rattle.std.proofs.Common.{◌≡◌, ℕ, suc, ◌/◌, Bool, false, not, �
 use Rattle.std.proofs.Common.{◌∷◌, drop}
 use Rattle.std.proofs.Common.{length, get_or, map, refl, sym, ap, subst, ◌∙◌}
 use Rattle.std.specs.List.{All, list_any}
+use Rattle.std.specs.List.Sorted.{IsStrictlyIncreasing}
 use Rattle.std.proofs.lemmas.List.{length-map}
 use Rattle.cache_core.specs.declared.geometry.Geometry.{Geometry}
 use Rattle.cache_core.specs.declared.access.Access.{Access}
@@ -14,7 +15,6 @@ use Rattle.cache_core.specs.Counts.{counts_of, none_by_class, tally}
 use Rattle.cache_core.specs.Counting.{with_one}
 use Rattle.cache_core.proofs.Nothing.{renewals-flush}
 use Rattle.marked_list.specs.Recency.{is_among, level_of, brought_front}
-use Rattle.marked_list.specs.Laws.{IsRising}
 use Rattle.marked_list.proofs.LevelLaws.{level-tells, shadow-holds, front-brought}
 use Rattle.grid_core.specs.declared.cells.Shape.{Shape}
 use Rattle.grid_core.specs.declared.shadows.Shadows.{Shadows}
@@ -54,7 +54,7 @@ module _ (g : Geometry) (h : History) (x : Access) where
   ys = distinct (renewals (shadow_of r) h)
 
   -- the level of the block tells whether the shadow of a cache hits
-  pub near-is : (sizes : List ℕ) → IsRising sizes → (s : Shape) → IsRanked sizes g s
+  pub near-is : (sizes : List ℕ) → IsStrictlyIncreasing sizes → (s : Shape) → IsRanked sizes g s
       → not (ltb s.rank (level_of sizes ys b))
       ≡ hits (shadow_of (shape_rules s)) (renewals (shadow_of (shape_rules s)) h) x
   near-is sizes rising s ranked =
@@ -70,8 +70,8 @@ module _ (g : Geometry) (h : History) (x : Access) where
       ∙ sym (shadow-holds q ms (block_of q x))
 
   -- what the shadows and the known blocks tell of an access, for each cache
-  pub prior-known : (sizes : List ℕ) → IsRising sizes → (known : ℕ → Bool) (p : PriorLevel)
-      → p.known ≡ known b → p.level ≡ level_of sizes ys b
+  pub prior-known : (sizes : List ℕ) → IsStrictlyIncreasing sizes → (known : ℕ → Bool)
+      (p : PriorLevel) → p.known ≡ known b → p.level ≡ level_of sizes ys b
       → ((c : ℕ) → known c ≡ list_any (λ t. t == c) (referenced_blocks r h))
       → (s : Shape) → IsRanked sizes g s → KnowsPrior s h x p
   prior-known sizes rising known p was level noted s ranked =
@@ -89,9 +89,10 @@ module _ (g : Geometry) (h : History) (x : Access) where
   referenced-next c = refl
 
   -- so it is known for each shape
-  pub shapes-prior : (sizes : List ℕ) → IsRising sizes → (stacks : List Stack) (shadows : Shadows)
-      (first : List Shape) (p : PriorLevel) → IsAfter g stacks shadows first h
-      → p.known ≡ is_known shadows b → ((zs : List ℕ) → HoldsOrder shadows zs
+  pub shapes-prior : (sizes : List ℕ) → IsStrictlyIncreasing sizes → (stacks : List Stack)
+      (shadows : Shadows) (first : List Shape) (p : PriorLevel)
+      → IsAfter g stacks shadows first h → p.known ≡ is_known shadows b
+      → ((zs : List ℕ) → HoldsOrder shadows zs
       → p.level ≡ level_of sizes zs b) → (shapes : List Shape) → All (IsRanked sizes g) shapes
       → All (λ s. KnowsPrior s h x p) shapes
   shapes-prior sizes rising stacks shadows first p st was level shapes ranked k d lt =

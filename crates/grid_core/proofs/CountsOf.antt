@@ -1,6 +1,7 @@
 -- All counts of a cache, by what its rows have counted.
 use Rattle.std.proofs.Common.{◌≡◌, ℕ, ◌+◌, ◌<◌, Bool, true, false, not, ◌&&◌, ltb, List}
 use Rattle.std.proofs.Common.{length, get_or, refl, sym, ap, ◌∙◌, arith}
+use Rattle.std.specs.List.Sorted.{IsStrictlyIncreasing}
 use Rattle.std.proofs.lemmas.Bool.Decides.{nat_tests}
 use Rattle.std.proofs.lemmas.List.{get_or-map}
 use Rattle.cache_core.specs.declared.access.Access.{Access}
@@ -11,7 +12,6 @@ use Rattle.cache_core.specs.declared.counts.PerClass.{PerClass}
 use Rattle.cache_core.specs.Counts.{by_class, counts_of, none_by_class}
 use Rattle.cache_core.specs.Residents.{distinct, renewals}
 use Rattle.cache_core.specs.Kinds.{shadow_of}
-use Rattle.marked_list.specs.Laws.{IsRising}
 use Rattle.marked_list.specs.Recency.{level_of}
 use Rattle.grid_core.specs.declared.cells.Alike.{Alike}
 use Rattle.grid_core.specs.declared.cells.Shape.{Shape}
@@ -39,8 +39,8 @@ and-true : (t : Bool) → (t && true) ≡ t
 and-true true = refl
 and-true false = refl
 
-module _ (g : Geometry) (sizes : List ℕ) (rising : IsRising sizes) (t : Stack) (s : Shape)
-    (ranked : IsRanked sizes g s) (on : IsPlacedOn (rules_of t) s) (h : History)
+module _ (g : Geometry) (sizes : List ℕ) (rising : IsStrictlyIncreasing sizes) (t : Stack)
+    (s : Shape) (ranked : IsRanked sizes g s) (on : IsPlacedOn (rules_of t) s) (h : History)
     (counted : IsCountedIn sizes h t) where
   abbrev r : Rules
   r = rules_of t

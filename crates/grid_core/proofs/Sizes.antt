@@ -3,27 +3,25 @@ use Rattle.std.proofs.Common.{◌≡◌, ℕ, zero, suc, ◌<◌, ◌==◌, true
 use Rattle.std.proofs.Common.{List, [], ◌∷◌, length, get_or, map, refl, sym, ap, subst, ◌∙◌}
 use Rattle.std.proofs.Common.{inl, inr, arith}
 use Rattle.std.specs.List.{All, dedup}
-use Rattle.std.specs.List.Sorted.{IsPermutation, IsSorted}
+use Rattle.std.specs.List.Sorted.{IsPermutation, IsSorted, IsStrictlyIncreasing}
 use Rattle.std.specs.Ordering.{nat_cmp}
 use Rattle.std.proofs.lemmas.Bool.{eqb-true, eq-eqb, or_cases, or_left, or_right}
 use Rattle.std.proofs.lemmas.List.Elements.{All-nil, All-cons, All-head, All-tail, All-map}
+use Rattle.std.proofs.lemmas.Map.Keys.{IsStrictlyIncreasing-dedup}
 use Rattle.cache_core.specs.declared.geometry.Geometry.{Geometry}
 use Rattle.cache_core.specs.Geometry.{blocks_of}
-use Rattle.cache_core.specs.Laws.{Rises}
-use Rattle.cache_core.proofs.Ascending.{has-permutation, has-dedup, rises-dedup}
+use Rattle.cache_core.proofs.Ascending.{has-permutation, has-dedup}
 use Rattle.cache_core.proofs.Ascending.{same-rising, rises-rising, has-rising}
 use Rattle.cache_core.specs.Dirty.{rising}
 use Rattle.cache_core.proofs.Reuse.{has}
 use Rattle.cache_core.proofs.Cases.{by_cases}
 use Rattle.cache_core.proofs.Lawful.{sane_of}
-use Rattle.marked_list.specs.Laws.{IsRising}
-use Rattle.marked_list.proofs.Rising.{rises-stepwise}
 use Rattle.marked_list.specs.Recency.{index_of}
 use Rattle.grid_core.specs.Shapes.{has_size}
 
 -- a list that is its own rising list rises
-pub rising-is : (xs : List ℕ) → rising xs ≡ xs → IsRising xs
-rising-is xs e = rises-stepwise xs (subst Rises e (rises-rising xs))
+pub rising-is : (xs : List ℕ) → rising xs ≡ xs → IsStrictlyIncreasing xs
+rising-is xs e = subst IsStrictlyIncreasing e (rises-rising xs)
 
 has-get : (xs : List ℕ) (k d : ℕ) → k < length xs → has xs (get_or xs k d) ≡ true
 has-get [] k d lt = absurd (omega arith)
@@ -54,7 +52,8 @@ module _ (gs : List Geometry) (xs ys : List ℕ) (is : xs ≡ map (λ g. blocks_
     (p : IsPermutation xs ys) (s : IsSorted nat_cmp ys) where
   pub sizes-rise : rising (dedup nat_eq ys) ≡ dedup nat_eq ys
   sizes-rise = same-rising (rising (dedup nat_eq ys)) (dedup nat_eq ys)
-      (rises-rising (dedup nat_eq ys)) (rises-dedup ys s) (has-rising (dedup nat_eq ys))
+      (rises-rising (dedup nat_eq ys)) (IsStrictlyIncreasing-dedup ys s)
+      (has-rising (dedup nat_eq ys))
 
   same : (z : ℕ) → has (dedup nat_eq ys) z ≡ has (map (λ g. blocks_of g) gs) z
   same z = has-dedup ys z ∙ has-permutation xs ys z p ∙ ap (λ l. has l z) is

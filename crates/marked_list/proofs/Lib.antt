@@ -4,7 +4,6 @@ pub mod Stamps
 pub mod Passing
 pub mod Counted
 pub mod LevelLaws
-pub mod Rising
 pub mod Windows
 pub mod MarkSteps
 pub mod Latest

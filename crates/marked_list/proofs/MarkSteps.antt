@@ -4,10 +4,10 @@ use Rattle.std.proofs.Common.{cond, List}
 use Rattle.std.proofs.Common.{[], length, map, drop, get_or, set, Option, sym, ap, subst, ◌∙◌, refl}
 use Rattle.std.proofs.Common.{arith}
 use Rattle.std.proofs.Common.{below_more, get_or-set_same, get_or-set_other, add-one, drop-cons}
+use Rattle.std.specs.List.Sorted.{IsStrictlyIncreasing}
 use Rattle.std.proofs.lemmas.List.{get_or_default}
 use Rattle.std.proofs.lemmas.Bool.{le-ltb}
 use Rattle.cache_core.proofs.Shift.{IsOnce}
-use Rattle.marked_list.specs.Laws.{IsRising}
 use Rattle.marked_list.specs.declared.marks.Mark.{Mark}
 use Rattle.marked_list.specs.Uses.{dead, last_in, living, used_next}
 use Rattle.marked_list.specs.Recency.{is_among, index_of, level_of}
@@ -56,7 +56,7 @@ module _ (last : Option ℕ) where
 
 -- of rising sizes, the marks from the level on stay where they are
 pub rest-stays : (ms : List ℕ) (b : ℕ) → b ≢ dead → IsOnce (living ms) → (ks : List Mark)
-    → IsRising (map size_of ks) → AreMarks ms ks
+    → IsStrictlyIncreasing (map size_of ks) → AreMarks ms ks
     → (k : ℕ) → index_of (λ (z : Mark). covers z.place (last_in ms b)) ks ≤ k → k < length ks
     → IsMark (used_next b ms) (get_or ks k no_mark)
 rest-stays ms b low once ks rising are k le lt =

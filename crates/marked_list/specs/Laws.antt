@@ -1,16 +1,13 @@
 -- What the level of a block says.
-use Rattle.std.specs.Prelude.{◌≡◌, ℕ, ◌+◌, ◌<◌, true, not, ◌&&◌, ◌==◌, nat_lt, List, ◌∷◌, length}
+use Rattle.std.specs.Prelude.{◌≡◌, ℕ, ◌<◌, true, not, ◌&&◌, ◌==◌, nat_lt, List, ◌∷◌, length}
 use Rattle.std.specs.Prelude.{get_or}
 use Rattle.std.specs.List.{list_any}
+use Rattle.std.specs.List.Sorted.{IsStrictlyIncreasing}
 use Rattle.cache_core.specs.declared.access.Access.{Access}
 use Rattle.cache_core.specs.History.{Rules, History, access, block_of}
 use Rattle.cache_core.specs.Residents.{distinct, before, hits, renewals}
 use Rattle.cache_core.specs.Kinds.{shadow_of}
 use Rattle.marked_list.specs.Recency.{is_among, level_of, brought_front}
-
--- each is larger than the one before it
-abbrev pub IsRising : List ℕ → Type 0
-IsRising ns = (i : ℕ) → i + 1 < length ns → get_or ns i 0 < get_or ns (i + 1) 0
 
 -- a size holds a block just if the block was used, and fewer other blocks than the size says were
 -- used after it
@@ -20,13 +17,14 @@ SizesHoldByDistance = (ys : List ℕ) (b size : ℕ) → is_among b ys size
 
 -- of rising sizes, those that hold a block are those from its level on
 abbrev pub LevelsTellSizes : Type 0
-LevelsTellSizes = (sizes : List ℕ) → IsRising sizes → (ys : List ℕ) (b j : ℕ) → j < length sizes →
+LevelsTellSizes = (sizes : List ℕ) → IsStrictlyIncreasing sizes →
+    (ys : List ℕ) (b j : ℕ) → j < length sizes →
     is_among b ys (get_or sizes j 0) ≡ not (nat_lt j (level_of sizes ys b))
 
 -- of rising sizes, let one be a cache's number of blocks: the cache's shadow hits just if the level
 -- is not above that size's index
 abbrev pub LevelsTellShadowHits : Type 0
-LevelsTellShadowHits = (sizes : List ℕ) → IsRising sizes → (j : ℕ) → j < length sizes →
+LevelsTellShadowHits = (sizes : List ℕ) → IsStrictlyIncreasing sizes → (j : ℕ) → j < length sizes →
     (r : Rules) → r.blocks ≡ get_or sizes j 0 → (h : History) (x : Access) →
     hits (shadow_of r) (renewals (shadow_of r) h) x
     ≡ not (nat_lt j (level_of sizes (distinct (renewals (shadow_of r) h)) (block_of r x)))

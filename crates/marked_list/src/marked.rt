@@ -1,7 +1,7 @@
 //! One list of blocks in order of last use, for all sizes.
 
 ghost use Rattle.std.specs.Prelude.{◌≡◌, ◌<◌, ◌≤◌, ◌+◌, ◌*◌, length, map, true};
-ghost use Rattle.marked_list.specs.Laws.{IsRising};
+ghost use Rattle.std.specs.List.Sorted.{IsStrictlyIncreasing};
 ghost use Rattle.marked_list.specs.Log.{uses_of};
 ghost use Rattle.marked_list.specs.Uses.{living};
 ghost use Rattle.marked_list.specs.Marks.{AreMarks, counted_with, size_of};
@@ -22,7 +22,7 @@ pub struct Marked {
     rising: bool,
     ghost marked: { AreMarks (uses_of uses) marks.items },
     ghost counted: { used ≡ length (living (uses_of uses)) },
-    ghost rises: { rising ≡ true → IsRising (map size_of marks.items) },
+    ghost rises: { rising ≡ true → IsStrictlyIncreasing (map size_of marks.items) },
     ghost short: { length (uses_of uses) ≤ 4096 + 2 * used },
 }
 

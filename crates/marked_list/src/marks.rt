@@ -1,7 +1,7 @@
 //! A mark for each size: where the uses begin that have as many different blocks.
 
 ghost use Rattle.std.specs.Prelude.{◌≡◌, ◌<◌, ◌≤◌, ℕ, List, length, map, get_or, true, IfOk};
-ghost use Rattle.marked_list.specs.Laws.{IsRising};
+ghost use Rattle.std.specs.List.Sorted.{IsStrictlyIncreasing};
 ghost use Rattle.marked_list.specs.Recency.{index_of};
 ghost use Rattle.marked_list.specs.Uses.{used_next};
 ghost use Rattle.marked_list.specs.Log.{uses_of};
@@ -33,7 +33,7 @@ pub(crate) fn new_marks(alloc: Global, sizes: &[usize]) -> Result<Vec<Mark>, All
 
 /// Whether each size is larger than those before it.
 pub(crate) fn is_rising(sizes: &[usize]) -> bool
-    ensures { result ≡ true → IsRising sizes.now }
+    ensures { result ≡ true → IsStrictlyIncreasing sizes.now }
 {
     for index in 1..sizes.len() {
         if sizes[index] <= sizes[index - 1] {
@@ -120,7 +120,7 @@ fn move_all(
     ensures level { result ≡ index_of (λ k. covers k.place last) marks.old }
     ensures sizes { map size_of marks.new ≡ map size_of marks.old }
     ensures moves { (ms : List ℕ) (b : ℕ) → uses_of uses.now ≡ used_next b ms →
-        IsUseAfter ms b last used → (rising ≡ true → IsRising (map size_of marks.old)) →
+        IsUseAfter ms b last used → (rising ≡ true → IsStrictlyIncreasing (map size_of marks.old)) →
         AreMarks ms marks.old → AreMarks (used_next b ms) marks.new }
 {
     let level = move_first(marks, uses, last, used);
@@ -143,7 +143,8 @@ pub(crate) fn move_each(
     ensures level { result ≡ index_of (λ k. covers k.place last) marks.old.items }
     ensures sizes { map size_of marks.new.items ≡ map size_of marks.old.items }
     ensures moves { (ms : List ℕ) (b : ℕ) → uses_of uses.now ≡ used_next b ms →
-        IsUseAfter ms b last used → (rising ≡ true → IsRising (map size_of marks.old.items)) →
+        IsUseAfter ms b last used →
+        (rising ≡ true → IsStrictlyIncreasing (map size_of marks.old.items)) →
         AreMarks ms marks.old.items → AreMarks (used_next b ms) marks.new.items }
 {
     move_all(marks, uses, last, used, rising)

@@ -1,6 +1,6 @@
 use Rattle.std.proofs.Common.{◌≡◌, ◌++◌, List, length, map, take, drop, sym, subst, arith}
+use Rattle.std.specs.List.Sorted.{IsStrictlyIncreasing}
 use Rattle.std.proofs.lemmas.Grind.{common_steps}
-use Rattle.marked_list.specs.Laws.{IsRising}
 use Rattle.marked_list.specs.Uses.{used_next}
 use Rattle.marked_list.specs.declared.marks.Mark.{Mark}
 use Rattle.marked_list.specs.Marks.{AreMarks, size_of}
@@ -13,6 +13,6 @@ returns-clause-moves c = λ ms b log after rises are.
     grind (arith, common_steps) in
     subst (AreMarks (used_next b ms)) (sym e)
     (c.move_all.ensures.moves ms b log after
-    (λ rising. subst (λ (l : List Mark). IsRising (map size_of l)) (sym c.deref_mut.ensures.value)
-    (rises rising))
+    (λ rising. subst (λ (l : List Mark). IsStrictlyIncreasing (map size_of l))
+    (sym c.deref_mut.ensures.value) (rises rising))
     (subst (AreMarks ms) (sym c.deref_mut.ensures.value) are))

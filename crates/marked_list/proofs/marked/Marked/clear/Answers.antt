@@ -1,5 +1,5 @@
 use Rattle.std.proofs.Common.{◌≤◌, ℕ, List, [], length, map, sym, ap, subst, ◌∙◌, arith}
-use Rattle.marked_list.specs.Laws.{IsRising}
+use Rattle.std.specs.List.Sorted.{IsStrictlyIncreasing}
 use Rattle.marked_list.specs.Log.{uses_of}
 use Rattle.marked_list.specs.Marks.{AreMarks, size_of}
 use Rattle.marked_list.specs.Marked.{marked_sizes}
@@ -16,7 +16,7 @@ invariant_of-self c =
           (subst (AreMarks []) (sym c.restart_each.ensures)
           (restarted-marks (uses_of old.uses) old.marks.items old.marked));
       counted = ap (λ (l : List ℕ). length (living l)) none;
-      rises = λ e. subst IsRising (sym (ap (map size_of) c.restart_each.ensures
+      rises = λ e. subst IsStrictlyIncreasing (sym (ap (map size_of) c.restart_each.ensures
           ∙ sizes-restarted old.marks.items)) (old.rises e);
       short = subst (λ (l : List ℕ). length l ≤ 4096) none (omega arith);
     }

@@ -1,5 +1,5 @@
 use Rattle.std.proofs.Common.{◌≤◌, ℕ, List, [], length, map, sym, ap, subst, ◌∙◌, arith}
-use Rattle.marked_list.specs.Laws.{IsRising}
+use Rattle.std.specs.List.Sorted.{IsStrictlyIncreasing}
 use Rattle.marked_list.specs.declared.marks.Mark.{Mark}
 use Rattle.marked_list.specs.Marks.{AreMarks, size_of}
 use Rattle.marked_list.specs.Marked.{marked_sizes}
@@ -16,8 +16,9 @@ invariant_of-result c =
       marked = subst (λ l. AreMarks l marks) none
           (subst (AreMarks []) (sym c.in_ok-marks.ensures) (fresh-marks sizes c.requires));
       counted = ap (λ (l : List ℕ). length (living l)) none;
-      rises = λ e. subst (λ (l : List Mark). IsRising (map size_of l)) (sym c.in_ok-marks.ensures)
-          (subst IsRising (sym (sizes-fresh sizes)) (c.is_rising.ensures e));
+      rises = λ e. subst (λ (l : List Mark). IsStrictlyIncreasing (map size_of l))
+          (sym c.in_ok-marks.ensures)
+          (subst IsStrictlyIncreasing (sym (sizes-fresh sizes)) (c.is_rising.ensures e));
       short = subst (λ (l : List ℕ). length l ≤ 4096) none (omega arith);
     }
 

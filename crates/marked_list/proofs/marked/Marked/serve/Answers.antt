@@ -1,7 +1,7 @@
 use Rattle.std.proofs.Common.{◌≢◌, ◌≤◌, ℕ, List, Option, Some, None, length, sym, ap, subst, ◌∙◌}
 use Rattle.std.proofs.Common.{arith}
+use Rattle.std.specs.List.Sorted.{IsStrictlyIncreasing}
 use Rattle.std.proofs.lemmas.List.{length-reverse}
-use Rattle.marked_list.specs.Laws.{IsRising}
 use Rattle.marked_list.specs.declared.marks.Mark.{Mark}
 use Rattle.marked_list.specs.Recency.{index_of}
 use Rattle.marked_list.specs.Log.{uses_of}
@@ -59,7 +59,7 @@ invariant_of-self-2 c =
           ∙ ap (λ o. counted_with o (length (living ms))) c.last_use-last.ensures
           ∙ sym (count-next ms b low old.uses.once)
           ∙ sym (ap (λ l. length (living l)) added);
-      rises = λ e. subst IsRising (sym c.move_each-level.ensures.sizes) (old.rises e);
+      rises = λ e. subst IsStrictlyIncreasing (sym c.move_each-level.ensures.sizes) (old.rises e);
       short =
           let longer = ap (λ (l : List ℕ). length l) added in
           let same = length-buried b ms in
