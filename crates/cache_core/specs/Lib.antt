@@ -17,3 +17,4 @@ pub mod Sets
 pub mod Recent
 pub mod Counting
 pub mod Serving
+pub mod Lists

@@ -2,25 +2,25 @@
 use Rattle.std.proofs.Common.{◌++◌, ℕ, List, ap, ◌∙◌, append_assoc}
 use Rattle.cache_core.specs.declared.geometry.Geometry.{Geometry}
 use Rattle.cache_core.specs.History.{History}
+use Rattle.cache_core.specs.Lists.{IsBeginning}
 use Rattle.grid_core.specs.declared.cells.Shape.{Shape}
 use Rattle.grid_core.specs.declared.engine.Engine.{Engine}
 use Rattle.grid_core.specs.declared.shadows.Shadows.{Shadows}
 use Rattle.grid_core.specs.declared.stack.Stack.{Stack}
 use Rattle.grid_core.specs.Engines.{EngineStandsBy}
-use Rattle.grid_core.specs.Numbers.{GoesOn}
 use Rattle.grid_core.specs.Shadows.{AreNumberedBy, HoldsOrderBy}
 use Rattle.grid_core.specs.State.{IsAfterBy}
 use Rattle.grid_core.proofs.Renumbered.{low-same, order-same, used-same}
 
 -- a list goes on where another does that goes on where it does
-pub on-further : (blocks more last : List ℕ) → GoesOn blocks more → GoesOn more last
-    → GoesOn blocks last
+pub on-further : (blocks more last : List ℕ) → IsBeginning blocks more → IsBeginning more last
+    → IsBeginning blocks last
 on-further blocks more last first second = (
   first.0 ++ second.0,
   second.1 ∙ ap (λ l. l ++ second.0) first.1 ∙ append_assoc blocks first.0 second.0,
 )
 
-module _ (blocks more : List ℕ) (on : GoesOn blocks more) where
+module _ (blocks more : List ℕ) (on : IsBeginning blocks more) where
   -- the order of the shadows
   pub order-more : (s : Shadows) (ys : List ℕ) → AreNumberedBy blocks s
       → HoldsOrderBy blocks s ys → HoldsOrderBy more s ys
@@ -43,7 +43,7 @@ module _ (blocks more : List ℕ) (on : GoesOn blocks more) where
   }
 
 -- an engine
-pub engine-more : (blocks more : List ℕ) (e : Engine) (h : History) → GoesOn blocks more
+pub engine-more : (blocks more : List ℕ) (e : Engine) (h : History) → IsBeginning blocks more
     → EngineStandsBy blocks e h → EngineStandsBy more e h
 engine-more blocks more e h on st = record {
   working = st.working;

@@ -5,9 +5,10 @@ use Rattle.std.proofs.Common.{length-append, unwrap_or}
 use Rattle.std.proofs.Common.{refl, sym, ap, subst, ◌∙◌, arith}
 use Rattle.std.specs.List.{position_or_len}
 use Rattle.std.proofs.lemmas.Bool.{eqb-true, lt-ltb, ltb-true}
+use Rattle.cache_core.specs.Lists.{IsBeginning}
 use Rattle.grid_core.specs.declared.at_hand.Entry.{Entry}
 use Rattle.grid_core.specs.AtHand.{AreRight}
-use Rattle.grid_core.specs.Numbers.{GoesOn, number_at}
+use Rattle.grid_core.specs.Numbers.{number_at}
 
 -- the place of b, or the length of the list
 abbrev place : ℕ → List ℕ → ℕ
@@ -95,7 +96,7 @@ number-low-kept xs ys b n e low =
         ]) lt
 
 -- what is kept of the numbers stays right in a list that goes on
-pub right-kept : (xs ys : List ℕ) (es : List Entry) → GoesOn xs ys
+pub right-kept : (xs ys : List ℕ) (es : List Entry) → IsBeginning xs ys
     → AreRight (number_at xs) es → AreRight (number_at ys) es
 right-kept xs ys es on all k d lt =
     let e = get_or es k d in

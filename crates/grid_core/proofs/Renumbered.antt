@@ -6,9 +6,10 @@ use Rattle.std.proofs.lemmas.Bool.{eq-eqb, eqb-true, eqb-false, ne_eqb, false≢
 use Rattle.std.proofs.lemmas.Bool.{or_left, or_right}
 use Rattle.cache_core.proofs.Cases.{by_cases}
 use Rattle.cache_core.proofs.Reuse.{has}
+use Rattle.cache_core.specs.Lists.{IsBeginning}
 use Rattle.marked_list.specs.declared.marked.Marked.{Marked}
 use Rattle.marked_list.specs.Marked.{was_used}
-use Rattle.grid_core.specs.Numbers.{GoesOn, number_at}
+use Rattle.grid_core.specs.Numbers.{number_at}
 use Rattle.grid_core.specs.Shadows.{is_used, number_by}
 use Rattle.grid_core.proofs.Numbers.{number-apart, number-kept, number-low, number-low-kept}
 
@@ -18,7 +19,7 @@ used-some m None h = absurd (false≢true h)
 used-some m (Some n) h = refl
 
 -- the list of the blocks that have numbers goes on, and no number behind the first ones is used
-module _ (m : Marked) (bs cs : List ℕ) (on : GoesOn bs cs)
+module _ (m : Marked) (bs cs : List ℕ) (on : IsBeginning bs cs)
     (low : (n : ℕ) → was_used m n ≡ true → n < length bs) where
   kept : (b n : ℕ) → number_at bs b ≡ Some n → number_at cs b ≡ Some n
   kept b n e = subst (λ l. number_at l b ≡ Some n) (sym on.1) (number-kept bs on.0 b n e)

@@ -13,10 +13,10 @@ use Rattle.cache_core.specs.History.{History, Rules}
 use Rattle.cache_core.specs.Kinds.{shadow_of}
 use Rattle.cache_core.specs.Policy.{is_fifo}
 use Rattle.cache_core.specs.Standing.{rules_from}
+use Rattle.cache_core.specs.Lists.{IsBeginning}
 use Rattle.grid_core.specs.declared.places.Place.{Place}
 use Rattle.grid_core.specs.declared.places.Place.TheVariants.{Together, Apart}
 use Rattle.grid_core.specs.declared.places.Seat.{Seat}
-use Rattle.grid_core.specs.Numbers.{GoesOn}
 use Rattle.grid_core.specs.Places.{IsPlace, rules_placed, shadow_placed, list_placed, IsSeated}
 use Rattle.grid_core.specs.Places.{planned_rules}
 use Rattle.grid_core.specs.Plans.{IsAsLarge}
@@ -28,24 +28,24 @@ use Rattle.grid_core.specs.Written.{rules_at, no_rules, written_by}
 
 -- lists that grow
 
-pub goes-on-same : {X : Type 0} (xs : List X) → GoesOn xs xs
-goes-on-same xs = ([], sym (append-nil xs))
+pub begins-same : {X : Type 0} (xs : List X) → IsBeginning xs xs
+begins-same xs = ([], sym (append-nil xs))
 
-pub goes-on-push : {X : Type 0} (xs ys : List X) (x : X) → ys ≡ xs ++ x ∷ [] → GoesOn xs ys
-goes-on-push xs ys x is = (x ∷ [], is)
+pub begins-push : {X : Type 0} (xs ys : List X) (x : X) → ys ≡ xs ++ x ∷ [] → IsBeginning xs ys
+begins-push xs ys x is = (x ∷ [], is)
 
-pub goes-on-map : {X Y : Type 0} (f : X → Y) (xs ys : List X) → GoesOn xs ys
-    → GoesOn (map f xs) (map f ys)
-goes-on-map f xs ys a = (map f a.0, ap (map f) a.1 ∙ map-append f xs a.0)
+pub begins-map : {X Y : Type 0} (f : X → Y) (xs ys : List X) → IsBeginning xs ys
+    → IsBeginning (map f xs) (map f ys)
+begins-map f xs ys a = (map f a.0, ap (map f) a.1 ∙ map-append f xs a.0)
 
-longer : {X : Type 0} (xs ys : List X) → GoesOn xs ys → length xs ≤ length ys
+longer : {X : Type 0} (xs ys : List X) → IsBeginning xs ys → length xs ≤ length ys
 longer xs ys a = let len = ap length a.1 ∙ length-append xs a.0 in omega arith
 
-rules-longer : (rs rs' : List Rules) → GoesOn rs rs' → (i : ℕ) → i < length rs
+rules-longer : (rs rs' : List Rules) → IsBeginning rs rs' → (i : ℕ) → i < length rs
     → rules_at rs' i ≡ rules_at rs i
 rules-longer rs rs' a i lt = ap (λ l. rules_at l i) a.1 ∙ get_or_append_left rs a.0 no_rules i lt
 
-module _ (rs rs' ss ss' : List Rules) (a : GoesOn rs rs') (b : GoesOn ss ss') where
+module _ (rs rs' ss ss' : List Rules) (a : IsBeginning rs rs') (b : IsBeginning ss ss') where
   place-longer : (p : Place) → IsPlace (length rs) (length ss) p
       → IsPlace (length rs') (length ss') p
   place-longer (Together i) lt = let le = longer rs rs' a in omega arith
@@ -71,8 +71,9 @@ module _ (rs rs' ss ss' : List Rules) (a : GoesOn rs rs') (b : GoesOn ss ss') wh
   }
 
 -- a seat stays one
-pub seated-longer : (rs rs' ss ss' ts ts' : List Rules) → GoesOn rs rs' → GoesOn ss ss'
-    → GoesOn ts ts' → (p : Policy) (s : Seat) → IsSeated p rs ss ts s → IsSeated p rs' ss' ts' s
+pub seated-longer : (rs rs' ss ss' ts ts' : List Rules) → IsBeginning rs rs' → IsBeginning ss ss'
+    → IsBeginning ts ts' → (p : Policy) (s : Seat) → IsSeated p rs ss ts s
+    → IsSeated p rs' ss' ts' s
 seated-longer rs rs' ss ss' ts ts' a b t p s own = record {
   cell_there = place-longer rs rs' ss ss' a b s.cell own.cell_there;
   cell = placed-longer rs rs' ss ss' a b s.cell own.cell_there ∙ own.cell;

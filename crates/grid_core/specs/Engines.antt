@@ -5,8 +5,8 @@ use Rattle.cache_core.specs.declared.counts.Counts.{Counts}
 use Rattle.cache_core.specs.declared.counts.PerClass.{PerClass}
 use Rattle.cache_core.specs.History.{History, Rules}
 use Rattle.cache_core.specs.Standing.{rules_from}
+use Rattle.cache_core.specs.Lists.{IsBeginning}
 use Rattle.grid_core.specs.declared.engine.Engine.{Engine}
-use Rattle.grid_core.specs.Numbers.{GoesOn}
 use Rattle.grid_core.specs.Caches.{CachesStandBy, HaveAnswered, caches_numbered}
 use Rattle.grid_core.specs.Caches.{counts_in, misses_in}
 
@@ -47,5 +47,5 @@ pub record HasAnswered (e : Engine) (h : History) (x : Access) : Type 0 where
 
 -- an engine that stands for a history by some numbers does so by more of them
 abbrev pub MoreNumbersServe : Type 0
-MoreNumbersServe = (blocks more : List ℕ) (e : Engine) (h : History) → GoesOn blocks more →
+MoreNumbersServe = (blocks more : List ℕ) (e : Engine) (h : History) → IsBeginning blocks more →
     EngineStandsBy blocks e h → EngineStandsBy more e h

@@ -1,10 +1,6 @@
 -- How blocks are numbered.
-use Rattle.std.specs.Prelude.{◌≡◌, ℕ, nat_eq, List, ◌++◌, Option, position}
+use Rattle.std.specs.Prelude.{ℕ, nat_eq, List, Option, position}
 
 -- the number of block b, where those of the list are numbered by their places
 abbrev pub number_at : List ℕ → ℕ → Option ℕ
 number_at blocks b = position (nat_eq b) blocks
-
--- the second list begins with the first one
-abbrev pub GoesOn : {X : Type 0} → List X → List X → Type 0
-GoesOn {X} before after = (rest : List X) × (after ≡ before ++ rest)

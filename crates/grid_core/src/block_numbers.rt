@@ -1,8 +1,9 @@
 //! Numbers for blocks.
 
 ghost use Rattle.std.specs.Prelude.{◌≡◌, Some, IfOk};
+ghost use Rattle.cache_core.specs.Lists.{IsBeginning};
 ghost use Rattle.grid_core.specs.AtHand.{AreRight};
-ghost use Rattle.grid_core.specs.Numbers.{GoesOn, number_at};
+ghost use Rattle.grid_core.specs.Numbers.{number_at};
 
 use crate::at_hand::{Entry, at_hand, keep_at_hand};
 use indexmap::IndexSet;
@@ -22,7 +23,7 @@ pub struct BlockNumbers {
 /// The number of a block. A block that has none gets the next one.
 fn number_block(blocks: &mut IndexSet<u64>, block: u64) -> Result<usize, AllocError>
     ensures number { IfOk result (λ n. number_at blocks.new.keys block ≡ Some n) }
-    ensures grows { GoesOn blocks.old.keys blocks.new.keys }
+    ensures grows { IsBeginning blocks.old.keys blocks.new.keys }
 {
     let Ok((number, _)) = blocks.insert_full(block) else {
         return Err(AllocError);
@@ -33,8 +34,9 @@ fn number_block(blocks: &mut IndexSet<u64>, block: u64) -> Result<usize, AllocEr
 #[tactic(auto, unfolding(crate::specs::Numbered::blocks_in))]
 impl BlockNumbers {
     ghost use Rattle.std.specs.Prelude.{◌≡◌, [], Some, IfOk};
+    ghost use Rattle.cache_core.specs.Lists.{IsBeginning};
     ghost use Rattle.grid_core.specs.Numbered.{blocks_in};
-    ghost use Rattle.grid_core.specs.Numbers.{GoesOn, number_at};
+    ghost use Rattle.grid_core.specs.Numbers.{number_at};
 
     /// No block is numbered, and no memory is taken for any.
     pub fn new(alloc: Global) -> BlockNumbers
@@ -49,7 +51,7 @@ impl BlockNumbers {
     /// The number of a block. A block that has none gets the next one.
     pub(crate) fn number(&mut self, block: u64) -> Result<usize, AllocError>
         ensures number { IfOk result (λ n. number_at (blocks_in self.new) block ≡ Some n) }
-        ensures grows { GoesOn (blocks_in self.old) (blocks_in self.new) }
+        ensures grows { IsBeginning (blocks_in self.old) (blocks_in self.new) }
     {
         if let Some(number) = at_hand(&self.entries, block) {
             return Ok(number);

@@ -5,7 +5,7 @@ ghost use Rattle.std.specs.Prelude.{IfOk, OnOk, OnErr};
 ghost use Rattle.cache_core.specs.History.{History, access as accessed, flush as flushed};
 ghost use Rattle.grid_core.specs.Cells.{items_of};
 ghost use Rattle.std.specs.List.{All};
-ghost use Rattle.grid_core.specs.Numbers.{GoesOn};
+ghost use Rattle.cache_core.specs.Lists.{IsBeginning};
 ghost use Rattle.grid_core.specs.Shades.{shade_rules};
 ghost use Rattle.grid_core.specs.Shading.{FollowsStacked, StackedFollowed, IsShaded};
 ghost use Rattle.grid_core.specs.Singles.{single_shading};
@@ -43,7 +43,7 @@ fn serve_stacked(stacked: &mut Stacked, access: Access) -> Result<(), AllocError
     ensures answers { OnOk result ((h : History) → FollowsStacked h stacked.old →
         StackedFollowed h access stacked.new) }
     ensures served { OnOk result (stacked_served stacked.new ≤ stacked_served stacked.old + 1) }
-    ensures grows { GoesOn (stacked_numbered stacked.old) (stacked_numbered stacked.new) }
+    ensures grows { IsBeginning (stacked_numbered stacked.old) (stacked_numbered stacked.new) }
     ensures keeps { OnErr result (stacked_kept stacked.new ≡ stacked_kept stacked.old) }
     ensures rules { stacked_rules stacked.new ≡ stacked_rules stacked.old }
 {
@@ -84,13 +84,13 @@ impl Caches {
     ghost use Rattle.cache_core.specs.History.{History, access as accessed, flush as flushed};
     ghost use Rattle.cache_core.specs.Counts.{counts_of};
     ghost use Rattle.cache_core.specs.Parts.{outcome_of};
+    ghost use Rattle.cache_core.specs.Lists.{IsBeginning};
     ghost use Rattle.grid_core.specs.Cells.{items_of};
     ghost use Rattle.grid_core.specs.Caches.{AreInStep, CachesStandBy, CachesStandFor, HasPlace};
     ghost use Rattle.grid_core.specs.Caches.{HaveAnswered, caches_numbered};
     ghost use Rattle.grid_core.specs.Caches.{HaveSameRules, HaveSameCounts, counts_in, misses_in};
     ghost use Rattle.grid_core.specs.Caches.{HasShade, together_rules, apart_rules, shades_rules};
     ghost use Rattle.grid_core.specs.Numbered.{blocks_in};
-    ghost use Rattle.grid_core.specs.Numbers.{GoesOn};
     ghost use Rattle.grid_core.specs.Places.{rules_placed, shadow_placed};
     ghost use Rattle.grid_core.specs.Singles.{AreFew};
     ghost use Rattle.grid_core.specs.Written.{written_by, SendsNothing};
@@ -107,7 +107,7 @@ impl Caches {
             HaveAnswered h access self.new) }
         ensures step { OnOk result ((n : ℕ) → AreInStep n self.old →
             AreInStep (n + 1) self.new) }
-        ensures grows { GoesOn (caches_numbered self.old) (caches_numbered self.new) }
+        ensures grows { IsBeginning (caches_numbered self.old) (caches_numbered self.new) }
         ensures keeps { OnErr result (HaveSameCounts self.new self.old) }
         ensures rules { HaveSameRules self.new self.old }
     {
@@ -128,7 +128,7 @@ impl Caches {
             HaveAnswered h access self.new) }
         ensures step { OnOk result ((n : ℕ) → AreInStep n self.old →
             AreInStep (n + 1) self.new) }
-        ensures grows { GoesOn (caches_numbered self.old) (caches_numbered self.new) }
+        ensures grows { IsBeginning (caches_numbered self.old) (caches_numbered self.new) }
         ensures keeps { OnErr result (HaveSameCounts self.new self.old) }
         ensures rules { HaveSameRules self.new self.old }
     {

@@ -41,13 +41,13 @@ impl Engine {
     ghost use Rattle.cache_core.specs.Parts.{outcome_of};
     ghost use Rattle.cache_core.specs.Counts.{counts_of};
     ghost use Rattle.cache_core.specs.Standing.{rules_from};
+    ghost use Rattle.cache_core.specs.Lists.{IsBeginning};
     ghost use Rattle.grid_core.specs.FullyAssociative.{shadow_misses};
     ghost use Rattle.grid_core.specs.Cells.{items_of};
     ghost use Rattle.grid_core.specs.Engines.{EngineStandsBy, EngineStandsFor, HasAnswered};
     ghost use Rattle.grid_core.specs.Engines.{has_failed, kept_in, numbered_in, rules_in};
     ghost use Rattle.grid_core.specs.Engines.{served_in};
     ghost use Rattle.grid_core.specs.Numbered.{blocks_in};
-    ghost use Rattle.grid_core.specs.Numbers.{GoesOn};
     ghost use Rattle.grid_core.specs.Written.{rules_at, written_by, none_kept, SendsNothing};
 
     /// Empty caches of these geometries, which have the block size of `first`, and of this policy.
@@ -100,7 +100,7 @@ impl Engine {
         ensures keeps { OnErr result ((kept_in self.new ≡ kept_in self.old)
             × (served_in self.new ≡ served_in self.old)) }
         ensures failed { has_failed self.old ≡ true → IsErr result }
-        ensures numbers { GoesOn (numbered_in self.old) (numbered_in self.new) }
+        ensures numbers { IsBeginning (numbered_in self.old) (numbered_in self.new) }
         ensures rules { rules_in self.new ≡ rules_in self.old }
     {
         if self.failed {

@@ -5,7 +5,7 @@ ghost use Rattle.std.specs.List.{All};
 ghost use Rattle.cache_core.specs.Geometry.{bsize_of};
 ghost use Rattle.cache_core.specs.Policy.{is_fifo};
 ghost use Rattle.cache_core.specs.Standing.{rules_from};
-ghost use Rattle.grid_core.specs.Numbers.{GoesOn};
+ghost use Rattle.cache_core.specs.Lists.{IsBeginning};
 ghost use Rattle.grid_core.specs.Places.{IsSeated, planned_rules};
 ghost use Rattle.grid_core.specs.declared.places.Place.TheVariants.{Together};
 ghost use Rattle.grid_core.specs.Plans.{IsNew, IsNewShade};
@@ -109,10 +109,10 @@ fn seat_for(
         (map shade_rules shades.old.items)) (map single_shading singles.old.items) →
         All (IsShaded (planned_rules policy.wback together.new.items)
         (map shade_rules shades.new.items)) (map single_shading singles.new.items)) }
-    ensures together { OnOk result (GoesOn together.old.items together.new.items) }
-    ensures apart { OnOk result (GoesOn (map single_rules singles.old.items)
+    ensures together { OnOk result (IsBeginning together.old.items together.new.items) }
+    ensures apart { OnOk result (IsBeginning (map single_rules singles.old.items)
         (map single_rules singles.new.items)) }
-    ensures shades { OnOk result (GoesOn (map shade_rules shades.old.items)
+    ensures shades { OnOk result (IsBeginning (map shade_rules shades.old.items)
         (map shade_rules shades.new.items)) }
     ensures same { (b : ℕ) → OnOk result (bsize_of geometry ≡ b →
         All (λ g. bsize_of g ≡ b) together.old.items →

@@ -7,7 +7,7 @@ ghost use Rattle.std.specs.List.{All};
 ghost use Rattle.cache_core.specs.Geometry.{IsMadeOf, bsize_of, size_of, blocks_of};
 ghost use Rattle.cache_core.specs.Kinds.{shadow_of};
 ghost use Rattle.cache_core.specs.Standing.{rules_from};
-ghost use Rattle.grid_core.specs.Numbers.{GoesOn};
+ghost use Rattle.cache_core.specs.Lists.{IsBeginning};
 ghost use Rattle.grid_core.specs.Places.{IsPlace, planned_rules, shadow_placed};
 ghost use Rattle.grid_core.specs.Plans.{IsAsLarge, IsShadowAt, IsNewShade};
 ghost use Rattle.grid_core.specs.Shades.{shade_rules};
@@ -45,7 +45,7 @@ fn find_as_large(geometries: &Vec<Geometry>, geometry: Geometry) -> Option<usize
 /// none, a direct-mapped one joins them.
 fn as_large(together: &mut Vec<Geometry>, geometry: Geometry) -> Result<usize, AllocError>
     ensures found { IfOk result (λ index. IsAsLarge together.new.items geometry index) }
-    ensures grows { OnOk result (GoesOn together.old.items together.new.items) }
+    ensures grows { OnOk result (IsBeginning together.old.items together.new.items) }
     ensures same { (b : ℕ) → OnOk result (bsize_of geometry ≡ b →
         All (λ g. bsize_of g ≡ b) together.old.items →
         All (λ g. bsize_of g ≡ b) together.new.items) }
@@ -64,7 +64,7 @@ fn as_large(together: &mut Vec<Geometry>, geometry: Geometry) -> Result<usize, A
 /// accessed: if there is none, a direct-mapped one joins.
 fn know_blocks(together: &mut Vec<Geometry>, geometry: Geometry) -> Result<(), AllocError>
     ensures some { OnOk result (0 < length together.new.items) }
-    ensures grows { OnOk result (GoesOn together.old.items together.new.items) }
+    ensures grows { OnOk result (IsBeginning together.old.items together.new.items) }
     ensures same { (b : ℕ) → OnOk result (bsize_of geometry ≡ b →
         All (λ g. bsize_of g ≡ b) together.old.items →
         All (λ g. bsize_of g ≡ b) together.new.items) }
@@ -119,7 +119,7 @@ fn shade_apart(
 ) -> Result<usize, AllocError>
     ensures found { IfOk result (λ index. IsShadowAt (map shade_rules shades.new.items)
         geometry policy index) }
-    ensures grows { OnOk result (GoesOn (map shade_rules shades.old.items)
+    ensures grows { OnOk result (IsBeginning (map shade_rules shades.old.items)
         (map shade_rules shades.new.items)) }
     ensures fresh { OnOk result (All IsNewShade shades.old.items →
         All IsNewShade shades.new.items) }
@@ -151,8 +151,8 @@ pub(crate) fn shade_for(
         (planned_rules policy.wback together.new.items) (map shade_rules shades.new.items) place
         ≡ shadow_of (rules_from geometry policy)) }
     ensures some { OnOk result (0 < length together.new.items) }
-    ensures together { OnOk result (GoesOn together.old.items together.new.items) }
-    ensures shades { OnOk result (GoesOn (map shade_rules shades.old.items)
+    ensures together { OnOk result (IsBeginning together.old.items together.new.items) }
+    ensures shades { OnOk result (IsBeginning (map shade_rules shades.old.items)
         (map shade_rules shades.new.items)) }
     ensures same { (b : ℕ) → OnOk result (bsize_of geometry ≡ b →
         All (λ g. bsize_of g ≡ b) together.old.items →

@@ -47,7 +47,6 @@ impl Shadows {
     ghost use Rattle.std.specs.Prelude.{true, false, length, nat_lt};
     ghost use Rattle.std.specs.List.{All};
     ghost use Rattle.marked_list.specs.Recency.{level_of, brought_front};
-    ghost use Rattle.grid_core.specs.Numbers.{GoesOn};
     ghost use Rattle.grid_core.specs.Recent.{IsAgain, after_use, none_recent};
     ghost use Rattle.grid_core.specs.Shadows.{AreNumbered, HoldsOrder, is_known, numbered};
     ghost use Rattle.grid_core.specs.Shadows.{far_in, levels_in, recent_in, shadow_sizes};
@@ -55,6 +54,7 @@ impl Shadows {
     ghost use Rattle.cache_core.specs.Counts.{none_by_class};
     ghost use Rattle.cache_core.specs.Counting.{IsWithin, with_one};
     ghost use Rattle.cache_core.specs.History.{is_write};
+    ghost use Rattle.cache_core.specs.Lists.{IsBeginning};
 
     /// Empty shadows of these sizes in blocks. No block is known.
     pub fn new(alloc: Global, sizes: &[usize]) -> Result<Shadows, AllocError>
@@ -91,7 +91,7 @@ impl Shadows {
         ensures adds { OnOk result (AreNumbered self.old → (q : ℕ) →
             is_known self.new q ≡ (block == q || is_known self.old q)) }
         ensures numbers { OnOk result (AreNumbered self.old → AreNumbered self.new) }
-        ensures grows { GoesOn (numbered self.old) (numbered self.new) }
+        ensures grows { IsBeginning (numbered self.old) (numbered self.new) }
         ensures recent { OnOk result (
             recent_in self.new ≡ after_use block (is_write access) (recent_in self.old)) }
         ensures levels { OnOk result (

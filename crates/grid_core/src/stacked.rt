@@ -69,6 +69,7 @@ impl Stacked {
     ghost use Rattle.cache_core.specs.History.{is_write};
     ghost use Rattle.cache_core.specs.Parts.{outcome_of};
     ghost use Rattle.cache_core.specs.Counts.{counts_of};
+    ghost use Rattle.cache_core.specs.Lists.{IsBeginning};
     ghost use Rattle.grid_core.specs.Recent.{IsAgain};
     ghost use Rattle.grid_core.specs.Shadows.{recent_in};
     ghost use Rattle.grid_core.specs.FullyAssociative.{shadow_misses};
@@ -76,7 +77,6 @@ impl Stacked {
     ghost use Rattle.grid_core.specs.Slot.{HasWords};
     ghost use Rattle.grid_core.specs.Standing.{stack_rules};
     ghost use Rattle.grid_core.specs.Numbered.{blocks_in};
-    ghost use Rattle.grid_core.specs.Numbers.{GoesOn};
     ghost use Rattle.grid_core.specs.StackedCells.{StackedHasAnswered, StackedStandsBy};
     ghost use Rattle.grid_core.specs.StackedCells.{StackedStandsFor, stacked_kept};
     ghost use Rattle.grid_core.specs.StackedCells.{stacked_numbered, stacked_rules, stacked_served};
@@ -149,7 +149,7 @@ impl Stacked {
         ensures answers { OnOk result ((h : History) → StackedStandsFor self.old h →
             StackedHasAnswered self.new h access) }
         ensures served { OnOk result (stacked_served self.new ≡ stacked_served self.old + 1) }
-        ensures grows { GoesOn (stacked_numbered self.old) (stacked_numbered self.new) }
+        ensures grows { IsBeginning (stacked_numbered self.old) (stacked_numbered self.new) }
         ensures keeps { OnErr result ((stacked_kept self.new ≡ stacked_kept self.old)
             × (stacked_served self.new ≡ stacked_served self.old)) }
         ensures rules { stacked_rules self.new ≡ stacked_rules self.old }
@@ -208,7 +208,7 @@ impl Stacked {
         ensures answers { OnOk result ((h : History) → StackedStandsFor self.old h →
             StackedHasAnswered self.new h access) }
         ensures served { OnOk result (stacked_served self.new ≡ stacked_served self.old + 1) }
-        ensures grows { GoesOn (stacked_numbered self.old) (stacked_numbered self.new) }
+        ensures grows { IsBeginning (stacked_numbered self.old) (stacked_numbered self.new) }
         ensures keeps { OnErr result ((stacked_kept self.new ≡ stacked_kept self.old)
             × (stacked_served self.new ≡ stacked_served self.old)) }
         ensures rules { stacked_rules self.new ≡ stacked_rules self.old }

@@ -2,13 +2,13 @@
 use Rattle.std.proofs.Common.{◌∷◌, ℕ, List, map}
 use Rattle.std.specs.List.{All}
 use Rattle.cache_core.specs.History.{History}
+use Rattle.cache_core.specs.Lists.{IsBeginning}
 use Rattle.stage_core.specs.declared.message.Side.{Side}
 use Rattle.grid_run.specs.Backs.{AreWaiting, NothingWaits, RequestsFor, WereAsked, followed_by}
 use Rattle.grid_run.specs.Backs.{sent_for}
 use Rattle.grid_run.specs.Banks.{NothingWaitsIn, WasAsked}
 use Rattle.grid_run.specs.Fronts.{FrontAt, HasSent, front_rules}
 use Rattle.grid_run.specs.Sending.{event_of}
-use Rattle.grid_core.specs.Numbers.{GoesOn}
 use Rattle.grid_run.specs.declared.back.Back.{Back}
 use Rattle.grid_run.specs.declared.bank.Bank.{Bank}
 use Rattle.grid_run.specs.declared.front.Front.{Front}
@@ -38,7 +38,7 @@ pub record Settles (start now : List ℕ) (old new : Back) : Type 0 where
   pub settled : NothingWaits new
 
 -- they have done so where there are more numbers now
-pub settled-more : (start blocks more : List ℕ) → GoesOn blocks more → (old new : Back)
+pub settled-more : (start blocks more : List ℕ) → IsBeginning blocks more → (old new : Back)
     → Settles start blocks old new → Settles start more old new
 settled-more start blocks more on old new done = record {
   asked = λ all were. asked-more blocks more all new on (done.asked all were);

@@ -18,8 +18,8 @@ pub(crate) struct Back {
 #[tactic(auto, unfolding(crate::specs::Backs::back_task, crate::specs::Backs::task_of_shelf))]
 impl Back {
     ghost use Rattle.std.specs.Prelude.{◌≡◌, List, ℕ, IfOk, OnOk, length};
+    ghost use Rattle.cache_core.specs.Lists.{IsBeginning};
     ghost use Rattle.grid_core.specs.Numbered.{blocks_in};
-    ghost use Rattle.grid_core.specs.Numbers.{GoesOn};
     ghost use Rattle.grid_run.specs.Backs.{AreFew, AreWaiting, HasNone, NothingWaits};
     ghost use Rattle.grid_run.specs.Backs.{RequestsFor, WereAsked, back_seats, back_task};
     ghost use Rattle.grid_run.specs.Backs.{no_requests, queue_seats, task_of_shelf};
@@ -68,7 +68,7 @@ impl Back {
         ensures asked { OnOk result ((all : RequestsFor) →
             WereAsked (blocks_in numbers.old) all self.old →
             WereAsked (blocks_in numbers.new) all self.new) }
-        ensures grows { GoesOn (blocks_in numbers.old) (blocks_in numbers.new) }
+        ensures grows { IsBeginning (blocks_in numbers.old) (blocks_in numbers.new) }
         ensures settled { OnOk result (NothingWaits self.new) }
         ensures task { back_task self.new ≡ back_task self.old }
     {

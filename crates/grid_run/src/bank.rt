@@ -2,8 +2,8 @@
 
 ghost use Rattle.std.specs.Prelude.{◌≡◌, ℕ, List, IfOk, OnOk, map};
 ghost use Rattle.std.specs.List.{All};
+ghost use Rattle.cache_core.specs.Lists.{IsBeginning};
 ghost use Rattle.grid_core.specs.Numbered.{blocks_in};
-ghost use Rattle.grid_core.specs.Numbers.{GoesOn};
 ghost use Rattle.grid_run.specs.Backs.{AreFew, NothingWaits, RequestsFor, WereAsked, back_task};
 ghost use Rattle.grid_run.specs.Backs.{no_requests, task_of_shelf};
 
@@ -40,7 +40,7 @@ fn settle_backs(backs: &mut [Back], numbers: &mut BlockNumbers) -> Result<(), No
     ensures asked { OnOk result ((all : RequestsFor) →
         All (WereAsked (blocks_in numbers.old) all) backs.old →
         All (WereAsked (blocks_in numbers.new) all) backs.new) }
-    ensures grows { GoesOn (blocks_in numbers.old) (blocks_in numbers.new) }
+    ensures grows { IsBeginning (blocks_in numbers.old) (blocks_in numbers.new) }
     ensures settled { OnOk result (All NothingWaits backs.new) }
     ensures tasks { map back_task backs.new ≡ map back_task backs.old }
 {

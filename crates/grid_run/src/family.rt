@@ -28,10 +28,10 @@ impl Family {
     ghost use Rattle.cache_core.specs.Parts.{outcome_of};
     ghost use Rattle.cache_core.specs.declared.access.Access.{Access as Asked};
     ghost use Rattle.cache_core.specs.Counts.{counts_of};
+    ghost use Rattle.cache_core.specs.Lists.{IsBeginning};
     ghost use Rattle.grid_core.specs.Cells.{items_of};
     ghost use Rattle.grid_core.specs.FullyAssociative.{shadow_misses};
     ghost use Rattle.grid_core.specs.Numbered.{blocks_in};
-    ghost use Rattle.grid_core.specs.Numbers.{GoesOn};
     ghost use Rattle.grid_core.specs.Written.{SendsNothing, rules_at, written_by};
     ghost use Rattle.stage_core.specs.SecondLevel.{read_as};
     ghost use Rattle.grid_run.specs.Families.{CanServe, HasServedLast, FamilyStandsBy};
@@ -65,7 +65,7 @@ impl Family {
             HasServedLast self.new h access) }
         ensures stands { OnOk result ((h : History) → FamilyStandsFor self.old h →
             FamilyStandsFor self.new (accessed access ∷ h)) }
-        ensures numbers { GoesOn (numbered_on self.old) (numbered_on self.new) }
+        ensures numbers { IsBeginning (numbered_on self.old) (numbered_on self.new) }
         ensures rules { rules_in self.new ≡ rules_in self.old }
     {
         self.engine.access(access)
@@ -108,7 +108,7 @@ impl Family {
         requires room { CanServe self.old }
         ensures stands { OnOk result ((h : History) → FamilyStandsFor self.old h →
             FamilyStandsFor self.new (read_as what ∷ h)) }
-        ensures numbers { GoesOn (numbered_on self.old) (numbered_on self.new) }
+        ensures numbers { IsBeginning (numbered_on self.old) (numbered_on self.new) }
         ensures rules { rules_in self.new ≡ rules_in self.old }
     {
         match what {

@@ -1,8 +1,8 @@
 //! Second-level caches, and the requests that wait for them.
 
 ghost use Rattle.std.specs.Prelude.{◌≡◌, ◌++◌, List, OnOk};
+ghost use Rattle.cache_core.specs.Lists.{IsBeginning};
 ghost use Rattle.stage_core.specs.declared.message.What.{What as Sent};
-ghost use Rattle.grid_core.specs.Numbers.{GoesOn};
 ghost use Rattle.grid_run.specs.Families.{numbered_on, rules_in};
 ghost use Rattle.grid_run.specs.Sending.{HasRoom, SecondServed};
 
@@ -27,7 +27,7 @@ fn serve_each(family: &mut Family, requests: &[What]) -> Result<(), NoMemory>
     requires room { HasRoom family.old requests.now }
     ensures served { OnOk result ((ws : List Sent) → SecondServed ws family.old →
         SecondServed (ws ++ requests.now) family.new) }
-    ensures numbers { GoesOn (numbered_on family.old) (numbered_on family.new) }
+    ensures numbers { IsBeginning (numbered_on family.old) (numbered_on family.new) }
     ensures rules { rules_in family.new ≡ rules_in family.old }
 {
     for what in requests {
@@ -38,9 +38,9 @@ fn serve_each(family: &mut Family, requests: &[What]) -> Result<(), NoMemory>
 
 impl Second {
     ghost use Rattle.std.specs.Prelude.{◌≡◌, ◌≤◌, ◌^◌, ◌++◌, [], List, ℕ, IfOk, OnOk, length};
+    ghost use Rattle.cache_core.specs.Lists.{IsBeginning};
     ghost use Rattle.stage_core.specs.declared.message.What.{What as Sent};
     ghost use Rattle.grid_core.specs.Numbered.{blocks_in};
-    ghost use Rattle.grid_core.specs.Numbers.{GoesOn};
     ghost use Rattle.grid_run.specs.Families.{rules_in};
     ghost use Rattle.grid_run.specs.Seats.{rules_on};
     ghost use Rattle.grid_run.specs.Sending.{NothingWaitsFor, SecondAsked};
@@ -82,7 +82,7 @@ impl Second {
         ensures asked { OnOk result ((ws : List Sent) →
             SecondAsked (blocks_in numbers.old) ws self.old →
             SecondAsked (blocks_in numbers.new) ws self.new) }
-        ensures grows { GoesOn (blocks_in numbers.old) (blocks_in numbers.new) }
+        ensures grows { IsBeginning (blocks_in numbers.old) (blocks_in numbers.new) }
         ensures settled { OnOk result (NothingWaitsFor self.new) }
         ensures rules { rules_in self.new.family ≡ rules_in self.old.family }
     {

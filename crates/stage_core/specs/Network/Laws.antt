@@ -1,7 +1,8 @@
 -- Laws of the network. They hold whatever the first level sends and whatever the rings hold; two of
 -- them ask for room for one message.
-use Rattle.std.specs.Prelude.{◌≡◌, ℕ, ◌*◌, ◌<◌, ◌≤◌, List, ◌++◌, length, Some, None}
+use Rattle.std.specs.Prelude.{◌≡◌, ℕ, ◌*◌, ◌<◌, ◌≤◌, List, length, Some, None}
 use Rattle.din_trace.specs.declared.record.DinRecord.{DinRecord}
+use Rattle.cache_core.specs.Lists.{IsBeginning}
 use Rattle.stage_core.specs.SecondLevel.{Parts, second_level_requests}
 use Rattle.stage_core.specs.Streams.{order, to_side, from_side}
 use Rattle.stage_core.specs.Network.Rings.{carried}
@@ -51,10 +52,6 @@ abbrev pub RingsHoldTheirCapacity : Type 0
 RingsHoldTheirCapacity =
     (parts : Parts) (es : List DinRecord) (capacity : ℕ) (ms : List Machine) (n : Network) →
     run parts capacity ms (start es) ≡ Some n → IsWithin capacity n
-
--- the second list begins with the first one
-abbrev pub IsBeginning : {A : Type 0} → List A → List A → Type 0
-IsBeginning {A} xs ys = (rest : List A) × (xs ++ rest ≡ ys)
 
 -- what each ring has carried is a beginning of its stream
 abbrev pub RingsCarryBeginnings : Type 0

@@ -9,7 +9,7 @@ use Rattle.grid_core.specs.Places.{IsSeated, planned_rules}
 use Rattle.grid_core.specs.Shades.{shade_rules}
 use Rattle.grid_core.specs.Singles.{single_rules}
 use Rattle.grid_core.specs.Standing.{stack_rules}
-use Rattle.grid_core.proofs.Seats.{goes-on-map, seated-longer}
+use Rattle.grid_core.proofs.Seats.{begins-map, seated-longer}
 use Rattle.grid_core.proofs.plan.plan_for.Goals as goal
 
 pub loop-geometry-preserved : goal.loop-geometry-preserved
@@ -29,7 +29,7 @@ loop-geometry-preserved c =
     let ss' = map single_rules c.seat_for.new.singles.items in
     let ts = map shade_rules c.loop-geometry.shades.items in
     let ts' = map shade_rules c.seat_for.new.shades.items in
-    let grows = goes-on-map (λ g. stack_rules g p.wback) c.loop-geometry.together.items
+    let grows = begins-map (λ g. stack_rules g p.wback) c.loop-geometry.together.items
     c.seat_for.new.together.items c.in_ok-seat.ensures.together in
     record {
       rules = ap (map (λ s. rules_from s.geometry p)) is

@@ -11,8 +11,8 @@ use Rattle.grid_core.specs.Shading.{IsShaded}
 use Rattle.grid_core.specs.Singles.{single_rules, single_shading}
 use Rattle.grid_core.specs.Slot.{HasWords}
 use Rattle.grid_core.specs.Standing.{stack_rules}
-use Rattle.grid_core.proofs.Seats.{seated-together, seated-apart, goes-on-map, goes-on-push}
-use Rattle.grid_core.proofs.Seats.{goes-on-same, joins-all, shaded-apart, shaded-longer}
+use Rattle.grid_core.proofs.Seats.{seated-together, seated-apart, begins-map, begins-push}
+use Rattle.grid_core.proofs.Seats.{begins-same, joins-all, shaded-apart, shaded-longer}
 use Rattle.grid_core.proofs.plan.seat_for.Goals as goal
 
 pub returns-then-has_stack-clause-seated : goal.returns-then-has_stack-clause-seated
@@ -34,20 +34,20 @@ returns-then-has_stack-clause-shaded c = λ b one all.
     let ts = map shade_rules c.args.shades.now.items in
     All-weaker (IsShaded (map f gs) ts) (IsShaded (map f gs') ts)
     (shaded-longer (map f gs) (map f gs') ts ts
-    (goes-on-map f gs gs' (goes-on-push gs gs' c.args.geometry c.in_ok-seat.ensures.joins))
-    (goes-on-same ts)) (map single_shading c.args.singles.now.items)
+    (begins-map f gs gs' (begins-push gs gs' c.args.geometry c.in_ok-seat.ensures.joins))
+    (begins-same ts)) (map single_shading c.args.singles.now.items)
 
 pub returns-then-has_stack-clause-together : goal.returns-then-has_stack-clause-together
-returns-then-has_stack-clause-together c = goes-on-push c.args.together.now.items
+returns-then-has_stack-clause-together c = begins-push c.args.together.now.items
     c.seat_together.new.together.items c.args.geometry c.in_ok-seat.ensures.joins
 
 pub returns-then-has_stack-clause-apart : goal.returns-then-has_stack-clause-apart
 returns-then-has_stack-clause-apart c =
-    goes-on-same (map single_rules c.args.singles.now.items)
+    begins-same (map single_rules c.args.singles.now.items)
 
 pub returns-then-has_stack-clause-shades : goal.returns-then-has_stack-clause-shades
 returns-then-has_stack-clause-shades c =
-    goes-on-same (map shade_rules c.args.shades.now.items)
+    begins-same (map shade_rules c.args.shades.now.items)
 
 pub returns-then-has_stack-clause-same : goal.returns-then-has_stack-clause-same
 returns-then-has_stack-clause-same c = λ b one all. joins-all b c.args.together.now.items
@@ -96,10 +96,10 @@ returns-clause-shaded c = λ b one all old.
     c.in_ok-shadow.ensures.there)) c.in_ok-shadow.ensures.shadow
     (All-weaker (IsShaded (map f gs) ts) (IsShaded (map f gs') ts')
     (shaded-longer (map f gs) (map f gs') ts ts'
-    (goes-on-map f gs gs' c.in_ok-shadow.ensures.together) c.in_ok-shadow.ensures.shades) ps old)
+    (begins-map f gs gs' c.in_ok-shadow.ensures.together) c.in_ok-shadow.ensures.shades) ps old)
 
 pub returns-clause-apart : goal.returns-clause-apart
 returns-clause-apart c =
-    goes-on-push (map single_rules c.args.singles.now.items)
+    begins-push (map single_rules c.args.singles.now.items)
     (map single_rules c.push_single.new.singles.items) (rules_from c.args.geometry c.args.policy)
     c.in_ok-cell.ensures.rules

@@ -1,5 +1,5 @@
+use Rattle.cache_core.specs.Lists.{IsBeginning}
 use Rattle.grid_core.specs.Numbered.{blocks_in}
-use Rattle.grid_core.specs.Numbers.{GoesOn}
 use Rattle.grid_core.proofs.ListLoops.{HasChanged}
 use Rattle.grid_run.specs.Backs.{back_task}
 use Rattle.grid_run.proofs.LoopTurns.{Settles}
@@ -11,5 +11,5 @@ abbrev pub invariant-loop-back : goal.invariant-loop-back
 invariant-loop-back l = record {
   changed : HasChanged (Settles (blocks_in l.initial.numbers) (blocks_in l.numbers)) back_task
       l.initial.backs l.back-index l.backs;
-  grows : GoesOn (blocks_in l.initial.numbers) (blocks_in l.numbers);
+  grows : IsBeginning (blocks_in l.initial.numbers) (blocks_in l.numbers);
 }
