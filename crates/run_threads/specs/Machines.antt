@@ -1,9 +1,8 @@
 -- The machines that are moved into threads, and a run whose threads were started.
 use Rattle.std.specs.Prelude.{◌≡◌, []}
-use Rattle.cache_core.specs.Standing.{rules_of}
 use Rattle.stage_core.specs.SecondLevel.{Hierarchy}
-use Rattle.stage_core.specs.Standing.{StageStandsFor, L2StandsFor, IsReady, cache_of, side_of}
-use Rattle.stage_core.specs.Standing.{l2_cache}
+use Rattle.stage_core.specs.Standing.{StageStandsFor, L2StandsFor, IsReady, side_of}
+use Rattle.stage_core.specs.Standing.{hierarchy_by}
 use Rattle.stage_core.specs.declared.message.Side.{Side}
 use Rattle.stage_core.specs.declared.message.Side.TheVariants as side
 use Rattle.stage_core.specs.declared.l1_stage.L1Stage.{L1Stage}
@@ -25,11 +24,7 @@ pub record AreNew (m : Machines) : Type 0 where
 
 -- the rules of the machines' caches
 abbrev pub hierarchy_in : Machines → Hierarchy
-hierarchy_in m = record {
-  i = rules_of (cache_of m.i);
-  d = rules_of (cache_of m.d);
-  u = rules_of (l2_cache m.u);
-}
+hierarchy_in m = hierarchy_by m.i m.d m.u
 
 -- the machines with which the threads began
 abbrev pub machines_at : Started → Machines

@@ -9,7 +9,7 @@ use Rattle.stage_core.specs.SecondLevel.{second_level_requests}
 use Rattle.stage_core.specs.Streams.{messages_to, reply}
 use Rattle.stage_core.specs.Merging.{MergeState, AtOrder, wanted, after_end, after_message, what_in}
 use Rattle.stage_core.specs.Standing.{StageStandsFor, L2StandsFor, IsReady, cache_of, side_of}
-use Rattle.stage_core.specs.Standing.{l2_cache}
+use Rattle.stage_core.specs.Standing.{hierarchy_by}
 use Rattle.stage_core.specs.declared.message.Side.{Side}
 use Rattle.stage_core.specs.declared.message.Side.TheVariants as side
 use Rattle.stage_core.specs.declared.message.Want.TheVariants as want
@@ -60,11 +60,7 @@ pub record StageRan (s : Side) (stage : L1Stage) (es : List DinRecord) : Type 0 
 
 -- the rules of the machines' caches
 abbrev pub hierarchy_in : Machines → Hierarchy
-hierarchy_in m = record {
-  i = rules_of (cache_of m.i);
-  d = rules_of (cache_of m.d);
-  u = rules_of (l2_cache m.u);
-}
+hierarchy_in m = hierarchy_by m.i m.d m.u
 
 -- the machines have simulated these events
 pub record Ran (m : Machines) (es : List DinRecord) : Type 0 where

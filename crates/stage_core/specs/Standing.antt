@@ -6,7 +6,7 @@ use Rattle.din_trace.specs.declared.record.DinRecord.{DinRecord}
 use Rattle.cache_core.specs.declared.cache.Cache.{Cache}
 use Rattle.cache_core.specs.Standing.{StandsFor, rules_of, served_of, counts_kept, has_failed}
 use Rattle.stage_core.specs.Events.{is_reference}
-use Rattle.stage_core.specs.SecondLevel.{second_history}
+use Rattle.stage_core.specs.SecondLevel.{Hierarchy, second_history}
 use Rattle.stage_core.specs.Streams.{taken_in, is_finish}
 use Rattle.stage_core.specs.Merging.{MergeState, AtOrder, AtI, AtD, AtBoth, LastI, LastD, AtEnd}
 use Rattle.stage_core.specs.declared.merge.State.{State}
@@ -93,3 +93,11 @@ l2_cache s = s.cache
 -- the second level has served these requests
 pub record L2StandsFor (s : L2Stage) (requests : List What) : Type 0 where
   pub cache : StandsFor (l2_cache s) (second_history requests)
+
+-- the rules of the caches of two first-level stages and a second level
+abbrev pub hierarchy_by : L1Stage → L1Stage → L2Stage → Hierarchy
+hierarchy_by i d u = record {
+  i = rules_of (cache_of i);
+  d = rules_of (cache_of d);
+  u = rules_of (l2_cache u);
+}
