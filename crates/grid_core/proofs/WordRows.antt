@@ -105,12 +105,22 @@ bytes_at bsize stride sets set apart some wback ways (suc i) (w ∷ ws) lt =
     bytes_at bsize stride sets set apart some wback ways i ws (omega arith)
 
 -- the first ways of a row, and the slots that their words keep
-pub row-part : (stride sets set ways most start : ℕ) (ws : List ℕ) → ways ≤ most
+row-part : (stride sets set ways most start : ℕ) (ws : List ℕ) → ways ≤ most
     → take ways (slots_in stride sets set (take most (drop start ws)))
     ≡ slots_in stride sets set (take ways (drop start ws))
 row-part stride sets set ways most start ws le =
     take-map (slot_of stride sets set) ways (take most (drop start ws))
     ∙ ap (slots_in stride sets set) (take-take ways most (drop start ws) le)
+
+-- the first slots of a row, whose words are cut out of all
+pub row-cut : (stride sets set ways most start : ℕ) (ws cut : List ℕ) → ways ≤ most → cut ≡ ws
+    → slots_in stride sets set (take (start + ways - start) (drop start cut))
+    ≡ take ways (slots_in stride sets set (take most (drop start ws)))
+row-cut stride sets set ways most start ws cut le same =
+    let size : start + ways - start ≡ ways = omega arith in
+    ap (λ k. slots_in stride sets set (take k (drop start cut))) size
+    ∙ ap (λ l. slots_in stride sets set (take ways (drop start l))) same
+    ∙ sym (row-part stride sets set ways most start ws le)
 
 -- a row of words of 0 keeps empty slots
 pub row-empty : (stride sets set ways : ℕ) → set < sets

@@ -1,10 +1,10 @@
-use Rattle.std.proofs.Common.{◌≡◌, suc, ◌+◌, ◌-◌, ◌*◌, List, ℕ, take, drop, length, sym, ap}
+use Rattle.std.proofs.Common.{◌≡◌, suc, ◌+◌, ◌-◌, ◌*◌, List, ℕ, take, drop, length, ap}
 use Rattle.std.proofs.Common.{◌∙◌, arith}
 use Rattle.std.proofs.lemmas.List.{length-append, length-take}
 use Rattle.cache_core.specs.Row.{row}
 use Rattle.grid_core.specs.Slot.{Slot, slots_in}
 use Rattle.grid_core.specs.Slots.{dirty_bytes, dirty_in_rows}
-use Rattle.grid_core.proofs.WordRows.{row-part}
+use Rattle.grid_core.proofs.WordRows.{row-cut}
 use Rattle.grid_core.proofs.slots.count_dirty.Goals as goal
 
 pub loop-set-preserved : goal.loop-set-preserved
@@ -18,14 +18,10 @@ loop-set-preserved c =
     let place = set * most in
     let ws = c.args.slots.now.items in
     let rows : ℕ → List Slot = λ k. slots_in n sets k (row most k ws) in
-    let size : place + ways - place ≡ ways = omega arith in
     let here = c.count_in-count.ensures.count sets set
-    ∙ ap (λ k. length (dirty_bytes 1 t ways
-    (slots_in n sets set (take k (drop place c.deref.result.now))))) size
-    ∙ ap (λ l. length (dirty_bytes 1 t ways (slots_in n sets set (take ways (drop place l)))))
-    c.deref.ensures.value
-    ∙ sym (ap (λ l. length (dirty_bytes 1 t ways l))
-    (row-part n sets set ways most place ws c.requires.fits)) in
+    ∙ ap (λ l. length (dirty_bytes 1 t ways l))
+    (row-cut n sets set ways most place ws c.deref.result.now c.requires.fits
+    c.deref.ensures.value) in
     let all = length-append (dirty_in_rows 1 t ways rows set)
     (dirty_bytes 1 t ways (take ways (rows set))) in
     let before = c.loop-set.invariant.counted in
