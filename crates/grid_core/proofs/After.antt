@@ -89,14 +89,14 @@ module _ (g : Geometry) (h : History) (x : Access) where
   referenced-next c = refl
 
   -- so it is known for each shape
-  pub shapes-prior : (sizes : List ℕ) → IsStrictlyIncreasing sizes → (stacks : List Stack)
-      (shadows : Shadows) (first : List Shape) (p : PriorLevel)
-      → IsAfter g stacks shadows first h → p.known ≡ is_known shadows b
-      → ((zs : List ℕ) → HoldsOrder shadows zs
+  pub shapes-prior : (blocks : List ℕ) (sizes : List ℕ) → IsStrictlyIncreasing sizes
+      → (stacks : List Stack) (shadows : Shadows) (first : List Shape) (p : PriorLevel)
+      → IsAfter blocks g stacks shadows first h → p.known ≡ is_known blocks shadows b
+      → ((zs : List ℕ) → HoldsOrder blocks shadows zs
       → p.level ≡ level_of sizes zs b) → (shapes : List Shape) → All (IsRanked sizes g) shapes
       → All (λ s. KnowsPrior s h x p) shapes
-  shapes-prior sizes rising stacks shadows first p st was level shapes ranked k d lt =
-      prior-known sizes rising (is_known shadows) p was (level ys st.order) st.known
+  shapes-prior blocks sizes rising stacks shadows first p st was level shapes ranked k d lt =
+      prior-known sizes rising (is_known blocks shadows) p was (level ys st.order) st.known
       (get_or shapes k d) (ranked k d lt)
 
   -- the level of the block in the shadows, in the words of rows of the block size
@@ -108,21 +108,24 @@ module _ (g : Geometry) (h : History) (x : Access) where
       (record { lru = refl; allocates = refl }) same h))
       ∙ ap (λ n. level_of sizes (distinct (renewals q h)) (x.addr / n)) (sym same)
 
-  pub after-access : (stacks stacks' : List Stack) (shadows shadows' : Shadows)
-      (shapes : List Shape) (p : PriorLevel) → IsAfter g stacks shadows shapes h
+  pub after-access : (blocks : List ℕ) (stacks stacks' : List Stack) (shadows shadows' : Shadows)
+      (shapes : List Shape) (p : PriorLevel) → IsAfter blocks g stacks shadows shapes h
       → All (λ s. KnowsPrior s h x p) shapes
       → All (λ s. StandsFor s (access x ∷ h)) stacks'
       → All (IsCountedIn (shadow_sizes shadows) (access x ∷ h)) stacks'
-      → ((zs : List ℕ) → HoldsOrder shadows zs → HoldsOrder shadows' (brought_front b zs))
-      → ((c : ℕ) → is_known shadows' c ≡ (b == c || is_known shadows c))
-      → AreNumbered shadows' → recent_in shadows' ≡ after_use b (is_write x) (recent_in shadows)
+      → ((zs : List ℕ) → HoldsOrder blocks shadows zs
+      → HoldsOrder blocks shadows' (brought_front b zs))
+      → ((c : ℕ) → is_known blocks shadows' c ≡ (b == c || is_known blocks shadows c))
+      → AreNumbered blocks shadows'
+      → recent_in shadows' ≡ after_use b (is_write x) (recent_in shadows)
       → ((k : ℕ) → far_in shadows' k ≡ with_one x (ltb k p.level) (far_in shadows k))
       → shadow_sizes shadows' ≡ shadow_sizes shadows
-      → IsAfter g stacks' shadows' shapes (access x ∷ h)
-  after-access stacks rows' shadows shadows' shapes p st prior rows counted order adds low at far
-      sizes = record {
+      → IsAfter blocks g stacks' shadows' shapes (access x ∷ h)
+  after-access blocks stacks rows' shadows shadows' shapes p st prior rows counted order adds low
+      at far sizes = record {
         rows = rows;
-        order = subst (HoldsOrder shadows') (sym (front-brought r refl h x)) (order ys st.order);
+        order = subst (HoldsOrder blocks shadows') (sym (front-brought r refl h x))
+            (order ys st.order);
         numbered = low;
         known = λ c. adds c ∙ ap (λ t. b == c || t) (st.known c) ∙ referenced-next c;
         counted = subst (λ (z : List ℕ). All (IsCountedIn z (access x ∷ h)) rows') (sym sizes)
@@ -147,18 +150,20 @@ module _ (g : Geometry) (h : History) where
   unfolding referenced_blocks
   referenced-flush c = refl
 
-  pub after-flush : (stacks stacks' : List Stack) (shadows shadows' : Shadows)
-      (shapes : List Shape) → IsAfter g stacks shadows shapes h
+  pub after-flush : (blocks : List ℕ) (stacks stacks' : List Stack) (shadows shadows' : Shadows)
+      (shapes : List Shape) → IsAfter blocks g stacks shadows shapes h
       → All (λ s. StandsFor s (flush ∷ h)) stacks'
-      → All (IsCountedIn (shadow_sizes shadows) (flush ∷ h)) stacks' → HoldsOrder shadows' []
-      → ((c : ℕ) → is_known shadows' c ≡ is_known shadows c) → AreNumbered shadows'
+      → All (IsCountedIn (shadow_sizes shadows) (flush ∷ h)) stacks'
+      → HoldsOrder blocks shadows' []
+      → ((c : ℕ) → is_known blocks shadows' c ≡ is_known blocks shadows c)
+      → AreNumbered blocks shadows'
       → recent_in shadows' ≡ none_recent → levels_in shadows' ≡ levels_in shadows
       → shadow_sizes shadows' ≡ shadow_sizes shadows
-      → IsAfter g stacks' shadows' shapes (flush ∷ h)
-  after-flush stacks rows' shadows shadows' shapes st rows counted order same low none levels sizes
-      = record {
+      → IsAfter blocks g stacks' shadows' shapes (flush ∷ h)
+  after-flush blocks stacks rows' shadows shadows' shapes st rows counted order same low none
+      levels sizes = record {
         rows = rows;
-        order = subst (HoldsOrder shadows')
+        order = subst (HoldsOrder blocks shadows')
             (sym (ap distinct (renewals-flush (shadow_of (base_rules g)) h))) order;
         numbered = low;
         known = λ c. same c ∙ st.known c ∙ referenced-flush c;
@@ -178,12 +183,13 @@ unfolding counts_of tally shadow_misses
 far-start s = refl
 
 -- before the first event
-pub after-start : (g : Geometry) (stacks : List Stack) (shadows : Shadows) (shapes : List Shape)
-    (levels : ℕ) → All (IsEmptyStack levels) stacks → HoldsOrder shadows []
-    → ((c : ℕ) → is_known shadows c ≡ false) → AreNumbered shadows → recent_in shadows ≡ none_recent
-    → ((k : ℕ) → far_in shadows k ≡ none_by_class) → IsAfter g stacks shadows shapes []
+pub after-start : (blocks : List ℕ) (g : Geometry) (stacks : List Stack) (shadows : Shadows)
+    (shapes : List Shape) (levels : ℕ) → All (IsEmptyStack levels) stacks
+    → HoldsOrder blocks shadows [] → ((c : ℕ) → is_known blocks shadows c ≡ false)
+    → AreNumbered blocks shadows → recent_in shadows ≡ none_recent
+    → ((k : ℕ) → far_in shadows k ≡ none_by_class) → IsAfter blocks g stacks shadows shapes []
 unfolding renewals referenced_blocks
-after-start g stacks shadows shapes levels empty order known low none far = record {
+after-start blocks g stacks shadows shapes levels empty order known low none far = record {
   rows = λ k d lt. (empty k d lt).stands;
   order = order;
   known = known;

@@ -141,10 +141,11 @@ all-again g h x sizes stacks shapes last placed ranked k d lt =
     ((placed k d lt).placed no_rules) (ranked k d lt).same
 
 -- what is known of the block that was used last
-pub last-of : (g : Geometry) (h : History) (stacks : List Stack) (shadows : Shadows)
-    (shapes : List Shape) (b : ℕ) (write : Bool) → IsAfter g stacks shadows shapes h
-    → IsAgain b write (recent_in shadows) → used_last (bsize_of g) b h ≡ true
-last-of g h stacks shadows shapes b write st again =
+pub last-of : (blocks : List ℕ) (g : Geometry) (h : History) (stacks : List Stack)
+    (shadows : Shadows) (shapes : List Shape) (b : ℕ) (write : Bool)
+    → IsAfter blocks g stacks shadows shapes h → IsAgain b write (recent_in shadows)
+    → used_last (bsize_of g) b h ≡ true
+last-of blocks g h stacks shadows shapes b write st again =
     subst (λ c. used_last (bsize_of g) c h ≡ true) again.block (st.recent.used again.used)
 
 -- it is no first access
@@ -173,17 +174,18 @@ prior-again g h x sizes shapes last ranked k d lt =
     }
 
 -- nothing changes
-pub after-again : (g : Geometry) (h : History) (x : Access) (sizes : List ℕ) (stacks : List Stack)
-    (shadows : Shadows) (shapes : List Shape) → HaveBsize (bsize_of g) stacks
+pub after-again : (blocks : List ℕ) (g : Geometry) (h : History) (x : Access) (sizes : List ℕ)
+    (stacks : List Stack) (shadows : Shadows) (shapes : List Shape) → HaveBsize (bsize_of g) stacks
     → All (IsRanked sizes g) shapes
     → IsAgain (x.addr / bsize_of g) (is_write x) (recent_in shadows)
-    → IsAfter g stacks shadows shapes h → IsAfter g stacks shadows shapes (access x ∷ h)
-after-again g h x sizes stacks shadows shapes same ranked again st =
+    → IsAfter blocks g stacks shadows shapes h
+    → IsAfter blocks g stacks shadows shapes (access x ∷ h)
+after-again blocks g h x sizes stacks shadows shapes same ranked again st =
     let n = bsize_of g in
     let b = x.addr / n in
     let r = base_rules g in
     let w = shadow_of r in
-    let last = last-of g h stacks shadows shapes b (is_write x) st again in
+    let last = last-of blocks g h stacks shadows shapes b (is_write x) st again in
     let written : is_write x ≡ true → written_last n b h ≡ true = λ e.
     subst (λ c. written_last n c h ≡ true) again.block (st.recent.written (again.written e)) in
     let front = renewed-last w (record { lru = refl; allocates = refl }) b h last in
@@ -193,7 +195,7 @@ after-again g h x sizes stacks shadows shapes same ranked again st =
     record {
       rows = λ k d lt. stands-again n h x last written (get_or stacks k d)
           (size-at n stacks same k d lt) (st.rows k d lt);
-      order = subst (HoldsOrder shadows) order st.order;
+      order = subst (HoldsOrder blocks shadows) order st.order;
       numbered = st.numbered;
       known = λ c. st.known c ∙ known-again n b r h refl last c ∙ referenced-next g h x c;
       counted = λ k d lt.

@@ -1,5 +1,5 @@
 -- Seats that stay, while caches serve.
-use Rattle.std.proofs.Common.{List, sym, subst}
+use Rattle.std.proofs.Common.{ℕ, List, sym, subst}
 use Rattle.std.specs.List.{All}
 use Rattle.cache_core.specs.declared.policy.Policy.{Policy}
 use Rattle.cache_core.specs.History.{Rules}
@@ -7,7 +7,14 @@ use Rattle.grid_core.specs.declared.caches.Caches.{Caches}
 use Rattle.grid_core.specs.declared.places.Seat.{Seat}
 use Rattle.grid_core.specs.Caches.{HaveSameRules}
 use Rattle.grid_core.specs.Caches.{together_rules, apart_rules, shades_rules}
+use Rattle.grid_core.specs.Numbers.{HaveBlocksOf}
 use Rattle.grid_core.specs.Places.{IsSeated}
+
+-- blocks keep their size
+pub sized-same : (n : ℕ) (c d : Caches) → HaveSameRules c d → HaveBlocksOf n (together_rules d)
+    → HaveBlocksOf n (together_rules c)
+sized-same n c d same sized =
+    subst (λ (l : List Rules). HaveBlocksOf n l) (sym same.together) sized
 
 -- seats stay where the rules do
 pub seated-same : (p : Policy) (c d : Caches) → HaveSameRules c d → (seats : List Seat)

@@ -8,8 +8,8 @@ use Rattle.grid_core.specs.declared.engine.Engine.{Engine}
 use Rattle.grid_core.specs.declared.shadows.Shadows.{Shadows}
 use Rattle.grid_core.specs.declared.stack.Stack.{Stack}
 use Rattle.grid_core.specs.Engines.{EngineStandsBy}
-use Rattle.grid_core.specs.Shadows.{AreNumberedBy, HoldsOrderBy}
-use Rattle.grid_core.specs.State.{IsAfterBy}
+use Rattle.grid_core.specs.Shadows.{AreNumbered, HoldsOrder}
+use Rattle.grid_core.specs.State.{IsAfter}
 use Rattle.grid_core.proofs.Renumbered.{low-same, order-same, used-same}
 
 -- a list goes on where another does that goes on where it does
@@ -22,8 +22,8 @@ on-further blocks more last first second = (
 
 module _ (blocks more : List ℕ) (on : IsBeginning blocks more) where
   -- the order of the shadows
-  pub order-more : (s : Shadows) (ys : List ℕ) → AreNumberedBy blocks s
-      → HoldsOrderBy blocks s ys → HoldsOrderBy more s ys
+  pub order-more : (s : Shadows) (ys : List ℕ) → AreNumbered blocks s
+      → HoldsOrder blocks s ys → HoldsOrder more s ys
   order-more s ys low held = record {
     order = held.order ∙ order-same s.order blocks more on low ys held.known;
     known = λ y h. used-same s.order blocks more on low y ∙ held.known y h;
@@ -31,7 +31,7 @@ module _ (blocks more : List ℕ) (on : IsBeginning blocks more) where
 
   -- the state of caches that are served together
   pub after-more : (g : Geometry) (stacks : List Stack) (s : Shadows) (shapes : List Shape)
-      (h : History) → IsAfterBy blocks g stacks s shapes h → IsAfterBy more g stacks s shapes h
+      (h : History) → IsAfter blocks g stacks s shapes h → IsAfter more g stacks s shapes h
   after-more g stacks s shapes h st = record {
     rows = st.rows;
     order = order-more s _ st.numbered st.order;

@@ -9,12 +9,11 @@ use Rattle.cache_core.specs.Counts.{no_counts, none_by_class}
 use Rattle.grid_core.specs.declared.caches.Caches.{Caches}
 use Rattle.grid_core.specs.declared.places.Place.{Place}
 use Rattle.grid_core.specs.declared.places.Place.TheVariants.{Together, Apart}
-use Rattle.grid_core.specs.StackedCells.{stacked_kept, stacked_numbered, stacked_rules}
-use Rattle.grid_core.specs.StackedCells.{stacked_served}
+use Rattle.grid_core.specs.StackedCells.{stacked_kept, stacked_rules, stacked_served}
 use Rattle.grid_core.specs.Singles.{single_rules, single_counts, SingleStandsFor}
 use Rattle.grid_core.specs.Singles.{SingleHasAnswered}
 use Rattle.grid_core.specs.Shades.{ShadeStandsFor, shade_rules, shade_misses}
-use Rattle.grid_core.specs.Shading.{FollowsStackedBy, StackedFollowed}
+use Rattle.grid_core.specs.Shading.{FollowsStacked, StackedFollowed}
 use Rattle.grid_core.specs.Places.{IsPlace}
 use Rattle.grid_core.specs.Written.{none_kept}
 
@@ -50,17 +49,9 @@ misses_in c (Apart i) = get_or (map shade_misses c.shades.items) i none_by_class
 
 -- each cache stands for the history, by the numbers that the places of a list of blocks are
 pub record CachesStandBy (blocks : List ℕ) (h : History) (c : Caches) : Type 0 where
-  pub stacked : FollowsStackedBy blocks h c.stacked
+  pub stacked : FollowsStacked blocks h c.stacked
   pub shades : All (ShadeStandsFor h) c.shades.items
   pub singles : All (SingleStandsFor h) c.singles.items
-
--- the blocks that have numbers
-abbrev pub caches_numbered : Caches → List ℕ
-caches_numbered c = stacked_numbered c.stacked
-
--- each cache stands for the history, by their own numbers
-abbrev pub CachesStandFor : History → Caches → Type 0
-CachesStandFor h c = CachesStandBy (caches_numbered c) h c
 
 -- the last access of each cache was x, after the history h
 pub record HaveAnswered (h : History) (x : Access) (c : Caches) : Type 0 where

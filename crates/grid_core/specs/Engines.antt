@@ -3,12 +3,13 @@ use Rattle.std.specs.Prelude.{◌≡◌, ℕ, Bool, false, List, length, map}
 use Rattle.cache_core.specs.declared.access.Access.{Access}
 use Rattle.cache_core.specs.declared.counts.Counts.{Counts}
 use Rattle.cache_core.specs.declared.counts.PerClass.{PerClass}
+use Rattle.cache_core.specs.Geometry.{bsize_of}
 use Rattle.cache_core.specs.History.{History, Rules}
 use Rattle.cache_core.specs.Standing.{rules_from}
 use Rattle.cache_core.specs.Lists.{IsBeginning}
 use Rattle.grid_core.specs.declared.engine.Engine.{Engine}
-use Rattle.grid_core.specs.Caches.{CachesStandBy, HaveAnswered, caches_numbered}
-use Rattle.grid_core.specs.Caches.{counts_in, misses_in}
+use Rattle.grid_core.specs.Caches.{CachesStandBy, HaveAnswered, counts_in, misses_in}
+use Rattle.grid_core.specs.Numbered.{blocks_in}
 
 -- the rules of the caches
 unfoldable pub rules_in : Engine → List Rules
@@ -26,9 +27,13 @@ kept_in e = map (λ s. (counts_in e.caches s.cell, misses_in e.caches s.shadow))
 unfoldable pub has_failed : Engine → Bool
 has_failed e = e.failed
 
+-- how many bytes a block has
+unfoldable pub bsize_in : Engine → ℕ
+bsize_in e = bsize_of e.first
+
 -- the blocks that have numbers: the number of each is its place
-abbrev pub numbered_in : Engine → List ℕ
-numbered_in e = caches_numbered e.caches
+unfoldable pub numbered_in : Engine → List ℕ
+numbered_in e = blocks_in e.numbers
 
 -- the engine stands for the history by the numbers that the places of a list of blocks are: it has
 -- not failed, and its state is what the history gives

@@ -8,17 +8,13 @@ use Rattle.grid_core.specs.declared.places.Place.{Place}
 use Rattle.grid_core.specs.declared.stacked.Stacked.{Stacked}
 use Rattle.grid_core.specs.Places.{IsPlace, shadow_placed}
 use Rattle.grid_core.specs.StackedCells.{StackedHasAnswered, StackedStandsBy}
-use Rattle.grid_core.specs.StackedCells.{stacked_numbered, stacked_rules}
+use Rattle.grid_core.specs.StackedCells.{stacked_rules}
 use Rattle.grid_core.specs.Written.{rules_at}
 
 -- caches that are served together stand for the history by the numbers that the places of a list
 -- of blocks are, if there are any caches
-abbrev pub FollowsStackedBy : List ℕ → History → Stacked → Type 0
-FollowsStackedBy blocks h s = 0 < length (stacked_rules s) → StackedStandsBy blocks s h
-
--- the same by their own numbers
-abbrev pub FollowsStacked : History → Stacked → Type 0
-FollowsStacked h s = FollowsStackedBy (stacked_numbered s) h s
+abbrev pub FollowsStacked : List ℕ → History → Stacked → Type 0
+FollowsStacked blocks h s = 0 < length (stacked_rules s) → StackedStandsBy blocks s h
 
 -- their last access was x, after the history h
 abbrev pub StackedFollowed : History → Access → Stacked → Type 0

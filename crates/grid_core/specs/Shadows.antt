@@ -7,13 +7,8 @@ use Rattle.marked_list.specs.declared.marked.Marked.{Marked}
 use Rattle.marked_list.specs.Marked.{order_of, marked_sizes, was_used}
 use Rattle.grid_core.specs.declared.recent.Recent.{Recent}
 use Rattle.grid_core.specs.declared.shadows.Shadows.{Shadows}
-use Rattle.grid_core.specs.Numbered.{blocks_in}
 use Rattle.grid_core.specs.Numbers.{number_at}
 use Rattle.grid_core.specs.Totals.{total}
-
--- the blocks that have numbers: the number of each is its place
-abbrev pub numbered : Shadows → List ℕ
-numbered s = blocks_in s.numbers
 
 -- whether the block of this number was used, if there is such a number
 abbrev pub is_used : Marked → Option ℕ → Bool
@@ -21,20 +16,12 @@ is_used m None = false
 is_used m (Some n) = was_used m n
 
 -- whether a block was accessed, if each block of a list has its place there as its number
-abbrev pub is_known_by : List ℕ → Shadows → ℕ → Bool
-is_known_by blocks s b = is_used s.order (number_at blocks b)
-
--- whether a block was accessed
-abbrev pub is_known : Shadows → ℕ → Bool
-is_known s = is_known_by (numbered s) s
+abbrev pub is_known : List ℕ → Shadows → ℕ → Bool
+is_known blocks s b = is_used s.order (number_at blocks b)
 
 -- each number that was used is that of a block of the list
-abbrev pub AreNumberedBy : List ℕ → Shadows → Type 0
-AreNumberedBy blocks s = (n : ℕ) → was_used s.order n ≡ true → n < length blocks
-
--- the same by the numbers that the shadows have
-abbrev pub AreNumbered : Shadows → Type 0
-AreNumbered s = AreNumberedBy (numbered s) s
+abbrev pub AreNumbered : List ℕ → Shadows → Type 0
+AreNumbered blocks s = (n : ℕ) → was_used s.order n ≡ true → n < length blocks
 
 -- the number of a block that was accessed
 abbrev pub number_by : List ℕ → ℕ → ℕ
@@ -58,10 +45,6 @@ far_in s k = total (drop (suc k) (levels_in s))
 
 -- by these numbers, the blocks of the list ys, each of which was accessed, are in the order of the
 -- shadows
-pub record HoldsOrderBy (blocks : List ℕ) (s : Shadows) (ys : List ℕ) : Type 0 where
+pub record HoldsOrder (blocks : List ℕ) (s : Shadows) (ys : List ℕ) : Type 0 where
   pub order : order_of s.order ≡ map (number_by blocks) ys
-  pub known : (y : ℕ) → list_any (λ m. m == y) ys ≡ true → is_known_by blocks s y ≡ true
-
--- the same by the numbers that the shadows have
-abbrev pub HoldsOrder : Shadows → List ℕ → Type 0
-HoldsOrder s = HoldsOrderBy (numbered s) s
+  pub known : (y : ℕ) → list_any (λ m. m == y) ys ≡ true → is_known blocks s y ≡ true

@@ -8,8 +8,7 @@ use Rattle.cache_core.specs.History.{History, Rules, is_write}
 use Rattle.grid_core.specs.declared.stacked.Stacked.{Stacked}
 use Rattle.grid_core.specs.Standing.{HasMoved, found_in}
 use Rattle.grid_core.specs.Cells.{HitsIn, KnowsPrior, hit_at, shape_rules}
-use Rattle.grid_core.specs.Shadows.{numbered}
-use Rattle.grid_core.specs.State.{IsAfterBy, IsAlike, kept_by}
+use Rattle.grid_core.specs.State.{IsAfter, IsAlike, kept_by}
 
 -- the rules of the caches
 unfoldable pub stacked_rules : Stacked → List Rules
@@ -28,15 +27,7 @@ stacked_kept e = map (kept_by e.alike e.stacks.items e.shadows) e.shapes.items
 pub record StackedStandsBy (blocks : List ℕ) (e : Stacked) (h : History) : Type 0 where
   pub served : stacked_served e ≡ length h
   pub alike : IsAlike e.geometry h e.alike
-  pub state : IsAfterBy blocks e.geometry e.stacks.items e.shadows e.shapes.items h
-
--- the blocks that they have numbers for, in the order of these
-abbrev pub stacked_numbered : Stacked → List ℕ
-stacked_numbered e = numbered e.shadows
-
--- the same by their own numbers
-abbrev pub StackedStandsFor : Stacked → History → Type 0
-StackedStandsFor e = StackedStandsBy (stacked_numbered e) e
+  pub state : IsAfter blocks e.geometry e.stacks.items e.shadows e.shapes.items h
 
 -- the last access was x, after the history h: it used the block that was used last and so hit in
 -- each cache, or it is known where it stood in the rows; what was known of its block is kept

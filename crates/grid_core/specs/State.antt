@@ -18,7 +18,7 @@ use Rattle.grid_core.specs.declared.stack.Stack.{Stack}
 use Rattle.grid_core.specs.Standing.{IsCountedIn, StandsFor, stack_rules, written_at}
 use Rattle.grid_core.specs.Histograms.{past_in}
 use Rattle.grid_core.specs.Recent.{IsRecent}
-use Rattle.grid_core.specs.Shadows.{AreNumberedBy, HoldsOrderBy, far_in, is_known_by, numbered}
+use Rattle.grid_core.specs.Shadows.{AreNumbered, HoldsOrder, far_in, is_known}
 use Rattle.grid_core.specs.Shadows.{recent_in, shadow_sizes}
 use Rattle.grid_core.specs.Cells.{sent_on_of, shape_rules}
 use Rattle.grid_core.specs.FullyAssociative.{shadow_misses}
@@ -31,20 +31,16 @@ base_rules g = stack_rules g true
 
 -- rows, shadows and what they have counted, for caches of these shapes after a history, by the
 -- numbers that the places of a list of blocks are
-pub record IsAfterBy (blocks : List ℕ) (g : Geometry) (stacks : List Stack) (shadows : Shadows)
+pub record IsAfter (blocks : List ℕ) (g : Geometry) (stacks : List Stack) (shadows : Shadows)
     (shapes : List Shape) (h : History) : Type 0 where
   pub rows : All (λ s. StandsFor s h) stacks
-  pub order : HoldsOrderBy blocks shadows (distinct (renewals (shadow_of (base_rules g)) h))
-  pub known : (b : ℕ) → is_known_by blocks shadows b
+  pub order : HoldsOrder blocks shadows (distinct (renewals (shadow_of (base_rules g)) h))
+  pub known : (b : ℕ) → is_known blocks shadows b
       ≡ list_any (λ t. t == b) (referenced_blocks (base_rules g) h)
-  pub numbered : AreNumberedBy blocks shadows
+  pub numbered : AreNumbered blocks shadows
   pub counted : All (IsCountedIn (shadow_sizes shadows) h) stacks
   pub far : All (λ s. far_in shadows s.rank ≡ shadow_misses (shape_rules s) h) shapes
   pub recent : IsRecent (bsize_of g) (recent_in shadows) h
-
--- the same by the numbers that the shadows have
-abbrev pub IsAfter : Geometry → List Stack → Shadows → List Shape → History → Type 0
-IsAfter g stacks shadows = IsAfterBy (numbered shadows) g stacks shadows
 
 -- what all caches count alike, after a history
 pub record IsAlike (g : Geometry) (h : History) (a : Alike) : Type 0 where

@@ -6,12 +6,13 @@ ghost use Rattle.grid_core.specs.AtHand.{AreRight};
 ghost use Rattle.grid_core.specs.Numbers.{number_at};
 
 use crate::at_hand::{Entry, at_hand, keep_at_hand};
+use cache_core::NoMemory;
 use indexmap::IndexSet;
 use std::alloc::{AllocError, Global};
 
-/// Blocks that are numbered from 0, in the order in which they were first asked for. Engines of one
-/// block size can do with one of these, if they are served in turn: see
-/// [`Engine::swap_numbers`](crate::Engine::swap_numbers).
+/// Blocks that are numbered from 0, in the order in which they were first asked for. An engine has
+/// its own. Others can be told the numbers of their blocks, and do with one table for all: see
+/// [`Engine::access_numbered`](crate::Engine::access_numbered).
 #[derive(Drop)]
 pub struct BlockNumbers {
     blocks: IndexSet<u64>,
@@ -48,16 +49,30 @@ impl BlockNumbers {
         }
     }
 
-    /// The number of a block. A block that has none gets the next one.
-    pub(crate) fn number(&mut self, block: u64) -> Result<usize, AllocError>
+    /// The number of a block that is not at hand. Not inlined, so that one at hand costs less.
+    #[inline(never)]
+    fn look_up(&mut self, block: u64) -> Result<usize, AllocError>
+        ensures number { IfOk result (λ n. number_at (blocks_in self.new) block ≡ Some n) }
+        ensures grows { IsBeginning (blocks_in self.old) (blocks_in self.new) }
+    {
+        let number = number_block(&mut self.blocks, block)?;
+        keep_at_hand(&mut self.entries, block, number)?;
+        Ok(number)
+    }
+
+    /// The number of a block. A block that has none gets the next one. If memory is refused, the
+    /// blocks that had numbers keep them. This is inlined, since most blocks are at hand.
+    #[inline(always)]
+    pub fn number(&mut self, block: u64) -> Result<usize, NoMemory>
         ensures number { IfOk result (λ n. number_at (blocks_in self.new) block ≡ Some n) }
         ensures grows { IsBeginning (blocks_in self.old) (blocks_in self.new) }
     {
         if let Some(number) = at_hand(&self.entries, block) {
             return Ok(number);
         }
-        let number = number_block(&mut self.blocks, block)?;
-        keep_at_hand(&mut self.entries, block, number)?;
+        let Ok(number) = self.look_up(block) else {
+            return Err(NoMemory);
+        };
         Ok(number)
     }
 }

@@ -1,19 +1,17 @@
 //! The caches of an engine: those that are served together, and those of their own.
 
-ghost use Rattle.std.specs.Prelude.{◌≡◌, ◌<◌, ◌≤◌, ◌+◌, ◌∷◌, ℕ, false, length, map};
+ghost use Rattle.std.specs.Prelude.{◌≡◌, ◌<◌, ◌≤◌, ◌+◌, ◌∷◌, ℕ, List, false, length, map};
 ghost use Rattle.std.specs.Prelude.{IfOk, OnOk, OnErr};
 ghost use Rattle.cache_core.specs.History.{History, access as accessed, flush as flushed};
 ghost use Rattle.grid_core.specs.Cells.{items_of};
 ghost use Rattle.std.specs.List.{All};
-ghost use Rattle.cache_core.specs.Lists.{IsBeginning};
+ghost use Rattle.grid_core.specs.Numbers.{IsNumberIn};
 ghost use Rattle.grid_core.specs.Shades.{shade_rules};
 ghost use Rattle.grid_core.specs.Shading.{FollowsStacked, StackedFollowed, IsShaded};
 ghost use Rattle.grid_core.specs.Singles.{single_shading};
-ghost use Rattle.grid_core.specs.StackedCells.{stacked_kept, stacked_numbered, stacked_rules};
-ghost use Rattle.grid_core.specs.StackedCells.{stacked_served};
+ghost use Rattle.grid_core.specs.StackedCells.{stacked_kept, stacked_rules, stacked_served};
 ghost use Rattle.grid_core.specs.Written.{written_by};
 
-use crate::block_numbers::BlockNumbers;
 use crate::places::{Place, Seat, lists_of};
 use crate::shade::Shade;
 use crate::shades::{clear_shades, serve_shades, settle_shades};
@@ -35,27 +33,31 @@ pub(crate) struct Caches {
         (map single_shading singles.items) },
 }
 
-/// Serves an access in the caches that are served together, if there are any.
-fn serve_stacked(stacked: &mut Stacked, access: Access) -> Result<(), AllocError>
+/// Serves an access, whose block has this number, in the caches that are served together, if there
+/// are any.
+fn serve_stacked(stacked: &mut Stacked, access: Access, number: usize) -> Result<(), AllocError>
     requires { stacked_served stacked.old < MAX_EVENTS }
-    ensures stands { OnOk result ((h : History) → FollowsStacked h stacked.old →
-        FollowsStacked (accessed access ∷ h) stacked.new) }
-    ensures answers { OnOk result ((h : History) → FollowsStacked h stacked.old →
-        StackedFollowed h access stacked.new) }
+    ensures stands { OnOk result ((blocks : List ℕ) (h : History) →
+        IsNumberIn blocks (stacked_rules stacked.old) access number →
+        FollowsStacked blocks h stacked.old →
+        FollowsStacked blocks (accessed access ∷ h) stacked.new) }
+    ensures answers { OnOk result ((blocks : List ℕ) (h : History) →
+        IsNumberIn blocks (stacked_rules stacked.old) access number →
+        FollowsStacked blocks h stacked.old → StackedFollowed h access stacked.new) }
     ensures served { OnOk result (stacked_served stacked.new ≤ stacked_served stacked.old + 1) }
-    ensures grows { IsBeginning (stacked_numbered stacked.old) (stacked_numbered stacked.new) }
     ensures keeps { OnErr result (stacked_kept stacked.new ≡ stacked_kept stacked.old) }
     ensures rules { stacked_rules stacked.new ≡ stacked_rules stacked.old }
 {
     if stacked.cells() == 0 {
         return Ok(());
     }
-    stacked.access(access)
+    stacked.access(access, number)
 }
 
 /// What a flush writes back in each of the caches that are served together.
 fn written_stacked(stacked: &Stacked) -> Result<Vec<Vec<u64>>, AllocError>
-    ensures lists { IfOk result (λ lists. (h : History) → FollowsStacked h stacked.now →
+    ensures lists { IfOk result (λ lists. (blocks : List ℕ) (h : History) →
+        FollowsStacked blocks h stacked.now →
         map items_of lists.items ≡ map (written_by h) (stacked_rules stacked.now)) }
     ensures len { IfOk result (λ lists. length lists.items ≡ length (stacked_rules stacked.now)) }
 {
@@ -65,10 +67,9 @@ fn written_stacked(stacked: &Stacked) -> Result<Vec<Vec<u64>>, AllocError>
 /// Flushes the caches that are served together, if there are any.
 fn flush_stacked(stacked: &mut Stacked)
     requires few { stacked_served stacked.old < MAX_EVENTS }
-    ensures stands { (h : History) → FollowsStacked h stacked.old →
-        FollowsStacked (flushed ∷ h) stacked.new }
+    ensures stands { (blocks : List ℕ) (h : History) → FollowsStacked blocks h stacked.old →
+        FollowsStacked blocks (flushed ∷ h) stacked.new }
     ensures served { stacked_served stacked.new ≤ stacked_served stacked.old + 1 }
-    ensures numbers { stacked_numbered stacked.new ≡ stacked_numbered stacked.old }
     ensures rules { stacked_rules stacked.new ≡ stacked_rules stacked.old }
 {
     if stacked.cells() == 0 {
@@ -84,75 +85,77 @@ impl Caches {
     ghost use Rattle.cache_core.specs.History.{History, access as accessed, flush as flushed};
     ghost use Rattle.cache_core.specs.Counts.{counts_of};
     ghost use Rattle.cache_core.specs.Parts.{outcome_of};
-    ghost use Rattle.cache_core.specs.Lists.{IsBeginning};
     ghost use Rattle.grid_core.specs.Cells.{items_of};
-    ghost use Rattle.grid_core.specs.Caches.{AreInStep, CachesStandBy, CachesStandFor, HasPlace};
-    ghost use Rattle.grid_core.specs.Caches.{HaveAnswered, caches_numbered};
+    ghost use Rattle.grid_core.specs.Caches.{AreInStep, CachesStandBy, HasPlace, HaveAnswered};
     ghost use Rattle.grid_core.specs.Caches.{HaveSameRules, HaveSameCounts, counts_in, misses_in};
     ghost use Rattle.grid_core.specs.Caches.{HasShade, together_rules, apart_rules, shades_rules};
-    ghost use Rattle.grid_core.specs.Numbered.{blocks_in};
+    ghost use Rattle.grid_core.specs.Numbers.{IsNumberIn};
     ghost use Rattle.grid_core.specs.Places.{rules_placed, shadow_placed};
     ghost use Rattle.grid_core.specs.Singles.{AreFew};
     ghost use Rattle.grid_core.specs.Written.{written_by, SendsNothing};
 
-    /// Serves an access where some caches are of their own. What can fail comes first, and only
-    /// then is it counted. Not inlined, so that caches that all have a stack order are served by
-    /// less code.
+    /// Serves an access, whose block has this number, where some caches are of their own. What can
+    /// fail comes first, and only then is it counted. Not inlined, so that caches that all have a
+    /// stack order are served by less code.
     #[inline(never)]
-    fn access_each(&mut self, access: Access) -> Result<(), AllocError>
+    fn access_each(&mut self, access: Access, number: usize) -> Result<(), AllocError>
         requires { (n : ℕ) × AreInStep n self.old × (n < MAX_EVENTS) }
-        ensures stands { OnOk result ((h : History) → CachesStandFor h self.old →
-            CachesStandFor (accessed access ∷ h) self.new) }
-        ensures answers { OnOk result ((h : History) → CachesStandFor h self.old →
-            HaveAnswered h access self.new) }
+        ensures stands { OnOk result ((blocks : List ℕ) (h : History) →
+            IsNumberIn blocks (together_rules self.old) access number →
+            CachesStandBy blocks h self.old →
+            CachesStandBy blocks (accessed access ∷ h) self.new) }
+        ensures answers { OnOk result ((blocks : List ℕ) (h : History) →
+            IsNumberIn blocks (together_rules self.old) access number →
+            CachesStandBy blocks h self.old → HaveAnswered h access self.new) }
         ensures step { OnOk result ((n : ℕ) → AreInStep n self.old →
             AreInStep (n + 1) self.new) }
-        ensures grows { IsBeginning (caches_numbered self.old) (caches_numbered self.new) }
         ensures keeps { OnErr result (HaveSameCounts self.new self.old) }
         ensures rules { HaveSameRules self.new self.old }
     {
         serve_all(&mut self.singles, access)?;
         serve_shades(&mut self.shades, access)?;
-        serve_stacked(&mut self.stacked, access)?;
+        serve_stacked(&mut self.stacked, access, number)?;
         settle_shades(&mut self.shades, access);
         settle_all(&mut self.singles, &self.stacked, &self.shades, access);
         Ok(())
     }
 
-    /// Serves an access in all caches.
-    pub fn access(&mut self, access: Access) -> Result<(), AllocError>
+    /// Serves an access, whose block has this number, in all caches.
+    pub fn access(&mut self, access: Access, number: usize) -> Result<(), AllocError>
         requires { (n : ℕ) × AreInStep n self.old × (n < MAX_EVENTS) }
-        ensures stands { OnOk result ((h : History) → CachesStandFor h self.old →
-            CachesStandFor (accessed access ∷ h) self.new) }
-        ensures answers { OnOk result ((h : History) → CachesStandFor h self.old →
-            HaveAnswered h access self.new) }
+        ensures stands { OnOk result ((blocks : List ℕ) (h : History) →
+            IsNumberIn blocks (together_rules self.old) access number →
+            CachesStandBy blocks h self.old →
+            CachesStandBy blocks (accessed access ∷ h) self.new) }
+        ensures answers { OnOk result ((blocks : List ℕ) (h : History) →
+            IsNumberIn blocks (together_rules self.old) access number →
+            CachesStandBy blocks h self.old → HaveAnswered h access self.new) }
         ensures step { OnOk result ((n : ℕ) → AreInStep n self.old →
             AreInStep (n + 1) self.new) }
-        ensures grows { IsBeginning (caches_numbered self.old) (caches_numbered self.new) }
         ensures keeps { OnErr result (HaveSameCounts self.new self.old) }
         ensures rules { HaveSameRules self.new self.old }
     {
         if self.shades.is_empty() && self.singles.is_empty() {
-            return serve_stacked(&mut self.stacked, access);
+            return serve_stacked(&mut self.stacked, access, number);
         }
-        self.access_each(access)
+        self.access_each(access, number)
     }
 
     /// Serves an access the short way, if all caches have a stack order: see `Stacked::again`.
     #[inline(always)]
     pub fn again(&mut self, access: Access) -> bool
         requires { (n : ℕ) × AreInStep n self.old × (n < MAX_EVENTS) }
-        ensures stands { result ≡ true → (h : History) → CachesStandFor h self.old →
-            CachesStandFor (accessed access ∷ h) self.new }
-        ensures answers { result ≡ true → (h : History) → CachesStandFor h self.old →
-            HaveAnswered h access self.new }
+        ensures stands { result ≡ true → (blocks : List ℕ) (h : History) →
+            CachesStandBy blocks h self.old →
+            CachesStandBy blocks (accessed access ∷ h) self.new }
+        ensures answers { result ≡ true → (blocks : List ℕ) (h : History) →
+            CachesStandBy blocks h self.old → HaveAnswered h access self.new }
         ensures silent { result ≡ true → (h : History) (x : Access) → HaveAnswered h x self.new →
             (place : Place) → HasPlace self.new place → SendsNothing (outcome_of
             (rules_placed (together_rules self.new) (apart_rules self.new) place) h x) }
         ensures step { result ≡ true → (n : ℕ) → AreInStep n self.old →
             AreInStep (n + 1) self.new }
         ensures leaves { result ≡ false → self.new ≡ self.old }
-        ensures numbers { caches_numbered self.new ≡ caches_numbered self.old }
         ensures rules { HaveSameRules self.new self.old }
     {
         if !self.shades.is_empty() || !self.singles.is_empty() || self.stacked.cells() == 0 {
@@ -166,11 +169,10 @@ impl Caches {
         requires step { (n : ℕ) × AreInStep n self.old × (n < MAX_EVENTS) }
         requires few { AreFew apart.now.items self.old.singles.items }
         requires len { length apart.now.items ≡ length self.old.singles.items }
-        ensures stands { (h : History) → CachesStandFor h self.old →
+        ensures stands { (blocks : List ℕ) (h : History) → CachesStandBy blocks h self.old →
             map items_of apart.now.items ≡ map (written_by h) (apart_rules self.old) →
-            CachesStandFor (flushed ∷ h) self.new }
+            CachesStandBy blocks (flushed ∷ h) self.new }
         ensures step { (n : ℕ) → AreInStep n self.old → AreInStep (n + 1) self.new }
-        ensures numbers { caches_numbered self.new ≡ caches_numbered self.old }
         ensures rules { HaveSameRules self.new self.old }
     {
         flush_stacked(&mut self.stacked);
@@ -183,14 +185,14 @@ impl Caches {
     pub fn flush(&mut self, alloc: Global, seats: &Vec<Seat>) -> Result<Vec<Vec<u64>>, AllocError>
         requires step { (n : ℕ) × AreInStep n self.old × (n < MAX_EVENTS) }
         requires seats { All (λ s. HasPlace self.old s.cell) seats.now.items }
-        ensures lists { IfOk result (λ lists. (h : History) → CachesStandFor h self.old →
+        ensures lists { IfOk result (λ lists. (blocks : List ℕ) (h : History) →
+            CachesStandBy blocks h self.old →
             map items_of lists.items ≡ map (λ s. written_by h (rules_placed
             (together_rules self.old) (apart_rules self.old) s.cell)) seats.now.items) }
-        ensures stands { OnOk result ((h : History) → CachesStandFor h self.old →
-            CachesStandFor (flushed ∷ h) self.new) }
+        ensures stands { OnOk result ((blocks : List ℕ) (h : History) →
+            CachesStandBy blocks h self.old → CachesStandBy blocks (flushed ∷ h) self.new) }
         ensures step { OnOk result ((n : ℕ) → AreInStep n self.old →
             AreInStep (n + 1) self.new) }
-        ensures numbers { caches_numbered self.new ≡ caches_numbered self.old }
         ensures keeps { OnErr result (HaveSameCounts self.new self.old) }
         ensures rules { HaveSameRules self.new self.old }
     {
@@ -205,32 +207,16 @@ impl Caches {
     /// they count by these lists.
     pub fn flush_unlisted(&mut self, alloc: Global) -> Result<(), AllocError>
         requires { (n : ℕ) × AreInStep n self.old × (n < MAX_EVENTS) }
-        ensures stands { OnOk result ((h : History) → CachesStandFor h self.old →
-            CachesStandFor (flushed ∷ h) self.new) }
+        ensures stands { OnOk result ((blocks : List ℕ) (h : History) →
+            CachesStandBy blocks h self.old → CachesStandBy blocks (flushed ∷ h) self.new) }
         ensures step { OnOk result ((n : ℕ) → AreInStep n self.old →
             AreInStep (n + 1) self.new) }
-        ensures numbers { caches_numbered self.new ≡ caches_numbered self.old }
         ensures keeps { OnErr result (HaveSameCounts self.new self.old) }
         ensures rules { HaveSameRules self.new self.old }
     {
         let apart = lists_all(alloc, &self.singles)?;
         self.clear(&apart);
         Ok(())
-    }
-
-    /// Exchanges the numbers of the blocks.
-    pub fn swap_numbers(&mut self, numbers: &mut BlockNumbers)
-        ensures stands { (blocks : List ℕ) (h : History) → CachesStandBy blocks h self.old →
-            CachesStandBy blocks h self.new }
-        ensures answers { (h : History) (x : Access) → HaveAnswered h x self.old →
-            HaveAnswered h x self.new }
-        ensures taken { caches_numbered self.new ≡ blocks_in numbers.old }
-        ensures given { blocks_in numbers.new ≡ caches_numbered self.old }
-        ensures step { (n : ℕ) → AreInStep n self.old → AreInStep n self.new }
-        ensures same { HaveSameCounts self.new self.old }
-        ensures rules { HaveSameRules self.new self.old }
-    {
-        self.stacked.swap_numbers(numbers);
     }
 
     /// The counts at a place.

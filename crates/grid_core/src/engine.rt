@@ -2,15 +2,19 @@
 
 ghost use Rattle.std.specs.Prelude.{◌≡◌, false};
 ghost use Rattle.std.specs.List.{All};
+ghost use Rattle.cache_core.specs.Geometry.{bsize_of};
 ghost use Rattle.grid_core.specs.Caches.{AreInStep, together_rules, apart_rules, shades_rules};
+ghost use Rattle.grid_core.specs.Numbers.{HaveBlocksOf};
 ghost use Rattle.grid_core.specs.Places.{IsSeated};
+
+mod told;
 
 use crate::block_numbers::BlockNumbers;
 use crate::caches::Caches;
 use crate::places::Seat;
 use crate::plan::plan_for;
 use crate::stacked::Stacked;
-use cache_core::{Access, Counts, Geometry, MAX_EVENTS, NoMemory, Outcome, PerClass, Policy};
+use cache_core::{Access, Geometry, MAX_EVENTS, NoMemory, Policy};
 use std::alloc::Global;
 
 /// Caches of one block size and one policy, each at the index that its geometry had in
@@ -20,7 +24,11 @@ use std::alloc::Global;
 #[derive(Drop)]
 pub struct Engine {
     alloc: Global,
+    /// A geometry of the block size.
+    first: Geometry,
     policy: Policy,
+    /// The numbers of the blocks that `access` was asked for.
+    numbers: BlockNumbers,
     /// Of each geometry: where its cache is served, and where the misses of its shadow are counted.
     seats: Vec<Seat>,
     caches: Caches,
@@ -28,27 +36,26 @@ pub struct Engine {
     failed: bool,
     ghost seated: { All (IsSeated policy (together_rules caches) (apart_rules caches)
         (shades_rules caches)) seats.items },
+    ghost sized: { HaveBlocksOf (bsize_of first) (together_rules caches) },
     ghost step: { failed ≡ false → AreInStep served caches },
 }
 
-#[tactic(auto, unfolding(crate::specs::Engines::rules_in, crate::specs::Engines::served_in, crate::specs::Engines::kept_in, crate::specs::Engines::has_failed))]
+#[tactic(auto, unfolding(crate::specs::Engines::rules_in, crate::specs::Engines::served_in, crate::specs::Engines::kept_in, crate::specs::Engines::has_failed, crate::specs::Engines::bsize_in, crate::specs::Engines::numbered_in))]
 impl Engine {
     ghost use Rattle.std.specs.Prelude.{◌≡◌, ◌<◌, ◌+◌, ◌∷◌, [], List, map, true, false};
-    ghost use Rattle.std.specs.Prelude.{OnOk, OnErr, IfOk, IsErr, get_or, length, ℕ};
+    ghost use Rattle.std.specs.Prelude.{OnOk, OnErr, IfOk, IsErr, length, ℕ};
     ghost use Rattle.std.specs.List.{All};
     ghost use Rattle.cache_core.specs.Geometry.{bsize_of};
     ghost use Rattle.cache_core.specs.History.{History, access as accessed, flush as flushed};
     ghost use Rattle.cache_core.specs.Parts.{outcome_of};
-    ghost use Rattle.cache_core.specs.Counts.{counts_of};
     ghost use Rattle.cache_core.specs.Standing.{rules_from};
     ghost use Rattle.cache_core.specs.Lists.{IsBeginning};
-    ghost use Rattle.grid_core.specs.FullyAssociative.{shadow_misses};
     ghost use Rattle.grid_core.specs.Cells.{items_of};
     ghost use Rattle.grid_core.specs.Engines.{EngineStandsBy, EngineStandsFor, HasAnswered};
-    ghost use Rattle.grid_core.specs.Engines.{has_failed, kept_in, numbered_in, rules_in};
-    ghost use Rattle.grid_core.specs.Engines.{served_in};
-    ghost use Rattle.grid_core.specs.Numbered.{blocks_in};
-    ghost use Rattle.grid_core.specs.Written.{rules_at, written_by, none_kept, SendsNothing};
+    ghost use Rattle.grid_core.specs.Engines.{bsize_in, has_failed, kept_in, numbered_in};
+    ghost use Rattle.grid_core.specs.Engines.{rules_in, served_in};
+    ghost use Rattle.grid_core.specs.Numbers.{IsNumberOf};
+    ghost use Rattle.grid_core.specs.Written.{rules_at, written_by, SendsNothing};
 
     /// Empty caches of these geometries, which have the block size of `first`, and of this policy.
     /// Only the block size of `first` counts, and it need not be among them: there may be none.
@@ -59,12 +66,14 @@ impl Engine {
         policy: Policy,
     ) -> Result<Engine, NoMemory>
         requires { All (λ g. bsize_of g ≡ bsize_of first) geometries.now }
-        ensures stands { IfOk result (λ engine. EngineStandsFor engine []) }
+        ensures stands { IfOk result (λ engine. (blocks : List ℕ) →
+            EngineStandsBy blocks engine []) }
         ensures rules { IfOk result (λ engine.
             rules_in engine ≡ map (λ g. rules_from g policy) geometries.now) }
         ensures served { IfOk result (λ engine. served_in engine ≡ 0) }
         ensures works { IfOk result (λ engine. has_failed engine ≡ false) }
         ensures numbers { IfOk result (λ engine. numbered_in engine ≡ []) }
+        ensures bsize { IfOk result (λ engine. bsize_in engine ≡ bsize_of first) }
     {
         let Ok(plan) = plan_for(alloc, geometries, first, policy) else {
             return Err(NoMemory);
@@ -74,7 +83,9 @@ impl Engine {
         };
         Ok(Engine {
             alloc,
+            first,
             policy,
+            numbers: BlockNumbers::new(alloc),
             seats: plan.seats,
             caches: Caches {
                 stacked,
@@ -102,11 +113,45 @@ impl Engine {
         ensures failed { has_failed self.old ≡ true → IsErr result }
         ensures numbers { IsBeginning (numbered_in self.old) (numbered_in self.new) }
         ensures rules { rules_in self.new ≡ rules_in self.old }
+        ensures bsize { bsize_in self.new ≡ bsize_in self.old }
     {
         if self.failed {
             return Err(NoMemory);
         }
-        let Ok(()) = self.caches.access(access) else {
+        let block = self.first.block(access.addr);
+        let Ok(number) = self.numbers.number(block) else {
+            self.failed = true;
+            return Err(NoMemory);
+        };
+        self.access_numbered(access, number)
+    }
+
+    /// Serves one access as `access` does, by a number of its block that it is told. An engine that
+    /// is told each number stands for its history by the list of blocks whose places these are. So
+    /// many engines can do with one such list, which may grow.
+    pub fn access_numbered(&mut self, access: Access, number: usize) -> Result<(), NoMemory>
+        requires { served_in self.old < MAX_EVENTS }
+        ensures stands { OnOk result ((blocks : List ℕ) (h : History) →
+            IsNumberOf blocks (bsize_in self.old) access number → EngineStandsBy blocks self.old h →
+            EngineStandsBy blocks self.new (accessed access ∷ h)) }
+        ensures answers { OnOk result ((blocks : List ℕ) (h : History) →
+            IsNumberOf blocks (bsize_in self.old) access number → EngineStandsBy blocks self.old h →
+            HasAnswered self.new h access) }
+        ensures served { OnOk result (served_in self.new ≡ served_in self.old + 1) }
+        ensures works { OnOk result (has_failed self.new ≡ false) }
+
+        ensures fails { OnErr result (has_failed self.new ≡ true) }
+        ensures keeps { OnErr result ((kept_in self.new ≡ kept_in self.old)
+            × (served_in self.new ≡ served_in self.old)) }
+        ensures failed { has_failed self.old ≡ true → IsErr result }
+        ensures numbers { numbered_in self.new ≡ numbered_in self.old }
+        ensures rules { rules_in self.new ≡ rules_in self.old }
+        ensures bsize { bsize_in self.new ≡ bsize_in self.old }
+    {
+        if self.failed {
+            return Err(NoMemory);
+        }
+        let Ok(()) = self.caches.access(access, number) else {
             self.failed = true;
             return Err(NoMemory);
         };
@@ -120,10 +165,11 @@ impl Engine {
     #[inline(always)]
     pub fn again(&mut self, access: Access) -> bool
         requires { served_in self.old < MAX_EVENTS }
-        ensures stands { result ≡ true → (h : History) → EngineStandsFor self.old h →
-            EngineStandsFor self.new (accessed access ∷ h) }
-        ensures answers { result ≡ true → (h : History) → EngineStandsFor self.old h →
-            HasAnswered self.new h access }
+        ensures stands { result ≡ true → (blocks : List ℕ) (h : History) →
+            EngineStandsBy blocks self.old h →
+            EngineStandsBy blocks self.new (accessed access ∷ h) }
+        ensures answers { result ≡ true → (blocks : List ℕ) (h : History) →
+            EngineStandsBy blocks self.old h → HasAnswered self.new h access }
         ensures silent { result ≡ true → (h : History) (x : Access) → HasAnswered self.new h x →
             (index : ℕ) → index < length (rules_in self.new) →
             SendsNothing (outcome_of (rules_at (rules_in self.new) index) h x) }
@@ -133,6 +179,7 @@ impl Engine {
         ensures leaves { result ≡ false → self.new ≡ self.old }
         ensures numbers { numbered_in self.new ≡ numbered_in self.old }
         ensures rules { rules_in self.new ≡ rules_in self.old }
+        ensures bsize { bsize_in self.new ≡ bsize_in self.old }
     {
         if self.failed || !self.caches.again(access) {
             return false;
@@ -145,10 +192,11 @@ impl Engine {
     /// that it writes back, in rising order. Known blocks stay known.
     pub fn flush(&mut self) -> Result<Vec<Vec<u64>>, NoMemory>
         requires { served_in self.old < MAX_EVENTS }
-        ensures lists { IfOk result (λ lists. (h : History) → EngineStandsFor self.old h →
+        ensures lists { IfOk result (λ lists. (blocks : List ℕ) (h : History) →
+            EngineStandsBy blocks self.old h →
             map items_of lists.items ≡ map (written_by h) (rules_in self.old)) }
-        ensures stands { OnOk result ((h : History) → EngineStandsFor self.old h →
-            EngineStandsFor self.new (flushed ∷ h)) }
+        ensures stands { OnOk result ((blocks : List ℕ) (h : History) →
+            EngineStandsBy blocks self.old h → EngineStandsBy blocks self.new (flushed ∷ h)) }
         ensures served { OnOk result (served_in self.new ≡ served_in self.old + 1) }
         ensures works { OnOk result (has_failed self.new ≡ false) }
 
@@ -158,6 +206,7 @@ impl Engine {
         ensures failed { has_failed self.old ≡ true → IsErr result }
         ensures numbers { numbered_in self.new ≡ numbered_in self.old }
         ensures rules { rules_in self.new ≡ rules_in self.old }
+        ensures bsize { bsize_in self.new ≡ bsize_in self.old }
     {
         if self.failed() {
             return Err(NoMemory);
@@ -175,8 +224,8 @@ impl Engine {
     /// serves the list is made all the same, for its count, and dropped.
     pub fn flush_unlisted(&mut self) -> Result<(), NoMemory>
         requires { served_in self.old < MAX_EVENTS }
-        ensures stands { OnOk result ((h : History) → EngineStandsFor self.old h →
-            EngineStandsFor self.new (flushed ∷ h)) }
+        ensures stands { OnOk result ((blocks : List ℕ) (h : History) →
+            EngineStandsBy blocks self.old h → EngineStandsBy blocks self.new (flushed ∷ h)) }
         ensures served { OnOk result (served_in self.new ≡ served_in self.old + 1) }
         ensures works { OnOk result (has_failed self.new ≡ false) }
 
@@ -186,6 +235,7 @@ impl Engine {
         ensures failed { has_failed self.old ≡ true → IsErr result }
         ensures numbers { numbered_in self.new ≡ numbered_in self.old }
         ensures rules { rules_in self.new ≡ rules_in self.old }
+        ensures bsize { bsize_in self.new ≡ bsize_in self.old }
     {
         if self.failed {
             return Err(NoMemory);
@@ -196,24 +246,6 @@ impl Engine {
         };
         self.served += 1;
         Ok(())
-    }
-
-    /// Exchanges the numbers of the blocks. An engine needs all numbers that it was served with
-    /// to serve more accesses; there may be more of them. Its counts and what it has answered need
-    /// none. So engines that are served in turn can share their numbers.
-    pub fn swap_numbers(&mut self, numbers: &mut BlockNumbers)
-        ensures stands { (blocks : List ℕ) (h : History) → EngineStandsBy blocks self.old h →
-            EngineStandsBy blocks self.new h }
-        ensures answers { (h : History) (x : Access) → HasAnswered self.old h x →
-            HasAnswered self.new h x }
-        ensures taken { numbered_in self.new ≡ blocks_in numbers.old }
-        ensures given { blocks_in numbers.new ≡ numbered_in self.old }
-        ensures served { served_in self.new ≡ served_in self.old }
-        ensures works { has_failed self.new ≡ has_failed self.old }
-        ensures kept { kept_in self.new ≡ kept_in self.old }
-        ensures rules { rules_in self.new ≡ rules_in self.old }
-    {
-        self.caches.swap_numbers(numbers);
     }
 
     /// How many caches there are.
@@ -235,46 +267,5 @@ impl Engine {
         ensures { result ≡ has_failed self.now }
     {
         self.failed
-    }
-
-    /// The counts of one cache. For caches that are served together they are worked out from
-    /// tables and all rows: ask for them at the end, and not after each access.
-    pub fn counts(&self, index: usize) -> Counts
-        requires { index < length (rules_in self.now) }
-        ensures kept { result ≡ (get_or (kept_in self.now) index none_kept).0 }
-        ensures counted { (blocks : List ℕ) (h : History) → EngineStandsBy blocks self.now h →
-            result ≡ counts_of (rules_at (rules_in self.now) index) h }
-    {
-        self.caches.counts(self.seats[index].cell)
-    }
-
-    /// The fully associative misses of one cache.
-    pub fn shadow_misses(&self, index: usize) -> PerClass
-        requires { index < length (rules_in self.now) }
-        ensures kept { result ≡ (get_or (kept_in self.now) index none_kept).1 }
-        ensures counted { (blocks : List ℕ) (h : History) → EngineStandsBy blocks self.now h →
-            result ≡ shadow_misses (rules_at (rules_in self.now) index) h }
-    {
-        self.caches.shadow_misses(self.seats[index].shadow)
-    }
-
-    /// Whether the last access, if no flush came after it, sent nothing to the next level in any
-    /// cache: it wrote nothing back, fetched nothing and is no write that is sent on. May be
-    /// `false` though nothing was sent.
-    pub fn sent_nothing(&self) -> bool
-        ensures { result ≡ true → (h : History) (x : Access) → HasAnswered self.now h x →
-            (index : ℕ) → index < length (rules_in self.now) →
-            SendsNothing (outcome_of (rules_at (rules_in self.now) index) h x) }
-    {
-        self.caches.sent_nothing()
-    }
-
-    /// What the last access did in one cache, if no flush came after it.
-    pub fn answer(&self, index: usize) -> Outcome
-        requires { index < length (rules_in self.now) }
-        ensures { (h : History) (x : Access) → HasAnswered self.now h x →
-            result ≡ outcome_of (rules_at (rules_in self.now) index) h x }
-    {
-        self.caches.answer(self.seats[index].cell)
     }
 }

@@ -4,9 +4,10 @@
 //! accesses and flushes in all these caches, and answers for each what a cache of cache_core alone
 //! would: every count, what it sends to the next level, and how often its shadow missed.
 //!
-//! Each of these caches is a *cell*. `engine` has the list of them. `plan` decides where each is
-//! served, and `places` says where each cell and its shadow is; nobody above sees it. `caches`
-//! sends each event to the caches that are served together and to those of their own.
+//! Each of these caches is a *cell*. `engine` has the list of them. It numbers the blocks
+//! (`block_numbers`, `at_hand`), or is told their numbers. `plan` decides where each cell is
+//! served, and `places` says where it and its shadow are; nobody above sees it. `caches` sends each
+//! event to the caches that are served together and to those of their own.
 //!
 //! LRU caches that allocate at writes are served together (`stacked`). Those of as many sets share
 //! one row for each set, in order of last use (`stack`, `slots`): the position of a block tells for
@@ -16,8 +17,7 @@
 //! stood is counted once for each number of sets (`histogram`), and the counts of each cache follow
 //! from that (`cells`). `outcome` tells what one access did in one of them, and `sums` adds counts.
 //! One list with a mark for each size is the shadow of all these caches (`shadows`).
-//! `block_numbers` and `at_hand` number the blocks for it, and `recent` knows the block that was
-//! used last.
+//! `recent` knows the block that was used last.
 //!
 //! The others, and those of too many ways for a row (`plan`), keep their own blocks and counts
 //! (`single`), and are served one after another (`singles`). They are told which blocks were

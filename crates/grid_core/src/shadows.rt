@@ -4,13 +4,11 @@
 ghost use Rattle.std.specs.Prelude.{◌≡◌, ◌+◌, length, true};
 ghost use Rattle.marked_list.specs.Marked.{marked_sizes};
 
-use crate::block_numbers::BlockNumbers;
 use crate::recent::{Recent, is_again, nothing_recent, used_now};
 use crate::sums::{count_at, sum_from, zeros};
 use cache_core::{Access, MAX_EVENTS, PerClass};
 use marked_list::Marked;
 use std::alloc::{AllocError, Global};
-use std::mem::swap;
 
 /// What is known of a block before an access: whether it was ever accessed, and its level, the
 /// index of the smallest size whose shadow has it, or the number of sizes.
@@ -30,11 +28,10 @@ pub(crate) fn prior_of_last() -> PriorLevel
     }
 }
 
-/// Numbers for the blocks, and one list of the numbers of those used since the last flush, by last
-/// use, with a mark at each size. The list also knows which were ever used.
+/// One list of the numbers of the blocks used since the last flush, by last use, with a mark at
+/// each size. The list also knows which were ever used.
 #[derive(Drop)]
 pub(crate) struct Shadows {
-    numbers: BlockNumbers,
     order: Marked,
     /// The accesses by class, for each level that their blocks had before.
     levels: Vec<PerClass>,
@@ -44,25 +41,25 @@ pub(crate) struct Shadows {
 
 impl Shadows {
     ghost use Rattle.std.specs.Prelude.{◌≡◌, ◌<◌, ◌≤◌, ◌==◌, ◌||◌, ℕ, List, [], IfOk, OnOk, OnErr};
-    ghost use Rattle.std.specs.Prelude.{true, false, length, nat_lt};
+    ghost use Rattle.std.specs.Prelude.{Some, false, length, nat_lt};
     ghost use Rattle.std.specs.List.{All};
     ghost use Rattle.marked_list.specs.Recency.{level_of, brought_front};
     ghost use Rattle.grid_core.specs.Recent.{IsAgain, after_use, none_recent};
-    ghost use Rattle.grid_core.specs.Shadows.{AreNumbered, HoldsOrder, is_known, numbered};
+    ghost use Rattle.grid_core.specs.Numbers.{number_at};
+    ghost use Rattle.grid_core.specs.Shadows.{AreNumbered, HoldsOrder, is_known};
     ghost use Rattle.grid_core.specs.Shadows.{far_in, levels_in, recent_in, shadow_sizes};
     ghost use Rattle.grid_core.specs.Totals.{total};
     ghost use Rattle.cache_core.specs.Counts.{none_by_class};
     ghost use Rattle.cache_core.specs.Counting.{IsWithin, with_one};
     ghost use Rattle.cache_core.specs.History.{is_write};
-    ghost use Rattle.cache_core.specs.Lists.{IsBeginning};
 
     /// Empty shadows of these sizes in blocks. No block is known.
     pub fn new(alloc: Global, sizes: &[usize]) -> Result<Shadows, AllocError>
         requires { All (λ size. 0 < size) sizes.now }
-        ensures order { IfOk result (λ shadows. HoldsOrder shadows []) }
-        ensures numbers { IfOk result AreNumbered }
-        ensures none { IfOk result (λ shadows. numbered shadows ≡ []) }
-        ensures known { IfOk result (λ shadows. (q : ℕ) → is_known shadows q ≡ false) }
+        ensures order { IfOk result (λ shadows. (blocks : List ℕ) → HoldsOrder blocks shadows []) }
+        ensures numbers { IfOk result (λ shadows. (blocks : List ℕ) → AreNumbered blocks shadows) }
+        ensures known { IfOk result (λ shadows. (blocks : List ℕ) (q : ℕ) →
+            is_known blocks shadows q ≡ false) }
         ensures sizes { IfOk result (λ shadows. shadow_sizes shadows ≡ sizes.now) }
         ensures recent { IfOk result (λ shadows. recent_in shadows ≡ none_recent) }
         ensures levels { IfOk result (λ shadows. total (levels_in shadows) ≡ none_by_class) }
@@ -71,27 +68,34 @@ impl Shadows {
         let order = Marked::new(alloc, sizes)?;
         let levels = zeros(alloc, sizes.len() + 1)?;
         Ok(Shadows {
-            numbers: BlockNumbers::new(alloc),
             order,
             levels,
             recent: nothing_recent(),
         })
     }
 
-    /// Serves an access to a block in all shadows, and answers what was known of the block before.
-    pub fn touch(&mut self, block: u64, access: Access) -> Result<PriorLevel, AllocError>
+    /// Serves an access to a block, which has this number, in all shadows, and answers what was
+    /// known of the block before.
+    pub fn touch(
+        &mut self,
+        block: u64,
+        number: usize,
+        access: Access,
+    ) -> Result<PriorLevel, AllocError>
         requires { IsWithin (total (levels_in self.old)) MAX_EVENTS }
-        ensures known { IfOk result (λ prior. AreNumbered self.old →
-            prior.known ≡ is_known self.old block) }
-        ensures level { IfOk result (λ prior. (ys : List ℕ) → HoldsOrder self.old ys →
-            AreNumbered self.old → prior.level ≡ level_of (shadow_sizes self.old) ys block) }
+        ensures known { IfOk result (λ prior. (blocks : List ℕ) →
+            number_at blocks block ≡ Some number → prior.known ≡ is_known blocks self.old block) }
+        ensures level { IfOk result (λ prior. (blocks : List ℕ) (ys : List ℕ) →
+            number_at blocks block ≡ Some number → HoldsOrder blocks self.old ys →
+            prior.level ≡ level_of (shadow_sizes self.old) ys block) }
         ensures low { IfOk result (λ prior. prior.level ≤ length (shadow_sizes self.old)) }
-        ensures order { OnOk result ((ys : List ℕ) → HoldsOrder self.old ys →
-            AreNumbered self.old → HoldsOrder self.new (brought_front block ys)) }
-        ensures adds { OnOk result (AreNumbered self.old → (q : ℕ) →
-            is_known self.new q ≡ (block == q || is_known self.old q)) }
-        ensures numbers { OnOk result (AreNumbered self.old → AreNumbered self.new) }
-        ensures grows { IsBeginning (numbered self.old) (numbered self.new) }
+        ensures order { OnOk result ((blocks : List ℕ) (ys : List ℕ) →
+            number_at blocks block ≡ Some number → HoldsOrder blocks self.old ys →
+            HoldsOrder blocks self.new (brought_front block ys)) }
+        ensures adds { OnOk result ((blocks : List ℕ) → number_at blocks block ≡ Some number →
+            (q : ℕ) → is_known blocks self.new q ≡ (block == q || is_known blocks self.old q)) }
+        ensures numbers { OnOk result ((blocks : List ℕ) → number_at blocks block ≡ Some number →
+            AreNumbered blocks self.old → AreNumbered blocks self.new) }
         ensures recent { OnOk result (
             recent_in self.new ≡ after_use block (is_write access) (recent_in self.old)) }
         ensures levels { OnOk result (
@@ -101,7 +105,6 @@ impl Shadows {
         ensures keeps { OnErr result (levels_in self.new ≡ levels_in self.old) }
         ensures sizes { shadow_sizes self.new ≡ shadow_sizes self.old }
     {
-        let number = self.numbers.number(block)?;
         let known = self.order.knows(number);
         let level = self.order.touch(number)?;
         count_at(&mut self.levels, level, access);
@@ -127,23 +130,13 @@ impl Shadows {
         is_again(self.recent, block, write)
     }
 
-    /// Exchanges the numbers of the blocks.
-    pub fn swap_numbers(&mut self, numbers: &mut BlockNumbers)
-        ensures order { self.new.order ≡ self.old.order }
-        ensures levels { self.new.levels ≡ self.old.levels }
-        ensures recent { self.new.recent ≡ self.old.recent }
-        ensures taken { self.new.numbers ≡ numbers.old }
-        ensures given { numbers.new ≡ self.old.numbers }
-    {
-        swap(&mut self.numbers, numbers);
-    }
-
     /// Empties all shadows. Known blocks stay known.
     pub fn clear(&mut self)
-        ensures order { HoldsOrder self.new [] }
-        ensures known { (q : ℕ) → is_known self.new q ≡ is_known self.old q }
-        ensures numbers { AreNumbered self.old → AreNumbered self.new }
-        ensures same { numbered self.new ≡ numbered self.old }
+        ensures order { (blocks : List ℕ) → HoldsOrder blocks self.new [] }
+        ensures known { (blocks : List ℕ) (q : ℕ) →
+            is_known blocks self.new q ≡ is_known blocks self.old q }
+        ensures numbers { (blocks : List ℕ) → AreNumbered blocks self.old →
+            AreNumbered blocks self.new }
         ensures recent { recent_in self.new ≡ none_recent }
         ensures levels { levels_in self.new ≡ levels_in self.old }
         ensures sizes { shadow_sizes self.new ≡ shadow_sizes self.old }

@@ -14,7 +14,6 @@ ghost use Rattle.grid_core.specs.State.{IsRanked, IsWithinAlike};
 
 mod last;
 
-use crate::block_numbers::BlockNumbers;
 use crate::cells::{Alike, Shape, dirty_lists, none_alike, shape_counts};
 use crate::outcome::sends_on;
 use crate::parts::parts_for;
@@ -59,7 +58,7 @@ pub(crate) struct Stacked {
     ghost lived: { HaveLived stacks.items },
 }
 
-#[tactic(auto, unfolding(crate::specs::StackedCells::stacked_rules, crate::specs::StackedCells::stacked_served, crate::specs::StackedCells::stacked_kept, crate::specs::Numbered::blocks_in))]
+#[tactic(auto, unfolding(crate::specs::StackedCells::stacked_rules, crate::specs::StackedCells::stacked_served, crate::specs::StackedCells::stacked_kept))]
 impl Stacked {
     ghost use Rattle.std.specs.Prelude.{◌≡◌, ◌<◌, ◌≤◌, ◌+◌, ◌/◌, ◌^◌, ◌∷◌, [], map, true};
     ghost use Rattle.std.specs.Prelude.{false, OnOk, OnErr, IfOk, get_or, length, ℕ, List};
@@ -69,17 +68,15 @@ impl Stacked {
     ghost use Rattle.cache_core.specs.History.{is_write};
     ghost use Rattle.cache_core.specs.Parts.{outcome_of};
     ghost use Rattle.cache_core.specs.Counts.{counts_of};
-    ghost use Rattle.cache_core.specs.Lists.{IsBeginning};
     ghost use Rattle.grid_core.specs.Recent.{IsAgain};
     ghost use Rattle.grid_core.specs.Shadows.{recent_in};
     ghost use Rattle.grid_core.specs.FullyAssociative.{shadow_misses};
     ghost use Rattle.grid_core.specs.Cells.{items_of};
     ghost use Rattle.grid_core.specs.Slot.{HasWords};
     ghost use Rattle.grid_core.specs.Standing.{stack_rules};
-    ghost use Rattle.grid_core.specs.Numbered.{blocks_in};
+    ghost use Rattle.grid_core.specs.Numbers.{IsNumberOf};
     ghost use Rattle.grid_core.specs.StackedCells.{StackedHasAnswered, StackedStandsBy};
-    ghost use Rattle.grid_core.specs.StackedCells.{StackedStandsFor, stacked_kept};
-    ghost use Rattle.grid_core.specs.StackedCells.{stacked_numbered, stacked_rules, stacked_served};
+    ghost use Rattle.grid_core.specs.StackedCells.{stacked_kept, stacked_rules, stacked_served};
     ghost use Rattle.grid_core.specs.Written.{rules_at, written_by, none_kept, SendsNothing};
 
     /// Empty caches of these geometries, which have the block size of `first`.
@@ -91,11 +88,11 @@ impl Stacked {
     ) -> Result<Stacked, AllocError>
         requires one_size { All (λ g. bsize_of g ≡ bsize_of first) geometries.now }
         requires words { All HasWords geometries.now }
-        ensures stands { IfOk result (λ stacked. StackedStandsFor stacked []) }
+        ensures stands { IfOk result (λ stacked. (blocks : List ℕ) →
+            StackedStandsBy blocks stacked []) }
         ensures rules { IfOk result (λ stacked.
             stacked_rules stacked ≡ map (λ g. stack_rules g wback) geometries.now) }
         ensures served { IfOk result (λ stacked. stacked_served stacked ≡ 0) }
-        ensures numbers { IfOk result (λ stacked. stacked_numbered stacked ≡ []) }
     {
         let sizes = rising_sizes(alloc, geometries)?;
         let shadows = Shadows::new(alloc, &sizes)?;
@@ -122,16 +119,15 @@ impl Stacked {
         requires few { stacked_served self.old < MAX_EVENTS }
         requires again { IsAgain (access.addr / bsize_of self.old.geometry) (is_write access)
             (recent_in self.old.shadows) }
-        ensures stands { (h : History) → StackedStandsFor self.old h →
-            StackedStandsFor self.new (accessed access ∷ h) }
-        ensures answers { (h : History) → StackedStandsFor self.old h →
+        ensures stands { (blocks : List ℕ) (h : History) → StackedStandsBy blocks self.old h →
+            StackedStandsBy blocks self.new (accessed access ∷ h) }
+        ensures answers { (blocks : List ℕ) (h : History) → StackedStandsBy blocks self.old h →
             StackedHasAnswered self.new h access }
         ensures served { stacked_served self.new ≡ stacked_served self.old + 1 }
         ensures rules { stacked_rules self.new ≡ stacked_rules self.old }
         ensures again { self.new.again ≡ true }
         ensures write { self.new.write ≡ is_write access }
         ensures policy { self.new.wback ≡ self.old.wback }
-        ensures numbers { stacked_numbered self.new ≡ stacked_numbered self.old }
     {
         self.alike.fetches.count(access, true);
         self.write = access.writes();
@@ -140,21 +136,23 @@ impl Stacked {
         self.served += 1;
     }
 
-    /// Serves one access, whose block has this number, in all caches.
-    fn serve(&mut self, access: Access, block: u64) -> Result<(), AllocError>
+    /// Serves one access to this block, which has this number, in all caches.
+    fn serve(&mut self, access: Access, block: u64, number: usize) -> Result<(), AllocError>
         requires few { stacked_served self.old < MAX_EVENTS }
         requires block { block ≡ access.addr / bsize_of self.old.geometry }
-        ensures stands { OnOk result ((h : History) → StackedStandsFor self.old h →
-            StackedStandsFor self.new (accessed access ∷ h)) }
-        ensures answers { OnOk result ((h : History) → StackedStandsFor self.old h →
-            StackedHasAnswered self.new h access) }
+        ensures stands { OnOk result ((blocks : List ℕ) (h : History) →
+            IsNumberOf blocks (bsize_of self.old.geometry) access number →
+            StackedStandsBy blocks self.old h →
+            StackedStandsBy blocks self.new (accessed access ∷ h)) }
+        ensures answers { OnOk result ((blocks : List ℕ) (h : History) →
+            IsNumberOf blocks (bsize_of self.old.geometry) access number →
+            StackedStandsBy blocks self.old h → StackedHasAnswered self.new h access) }
         ensures served { OnOk result (stacked_served self.new ≡ stacked_served self.old + 1) }
-        ensures grows { IsBeginning (stacked_numbered self.old) (stacked_numbered self.new) }
         ensures keeps { OnErr result ((stacked_kept self.new ≡ stacked_kept self.old)
             × (stacked_served self.new ≡ stacked_served self.old)) }
         ensures rules { stacked_rules self.new ≡ stacked_rules self.old }
     {
-        let Ok(prior) = self.shadows.touch(block, access) else {
+        let Ok(prior) = self.shadows.touch(block, number, access) else {
             return Err(AllocError);
         };
         serve_rows(&mut self.stacks, access, block, prior.level);
@@ -174,10 +172,11 @@ impl Stacked {
     #[inline(always)]
     pub fn again(&mut self, access: Access) -> bool
         requires { stacked_served self.old < MAX_EVENTS }
-        ensures stands { result ≡ true → (h : History) → StackedStandsFor self.old h →
-            StackedStandsFor self.new (accessed access ∷ h) }
-        ensures answers { result ≡ true → (h : History) → StackedStandsFor self.old h →
-            StackedHasAnswered self.new h access }
+        ensures stands { result ≡ true → (blocks : List ℕ) (h : History) →
+            StackedStandsBy blocks self.old h →
+            StackedStandsBy blocks self.new (accessed access ∷ h) }
+        ensures answers { result ≡ true → (blocks : List ℕ) (h : History) →
+            StackedStandsBy blocks self.old h → StackedHasAnswered self.new h access }
         ensures silent { result ≡ true → (h : History) (x : Access) →
             StackedHasAnswered self.new h x →
             (index : ℕ) → index < length (stacked_rules self.new) →
@@ -185,7 +184,6 @@ impl Stacked {
         ensures served { result ≡ true →
             stacked_served self.new ≡ stacked_served self.old + 1 }
         ensures leaves { result ≡ false → self.new ≡ self.old }
-        ensures numbers { stacked_numbered self.new ≡ stacked_numbered self.old }
         ensures rules { stacked_rules self.new ≡ stacked_rules self.old }
     {
         let write = access.writes();
@@ -200,15 +198,17 @@ impl Stacked {
         true
     }
 
-    /// Serves one access in all caches.
-    pub fn access(&mut self, access: Access) -> Result<(), AllocError>
+    /// Serves one access, whose block has this number, in all caches.
+    pub fn access(&mut self, access: Access, number: usize) -> Result<(), AllocError>
         requires { stacked_served self.old < MAX_EVENTS }
-        ensures stands { OnOk result ((h : History) → StackedStandsFor self.old h →
-            StackedStandsFor self.new (accessed access ∷ h)) }
-        ensures answers { OnOk result ((h : History) → StackedStandsFor self.old h →
-            StackedHasAnswered self.new h access) }
+        ensures stands { OnOk result ((blocks : List ℕ) (h : History) →
+            IsNumberOf blocks (bsize_of self.old.geometry) access number →
+            StackedStandsBy blocks self.old h →
+            StackedStandsBy blocks self.new (accessed access ∷ h)) }
+        ensures answers { OnOk result ((blocks : List ℕ) (h : History) →
+            IsNumberOf blocks (bsize_of self.old.geometry) access number →
+            StackedStandsBy blocks self.old h → StackedHasAnswered self.new h access) }
         ensures served { OnOk result (stacked_served self.new ≡ stacked_served self.old + 1) }
-        ensures grows { IsBeginning (stacked_numbered self.old) (stacked_numbered self.new) }
         ensures keeps { OnErr result ((stacked_kept self.new ≡ stacked_kept self.old)
             × (stacked_served self.new ≡ stacked_served self.old)) }
         ensures rules { stacked_rules self.new ≡ stacked_rules self.old }
@@ -218,13 +218,14 @@ impl Stacked {
             self.repeat(access);
             return Ok(());
         }
-        self.serve(access, block)
+        self.serve(access, block, number)
     }
 
     /// What a flush writes back in each cache: the first bytes of its dirty blocks, in rising
     /// order.
     pub fn written(&self) -> Result<Vec<Vec<u64>>, AllocError>
-        ensures lists { IfOk result (λ lists. (h : History) → StackedStandsFor self.now h →
+        ensures lists { IfOk result (λ lists. (blocks : List ℕ) (h : History) →
+            StackedStandsBy blocks self.now h →
             map items_of lists.items ≡ map (written_by h) (stacked_rules self.now)) }
         ensures len { IfOk result (λ lists. length lists.items ≡ length (stacked_rules self.now)) }
     {
@@ -235,31 +236,15 @@ impl Stacked {
     /// Empties all caches and the shadows. Known blocks stay known.
     pub fn flush(&mut self)
         requires few { stacked_served self.old < MAX_EVENTS }
-        ensures stands { (h : History) → StackedStandsFor self.old h →
-            StackedStandsFor self.new (flushed ∷ h) }
+        ensures stands { (blocks : List ℕ) (h : History) → StackedStandsBy blocks self.old h →
+            StackedStandsBy blocks self.new (flushed ∷ h) }
         ensures served { stacked_served self.new ≡ stacked_served self.old + 1 }
-        ensures numbers { stacked_numbered self.new ≡ stacked_numbered self.old }
         ensures rules { stacked_rules self.new ≡ stacked_rules self.old }
     {
         clear_rows(&mut self.stacks);
         self.shadows.clear();
         self.alike.flushes += 1;
         self.served += 1;
-    }
-
-    /// Exchanges the numbers of the blocks.
-    pub fn swap_numbers(&mut self, numbers: &mut BlockNumbers)
-        ensures stands { (blocks : List ℕ) (h : History) → StackedStandsBy blocks self.old h →
-            StackedStandsBy blocks self.new h }
-        ensures answers { (h : History) (x : Access) → StackedHasAnswered self.old h x →
-            StackedHasAnswered self.new h x }
-        ensures taken { stacked_numbered self.new ≡ blocks_in numbers.old }
-        ensures given { blocks_in numbers.new ≡ stacked_numbered self.old }
-        ensures kept { stacked_kept self.new ≡ stacked_kept self.old }
-        ensures served { stacked_served self.new ≡ stacked_served self.old }
-        ensures rules { stacked_rules self.new ≡ stacked_rules self.old }
-    {
-        self.shadows.swap_numbers(numbers);
     }
 
     /// How many caches there are.

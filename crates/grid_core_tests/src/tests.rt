@@ -110,10 +110,9 @@ fn serve(rt: &impl Abort, engine: &mut Engine, access: Access) {
     engine.access(access).expect(rt, "memory");
 }
 
-/// Serves an access in the engine and in each cache. The outcomes have to agree, and where the
+/// Serves the last access of the engine in each cache. The outcomes have to agree, and where the
 /// engine says that nothing was sent, no outcome sends anything.
-fn access_alike(rt: &impl Abort, engine: &mut Engine, caches: &mut Vec<Cache>, access: Access) {
-    serve(rt, engine, access);
+fn follow(rt: &impl Abort, engine: &Engine, caches: &mut Vec<Cache>, access: Access) {
     for (index, cache) in caches.iter_mut().enumerate() {
         assert!(rt; cache.served() < MAX_EVENTS);
         let outcome = cache.access(access).expect(rt, "memory");
@@ -121,6 +120,12 @@ fn access_alike(rt: &impl Abort, engine: &mut Engine, caches: &mut Vec<Cache>, a
         assert_eq!(rt; engine.answer(index), outcome);
         assert!(rt; sends_nothing(outcome) || !engine.sent_nothing());
     }
+}
+
+/// Serves an access in the engine and in each cache, alike.
+fn access_alike(rt: &impl Abort, engine: &mut Engine, caches: &mut Vec<Cache>, access: Access) {
+    serve(rt, engine, access);
+    follow(rt, engine, caches, access);
 }
 
 /// Flushes the engine and each cache, which have to write the same blocks back.

@@ -70,20 +70,23 @@ module _ {X : Type 0} (xs us ys vs : List X) (long : length xs ≡ length us)
 -- banks are a run of them, and then another
 module _ {banks : List Bank} (front behind : List Bank) (is : banks ≡ front ++ behind) where
   -- what all were asked for, those of each run were asked for
-  pub front-asked : (all : RequestsFor) → All (WasAsked all) banks → All (WasAsked all) front
-  front-asked all were =
-      all-front (WasAsked all) front behind (subst (All (WasAsked all)) is were)
+  pub front-asked : (blocks : List ℕ) (all : RequestsFor) → All (WasAsked blocks all) banks
+      → All (WasAsked blocks all) front
+  front-asked blocks all were =
+      all-front (WasAsked blocks all) front behind (subst (All (WasAsked blocks all)) is were)
 
-  pub behind-asked : (all : RequestsFor) → All (WasAsked all) banks → All (WasAsked all) behind
-  behind-asked all were =
-      all-behind (WasAsked all) front behind (subst (All (WasAsked all)) is were)
+  pub behind-asked : (blocks : List ℕ) (all : RequestsFor) → All (WasAsked blocks all) banks
+      → All (WasAsked blocks all) behind
+  behind-asked blocks all were =
+      all-behind (WasAsked blocks all) front behind (subst (All (WasAsked blocks all)) is were)
 
   -- what both have served, all have served
   pub both-served : (front' behind' : List Bank) → HaveServed front front'
       → HaveServed behind behind' → HaveServed banks (front' ++ behind')
   both-served front' behind' one other = record {
-    asked = λ all were. All-append (WasAsked all) front' behind'
-        (one.asked all (front-asked all were)) (other.asked all (behind-asked all were));
+    asked = λ blocks all were. All-append (WasAsked blocks all) front' behind'
+        (one.asked blocks all (front-asked blocks all were))
+        (other.asked blocks all (behind-asked blocks all were));
     settled = All-append NothingWaitsIn front' behind' one.settled other.settled;
   }
 

@@ -1,5 +1,6 @@
 -- What first levels sent for the records that they were given.
-use Rattle.std.proofs.Common.{◌≡◌, ◌≤◌, ◌*◌, ◌^◌, ◌++◌, List, length, get_or, map, ap, sym, subst}
+use Rattle.std.proofs.Common.{◌≡◌, ◌≤◌, ◌*◌, ◌^◌, ◌++◌, ℕ, List, length, get_or, map, ap, sym}
+use Rattle.std.proofs.Common.{subst}
 use Rattle.std.proofs.Common.{◌∙◌, append-nil, arith, length-append}
 use Rattle.std.specs.Global.{Vec}
 use Rattle.std.specs.List.{All}
@@ -13,8 +14,9 @@ use Rattle.stage_core.proofs.Worked.{length-second_history, the_hierarchy}
 use Rattle.grid_run.specs.Backs.{AreFew, AreSeatsIn, HasNone, IsPlacedIn, RequestsFor}
 use Rattle.grid_run.specs.Backs.{queue_seats, seats_of_task, sent_behind, task_of_shelf}
 use Rattle.grid_run.specs.Banks.{WasAsked}
-use Rattle.grid_run.specs.FirstLevels.{FirstTask, WasGiven, first_task, sent_by}
+use Rattle.grid_run.specs.FirstLevels.{FirstTask, WasGiven, first_task, numbered_by, sent_by}
 use Rattle.grid_run.specs.Fronts.{front_rules}
+use Rattle.grid_run.specs.Numbering.{what_of}
 use Rattle.grid_run.specs.Seats.{SeatRules, rules_of_seat}
 use Rattle.grid_run.specs.Lanes.{HasGiven, HasTaken}
 use Rattle.grid_run.specs.declared.bank.Bank.{Bank}
@@ -46,11 +48,13 @@ few-sent sees makes t records few = record {
 -- for few records second levels were asked for few requests, also while they are lent
 pub few-asked : SecondLevelSeesAtMostTwo → SelectionsMakeAtMostTwo → (l : Lane) (lent : List Bank)
     (records : List DinRecord) → lent ≡ l.banks.items → length records ≤ 2 ^ 40
-    → HasTaken records l → (all : RequestsFor) × All (WasAsked all) lent × AreFew all
+    → HasTaken records l
+    → (blocks : List ℕ) × (all : RequestsFor) × All (WasAsked blocks all) lent × AreFew all
 few-asked sees makes l lent records are few taken =
     let sent = sent_by (first_task l.first) taken.past in (
+      numbered_by l.first,
       sent,
-      subst (All (WasAsked sent)) (sym are) taken.lane.asked,
+      subst (All (WasAsked (numbered_by l.first) sent)) (sym are) taken.lane.asked,
       few-sent sees makes (first_task l.first) taken.past (omega (arith, taken.some, few)),
     )
 
@@ -82,7 +86,8 @@ emptied f qs records before seats none given =
         queues = λ k q lt.
             let p = queue_seats (get_or qs.items k q) in
             record {
-              all = sym (ap (λ ws. sent p ++ ws) (none k q lt).none ∙ append-nil (sent p));
+              all = sym (ap (λ ws. sent p ++ map what_of ws) (none k q lt).none
+                  ∙ append-nil (sent p));
             };
       };
     }

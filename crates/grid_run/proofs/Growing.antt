@@ -43,6 +43,14 @@ module _ {X : Type 0} (P : X → Type 0) where
   pub at-found : (xs : List X) (k : ℕ) (x : X) → IsAt P xs k → x ≡ get_or xs k x → P x
   at-found xs k x found is = subst P (sym is) (found.has x)
 
+-- of all of a list that has one element, once that has changed
+pub only-changed : {X : Type 0} (P : X → Type 0) (xs : List X) (x : X) → length xs ≡ 1 → P x
+    → All P (set xs 0 x)
+only-changed P xs x one own k d lt =
+    let first : k ≡ 0 = omega (arith, lt, one, length-set xs 0 x) in
+    subst (λ j. P (get_or (set xs 0 x) j d)) (sym first)
+    (at-changed P xs 0 x d (omega (arith, one)) own)
+
 module _ {X : Type 0} where
   -- the indices stay
   pub inside-push : (xs ys : List X) (k : ℕ) (x : X) → ys ≡ xs ++ x ∷ [] → k < length xs

@@ -6,7 +6,8 @@ pub mod Events
 pub mod Sent
 pub mod Behind
 pub mod Placed
-pub mod Numbered
+pub mod MoreNumbers
+pub mod StayNumbered
 pub mod Readings
 pub mod Crews
 pub mod Growing

@@ -35,6 +35,12 @@ pub on-ok-both : {T E A B C : Type 0} (r : Result T E) → (A → B → C) → O
 on-ok-both (Ok t) f a b = f a b
 on-ok-both (Err e) f a b = tt
 
+-- and from three
+pub on-ok-all : {T E A B C D : Type 0} (r : Result T E) → (A → B → C → D) → OnOk r A → OnOk r B
+    → OnOk r C → OnOk r D
+on-ok-all (Ok t) f a b c = f a b c
+on-ok-all (Err e) f a b c = tt
+
 -- what follows where the answer is Ok
 pub ok-so : {T E P : Type 0} (r : Result T E) {v : T} → r ≡ Ok v → OnOk r P → P
 ok-so (Ok t) is p = p

@@ -1,12 +1,17 @@
 -- Second levels behind one cache of each side.
-use Rattle.std.specs.Prelude.{◌≡◌, ◌<◌, ◌≤◌, ◌^◌, ◌++◌, ℕ, List, [], length, get_or}
+use Rattle.std.specs.Prelude.{◌≡◌, ◌<◌, ◌≤◌, ◌^◌, ◌++◌, ℕ, List, [], length, get_or, map}
+use Rattle.std.specs.List.{All}
+use Rattle.cache_core.specs.Geometry.{bsize_of}
 use Rattle.cache_core.specs.History.{Event, History, Rules}
+use Rattle.cache_core.specs.Lists.{IsBeginning}
+use Rattle.cache_core.specs.declared.geometry.Geometry.{Geometry}
 use Rattle.din_trace.specs.declared.record.DinRecord.{DinRecord}
 use Rattle.stage_core.specs.SecondLevel.{Parts, parts_of, second_level_requests, sent_up}
 use Rattle.stage_core.specs.declared.message.Side.{Side}
 use Rattle.stage_core.specs.declared.message.Side.TheVariants as side
 use Rattle.stage_core.specs.declared.message.What.{What}
 use Rattle.grid_run.specs.Families.{rules_in}
+use Rattle.grid_run.specs.Numbering.{IsNumbered, StayNumbered, what_of}
 use Rattle.grid_run.specs.Seats.{SeatRules, rules_of_seat, rules_on}
 use Rattle.grid_run.specs.Sending.{NothingWaitsFor, SecondAsked}
 use Rattle.grid_run.specs.declared.back.Back.{Back}
@@ -15,23 +20,30 @@ use Rattle.grid_run.specs.declared.queue.Queue.{Queue}
 use Rattle.grid_run.specs.declared.seat.BothSeats.{BothSeats}
 use Rattle.grid_run.specs.declared.seat.Seat.{Seat}
 
--- what second levels do: behind which seats they are, and the rules of their caches
+-- what second levels do: behind which seats they are, their block size, as that of a geometry, and
+-- the rules of their caches
 pub record BackTask : Type 0 where
   pub i : Seat
   pub d : Seat
+  pub first : Geometry
   pub rules : List Rules
 
 -- what these second levels do
 unfoldable pub back_task : Back → BackTask
-back_task b = record { i = b.seats.i; d = b.seats.d; rules = rules_in b.second.family }
+back_task b = record {
+  i = b.seats.i;
+  d = b.seats.d;
+  first = b.seats.first;
+  rules = rules_in b.second.family;
+}
 
 -- what second levels made for this shelf do
 unfoldable pub task_of_shelf : BackShelf → BackTask
-task_of_shelf s = record { i = s.i; d = s.d; rules = rules_on s.shelf }
+task_of_shelf s = record { i = s.i; d = s.d; first = s.shelf.first; rules = rules_on s.shelf }
 
--- the seats in front of second levels
+-- the seats in front of second levels, with their block size
 abbrev pub seats_of_task : BackTask → BothSeats
-seats_of_task t = record { i = t.i; d = t.d }
+seats_of_task t = record { i = t.i; d = t.d; first = t.first }
 
 -- the seats in front of these
 abbrev pub back_seats : Back → BothSeats
@@ -99,7 +111,22 @@ sent_behind i d es p = second_level_requests (parts_at i d p) es
 
 -- all requests for the seats of a queue are those of before, and then those that wait in it
 pub record AreWaiting (before requests : RequestsFor) (q : Queue) : Type 0 where
-  pub all : requests q.seats ≡ before q.seats ++ q.waiting.items
+  pub all : requests q.seats ≡ before q.seats ++ map what_of q.waiting.items
+
+-- the requests that wait in a queue have the numbers of their blocks
+pub record HasNumbers (blocks : List ℕ) (q : Queue) : Type 0 where
+  pub each : All (IsNumbered blocks (bsize_of q.seats.first)) q.waiting.items
+
+-- those of a queue still have them, and so have those that joined them; there may be more numbers
+abbrev pub StaysNumbered : List ℕ → Queue → List ℕ → Queue → Type 0
+StaysNumbered before old after new =
+    StayNumbered (bsize_of old.seats.first) before old.waiting.items after new.waiting.items
+
+-- the same of all queues
+pub record QueuesStayNumbered (before : List ℕ) (old : List Queue) (after : List ℕ)
+    (new : List Queue) : Type 0 where
+  pub grows : IsBeginning before after
+  pub each : All (HasNumbers before) old → All (HasNumbers after) new
 
 -- no request waits in the queue
 pub record HasNone (q : Queue) : Type 0 where

@@ -2,7 +2,8 @@
 use Rattle.std.specs.Prelude.{◌<◌, ◌^◌, ℕ, List, length}
 use Rattle.cache_core.specs.History.{History, Rules}
 use Rattle.cache_core.specs.declared.access.Access.{Access}
-use Rattle.grid_core.specs.Engines.{EngineStandsBy, HasAnswered, numbered_in}
+use Rattle.cache_core.specs.Geometry.{bsize_of}
+use Rattle.grid_core.specs.Engines.{EngineStandsBy, HasAnswered}
 use Rattle.grid_core.specs.Engines.{rules_in as rules_served}
 use Rattle.grid_run.specs.declared.family.Family.{Family}
 
@@ -10,17 +11,13 @@ use Rattle.grid_run.specs.declared.family.Family.{Family}
 unfoldable pub rules_in : Family → List Rules
 rules_in l = rules_served l.engine
 
+-- how many bytes their blocks have
+unfoldable pub bsize_on : Family → ℕ
+bsize_on l = bsize_of l.first
+
 -- the caches have served this history, by the numbers that the places of a list of blocks are
 pub record FamilyStandsBy (blocks : List ℕ) (l : Family) (h : History) : Type 0 where
   pub engine : EngineStandsBy blocks l.engine h
-
--- the blocks for which the caches have numbers
-abbrev pub numbered_on : Family → List ℕ
-numbered_on l = numbered_in l.engine
-
--- the caches have served this history, by their own numbers
-abbrev pub FamilyStandsFor : Family → History → Type 0
-FamilyStandsFor l = FamilyStandsBy (numbered_on l) l
 
 -- the last access of the caches was x, after the history h
 pub record HasServedLast (l : Family) (h : History) (x : Access) : Type 0 where
@@ -28,6 +25,7 @@ pub record HasServedLast (l : Family) (h : History) (x : Access) : Type 0 where
 
 -- the caches have room for one more request
 pub record CanServe (l : Family) : Type 0 where
+  pub blocks : List ℕ
   pub past : History
-  pub stands : FamilyStandsFor l past
+  pub stands : FamilyStandsBy blocks l past
   pub short : length past < 2 ^ 44

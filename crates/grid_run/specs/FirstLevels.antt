@@ -1,13 +1,15 @@
 -- The first-level caches of a lane, and what they send.
-use Rattle.std.specs.Prelude.{◌++◌, List, map}
+use Rattle.std.specs.Prelude.{◌++◌, ℕ, List, map}
 use Rattle.std.specs.List.{All}
 use Rattle.din_trace.specs.declared.record.DinRecord.{DinRecord}
+use Rattle.grid_core.specs.Numbered.{blocks_in}
 use Rattle.stage_core.specs.Events.{events, history}
 use Rattle.stage_core.specs.Standing.{WasOffered}
 use Rattle.stage_core.specs.declared.message.Side.TheVariants as side
 use Rattle.stage_core.specs.declared.selection.Selection.{Selection}
-use Rattle.grid_run.specs.Backs.{AreSeatsIn, AreWaiting, RequestsFor, queue_seats}
-use Rattle.grid_run.specs.Backs.{seats_of_task, sent_behind, task_of_shelf}
+use Rattle.grid_run.specs.Backs.{AreSeatsIn, AreWaiting, QueuesStayNumbered}
+use Rattle.grid_run.specs.Backs.{RequestsFor, queue_seats, seats_of_task, sent_behind}
+use Rattle.grid_run.specs.Backs.{task_of_shelf}
 use Rattle.grid_run.specs.Fronts.{FrontAt, front_rules}
 use Rattle.grid_run.specs.Seats.{SeatRules, rules_on}
 use Rattle.grid_run.specs.declared.first_levels.FirstLevels.{FirstLevels}
@@ -40,6 +42,16 @@ first_of_plan p = record {
   seats = map (λ shelf. seats_of_task (task_of_shelf shelf)) p.backs.items;
 }
 
+-- the blocks that have numbers
+abbrev pub numbered_by : FirstLevels → List ℕ
+numbered_by f = blocks_in f.numbers
+
+-- the requests that wait in the queues still have the numbers of their blocks, and so have those
+-- that joined them; there may be more numbers
+abbrev pub StaysNumberedIn : FirstLevels → FirstLevels → Type 0
+StaysNumberedIn old new =
+    QueuesStayNumbered (numbered_by old) old.queues.items (numbered_by new) new.queues.items
+
 -- all queues are behind caches of these first levels
 abbrev pub AreSeated : FirstTask → Type 0
 AreSeated t = All (AreSeatsIn t.i t.d) t.seats
@@ -51,8 +63,8 @@ sent_by t records = sent_behind t.i t.d (events t.selection records)
 -- the caches have served these events; what they sent for them is what the second levels were
 -- given before, and then what waits
 pub record HasServed (given : RequestsFor) (es : List DinRecord) (f : FirstLevels) : Type 0 where
-  pub i : All (FrontAt (history side.I es)) f.i.items
-  pub d : All (FrontAt (history side.D es)) f.d.items
+  pub i : All (FrontAt (blocks_in f.numbers) (history side.I es)) f.i.items
+  pub d : All (FrontAt (blocks_in f.numbers) (history side.D es)) f.d.items
   pub queues :
       All (AreWaiting given
       (sent_behind (map front_rules f.i.items) (map front_rules f.d.items) es)) f.queues.items
@@ -68,3 +80,4 @@ pub record WasGiven (given : RequestsFor) (records : List DinRecord) (f : FirstL
 pub record HaveTaken (records : List DinRecord) (old new : FirstLevels) : Type 0 where
   pub given : (given : RequestsFor) (past : List DinRecord) → WasGiven given past old
       → WasGiven given (past ++ records) new
+  pub numbers : StaysNumberedIn old new

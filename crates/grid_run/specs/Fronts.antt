@@ -6,7 +6,8 @@ use Rattle.grid_core.specs.Cells.{items_of}
 use Rattle.cache_core.specs.Parts.{outcome_of}
 use Rattle.cache_core.specs.declared.access.Access.{Access}
 use Rattle.grid_core.specs.Written.{SendsNothing, rules_at, written_by}
-use Rattle.grid_run.specs.Families.{HasServedLast, FamilyStandsFor, rules_in}
+use Rattle.grid_run.specs.Families.{HasServedLast, FamilyStandsBy, rules_in}
+use Rattle.grid_run.specs.Numbering.{IsRight}
 use Rattle.grid_run.specs.declared.front.Front.{Front}
 use Rattle.grid_run.specs.declared.front.Last.{Last}
 use Rattle.grid_run.specs.declared.front.Last.TheVariants as last
@@ -18,9 +19,14 @@ use Rattle.grid_run.specs.declared.requests.Request.TheVariants as request
 abbrev pub front_rules : Front → List Rules
 front_rules f = rules_in f.family
 
--- the caches have served this history
-pub record FrontAt (h : History) (f : Front) : Type 0 where
-  pub stands : FamilyStandsFor f.family h
+-- the block of the last access has the number that is kept for it
+pub record KnowsLast (blocks : List ℕ) (f : Front) : Type 0 where
+  pub known : IsRight blocks f.known
+
+-- the caches have served this history, by the numbers that the places of a list of blocks are
+pub record FrontAt (blocks : List ℕ) (h : History) (f : Front) : Type 0 where
+  pub stands : FamilyStandsBy blocks f.family h
+  pub last : KnowsLast blocks f
 
 -- the access x sends nothing in any of the caches, after the history h
 abbrev pub HasSentNothing : Family → History → Access → Type 0

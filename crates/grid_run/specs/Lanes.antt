@@ -3,9 +3,10 @@ use Rattle.std.specs.Prelude.{◌≡◌, ◌≤◌, List, length, map}
 use Rattle.std.specs.List.{All}
 use Rattle.din_trace.specs.declared.record.DinRecord.{DinRecord}
 use Rattle.stage_core.specs.declared.selection.Selection.{Selection}
-use Rattle.grid_run.specs.Backs.{BackTask, IsPlacedIn, queue_seats, seats_of_task, task_of_shelf}
+use Rattle.grid_run.specs.Backs.{BackTask, HasNumbers, IsPlacedIn, queue_seats, seats_of_task}
+use Rattle.grid_run.specs.Backs.{task_of_shelf}
 use Rattle.grid_run.specs.Banks.{NothingWaitsIn, WasAsked, tasks_of_banks}
-use Rattle.grid_run.specs.FirstLevels.{WasGiven, first_task, sent_by}
+use Rattle.grid_run.specs.FirstLevels.{WasGiven, first_task, numbered_by, sent_by}
 use Rattle.grid_run.specs.Fronts.{front_rules}
 use Rattle.grid_run.specs.Seats.{SeatRules, rules_on}
 use Rattle.grid_run.specs.declared.lane.Lane.{Lane}
@@ -49,7 +50,8 @@ AreMatched l = map queue_seats l.first.queues.items
 -- `past`; what they sent for later ones waits in the queues
 pub record HasGiven (past records : List DinRecord) (l : Lane) : Type 0 where
   pub given : WasGiven (sent_by (first_task l.first) past) records l.first
-  pub asked : All (WasAsked (sent_by (first_task l.first) past)) l.banks.items
+  pub numbered : All (HasNumbers (numbered_by l.first)) l.first.queues.items
+  pub asked : All (WasAsked (numbered_by l.first) (sent_by (first_task l.first) past)) l.banks.items
   pub matched : AreMatched l
 
 -- a lane has taken these records: its first levels have served what is selected of them, and its

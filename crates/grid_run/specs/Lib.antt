@@ -1,6 +1,7 @@
 pub mod Table
 pub mod Grids
 pub mod Families
+pub mod Numbering
 pub mod Sending
 pub mod Fronts
 pub mod Seats

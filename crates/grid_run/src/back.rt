@@ -1,11 +1,14 @@
 //! Second levels behind one cache of each side.
 
+ghost use Rattle.std.specs.Prelude.{◌≡◌};
+ghost use Rattle.cache_core.specs.Geometry.{bsize_of};
+ghost use Rattle.grid_run.specs.Families.{bsize_on};
+
 use crate::plan::BackShelf;
 use crate::queue::Queue;
 use crate::seat::BothSeats;
 use crate::second::Second;
 use cache_core::NoMemory;
-use grid_core::BlockNumbers;
 use std::alloc::Global;
 
 /// Second-level caches of one block size and one policy, behind the same two first-level caches.
@@ -13,14 +16,13 @@ use std::alloc::Global;
 pub(crate) struct Back {
     seats: BothSeats,
     pub second: Second,
+    ghost sized: { bsize_on second.family ≡ bsize_of seats.first },
 }
 
 #[tactic(auto, unfolding(crate::specs::Backs::back_task, crate::specs::Backs::task_of_shelf))]
 impl Back {
     ghost use Rattle.std.specs.Prelude.{◌≡◌, List, ℕ, IfOk, OnOk, length};
-    ghost use Rattle.cache_core.specs.Lists.{IsBeginning};
-    ghost use Rattle.grid_core.specs.Numbered.{blocks_in};
-    ghost use Rattle.grid_run.specs.Backs.{AreFew, AreWaiting, HasNone, NothingWaits};
+    ghost use Rattle.grid_run.specs.Backs.{AreFew, AreWaiting, HasNone, HasNumbers, NothingWaits};
     ghost use Rattle.grid_run.specs.Backs.{RequestsFor, WereAsked, back_seats, back_task};
     ghost use Rattle.grid_run.specs.Backs.{no_requests, queue_seats, task_of_shelf};
 
@@ -32,10 +34,7 @@ impl Back {
         ensures task { IfOk result (λ back. back_task back ≡ task_of_shelf shelf.now) }
     {
         Ok(Back {
-            seats: BothSeats {
-                i: shelf.i,
-                d: shelf.d,
-            },
+            seats: shelf.seats(),
             second: Second::new(alloc, &shelf.shelf)?,
         })
     }
@@ -45,8 +44,8 @@ impl Back {
         requires seats { queue_seats queue.old ≡ back_seats self.old }
         requires settled { NothingWaits self.old }
         ensures asked { (blocks : List ℕ) (served all : RequestsFor) →
-            AreWaiting served all queue.old → WereAsked blocks served self.old →
-            WereAsked blocks all self.new }
+            AreWaiting served all queue.old → HasNumbers blocks queue.old →
+            WereAsked blocks served self.old → WereAsked blocks all self.new }
         ensures none { HasNone queue.new }
         ensures seats { queue_seats queue.new ≡ queue_seats queue.old }
         ensures task { back_task self.new ≡ back_task self.old }
@@ -61,17 +60,15 @@ impl Back {
         self.second.waiting()
     }
 
-    /// Serves all requests that wait, by these numbers of blocks, of which there may be more then.
-    pub fn settle(&mut self, numbers: &mut BlockNumbers) -> Result<(), NoMemory>
-        requires room { (all : RequestsFor) × WereAsked (blocks_in numbers.old) all self.old
+    /// Serves all requests that wait.
+    pub fn settle(&mut self) -> Result<(), NoMemory>
+        requires room { (blocks : List ℕ) × (all : RequestsFor) × WereAsked blocks all self.old
             × AreFew all }
-        ensures asked { OnOk result ((all : RequestsFor) →
-            WereAsked (blocks_in numbers.old) all self.old →
-            WereAsked (blocks_in numbers.new) all self.new) }
-        ensures grows { IsBeginning (blocks_in numbers.old) (blocks_in numbers.new) }
+        ensures asked { OnOk result ((blocks : List ℕ) (all : RequestsFor) →
+            WereAsked blocks all self.old → WereAsked blocks all self.new) }
         ensures settled { OnOk result (NothingWaits self.new) }
         ensures task { back_task self.new ≡ back_task self.old }
     {
-        self.second.settle(numbers)
+        self.second.settle()
     }
 }

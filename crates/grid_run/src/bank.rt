@@ -1,9 +1,7 @@
-//! Second levels that share the numbers of blocks.
+//! Second levels that one thread serves.
 
 ghost use Rattle.std.specs.Prelude.{◌≡◌, ℕ, List, IfOk, OnOk, map};
 ghost use Rattle.std.specs.List.{All};
-ghost use Rattle.cache_core.specs.Lists.{IsBeginning};
-ghost use Rattle.grid_core.specs.Numbered.{blocks_in};
 ghost use Rattle.grid_run.specs.Backs.{AreFew, NothingWaits, RequestsFor, WereAsked, back_task};
 ghost use Rattle.grid_run.specs.Backs.{no_requests, task_of_shelf};
 
@@ -12,14 +10,12 @@ use crate::lists::made_for_each;
 use crate::plan::BackShelf;
 use crate::queue::Queue;
 use cache_core::NoMemory;
-use grid_core::BlockNumbers;
 use std::alloc::Global;
 
-/// Second levels that share the numbers of blocks, so that one thread at a time serves them.
+/// Second levels that one thread serves, one after another.
 #[derive(Drop)]
 pub(crate) struct Bank {
     pub backs: Vec<Back>,
-    numbers: BlockNumbers,
 }
 
 /// The empty second levels of these shelves.
@@ -34,39 +30,36 @@ fn backs_for(alloc: Global, shelves: &[BackShelf]) -> Result<Vec<Back>, NoMemory
 }
 
 /// Serves all requests that wait, for one second level after another.
-fn settle_backs(backs: &mut [Back], numbers: &mut BlockNumbers) -> Result<(), NoMemory>
-    requires room { (all : RequestsFor)
-        × All (WereAsked (blocks_in numbers.old) all) backs.old × AreFew all }
-    ensures asked { OnOk result ((all : RequestsFor) →
-        All (WereAsked (blocks_in numbers.old) all) backs.old →
-        All (WereAsked (blocks_in numbers.new) all) backs.new) }
-    ensures grows { IsBeginning (blocks_in numbers.old) (blocks_in numbers.new) }
+fn settle_backs(backs: &mut [Back]) -> Result<(), NoMemory>
+    requires room { (blocks : List ℕ) × (all : RequestsFor) × All (WereAsked blocks all) backs.old
+        × AreFew all }
+    ensures asked { OnOk result ((blocks : List ℕ) (all : RequestsFor) →
+        All (WereAsked blocks all) backs.old → All (WereAsked blocks all) backs.new) }
     ensures settled { OnOk result (All NothingWaits backs.new) }
     ensures tasks { map back_task backs.new ≡ map back_task backs.old }
 {
     for back in backs.iter_mut() {
-        back.settle(numbers)?;
+        back.settle()?;
     }
     Ok(())
 }
 
 #[tactic(auto, unfolding(crate::specs::Banks::bank_task))]
 impl Bank {
-    ghost use Rattle.std.specs.Prelude.{◌≡◌, IfOk, OnOk, map};
+    ghost use Rattle.std.specs.Prelude.{◌≡◌, ℕ, List, IfOk, OnOk, map};
     ghost use Rattle.std.specs.List.{All};
-    ghost use Rattle.grid_run.specs.Backs.{AreFew, AreWaiting, HasNone, RequestsFor, no_requests};
-    ghost use Rattle.grid_run.specs.Backs.{queue_seats, seats_of_task, task_of_shelf};
+    ghost use Rattle.grid_run.specs.Backs.{AreFew, AreWaiting, HasNone, HasNumbers, RequestsFor};
+    ghost use Rattle.grid_run.specs.Backs.{no_requests, queue_seats, seats_of_task, task_of_shelf};
     ghost use Rattle.grid_run.specs.Banks.{NothingWaitsIn, WasAsked, bank_task};
 
     /// The empty second levels of these shelves.
     pub fn new(alloc: Global, shelves: &[BackShelf]) -> Result<Bank, NoMemory>
         ensures task { IfOk result (λ bank. bank_task bank ≡ map task_of_shelf shelves.now) }
-        ensures asked { IfOk result (WasAsked no_requests) }
+        ensures asked { IfOk result (λ bank. (blocks : List ℕ) → WasAsked blocks no_requests bank) }
         ensures settled { IfOk result NothingWaitsIn }
     {
         Ok(Bank {
             backs: backs_for(alloc, shelves)?,
-            numbers: BlockNumbers::new(alloc),
         })
     }
 
@@ -74,8 +67,9 @@ impl Bank {
     pub fn take_over(&mut self, queues: &mut [Queue])
         requires seats { map queue_seats queues.old ≡ map seats_of_task (bank_task self.old) }
         requires settled { NothingWaitsIn self.old }
-        ensures asked { (served all : RequestsFor) → All (AreWaiting served all) queues.old →
-            WasAsked served self.old → WasAsked all self.new }
+        ensures asked { (blocks : List ℕ) (served all : RequestsFor) →
+            All (AreWaiting served all) queues.old → All (HasNumbers blocks) queues.old →
+            WasAsked blocks served self.old → WasAsked blocks all self.new }
         ensures none { All HasNone queues.new }
         ensures queues { map queue_seats queues.new ≡ map queue_seats queues.old }
         ensures task { bank_task self.new ≡ bank_task self.old }
@@ -96,12 +90,13 @@ impl Bank {
 
     /// Serves all requests that wait.
     pub fn settle(&mut self) -> Result<(), NoMemory>
-        requires room { (all : RequestsFor) × WasAsked all self.old × AreFew all }
-        ensures asked { OnOk result ((all : RequestsFor) →
-            WasAsked all self.old → WasAsked all self.new) }
+        requires room { (blocks : List ℕ) × (all : RequestsFor) × WasAsked blocks all self.old
+            × AreFew all }
+        ensures asked { OnOk result ((blocks : List ℕ) (all : RequestsFor) →
+            WasAsked blocks all self.old → WasAsked blocks all self.new) }
         ensures settled { OnOk result (NothingWaitsIn self.new) }
         ensures task { bank_task self.new ≡ bank_task self.old }
     {
-        settle_backs(&mut self.backs, &mut self.numbers)
+        settle_backs(&mut self.backs)
     }
 }

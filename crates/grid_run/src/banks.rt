@@ -2,9 +2,9 @@
 
 ghost use Rattle.std.specs.Prelude.{◌≡◌, ◌<◌, ℕ, List, IfOk, OnOk, get_or, length, map};
 ghost use Rattle.std.specs.List.{All};
-ghost use Rattle.grid_run.specs.Backs.{AreFew, AreWaiting, BackTask, HasNone, NothingWaits};
-ghost use Rattle.grid_run.specs.Backs.{RequestsFor, WereAsked, back_task, no_requests};
-ghost use Rattle.grid_run.specs.Backs.{queue_seats, seats_of_task, task_of_shelf};
+ghost use Rattle.grid_run.specs.Backs.{AreFew, AreWaiting, BackTask, HasNone, HasNumbers};
+ghost use Rattle.grid_run.specs.Backs.{NothingWaits, RequestsFor, WereAsked, back_task};
+ghost use Rattle.grid_run.specs.Backs.{no_requests, queue_seats, seats_of_task, task_of_shelf};
 ghost use Rattle.grid_run.specs.Banks.{HaveServed, NothingWaitsIn, WasAsked, bank_task};
 ghost use Rattle.grid_run.specs.Banks.{tasks_of_banks};
 
@@ -21,7 +21,7 @@ use std::thread::{Threads, join_mut};
 /// all the work, and two for its second levels.
 const MOST_HELPFUL: usize = 3;
 
-/// Of `count` second levels, how many share a bank: there are at most two banks for each of so many
+/// Of `count` second levels, how many are a bank: there are at most two banks for each of so many
 /// threads, of which no more than `MOST_HELPFUL` count.
 fn size_of_bank(count: usize, threads: usize) -> usize
     ensures { 0 < result }
@@ -40,7 +40,8 @@ pub(crate) fn banks_for(
 ) -> Result<Vec<Bank>, NoMemory>
     ensures tasks { IfOk result (λ banks.
         tasks_of_banks banks.items ≡ map task_of_shelf shelves.now) }
-    ensures asked { IfOk result (λ banks. All (WasAsked no_requests) banks.items) }
+    ensures asked { IfOk result (λ banks. (blocks : List ℕ) →
+        All (WasAsked blocks no_requests) banks.items) }
 {
     let size = size_of_bank(shelves.len(), threads);
     let mut banks = Vec::new(alloc);
@@ -57,8 +58,9 @@ pub(crate) fn banks_for(
 pub(crate) fn take_over_all(queues: &mut [Queue], banks: &mut [Bank])
     requires seats { map queue_seats queues.old ≡ map seats_of_task (tasks_of_banks banks.old) }
     requires settled { All NothingWaitsIn banks.old }
-    ensures asked { (served all : RequestsFor) → All (AreWaiting served all) queues.old →
-        All (WasAsked served) banks.old → All (WasAsked all) banks.new }
+    ensures asked { (blocks : List ℕ) (served all : RequestsFor) →
+        All (AreWaiting served all) queues.old → All (HasNumbers blocks) queues.old →
+        All (WasAsked blocks served) banks.old → All (WasAsked blocks all) banks.new }
     ensures none { All HasNone queues.new }
     ensures queues { map queue_seats queues.new ≡ map queue_seats queues.old }
     ensures tasks { map bank_task banks.new ≡ map bank_task banks.old }
@@ -82,7 +84,8 @@ pub(crate) fn waiting_for(banks: &[Bank]) -> usize {
 
 /// Serves all requests that wait, for one bank after another.
 pub(crate) fn settle_all(banks: &mut [Bank]) -> Result<(), NoMemory>
-    requires room { (all : RequestsFor) × All (WasAsked all) banks.old × AreFew all }
+    requires room { (blocks : List ℕ) × (all : RequestsFor)
+        × All (WasAsked blocks all) banks.old × AreFew all }
     ensures served { OnOk result (HaveServed banks.old banks.new) }
     ensures tasks { map bank_task banks.new ≡ map bank_task banks.old }
 {
@@ -98,8 +101,10 @@ fn settle_both<T: Threads + Sync>(
     front: &mut [Bank],
     behind: &mut [Bank],
 ) -> Result<(), NoMemory>
-    requires front { (all : RequestsFor) × All (WasAsked all) front.old × AreFew all }
-    requires behind { (all : RequestsFor) × All (WasAsked all) behind.old × AreFew all }
+    requires front { (blocks : List ℕ) × (all : RequestsFor)
+        × All (WasAsked blocks all) front.old × AreFew all }
+    requires behind { (blocks : List ℕ) × (all : RequestsFor)
+        × All (WasAsked blocks all) behind.old × AreFew all }
     ensures front { OnOk result (HaveServed front.old front.new) }
     ensures behind { OnOk result (HaveServed behind.old behind.new) }
     ensures tasks { (map bank_task front.new ≡ map bank_task front.old)
@@ -108,10 +113,12 @@ fn settle_both<T: Threads + Sync>(
     let (one, other) = join_mut(
         rt,
         &mut ||
-            requires { (all : RequestsFor) × All (WasAsked all) front.now × AreFew all }
+            requires { (blocks : List ℕ) × (all : RequestsFor)
+                × All (WasAsked blocks all) front.now × AreFew all }
         { settle_all(front) },
         &mut ||
-            requires { (all : RequestsFor) × All (WasAsked all) behind.now × AreFew all }
+            requires { (blocks : List ℕ) × (all : RequestsFor)
+                × All (WasAsked blocks all) behind.now × AreFew all }
         { settle_all(behind) },
     );
     one?;
@@ -125,7 +132,8 @@ pub(crate) fn settle_on<T: Threads + Sync>(
     threads: usize,
     banks: &mut [Bank],
 ) -> Result<(), NoMemory>
-    requires room { (all : RequestsFor) × All (WasAsked all) banks.old × AreFew all }
+    requires room { (blocks : List ℕ) × (all : RequestsFor)
+        × All (WasAsked blocks all) banks.old × AreFew all }
     ensures served { OnOk result (HaveServed banks.old banks.new) }
     ensures tasks { map bank_task banks.new ≡ map bank_task banks.old }
 {
@@ -141,8 +149,8 @@ pub(crate) fn back_at(banks: &[Bank], index: usize) -> &Back
     requires { index < length (tasks_of_banks banks.now) }
     ensures task { (other : BackTask) →
         back_task result.now ≡ get_or (tasks_of_banks banks.now) index other }
-    ensures asked { (all : RequestsFor) → All (WasAsked all) banks.now →
-        (blocks : List ℕ) × WereAsked blocks all result.now }
+    ensures asked { (blocks : List ℕ) (all : RequestsFor) →
+        All (WasAsked blocks all) banks.now → WereAsked blocks all result.now }
     ensures settled { All NothingWaitsIn banks.now → NothingWaits result.now }
 {
     let Some((bank, banks)) = banks.split_first() else {

@@ -1,6 +1,6 @@
 //! First-level caches that take records beside the second levels, which serve what waits for them.
 
-ghost use Rattle.std.specs.Prelude.{◌≡◌, ◌<◌, ◌≤◌, ◌+◌, List, OnOk, length, map};
+ghost use Rattle.std.specs.Prelude.{◌≡◌, ◌<◌, ◌≤◌, ◌+◌, ℕ, List, OnOk, length, map};
 ghost use Rattle.std.specs.List.{All};
 ghost use Rattle.din_trace.specs.declared.record.DinRecord.{DinRecord as Event};
 ghost use Rattle.grid_run.specs.Backs.{AreFew, RequestsFor};
@@ -36,7 +36,8 @@ fn settle_and_take(
     part: &[DinRecord],
     banks: &mut [Bank],
 ) -> Result<(), NoMemory>
-    requires near { (all : RequestsFor) × All (WasAsked all) banks.old × AreFew all }
+    requires near { (blocks : List ℕ) × (all : RequestsFor)
+        × All (WasAsked blocks all) banks.old × AreFew all }
     requires room { (served : RequestsFor) × (past : List Event) × WasGiven served past first.old
         × (length past + length part.now ≤ MAX_LIMIT) }
     ensures served { OnOk result (HaveServed banks.old banks.new) }
@@ -59,8 +60,10 @@ fn take_beside<T: Threads + Sync>(
     part: &[DinRecord],
 ) -> Result<(), NoMemory>
     requires two { 1 < threads }
-    requires far { (all : RequestsFor) × All (WasAsked all) far.old × AreFew all }
-    requires near { (all : RequestsFor) × All (WasAsked all) near.old × AreFew all }
+    requires far { (blocks : List ℕ) × (all : RequestsFor)
+        × All (WasAsked blocks all) far.old × AreFew all }
+    requires near { (blocks : List ℕ) × (all : RequestsFor)
+        × All (WasAsked blocks all) near.old × AreFew all }
     requires room { (served : RequestsFor) × (past : List Event) × WasGiven served past first.old
         × (length past + length part.now ≤ MAX_LIMIT) }
     ensures far { OnOk result (HaveServed far.old far.new) }
@@ -74,10 +77,12 @@ fn take_beside<T: Threads + Sync>(
     let (settled, taken) = join_mut(
         rt,
         &mut ||
-            requires { (all : RequestsFor) × All (WasAsked all) far.now × AreFew all }
+            requires { (blocks : List ℕ) × (all : RequestsFor)
+                × All (WasAsked blocks all) far.now × AreFew all }
         { settle_on(rt, others, far) },
         &mut ||
-            requires near { (all : RequestsFor) × All (WasAsked all) near.now × AreFew all }
+            requires near { (blocks : List ℕ) × (all : RequestsFor)
+                × All (WasAsked blocks all) near.now × AreFew all }
             requires room { (served : RequestsFor) × (past : List Event)
                 × WasGiven served past first.now × (length past + length part.now ≤ MAX_LIMIT) }
         { settle_and_take(first, part, near) },
@@ -95,7 +100,8 @@ pub(crate) fn take_on<T: Threads + Sync>(
     first: &mut FirstLevels,
     part: &[DinRecord],
 ) -> Result<(), NoMemory>
-    requires asked { (all : RequestsFor) × All (WasAsked all) banks.old × AreFew all }
+    requires asked { (blocks : List ℕ) × (all : RequestsFor)
+        × All (WasAsked blocks all) banks.old × AreFew all }
     requires room { (served : RequestsFor) × (past : List Event) × WasGiven served past first.old
         × (length past + length part.now ≤ MAX_LIMIT) }
     ensures served { OnOk result (HaveServed banks.old banks.new) }

@@ -4,12 +4,12 @@ ghost use Rattle.std.specs.Prelude.{◌≡◌};
 ghost use Rattle.std.specs.List.{All};
 ghost use Rattle.cache_core.specs.Geometry.{bsize_of};
 ghost use Rattle.cache_core.specs.History.{Rules as Kept};
-ghost use Rattle.grid_core.specs.Engines.{rules_in as rules_served};
+ghost use Rattle.grid_core.specs.Engines.{bsize_in, rules_in as rules_served};
 
+use crate::numbered::Numbered;
 use crate::shelf::Shelf;
-use cache_core::{Access, Class, Counts, Geometry, NoMemory, Outcome, PerClass};
-use grid_core::{BlockNumbers, Engine};
-use stage_core::What;
+use cache_core::{Access, Counts, Geometry, NoMemory, Outcome, PerClass};
+use grid_core::Engine;
 use std::alloc::Global;
 
 /// The caches of a shelf, as the cells of an engine.
@@ -18,30 +18,33 @@ pub(crate) struct Family {
     first: Geometry,
     engine: Engine,
     ghost alike: { All (λ (r : Kept). r.bsize ≡ bsize_of first) (rules_served engine) },
+    ghost sized: { bsize_in engine ≡ bsize_of first },
 }
 
-#[tactic(auto, unfolding(crate::specs::Families::rules_in))]
+#[tactic(auto, unfolding(crate::specs::Families::rules_in, crate::specs::Families::bsize_on))]
 impl Family {
     ghost use Rattle.std.specs.Prelude.{◌≡◌, ◌<◌, ◌*◌, ◌/◌, ◌∷◌, [], List, ℕ, IfOk, OnOk};
     ghost use Rattle.std.specs.Prelude.{length, map, true, false};
+    ghost use Rattle.cache_core.specs.Geometry.{bsize_of};
     ghost use Rattle.cache_core.specs.History.{History, access as accessed, flush as flushed};
     ghost use Rattle.cache_core.specs.Parts.{outcome_of};
     ghost use Rattle.cache_core.specs.declared.access.Access.{Access as Asked};
     ghost use Rattle.cache_core.specs.Counts.{counts_of};
-    ghost use Rattle.cache_core.specs.Lists.{IsBeginning};
     ghost use Rattle.grid_core.specs.Cells.{items_of};
     ghost use Rattle.grid_core.specs.FullyAssociative.{shadow_misses};
-    ghost use Rattle.grid_core.specs.Numbered.{blocks_in};
+    ghost use Rattle.grid_core.specs.Numbers.{IsNumberOf};
     ghost use Rattle.grid_core.specs.Written.{SendsNothing, rules_at, written_by};
     ghost use Rattle.stage_core.specs.SecondLevel.{read_as};
     ghost use Rattle.grid_run.specs.Families.{CanServe, HasServedLast, FamilyStandsBy};
-    ghost use Rattle.grid_run.specs.Families.{FamilyStandsFor, numbered_on, rules_in};
+    ghost use Rattle.grid_run.specs.Families.{bsize_on, rules_in};
+    ghost use Rattle.grid_run.specs.Numbering.{IsNumbered, what_of};
     ghost use Rattle.grid_run.specs.Seats.{rules_on};
 
     /// The empty caches of a shelf.
     pub fn new(alloc: Global, shelf: &Shelf) -> Result<Family, NoMemory>
-        ensures stands { IfOk result (λ family. FamilyStandsFor family []) }
-        ensures numbers { IfOk result (λ family. numbered_on family ≡ []) }
+        ensures stands { IfOk result (λ family. (blocks : List ℕ) →
+            FamilyStandsBy blocks family []) }
+        ensures bsize { IfOk result (λ family. bsize_on family ≡ bsize_of shelf.now.first) }
         ensures rules { IfOk result (λ family. rules_in family ≡ rules_on shelf.now) }
     {
         let first = shelf.first();
@@ -58,17 +61,27 @@ impl Family {
         self.first.first_byte(self.first.block(addr))
     }
 
-    /// Serves an access.
-    pub fn access(&mut self, access: Access) -> Result<(), NoMemory>
+    /// The block that holds an address.
+    pub fn block(&self, addr: u64) -> u64
+        ensures { result ≡ addr / bsize_on self.now }
+    {
+        self.first.block(addr)
+    }
+
+    /// Serves an access, whose block has this number.
+    pub fn access(&mut self, access: Access, number: usize) -> Result<(), NoMemory>
         requires room { CanServe self.old }
-        ensures last { OnOk result ((h : History) → FamilyStandsFor self.old h →
-            HasServedLast self.new h access) }
-        ensures stands { OnOk result ((h : History) → FamilyStandsFor self.old h →
-            FamilyStandsFor self.new (accessed access ∷ h)) }
-        ensures numbers { IsBeginning (numbered_on self.old) (numbered_on self.new) }
+        ensures last { OnOk result ((blocks : List ℕ) (h : History) →
+            IsNumberOf blocks (bsize_on self.old) access number →
+            FamilyStandsBy blocks self.old h → HasServedLast self.new h access) }
+        ensures stands { OnOk result ((blocks : List ℕ) (h : History) →
+            IsNumberOf blocks (bsize_on self.old) access number →
+            FamilyStandsBy blocks self.old h →
+            FamilyStandsBy blocks self.new (accessed access ∷ h)) }
+        ensures bsize { bsize_on self.new ≡ bsize_on self.old }
         ensures rules { rules_in self.new ≡ rules_in self.old }
     {
-        self.engine.access(access)
+        self.engine.access_numbered(access, number)
     }
 
     /// Serves an access the short way, if it may go it, as a use of the block that was used last
@@ -76,13 +89,14 @@ impl Family {
     #[inline(always)]
     pub fn again(&mut self, access: Access) -> bool
         requires room { CanServe self.old }
-        ensures last { result ≡ true → (h : History) → FamilyStandsFor self.old h →
-            HasServedLast self.new h access }
-        ensures silent { result ≡ true → (h : History) → FamilyStandsFor self.old h →
-            (cell : ℕ) → cell < length (rules_in self.new) →
+        ensures last { result ≡ true → (blocks : List ℕ) (h : History) →
+            FamilyStandsBy blocks self.old h → HasServedLast self.new h access }
+        ensures silent { result ≡ true → (blocks : List ℕ) (h : History) →
+            FamilyStandsBy blocks self.old h → (cell : ℕ) → cell < length (rules_in self.new) →
             SendsNothing (outcome_of (rules_at (rules_in self.new) cell) h access) }
-        ensures stands { result ≡ true → (h : History) → FamilyStandsFor self.old h →
-            FamilyStandsFor self.new (accessed access ∷ h) }
+        ensures stands { result ≡ true → (blocks : List ℕ) (h : History) →
+            FamilyStandsBy blocks self.old h →
+            FamilyStandsBy blocks self.new (accessed access ∷ h) }
         ensures leaves { result ≡ false → self.new ≡ self.old }
         ensures rules { rules_in self.new ≡ rules_in self.old }
     {
@@ -93,43 +107,31 @@ impl Family {
     /// back, in ascending order.
     pub fn flush(&mut self) -> Result<Vec<Vec<u64>>, NoMemory>
         requires room { CanServe self.old }
-        ensures backs { IfOk result (λ lists. (h : History) → FamilyStandsFor self.old h →
+        ensures backs { IfOk result (λ lists. (blocks : List ℕ) (h : History) →
+            FamilyStandsBy blocks self.old h →
             map items_of lists.items ≡ map (written_by h) (rules_in self.old)) }
-        ensures stands { OnOk result ((h : History) → FamilyStandsFor self.old h →
-            FamilyStandsFor self.new (flushed ∷ h)) }
-        ensures numbers { numbered_on self.new ≡ numbered_on self.old }
+        ensures stands { OnOk result ((blocks : List ℕ) (h : History) →
+            FamilyStandsBy blocks self.old h → FamilyStandsBy blocks self.new (flushed ∷ h)) }
         ensures rules { rules_in self.new ≡ rules_in self.old }
     {
         self.engine.flush()
     }
 
-    /// Serves a request of the first level.
-    pub fn serve(&mut self, what: What) -> Result<(), NoMemory>
+    /// Serves a request of the first level, by the number of its block.
+    pub fn serve(&mut self, asked: Numbered) -> Result<(), NoMemory>
         requires room { CanServe self.old }
-        ensures stands { OnOk result ((h : History) → FamilyStandsFor self.old h →
-            FamilyStandsFor self.new (read_as what ∷ h)) }
-        ensures numbers { IsBeginning (numbered_on self.old) (numbered_on self.new) }
+        ensures stands { OnOk result ((blocks : List ℕ) (h : History) →
+            IsNumbered blocks (bsize_on self.old) asked → FamilyStandsBy blocks self.old h →
+            FamilyStandsBy blocks self.new (read_as (what_of asked) ∷ h)) }
+        ensures bsize { bsize_on self.new ≡ bsize_on self.old }
         ensures rules { rules_in self.new ≡ rules_in self.old }
     {
-        match what {
-            What::Back(addr) | What::Through(addr) => self.access(Access {
-                class: Class::Write,
-                addr,
-            }),
-            What::Fetch(class, addr) => self.access(Access { class, addr }),
-            What::FlushAll => self.engine.flush_unlisted(),
-        }
-    }
-
-    /// Exchanges the numbers of the blocks.
-    pub fn swap_numbers(&mut self, numbers: &mut BlockNumbers)
-        ensures stands { (blocks : List ℕ) (h : History) → FamilyStandsBy blocks self.old h →
-            FamilyStandsBy blocks self.new h }
-        ensures taken { numbered_on self.new ≡ blocks_in numbers.old }
-        ensures given { blocks_in numbers.new ≡ numbered_on self.old }
-        ensures rules { rules_in self.new ≡ rules_in self.old }
-    {
-        self.engine.swap_numbers(numbers);
+        let Some(class) = asked.class() else {
+            return self.engine.flush_unlisted();
+        };
+        let addr = asked.addr;
+        let access = Access { class, addr };
+        self.access(access, asked.number as usize)
     }
 
     /// What the last access did in one cache.

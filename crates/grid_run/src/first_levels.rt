@@ -4,12 +4,15 @@ ghost use Rattle.std.specs.Prelude.{◌≡◌, ◌<◌, ◌≤◌, ◌+◌, ◌*
 ghost use Rattle.std.specs.Prelude.{OnOk, length, map, option_to_list};
 ghost use Rattle.std.specs.List.{All};
 ghost use Rattle.cache_core.specs.History.{History};
+ghost use Rattle.grid_core.specs.Numbered.{blocks_in};
 ghost use Rattle.din_trace.specs.declared.record.DinRecord.{DinRecord as Event};
 ghost use Rattle.stage_core.specs.Events.{IsBounded, history};
-ghost use Rattle.grid_run.specs.Backs.{AreWaiting, IsPlacedOn, RequestsFor, followed_by};
-ghost use Rattle.grid_run.specs.Backs.{no_requests, queue_seats, sent_for, sent_on_side};
-ghost use Rattle.grid_run.specs.FirstLevels.{AreSeated, HasServed, WasGiven, first_of_plan};
-ghost use Rattle.grid_run.specs.FirstLevels.{first_task};
+ghost use Rattle.grid_run.specs.Backs.{AreWaiting, HasNone, IsPlacedOn, QueuesStayNumbered};
+ghost use Rattle.grid_run.specs.Backs.{RequestsFor};
+ghost use Rattle.grid_run.specs.Backs.{followed_by, no_requests, queue_seats, sent_for};
+ghost use Rattle.grid_run.specs.Backs.{sent_on_side};
+ghost use Rattle.grid_run.specs.FirstLevels.{AreSeated, HasServed, StaysNumberedIn, WasGiven};
+ghost use Rattle.grid_run.specs.FirstLevels.{first_of_plan, first_task};
 ghost use Rattle.grid_run.specs.Fronts.{FrontAt, front_rules};
 ghost use Rattle.grid_run.specs.Sending.{event_of};
 
@@ -21,6 +24,7 @@ use crate::queues::{ask_queues, queues_for};
 use crate::requests::{Request, asked_of};
 use cache_core::NoMemory;
 use din_trace::{DinRecord, Label, MAX_LIMIT};
+use grid_core::BlockNumbers;
 use stage_core::{Selector, Side, selections_make_at_most_two};
 use std::alloc::Global;
 
@@ -32,6 +36,8 @@ pub(crate) struct FirstLevels {
     pub i: Vec<Front>,
     pub d: Vec<Front>,
     pub queues: Vec<Queue>,
+    /// The numbers of the blocks, for these caches and for the second levels.
+    pub numbers: BlockNumbers,
 }
 
 /// Serves a request in all caches of a side. What these send waits for the second levels. Not
@@ -40,27 +46,32 @@ pub(crate) struct FirstLevels {
 fn serve_request(
     fronts: &mut Vec<Front>,
     queues: &mut Vec<Queue>,
+    numbers: &mut BlockNumbers,
     side: Side,
     request: Request,
 ) -> Result<(), NoMemory>
     requires placed { All (IsPlacedOn side (map front_rules fronts.old.items))
         (map queue_seats queues.old.items) }
-    requires room { (h : History) × All (FrontAt h) fronts.old.items × (length h < 2 ^ 44) }
-    ensures stands { OnOk result ((h : History) → All (FrontAt h) fronts.old.items →
-        All (FrontAt (event_of request ∷ h)) fronts.new.items) }
+    requires room { (h : History) × All (FrontAt (blocks_in numbers.old) h) fronts.old.items
+        × (length h < 2 ^ 44) }
+    ensures stands { OnOk result ((h : History) →
+        All (FrontAt (blocks_in numbers.old) h) fronts.old.items →
+        All (FrontAt (blocks_in numbers.new) (event_of request ∷ h)) fronts.new.items) }
     ensures asked { OnOk result ((served : RequestsFor) (h : History) (before : RequestsFor) →
-        All (FrontAt h) fronts.old.items → All (AreWaiting served before) queues.old.items →
-        All (AreWaiting served (followed_by before
+        All (FrontAt (blocks_in numbers.old) h) fronts.old.items →
+        All (AreWaiting served before) queues.old.items → All (AreWaiting served (followed_by before
         (sent_for side (map front_rules fronts.old.items) h (event_of request))))
         queues.new.items) }
+    ensures numbers { OnOk result (QueuesStayNumbered (blocks_in numbers.old) queues.old.items
+        (blocks_in numbers.new) queues.new.items) }
     ensures rules { map front_rules fronts.new.items ≡ map front_rules fronts.old.items }
     ensures seats { map queue_seats queues.new.items ≡ map queue_seats queues.old.items }
 {
-    serve_fronts(fronts, request)?;
+    serve_fronts(fronts, request, numbers)?;
     if are_silent(fronts) {
         return Ok(());
     }
-    ask_queues(queues, fronts, side)
+    ask_queues(queues, fronts, side, numbers)
 }
 
 /// Serves what an event asks of a side, if it does. This is inlined, as are its callers and what
@@ -70,20 +81,25 @@ fn serve_request(
 fn serve_side(
     fronts: &mut Vec<Front>,
     queues: &mut Vec<Queue>,
+    numbers: &mut BlockNumbers,
     side: Side,
     event: DinRecord,
 ) -> Result<(), NoMemory>
     requires placed { All (IsPlacedOn side (map front_rules fronts.old.items))
         (map queue_seats queues.old.items) }
-    requires room { (es : List Event) × All (FrontAt (history side es)) fronts.old.items
+    requires room { (es : List Event)
+        × All (FrontAt (blocks_in numbers.old) (history side es)) fronts.old.items
         × (length es < 2 * MAX_LIMIT) }
     ensures stands { OnOk result ((es : List Event) →
-        All (FrontAt (history side es)) fronts.old.items →
-        All (FrontAt (history side (es ++ event ∷ []))) fronts.new.items) }
+        All (FrontAt (blocks_in numbers.old) (history side es)) fronts.old.items →
+        All (FrontAt (blocks_in numbers.new) (history side (es ++ event ∷ [])))
+        fronts.new.items) }
     ensures asked { OnOk result ((served : RequestsFor) (es : List Event) (before : RequestsFor) →
-        All (FrontAt (history side es)) fronts.old.items →
+        All (FrontAt (blocks_in numbers.old) (history side es)) fronts.old.items →
         All (AreWaiting served before) queues.old.items → All (AreWaiting served (followed_by before
         (sent_on_side side (map front_rules fronts.old.items) es event))) queues.new.items) }
+    ensures numbers { OnOk result (QueuesStayNumbered (blocks_in numbers.old) queues.old.items
+        (blocks_in numbers.new) queues.new.items) }
     ensures rules { map front_rules fronts.new.items ≡ map front_rules fronts.old.items }
     ensures seats { map queue_seats queues.new.items ≡ map queue_seats queues.old.items }
 {
@@ -93,7 +109,7 @@ fn serve_side(
     if serve_again(fronts, request) {
         return Ok(());
     }
-    serve_request(fronts, queues, side, request)
+    serve_request(fronts, queues, numbers, side, request)
 }
 
 #[tactic(auto, unfolding(crate::specs::FirstLevels::first_task, crate::specs::FirstLevels::first_of_plan))]
@@ -103,6 +119,7 @@ impl FirstLevels {
         requires bounded { IsBounded plan.now.selection }
         requires seated { AreSeated (first_of_plan plan.now) }
         ensures given { IfOk result (WasGiven no_requests []) }
+        ensures none { IfOk result (λ first. All HasNone first.queues.items) }
         ensures task { IfOk result (λ first. first_task first ≡ first_of_plan plan.now) }
     {
         Ok(FirstLevels {
@@ -110,6 +127,7 @@ impl FirstLevels {
             i: fronts_for(alloc, &plan.i)?,
             d: fronts_for(alloc, &plan.d)?,
             queues: queues_for(alloc, &plan.backs)?,
+            numbers: BlockNumbers::new(alloc),
         })
     }
 
@@ -121,15 +139,17 @@ impl FirstLevels {
             × (length es < 2 * MAX_LIMIT) }
         ensures served { OnOk result ((served : RequestsFor) (es : List Event) →
             HasServed served es self.old → HasServed served (es ++ event ∷ []) self.new) }
+        ensures numbers { OnOk result (StaysNumberedIn self.old self.new) }
         ensures task { first_task self.new ≡ first_task self.old }
         ensures selector { self.new.selector ≡ self.old.selector }
     {
-        serve_side(&mut self.i, &mut self.queues, Side::I, event)?;
+        let numbers = &mut self.numbers;
+        serve_side(&mut self.i, &mut self.queues, numbers, Side::I, event)?;
         // Most events are fetches, which ask nothing of the data caches.
         if matches!(event.label, Label::Instr) {
             return Ok(());
         }
-        serve_side(&mut self.d, &mut self.queues, Side::D, event)
+        serve_side(&mut self.d, &mut self.queues, numbers, Side::D, event)
     }
 
     /// Serves an event in all caches, if there is one.
@@ -140,6 +160,7 @@ impl FirstLevels {
             × (length es < 2 * MAX_LIMIT) }
         ensures served { OnOk result ((served : RequestsFor) (es : List Event) →
             HasServed served es self.old → HasServed served (es ++ option_to_list event) self.new) }
+        ensures numbers { OnOk result (StaysNumberedIn self.old self.new) }
         ensures task { first_task self.new ≡ first_task self.old }
         ensures selector { self.new.selector ≡ self.old.selector }
     {
@@ -155,6 +176,7 @@ impl FirstLevels {
             × WasGiven served past self.old × (length past < MAX_LIMIT) }
         ensures given { OnOk result ((served : RequestsFor) (past : List Event) →
             WasGiven served past self.old → WasGiven served (past ++ next ∷ []) self.new) }
+        ensures numbers { OnOk result (StaysNumberedIn self.old self.new) }
         ensures task { first_task self.new ≡ first_task self.old }
     {
         selections_make_at_most_two();
@@ -169,6 +191,7 @@ impl FirstLevels {
             × WasGiven served past self.old × (length past + length part.now ≤ MAX_LIMIT) }
         ensures given { OnOk result ((served : RequestsFor) (past : List Event) →
             WasGiven served past self.old → WasGiven served (past ++ part.now) self.new) }
+        ensures numbers { OnOk result (StaysNumberedIn self.old self.new) }
         ensures task { first_task self.new ≡ first_task self.old }
     {
         for next in part {

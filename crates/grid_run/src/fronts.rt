@@ -1,8 +1,11 @@
 //! The first-level caches of one side.
 
-ghost use Rattle.std.specs.Prelude.{◌≡◌, ◌<◌, ◌^◌, ◌∷◌, [], IfOk, OnOk, map, length, true, false};
+ghost use Rattle.std.specs.Prelude.{◌≡◌, ◌<◌, ◌^◌, ◌∷◌, [], ℕ, List, IfOk, OnOk, map, length};
+ghost use Rattle.std.specs.Prelude.{true, false};
 ghost use Rattle.std.specs.List.{All};
 ghost use Rattle.cache_core.specs.History.{History};
+ghost use Rattle.cache_core.specs.Lists.{IsBeginning};
+ghost use Rattle.grid_core.specs.Numbered.{blocks_in};
 ghost use Rattle.grid_run.specs.Fronts.{FrontAt, HasSent, IsSilent, front_rules};
 ghost use Rattle.grid_run.specs.Seats.{rules_on};
 ghost use Rattle.grid_run.specs.Sending.{event_of};
@@ -12,28 +15,38 @@ use crate::lists::made_for_each;
 use crate::requests::Request;
 use crate::shelf::Shelf;
 use cache_core::NoMemory;
+use grid_core::BlockNumbers;
 use std::alloc::Global;
 
 /// The empty caches of these shelves.
 pub(crate) fn fronts_for(alloc: Global, shelves: &[Shelf]) -> Result<Vec<Front>, NoMemory>
     ensures rules { IfOk result (λ fronts.
         map front_rules fronts.items ≡ map rules_on shelves.now) }
-    ensures stands { IfOk result (λ fronts. All (FrontAt []) fronts.items) }
+    ensures stands { IfOk result (λ fronts. (blocks : List ℕ) →
+        All (FrontAt blocks []) fronts.items) }
 {
     made_for_each!(alloc, shelves, Front::new)
 }
 
-/// Serves a request in all caches.
-pub(crate) fn serve_fronts(fronts: &mut Vec<Front>, request: Request) -> Result<(), NoMemory>
-    requires room { (h : History) × All (FrontAt h) fronts.old.items × (length h < 2 ^ 44) }
-    ensures stands { OnOk result ((h : History) → All (FrontAt h) fronts.old.items →
-        All (FrontAt (event_of request ∷ h)) fronts.new.items) }
-    ensures sent { OnOk result ((h : History) → All (FrontAt h) fronts.old.items →
+/// Serves a request in all caches. Its block gets a number, if it has none yet.
+pub(crate) fn serve_fronts(
+    fronts: &mut Vec<Front>,
+    request: Request,
+    numbers: &mut BlockNumbers,
+) -> Result<(), NoMemory>
+    requires room { (blocks : List ℕ) × (h : History) × All (FrontAt blocks h) fronts.old.items
+        × (length h < 2 ^ 44) }
+    ensures stands { OnOk result ((h : History) →
+        All (FrontAt (blocks_in numbers.old) h) fronts.old.items →
+        All (FrontAt (blocks_in numbers.new) (event_of request ∷ h)) fronts.new.items) }
+    ensures sent { OnOk result ((h : History) →
+        All (FrontAt (blocks_in numbers.old) h) fronts.old.items →
         All (HasSent h request) fronts.new.items) }
+    ensures grows { OnOk result (IsBeginning (blocks_in numbers.old) (blocks_in numbers.new)) }
     ensures rules { map front_rules fronts.new.items ≡ map front_rules fronts.old.items }
 {
     for front in fronts.iter_mut() {
-        front.serve(request)?;
+        front.serve(request, numbers)?;
     }
     Ok(())
 }
@@ -42,11 +55,13 @@ pub(crate) fn serve_fronts(fronts: &mut Vec<Front>, request: Request) -> Result<
 /// It sends nothing then. Any other request is left.
 #[inline(always)]
 pub(crate) fn serve_again(fronts: &mut Vec<Front>, request: Request) -> bool
-    requires room { (h : History) × All (FrontAt h) fronts.old.items × (length h < 2 ^ 44) }
-    ensures stands { result ≡ true → (h : History) → All (FrontAt h) fronts.old.items →
-        All (FrontAt (event_of request ∷ h)) fronts.new.items }
-    ensures sent { result ≡ true → (h : History) → All (FrontAt h) fronts.old.items →
-        All (HasSent h request) fronts.new.items }
+    requires room { (blocks : List ℕ) × (h : History) × All (FrontAt blocks h) fronts.old.items
+        × (length h < 2 ^ 44) }
+    ensures stands { result ≡ true → (blocks : List ℕ) (h : History) →
+        All (FrontAt blocks h) fronts.old.items →
+        All (FrontAt blocks (event_of request ∷ h)) fronts.new.items }
+    ensures sent { result ≡ true → (blocks : List ℕ) (h : History) →
+        All (FrontAt blocks h) fronts.old.items → All (HasSent h request) fronts.new.items }
     ensures silent { result ≡ true → All IsSilent fronts.new.items }
     ensures leaves { result ≡ false → fronts.new.items ≡ fronts.old.items }
     ensures rules { map front_rules fronts.new.items ≡ map front_rules fronts.old.items }

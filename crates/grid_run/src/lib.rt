@@ -8,10 +8,10 @@
 //! that have one selection; what these have in common is done once. In it, the first-level caches
 //! of a side that have one block size and one policy are a `family`, which an engine of grid_core
 //! serves (`front`, `fronts`), and what each pair of them sends waits in a queue (`queue`,
-//! `queues`, `parts`): these are the `first_levels`. Behind each queue are second
-//! levels (`second`, `back`), which take it over and serve what waits. Some of them, a `bank`,
-//! share the numbers of blocks, so that different threads can serve the `banks` of a lane. `beside`
-//! does both at once. `requests` has what an event asks of each cache.
+//! `queues`, `parts`), with the number of its block (`numbered`): these are the `first_levels`.
+//! Behind each queue are second levels (`second`, `back`), which take it over and serve what waits.
+//! One thread serves those of a `bank`, so that different threads can serve the `banks` of a lane.
+//! `beside` does both at once. `requests` has what an event asks of each cache.
 //!
 //! `plan` finds the place of each row: its lane, and a `seat` among the caches of each kind, which
 //! a `shelf` lists. A lane is the work of a `worker`; `crew` gives records to all workers in
@@ -41,6 +41,7 @@ mod fronts;
 mod grid;
 mod lane;
 mod lists;
+mod numbered;
 mod numbers;
 mod parts;
 mod plan;

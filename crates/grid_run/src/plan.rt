@@ -14,7 +14,7 @@ ghost use Rattle.grid_run.specs.Rows.{HasPlace, HavePlaces, IsPlaceIn, IsSound};
 
 use crate::grid::{Row, Setup};
 use crate::lists::add_to;
-use crate::seat::{Seat, seat_for};
+use crate::seat::{BothSeats, Seat, seat_for};
 use crate::sharing::{count_groups, group_after, portion_of};
 use crate::shelf::Shelf;
 use cache_core::{Geometry, NoMemory, Policy};
@@ -27,6 +27,23 @@ pub(crate) struct BackShelf {
     pub i: Seat,
     pub d: Seat,
     pub shelf: Shelf,
+}
+
+#[tactic(auto, unfolding(crate::specs::Backs::task_of_shelf))]
+impl BackShelf {
+    ghost use Rattle.std.specs.Prelude.{◌≡◌};
+    ghost use Rattle.grid_run.specs.Backs.{seats_of_task, task_of_shelf};
+
+    /// The seats in front of the caches, and their block size.
+    pub fn seats(&self) -> BothSeats
+        ensures { result ≡ seats_of_task (task_of_shelf self.now) }
+    {
+        BothSeats {
+            i: self.i,
+            d: self.d,
+            first: self.shelf.first(),
+        }
+    }
 }
 
 /// The caches of all rows of one selection and one portion of the grid.

@@ -1,9 +1,11 @@
 //! Requests that wait for second levels.
 
 use crate::front::Front;
+use crate::numbered::Numbered;
 use crate::seat::{BothSeats, Seat};
 use cache_core::NoMemory;
-use stage_core::{Side, What};
+use grid_core::BlockNumbers;
+use stage_core::Side;
 use std::alloc::Global;
 
 /// What two first-level caches have sent to the second levels behind them since these were last
@@ -11,16 +13,17 @@ use std::alloc::Global;
 #[derive(Drop)]
 pub(crate) struct Queue {
     pub seats: BothSeats,
-    pub waiting: Vec<What>,
+    pub waiting: Vec<Numbered>,
 }
 
 impl Queue {
     ghost use Rattle.std.specs.Prelude.{◌≡◌, OnOk, map};
     ghost use Rattle.std.specs.List.{All};
     ghost use Rattle.cache_core.specs.History.{History};
+    ghost use Rattle.grid_core.specs.Numbered.{blocks_in};
     ghost use Rattle.grid_run.specs.Backs.{AreWaiting, IsPlacedOn, RequestsFor, followed_by};
-    ghost use Rattle.grid_run.specs.Backs.{HasNone, seat_on, sent_for};
-    ghost use Rattle.grid_run.specs.Fronts.{HasSent, front_rules};
+    ghost use Rattle.grid_run.specs.Backs.{HasNone, StaysNumbered, seat_on, sent_for};
+    ghost use Rattle.grid_run.specs.Fronts.{HasSent, KnowsLast, front_rules};
     ghost use Rattle.grid_run.specs.Sending.{event_of};
     ghost use Rattle.grid_run.specs.declared.requests.Request.{Request as Asked};
 
@@ -46,17 +49,26 @@ impl Queue {
     }
 
     /// Takes what the first-level cache on a side sent for the last request. `fronts` are the
-    /// caches of this side.
-    pub fn ask(&mut self, fronts: &[Front], side: Side) -> Result<(), NoMemory>
+    /// caches of this side. Blocks get numbers, if they have none yet.
+    pub fn ask(
+        &mut self,
+        fronts: &[Front],
+        side: Side,
+        numbers: &mut BlockNumbers,
+    ) -> Result<(), NoMemory>
         requires placed { IsPlacedOn side (map front_rules fronts.now) self.old.seats }
         requires sent { (h : History) × (q : Asked) × All (HasSent h q) fronts.now }
+        requires known { All (KnowsLast (blocks_in numbers.old)) fronts.now }
         ensures asked { OnOk result ((served : RequestsFor) (h : History) (q : Asked)
             (before : RequestsFor) → All (HasSent h q) fronts.now →
             AreWaiting served before self.old → AreWaiting served (followed_by before
             (sent_for side (map front_rules fronts.now) h (event_of q))) self.new) }
+        ensures numbers { OnOk result (StaysNumbered (blocks_in numbers.old) self.old
+            (blocks_in numbers.new) self.new) }
         ensures seats { self.new.seats ≡ self.old.seats }
     {
         let seat = self.seat(side);
-        fronts[seat.family].send(seat.cell, side, &mut self.waiting)
+        let first = self.seats.first;
+        fronts[seat.family].send(seat.cell, side, first, numbers, &mut self.waiting)
     }
 }

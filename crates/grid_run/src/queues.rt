@@ -3,9 +3,11 @@
 ghost use Rattle.std.specs.Prelude.{◌≡◌, IfOk, OnOk, map};
 ghost use Rattle.std.specs.List.{All};
 ghost use Rattle.cache_core.specs.History.{History};
+ghost use Rattle.grid_core.specs.Numbered.{blocks_in};
 ghost use Rattle.grid_run.specs.Backs.{AreWaiting, HasNone, IsPlacedOn, RequestsFor, followed_by};
-ghost use Rattle.grid_run.specs.Backs.{queue_seats, seats_of_task, sent_for, task_of_shelf};
-ghost use Rattle.grid_run.specs.Fronts.{HasSent, front_rules};
+ghost use Rattle.grid_run.specs.Backs.{QueuesStayNumbered, queue_seats, seats_of_task, sent_for};
+ghost use Rattle.grid_run.specs.Backs.{task_of_shelf};
+ghost use Rattle.grid_run.specs.Fronts.{HasSent, KnowsLast, front_rules};
 ghost use Rattle.grid_run.specs.Sending.{event_of};
 ghost use Rattle.grid_run.specs.declared.plan.BackShelf.{BackShelf as Planned};
 ghost use Rattle.grid_run.specs.declared.requests.Request.{Request as Asked};
@@ -14,8 +16,8 @@ use crate::front::Front;
 use crate::lists::made_for_each;
 use crate::plan::BackShelf;
 use crate::queue::Queue;
-use crate::seat::BothSeats;
 use cache_core::NoMemory;
+use grid_core::BlockNumbers;
 use stage_core::Side;
 use std::alloc::Global;
 
@@ -33,11 +35,7 @@ fn queue_for(alloc: Global, shelf: &BackShelf) -> Result<Queue, NoMemory>
         queue_seats queue ≡ seats_of_task (task_of_shelf shelf.now)) }
     ensures none { IfOk result HasNone }
 {
-    let seats = BothSeats {
-        i: shelf.i,
-        d: shelf.d,
-    };
-    Ok(Queue::new(alloc, seats))
+    Ok(Queue::new(alloc, shelf.seats()))
 }
 
 /// An empty queue for the second levels of each of these shelves.
@@ -54,19 +52,23 @@ pub(crate) fn ask_queues(
     queues: &mut Vec<Queue>,
     fronts: &[Front],
     side: Side,
+    numbers: &mut BlockNumbers,
 ) -> Result<(), NoMemory>
     requires placed { All (IsPlacedOn side (map front_rules fronts.now))
         (map queue_seats queues.old.items) }
     requires sent { (h : History) × (q : Asked) × All (HasSent h q) fronts.now }
+    requires known { All (KnowsLast (blocks_in numbers.old)) fronts.now }
     ensures asked { OnOk result ((served : RequestsFor) (h : History) (q : Asked)
         (before : RequestsFor) → All (HasSent h q) fronts.now →
         All (AreWaiting served before) queues.old.items →
         All (AreWaiting served (followed_by before
         (sent_for side (map front_rules fronts.now) h (event_of q)))) queues.new.items) }
+    ensures numbers { OnOk result (QueuesStayNumbered (blocks_in numbers.old) queues.old.items
+        (blocks_in numbers.new) queues.new.items) }
     ensures seats { map queue_seats queues.new.items ≡ map queue_seats queues.old.items }
 {
     for queue in queues.iter_mut() {
-        queue.ask(fronts, side)?;
+        queue.ask(fronts, side, numbers)?;
     }
     Ok(())
 }

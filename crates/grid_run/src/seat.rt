@@ -18,11 +18,13 @@ pub(crate) struct Seat {
     pub cell: usize,
 }
 
-/// The seats of the two first-level caches in front of second levels.
+/// The seats of the two first-level caches in front of second levels, and the block size of these,
+/// as that of a geometry.
 #[derive(Clone, Copy, Debug)]
 pub(crate) struct BothSeats {
     pub i: Seat,
     pub d: Seat,
+    pub first: Geometry,
 }
 
 /// The index of a shelf for this block size and policy, if there is one.

@@ -1,16 +1,16 @@
 //! Second-level caches, and the requests that wait for them.
 
-ghost use Rattle.std.specs.Prelude.{◌≡◌, ◌++◌, List, OnOk};
-ghost use Rattle.cache_core.specs.Lists.{IsBeginning};
+ghost use Rattle.std.specs.Prelude.{◌≡◌, ◌++◌, List, ℕ, OnOk, map};
+ghost use Rattle.std.specs.List.{All};
 ghost use Rattle.stage_core.specs.declared.message.What.{What as Sent};
-ghost use Rattle.grid_run.specs.Families.{numbered_on, rules_in};
+ghost use Rattle.grid_run.specs.Families.{bsize_on, rules_in};
+ghost use Rattle.grid_run.specs.Numbering.{IsNumbered, what_of};
 ghost use Rattle.grid_run.specs.Sending.{HasRoom, SecondServed};
 
 use crate::family::Family;
+use crate::numbered::Numbered;
 use crate::shelf::Shelf;
 use cache_core::NoMemory;
-use grid_core::BlockNumbers;
-use stage_core::What;
 use std::alloc::Global;
 use std::mem::swap;
 
@@ -19,29 +19,33 @@ use std::mem::swap;
 #[derive(Drop)]
 pub(crate) struct Second {
     pub family: Family,
-    waiting: Vec<What>,
+    waiting: Vec<Numbered>,
 }
 
 /// Serves requests in their order.
-fn serve_each(family: &mut Family, requests: &[What]) -> Result<(), NoMemory>
-    requires room { HasRoom family.old requests.now }
-    ensures served { OnOk result ((ws : List Sent) → SecondServed ws family.old →
-        SecondServed (ws ++ requests.now) family.new) }
-    ensures numbers { IsBeginning (numbered_on family.old) (numbered_on family.new) }
+fn serve_each(family: &mut Family, requests: &[Numbered]) -> Result<(), NoMemory>
+    requires room { (blocks : List ℕ) × HasRoom blocks family.old requests.now }
+    ensures served { OnOk result ((blocks : List ℕ) (ws : List Sent) →
+        All (IsNumbered blocks (bsize_on family.old)) requests.now →
+        SecondServed blocks ws family.old →
+        SecondServed blocks (ws ++ map what_of requests.now) family.new) }
+    ensures bsize { bsize_on family.new ≡ bsize_on family.old }
     ensures rules { rules_in family.new ≡ rules_in family.old }
 {
-    for what in requests {
-        family.serve(*what)?;
+    for asked in requests {
+        family.serve(*asked)?;
     }
     Ok(())
 }
 
 impl Second {
     ghost use Rattle.std.specs.Prelude.{◌≡◌, ◌≤◌, ◌^◌, ◌++◌, [], List, ℕ, IfOk, OnOk, length};
-    ghost use Rattle.cache_core.specs.Lists.{IsBeginning};
+    ghost use Rattle.std.specs.Prelude.{map};
+    ghost use Rattle.std.specs.List.{All};
+    ghost use Rattle.cache_core.specs.Geometry.{bsize_of};
     ghost use Rattle.stage_core.specs.declared.message.What.{What as Sent};
-    ghost use Rattle.grid_core.specs.Numbered.{blocks_in};
-    ghost use Rattle.grid_run.specs.Families.{rules_in};
+    ghost use Rattle.grid_run.specs.Families.{bsize_on, rules_in};
+    ghost use Rattle.grid_run.specs.Numbering.{IsNumbered, what_of};
     ghost use Rattle.grid_run.specs.Seats.{rules_on};
     ghost use Rattle.grid_run.specs.Sending.{NothingWaitsFor, SecondAsked};
 
@@ -49,6 +53,8 @@ impl Second {
     pub fn new(alloc: Global, shelf: &Shelf) -> Result<Second, NoMemory>
         ensures asked { IfOk result (λ second. (blocks : List ℕ) → SecondAsked blocks [] second) }
         ensures settled { IfOk result NothingWaitsFor }
+        ensures bsize { IfOk result (λ second.
+            bsize_on second.family ≡ bsize_of shelf.now.first) }
         ensures rules { IfOk result (λ second. rules_in second.family ≡ rules_on shelf.now) }
     {
         Ok(Second {
@@ -58,10 +64,12 @@ impl Second {
     }
 
     /// Exchanges the requests that wait, of which there are none here, for others.
-    pub fn swap_waiting(&mut self, waiting: &mut Vec<What>)
+    pub fn swap_waiting(&mut self, waiting: &mut Vec<Numbered>)
         requires settled { NothingWaitsFor self.old }
-        ensures asked { (blocks : List ℕ) (ws : List Sent) → SecondAsked blocks ws self.old →
-            SecondAsked blocks (ws ++ waiting.old.items) self.new }
+        ensures asked { (blocks : List ℕ) (ws : List Sent) →
+            All (IsNumbered blocks (bsize_on self.old.family)) waiting.old.items →
+            SecondAsked blocks ws self.old →
+            SecondAsked blocks (ws ++ map what_of waiting.old.items) self.new }
         ensures none { waiting.new.items ≡ [] }
         ensures family { self.new.family ≡ self.old.family }
     {
@@ -75,21 +83,17 @@ impl Second {
         self.waiting.len()
     }
 
-    /// Serves all requests that wait, by these numbers of blocks, of which there may be more then.
-    pub fn settle(&mut self, numbers: &mut BlockNumbers) -> Result<(), NoMemory>
-        requires room { (ws : List Sent) × SecondAsked (blocks_in numbers.old) ws self.old
+    /// Serves all requests that wait.
+    pub fn settle(&mut self) -> Result<(), NoMemory>
+        requires room { (blocks : List ℕ) × (ws : List Sent) × SecondAsked blocks ws self.old
             × (length ws ≤ 2 ^ 44) }
-        ensures asked { OnOk result ((ws : List Sent) →
-            SecondAsked (blocks_in numbers.old) ws self.old →
-            SecondAsked (blocks_in numbers.new) ws self.new) }
-        ensures grows { IsBeginning (blocks_in numbers.old) (blocks_in numbers.new) }
+        ensures asked { OnOk result ((blocks : List ℕ) (ws : List Sent) →
+            SecondAsked blocks ws self.old → SecondAsked blocks ws self.new) }
         ensures settled { OnOk result (NothingWaitsFor self.new) }
+        ensures bsize { bsize_on self.new.family ≡ bsize_on self.old.family }
         ensures rules { rules_in self.new.family ≡ rules_in self.old.family }
     {
-        self.family.swap_numbers(numbers);
-        let served = serve_each(&mut self.family, &self.waiting);
-        self.family.swap_numbers(numbers);
-        served?;
+        serve_each(&mut self.family, &self.waiting)?;
         self.waiting.clear();
         Ok(())
     }

@@ -1,6 +1,6 @@
-//! Engines that are served in turn, and share the numbers of blocks.
+//! Engines that are told the numbers of their blocks, from one table for all.
 
-use super::{access_alike, access_of, caches_of, expect_counts, flush_alike, geometries_of};
+use super::{BLOCK, access_of, caches_of, expect_counts, flush_alike, follow, geometries_of};
 use cache_core::{Access, Cache, Class, MAX_EVENTS, PerClass, Policy, Repl};
 use grid_core::{BlockNumbers, Engine, share_block_size};
 use std::alloc::Global;
@@ -24,7 +24,14 @@ fn pair_of(rt: &impl Abort, alloc: Global, blocks: &[u64], policy: Policy) -> Pa
     }
 }
 
-/// Serves some accesses with the shared numbers, and perhaps a flush.
+/// Serves an access in the engine, by the shared number of its block.
+fn serve(rt: &impl Abort, engine: &mut Engine, numbers: &mut BlockNumbers, access: Access) {
+    let number = numbers.number(access.addr / BLOCK).expect(rt, "memory");
+    assert!(rt; engine.served() < MAX_EVENTS);
+    engine.access_numbered(access, number).expect(rt, "memory");
+}
+
+/// Serves some accesses by the shared numbers, and perhaps a flush.
 fn serve_some(
     rt: &impl Abort,
     alloc: Global,
@@ -32,16 +39,15 @@ fn serve_some(
     numbers: &mut BlockNumbers,
     seed: u64,
 ) {
-    pair.engine.swap_numbers(numbers);
     let mut state = seed;
     for _ in 0..40 {
         let access = access_of(&mut state, 96);
-        access_alike(rt, &mut pair.engine, &mut pair.caches, access);
+        serve(rt, &mut pair.engine, numbers, access);
+        follow(rt, &pair.engine, &mut pair.caches, access);
     }
     if seed % 3 == 0 {
         flush_alike(rt, alloc, &mut pair.engine, &mut pair.caches);
     }
-    pair.engine.swap_numbers(numbers);
     let none = Vec::new(alloc);
     expect_counts(rt, &pair.engine, &pair.caches, &none);
 }
@@ -70,20 +76,15 @@ fn engines_that_share_numbers_are_single_caches(rt: HostRuntime) -> Result<(), F
     Ok(())
 }
 
-/// Reads the block of address 0 with the shared numbers, and answers the compulsory misses of the
+/// Reads the block of address 0 by its shared number, and answers the compulsory misses of the
 /// first cache.
 fn compulsory_after_read(
     rt: &impl Abort,
     engine: &mut Engine,
     numbers: &mut BlockNumbers,
 ) -> PerClass {
-    engine.swap_numbers(numbers);
-    assert!(rt; engine.served() < MAX_EVENTS);
     let class = Class::Read;
-    engine
-        .access(Access { class, addr: 0 })
-        .expect(rt, "memory");
-    engine.swap_numbers(numbers);
+    serve(rt, engine, numbers, Access { class, addr: 0 });
     assert!(rt; 0 < engine.cells());
     engine.counts(0).compulsory
 }

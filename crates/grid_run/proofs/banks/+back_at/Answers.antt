@@ -1,5 +1,4 @@
 use Rattle.std.proofs.Common.{rules, subst, sym, ◌∙◌, arith}
-use Rattle.grid_core.specs.Numbered.{blocks_in}
 use Rattle.grid_run.specs.Backs.{WereAsked}
 use Rattle.grid_run.specs.Banks.{NothingWaitsIn, WasAsked}
 use Rattle.grid_run.proofs.BankLemmas.{inside-rest, of-first, of-rest, task-of-first, task-of-rest}
@@ -13,14 +12,13 @@ returns-then-index-count-clause-task t c = λ other.
     c.index.ensures
 
 pub returns-then-index-count-clause-asked : goal.returns-then-index-count-clause-asked
-returns-then-index-count-clause-asked t c = λ all were.
+returns-then-index-count-clause-asked t c = λ blocks all were.
     let bank = c.in-Some.bank.now in
-    let first = of-first bank c.in-Some.banks.now c.in-Some.ensures.cases.0 (WasAsked all) were in (
-      blocks_in bank.numbers,
-      subst (WereAsked (blocks_in bank.numbers) all) (sym c.index.ensures)
-          (first.each c.args.index c.index.result.now
-          (omega (arith, c.if-index-count.true, c.len-count.ensures, bank.backs.ok.0))),
-    )
+    let first = of-first bank c.in-Some.banks.now c.in-Some.ensures.cases.0 (WasAsked blocks all)
+    were in
+    subst (WereAsked blocks all) (sym c.index.ensures)
+    (first.each c.args.index c.index.result.now
+    (omega (arith, c.if-index-count.true, c.len-count.ensures, bank.backs.ok.0)))
 
 pub back_at-requires : goal.back_at-requires
 back_at-requires t c =
@@ -38,9 +36,10 @@ returns-clause-task t c = λ other.
     c.args.index (c.len-count.ensures ∙ bank.backs.ok.0) c.if-index-count.false other
 
 pub returns-clause-asked : goal.returns-clause-asked
-returns-clause-asked t c = λ all were.
-    c.back_at.ensures.asked all
-    (of-rest c.in-Some.bank.now c.in-Some.banks.now c.in-Some.ensures.cases.0 (WasAsked all) were)
+returns-clause-asked t c = λ blocks all were.
+    c.back_at.ensures.asked blocks all
+    (of-rest c.in-Some.bank.now c.in-Some.banks.now c.in-Some.ensures.cases.0 (WasAsked blocks all)
+    were)
 
 pub returns-clause-settled : goal.returns-clause-settled
 returns-clause-settled t c = λ settled.

@@ -1,7 +1,7 @@
 use Rattle.std.proofs.Common.{rules, subst, ◌∙◌, arith}
 use Rattle.std.specs.List.{All}
 use Rattle.std.proofs.lemmas.List.Elements.{All-cons}
-use Rattle.grid_run.specs.Backs.{AreWaiting}
+use Rattle.grid_run.specs.Backs.{AreWaiting, HasNumbers}
 use Rattle.grid_run.specs.Banks.{NothingWaitsIn, WasAsked}
 use Rattle.grid_run.proofs.BankLemmas.{all-behind, all-front, behind-seats, enough-queues}
 use Rattle.grid_run.proofs.BankLemmas.{near-seats, of-first, of-rest}
@@ -37,15 +37,21 @@ take_over_all-requires t c =
     )
 
 pub returns-clause-asked : goal.returns-clause-asked
-returns-clause-asked t c = λ served all waiting were.
+returns-clause-asked t c = λ blocks served all waiting numbered were.
     let bank = c.in-Some.bank.now in
     let rest = c.in-Some.banks.now in
     let is = c.in-Some.ensures.cases.0 in
     let near = c.split_at_mut-near.result.0.now in
     let behind = c.split_at_mut-near.result.1.now in
-    let both = subst (All (AreWaiting served all)) c.split_at_mut-near.ensures.value waiting in
-    All-cons (WasAsked all) c.take_over.new.self c.take_over_all.new.banks
-    (c.take_over.ensures.asked served all (all-front (AreWaiting served all) near behind both)
-    (of-first bank rest is (WasAsked served) were))
-    (c.take_over_all.ensures.asked served all (all-behind (AreWaiting served all) near behind both)
-    (of-rest bank rest is (WasAsked served) were))
+    let cut = c.split_at_mut-near.ensures.value in
+    let both = subst (All (AreWaiting served all)) cut waiting in
+    let have = subst (All (HasNumbers blocks)) cut numbered in
+    All-cons (WasAsked blocks all) c.take_over.new.self c.take_over_all.new.banks
+    (c.take_over.ensures.asked blocks served all
+    (all-front (AreWaiting served all) near behind both)
+    (all-front (HasNumbers blocks) near behind have)
+    (of-first bank rest is (WasAsked blocks served) were))
+    (c.take_over_all.ensures.asked blocks served all
+    (all-behind (AreWaiting served all) near behind both)
+    (all-behind (HasNumbers blocks) near behind have)
+    (of-rest bank rest is (WasAsked blocks served) were))

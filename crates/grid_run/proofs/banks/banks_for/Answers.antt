@@ -50,8 +50,9 @@ banks-preserved c =
           (ap (λ l. l ++ behind) cut.front ∙ ap (λ l. take n rest ++ l) cut.back
           ∙ take-append-drop n rest)
           ∙ c.banks.invariant.tasks;
-      asked = all-push (WasAsked no_requests) c.banks.banks.items c.add_to.new.list.items bank
-          joined c.banks.invariant.asked c.in_ok-new.ensures.asked;
+      asked = λ blocks. all-push (WasAsked blocks no_requests) c.banks.banks.items
+          c.add_to.new.list.items bank joined (c.banks.invariant.asked blocks)
+          (c.in_ok-new.ensures.asked blocks);
     }
 
 pub returns : goal.returns

@@ -1,4 +1,4 @@
-use Rattle.std.proofs.Common.{◌≡◌, ◌++◌, length, map}
+use Rattle.std.proofs.Common.{◌≡◌, ◌++◌, ℕ, List, length, map}
 use Rattle.std.specs.List.{All}
 use Rattle.grid_run.specs.Backs.{no_requests, task_of_shelf}
 use Rattle.grid_run.specs.Banks.{WasAsked, tasks_of_banks}
@@ -8,7 +8,7 @@ use Rattle.grid_run.proofs.banks.banks_for.Given as goal
 abbrev pub invariant-banks : goal.invariant-banks
 invariant-banks l = record {
   tasks : tasks_of_banks l.banks.items ++ map task_of_shelf l.rest ≡ map task_of_shelf l.shelves;
-  asked : All (WasAsked no_requests) l.banks.items;
+  asked : (blocks : List ℕ) → All (WasAsked blocks no_requests) l.banks.items;
 }
 
 -- each turn leaves fewer shelves

@@ -11,9 +11,10 @@ settle-requires c =
     record {
       room = (
         room.0,
-        still c.loop-bank.invariant refl (WasAsked room.0) c.loop-bank-test.true room.1
+        room.1,
+        still c.loop-bank.invariant refl (WasAsked room.0 room.1) c.loop-bank-test.true room.2
             c.bank-item.result,
-        room.2,
+        room.3,
       );
     }
 
@@ -34,7 +35,8 @@ returns c =
     let all = all-turned c.loop-bank.invariant (omega arith) in
     record {
       served = record {
-        asked = λ them were j d lt. (all.changed j d lt).asked them (were j d (all.inside j lt));
+        asked = λ blocks them were j d lt.
+            (all.changed j d lt).asked blocks them (were j d (all.inside j lt));
         settled = λ j d lt. (all.changed j d lt).settled;
       };
       tasks = all.told;

@@ -5,12 +5,12 @@ use Rattle.grid_run.proofs.beside.take_on.Goals as goal
 pub take_beside-requires-clause-far : goal.take_beside-requires-clause-far
 take_beside-requires-clause-far g c κs within =
     let room = c.requires.asked in
-    (room.0, front-asked _ _ c.split_at_mut-far.ensures.value room.0 room.1, room.2)
+    (room.0, room.1, front-asked _ _ c.split_at_mut-far.ensures.value room.0 room.1 room.2, room.3)
 
 pub take_beside-requires-clause-near : goal.take_beside-requires-clause-near
 take_beside-requires-clause-near g c κs within =
     let room = c.requires.asked in
-    (room.0, behind-asked _ _ c.split_at_mut-far.ensures.value room.0 room.1, room.2)
+    (room.0, room.1, behind-asked _ _ c.split_at_mut-far.ensures.value room.0 room.1 room.2, room.3)
 
 pub returns-clause-served : goal.returns-clause-served
 returns-clause-served g c =

@@ -61,20 +61,20 @@ settle_all-requires-clause-shaded c =
     c.serve_all.ensures.shading
 
 pub returns-clause-stands : goal.returns-clause-stands
-returns-clause-stands c = λ h e.
+returns-clause-stands c = λ blocks h number e.
     let x = c.args.access in
-    let stacked = c.in_ok-serve_stacked.ensures.answers h e.stacked in
+    let stacked = c.in_ok-serve_stacked.ensures.answers blocks h number e.stacked in
     let shades = c.in_ok-serve_shades.ensures.reached h e.shades in
     record {
-      stacked = c.in_ok-serve_stacked.ensures.stands h e.stacked;
+      stacked = c.in_ok-serve_stacked.ensures.stands blocks h number e.stacked;
       shades = c.settle_shades.ensures.stands h shades;
       singles = c.settle_all.ensures.stands h (c.in_ok-serve_all.ensures.reached h e.singles)
           stacked (c.settle_shades.ensures.hit h shades);
     }
 
 pub returns-clause-answers : goal.returns-clause-answers
-returns-clause-answers c = λ h e.
-    let stacked = c.in_ok-serve_stacked.ensures.answers h e.stacked in
+returns-clause-answers c = λ blocks h number e.
+    let stacked = c.in_ok-serve_stacked.ensures.answers blocks h number e.stacked in
     record {
       stacked = stacked;
       singles = c.settle_all.ensures.answers h (c.in_ok-serve_all.ensures.reached h e.singles)

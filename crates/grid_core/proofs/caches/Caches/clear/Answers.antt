@@ -29,8 +29,8 @@ clear_all-requires-clause-step c =
     (step.0, step.1.singles, step.2)
 
 pub returns-clause-stands : goal.returns-clause-stands
-returns-clause-stands c = λ h e listed. record {
-  stacked = c.flush_stacked.ensures.stands h e.stacked;
+returns-clause-stands c = λ blocks h e listed. record {
+  stacked = c.flush_stacked.ensures.stands blocks h e.stacked;
   shades = c.clear_shades.ensures.stands h e.shades;
   singles = c.clear_all.ensures.stands h e.singles listed;
 }

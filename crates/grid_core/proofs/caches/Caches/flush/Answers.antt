@@ -21,7 +21,7 @@ lists_of-requires c = λ k d lt.
     (c.requires.seats k d lt))
 
 pub returns-clause-lists : goal.returns-clause-lists
-returns-clause-lists c = λ h e.
+returns-clause-lists c = λ blocks h e.
     let old = c.args.self.now in
     let seats = c.args.seats.now.items in
     let rs = together_rules old in
@@ -29,11 +29,11 @@ returns-clause-lists c = λ h e.
     c.in_ok-lists.ensures
     ∙ ap (λ (l : List (List ℕ)). map (λ (s : Seat).
     list_placed l (map items_of c.in_ok-apart.apart.items) s.cell) seats)
-    (c.in_ok-together.ensures.lists h e.stacked)
+    (c.in_ok-together.ensures.lists blocks h e.stacked)
     ∙ ap (λ (l : List (List ℕ)). map (λ (s : Seat).
     list_placed (map (written_by h) rs) l s.cell) seats) (c.in_ok-apart.ensures.lists h e.singles)
     ∙ written-all h rs ss seats c.requires.seats
 
 pub returns-clause-stands : goal.returns-clause-stands
-returns-clause-stands c = λ h e.
-    c.clear.ensures.stands h e (c.in_ok-apart.ensures.lists h e.singles)
+returns-clause-stands c = λ blocks h e.
+    c.clear.ensures.stands blocks h e (c.in_ok-apart.ensures.lists h e.singles)

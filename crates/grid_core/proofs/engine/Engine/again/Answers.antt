@@ -4,7 +4,7 @@ use Rattle.cache_core.specs.Parts.{outcome_of}
 use Rattle.cache_core.specs.Standing.{rules_from}
 use Rattle.grid_core.specs.Engines.{rules_in}
 use Rattle.grid_core.specs.Written.{SendsNothing}
-use Rattle.grid_core.proofs.Kept.{seated-same}
+use Rattle.grid_core.proofs.Kept.{seated-same, sized-same}
 use Rattle.grid_core.proofs.Silence.{at-rules}
 use Rattle.grid_core.proofs.engine.Engine.again.Goals as goal
 
@@ -14,6 +14,7 @@ invariant_of-self-2 c =
     record {
       seated = seated-same old.policy c.again.new.self old.caches c.again.ensures.rules
           old.seats.items old.seated;
+      sized = sized-same _ c.again.new.self old.caches c.again.ensures.rules old.sized;
       step = λ works. c.if-not-again.ensures.step refl old.served (old.step works);
     }
 

@@ -1,17 +1,15 @@
 use Rattle.std.proofs.Common.{◌≡◌, ℕ, suc, drop, Some, true, eqb, length}
-use Rattle.std.proofs.Common.{◌||◌, is_some, unwrap_or, List}
+use Rattle.std.proofs.Common.{is_some, unwrap_or, List}
 use Rattle.std.proofs.Common.{refl, sym, ap, ◌∙◌, arith}
 use Rattle.cache_core.proofs.Reuse.{has}
 use Rattle.marked_list.specs.Recency.{level_of, brought_front}
 use Rattle.marked_list.specs.Marked.{marked_sizes, order_of}
-use Rattle.grid_core.specs.Numbered.{blocks_in}
 use Rattle.grid_core.specs.Numbers.{number_at}
-use Rattle.grid_core.specs.Shadows.{is_known_by, is_used, number_by, numbered, shadow_sizes}
+use Rattle.grid_core.specs.Shadows.{is_known, is_used, number_by, shadow_sizes}
 use Rattle.grid_core.specs.Totals.{total}
 use Rattle.grid_core.proofs.Numbering.{tells, level-map, front-map, known-front}
 use Rattle.grid_core.proofs.Numbers.{number-apart, number-low}
-use Rattle.grid_core.proofs.Renumbered.{low-after, low-same, order-same, used-after, used-same}
-use Rattle.grid_core.proofs.Renumbered.{used-some}
+use Rattle.grid_core.proofs.Renumbered.{low-after, used-after, used-some}
 use Rattle.grid_core.proofs.Totals.{level-le, total-set, total-behind}
 use Rattle.grid_core.proofs.shadows.Shadows.touch.Goals as goal
 
@@ -28,7 +26,7 @@ pub count_at-requires-clause-inside : goal.count_at-requires-clause-inside
 count_at-requires-clause-inside c =
     let s = c.args.self.now in
     let is = c.in_ok-level.ensures.level in
-    let le = level-le (marked_sizes s.order) (order_of s.order) c.in_ok-number.number in
+    let le = level-le (marked_sizes s.order) (order_of s.order) c.args.number in
     let long = s.leveled in
     omega arith
 
@@ -36,14 +34,14 @@ pub returns-clause-low : goal.returns-clause-low
 returns-clause-low c =
     let s = c.args.self.now in
     let is = c.in_ok-level.ensures.level in
-    let le = level-le (marked_sizes s.order) (order_of s.order) c.in_ok-number.number in
+    let le = level-le (marked_sizes s.order) (order_of s.order) c.args.number in
     omega arith
 
 pub returns-clause-levels : goal.returns-clause-levels
 returns-clause-levels c =
     let s = c.args.self.now in
     let is = c.in_ok-level.ensures.level in
-    let le = level-le (marked_sizes s.order) (order_of s.order) c.in_ok-number.number in
+    let le = level-le (marked_sizes s.order) (order_of s.order) c.args.number in
     let long = s.leveled in
     ap total c.count_at.ensures
     ∙ total-set c.args.access s.levels.items c.in_ok-level.level (omega arith)
@@ -52,67 +50,48 @@ pub returns-clause-far : goal.returns-clause-far
 returns-clause-far c = λ k.
     let s = c.args.self.now in
     let is = c.in_ok-level.ensures.level in
-    let le = level-le (marked_sizes s.order) (order_of s.order) c.in_ok-number.number in
+    let le = level-le (marked_sizes s.order) (order_of s.order) c.args.number in
     let long = s.leveled in
     ap (λ l. total (drop (suc k) l)) c.count_at.ensures
     ∙ total-behind c.args.access s.levels.items c.in_ok-level.level k (omega arith)
 
 pub returns-clause-known : goal.returns-clause-known
-returns-clause-known c = λ low.
-    let s = c.args.self.now in
-    c.knows-known.ensures
-    ∙ sym (ap (is_used s.order) c.in_ok-number.ensures.number)
-    ∙ used-same s.order (numbered s) _ c.number.ensures.grows low c.args.block
+returns-clause-known c = λ blocks is.
+    c.knows-known.ensures ∙ sym (ap (is_used c.args.self.now.order) is)
 
 pub returns-clause-level : goal.returns-clause-level
-returns-clause-level c = λ ys held low.
+returns-clause-level c = λ blocks ys is held.
     let s = c.args.self.now in
     let b = c.args.block in
-    let n = c.in_ok-number.number in
-    let blocks = blocks_in c.number.new.self in
-    let on = c.number.ensures.grows in
+    let n = c.args.number in
     let some = λ (y : ℕ) (h : has ys y ≡ true). used-some s.order (number_at blocks y)
-    (used-same s.order (numbered s) blocks on low y ∙ held.known y h) in
+    (held.known y h) in
     c.in_ok-level.ensures.level
-    ∙ ap (λ l. level_of (shadow_sizes s) l n)
-    (held.order ∙ order-same s.order (numbered s) blocks on low ys held.known)
-    ∙ level-map (number_by blocks) n b (shadow_sizes s) ys
-    (number-tells blocks b n ys c.in_ok-number.ensures.number some)
+    ∙ ap (λ l. level_of (shadow_sizes s) l n) held.order
+    ∙ level-map (number_by blocks) n b (shadow_sizes s) ys (number-tells blocks b n ys is some)
 
 pub returns-clause-order : goal.returns-clause-order
-returns-clause-order c = λ ys held low.
+returns-clause-order c = λ blocks ys is held.
     let s = c.args.self.now in
     let b = c.args.block in
-    let n = c.in_ok-number.number in
-    let blocks = blocks_in c.number.new.self in
-    let on = c.number.ensures.grows in
-    let is = c.in_ok-number.ensures.number in
+    let n = c.args.number in
     let some = λ (y : ℕ) (h : has ys y ≡ true). used-some s.order (number_at blocks y)
-    (used-same s.order (numbered s) blocks on low y ∙ held.known y h) in
+    (held.known y h) in
     record {
       order = c.in_ok-level.ensures.order
-          ∙ ap (brought_front n)
-          (held.order ∙ order-same s.order (numbered s) blocks on low ys held.known)
+          ∙ ap (brought_front n) held.order
           ∙ front-map (number_by blocks) n b (number_by blocks) (ap (λ o. unwrap_or o 0) is)
           (λ y e. refl) ys (number-tells blocks b n ys is some);
       known = λ y h. used-after s.order _ blocks b n is c.in_ok-level.ensures.used y
-          ∙ known-front (is_known_by blocks s) b ys
-          (λ z inside. used-same s.order (numbered s) blocks on low z ∙ held.known z inside) y h;
+          ∙ known-front (is_known blocks s) b ys held.known y h;
     }
 
 pub returns-clause-adds : goal.returns-clause-adds
-returns-clause-adds c = λ low q.
-    let s = c.args.self.now in
-    let b = c.args.block in
-    let blocks = blocks_in c.number.new.self in
-    used-after s.order _ blocks b c.in_ok-number.number c.in_ok-number.ensures.number
+returns-clause-adds c = λ blocks is q.
+    used-after c.args.self.now.order _ blocks c.args.block c.args.number is
     c.in_ok-level.ensures.used q
-    ∙ ap (λ t. eqb b q || t) (used-same s.order (numbered s) blocks c.number.ensures.grows low q)
 
 pub returns-clause-numbers : goal.returns-clause-numbers
-returns-clause-numbers c = λ low.
-    let s = c.args.self.now in
-    let blocks = blocks_in c.number.new.self in
-    low-after s.order _ blocks c.args.block c.in_ok-number.number c.in_ok-number.ensures.number
-    c.in_ok-level.ensures.used
-    (low-same s.order (numbered s) blocks c.number.ensures.grows low)
+returns-clause-numbers c = λ blocks is low.
+    low-after c.args.self.now.order _ blocks c.args.block c.args.number is
+    c.in_ok-level.ensures.used low

@@ -38,15 +38,15 @@ invariant_of-self c =
 
 pub returns-clause-stands : goal.returns-clause-stands
 unfolding stacked_served
-returns-clause-stands c = λ h e.
+returns-clause-stands c = λ blocks h e.
     let old = c.args.self.now in
     record {
       served = (let n = e.served in omega arith);
       alike = alike-flush old.geometry h old.alike _ e.alike refl refl refl;
-      state = after-flush old.geometry h old.stacks.items c.clear_rows.new.stacks.items old.shadows
-          c.clear.new.self old.shapes.items e.state (c.clear_rows.ensures.stands h)
+      state = after-flush old.geometry h blocks old.stacks.items c.clear_rows.new.stacks.items
+          old.shadows c.clear.new.self old.shapes.items e.state (c.clear_rows.ensures.stands h)
           (c.clear_rows.ensures.counted (shadow_sizes old.shadows) h e.state.counted)
-          c.clear.ensures.order c.clear.ensures.known
-          (c.clear.ensures.numbers e.state.numbered) c.clear.ensures.recent
+          (c.clear.ensures.order blocks) (c.clear.ensures.known blocks)
+          (c.clear.ensures.numbers blocks e.state.numbered) c.clear.ensures.recent
           c.clear.ensures.levels c.clear.ensures.sizes;
     }

@@ -46,17 +46,17 @@ invariant_of-result c =
 
 pub returns-clause-stands : goal.returns-clause-stands
 unfolding stacked_served
-returns-clause-stands c =
+returns-clause-stands c = λ blocks.
     let shadows = c.in_ok-shadows.shadows in
     let sizes = c.deref-2.result.now in
     record {
       served = refl;
       alike = alike-start c.args.first _ (ap (λ a. a.fetches) c.none_alike.ensures)
           (ap (λ a. a.firsts) c.none_alike.ensures) (ap (λ a. a.flushes) c.none_alike.ensures);
-      state = after-start c.args.first c.in_ok-parts.parts.stacks.items shadows
+      state = after-start blocks c.args.first c.in_ok-parts.parts.stacks.items shadows
           c.in_ok-parts.parts.shapes.items (length sizes + 1) c.in_ok-parts.ensures.empty
-          c.in_ok-shadows.ensures.order c.in_ok-shadows.ensures.known
-          c.in_ok-shadows.ensures.numbers
+          (c.in_ok-shadows.ensures.order blocks) (c.in_ok-shadows.ensures.known blocks)
+          (c.in_ok-shadows.ensures.numbers blocks)
           c.in_ok-shadows.ensures.recent c.in_ok-shadows.ensures.far;
     }
 

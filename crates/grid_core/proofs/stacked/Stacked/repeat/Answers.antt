@@ -43,28 +43,28 @@ invariant_of-self c =
 
 pub returns-clause-stands : goal.returns-clause-stands
 unfolding stacked_served
-returns-clause-stands c = λ h e.
+returns-clause-stands c = λ blocks h e.
     let old = c.args.self.now in
     let block = c.args.access.addr / bsize_of old.geometry in
-    let last = last-of old.geometry h old.stacks.items old.shadows old.shapes.items block
+    let last = last-of blocks old.geometry h old.stacks.items old.shadows old.shapes.items block
     (is_write c.args.access) e.state c.requires.again in
     record {
       served = (let n = e.served in omega arith);
       alike = alike-again old.geometry h c.args.access old.alike _ e.alike
           (known-last old.geometry h block last) c.count.ensures refl refl;
-      state = after-again old.geometry h c.args.access (shadow_sizes old.shadows)
+      state = after-again blocks old.geometry h c.args.access (shadow_sizes old.shadows)
           old.stacks.items old.shadows old.shapes.items old.one_size old.ranked
           c.requires.again e.state;
     }
 
 pub returns-clause-answers : goal.returns-clause-answers
-returns-clause-answers c = λ h e.
+returns-clause-answers c = λ blocks h e.
     let old = c.args.self.now in
     let x = c.args.access in
     let g = old.geometry in
     let shapes = old.shapes.items in
-    let last = last-of g h old.stacks.items old.shadows shapes (x.addr / bsize_of g) (is_write x)
-    e.state c.requires.again in
+    let last = last-of blocks g h old.stacks.items old.shadows shapes (x.addr / bsize_of g)
+    (is_write x) e.state c.requires.again in
     record {
       write = c.writes-self.ensures;
       again = λ _. all-again g h x (shadow_sizes old.shadows) old.stacks.items shapes last

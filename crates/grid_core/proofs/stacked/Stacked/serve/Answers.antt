@@ -1,5 +1,5 @@
 use Rattle.std.proofs.Common.{◌≡◌, true, ◌/◌, ◌||◌, ◌==◌, ℕ, not, List, ◌∷◌}
-use Rattle.std.proofs.Common.{length, get_or, refl, ap, subst, ◌∙◌, arith}
+use Rattle.std.proofs.Common.{Some, length, get_or, refl, ap, subst, ◌∙◌, arith}
 use Rattle.std.proofs.lemmas.Bool.{false≢true}
 use Rattle.std.proofs.Math.Logic.{∥∥₁_map}
 use Rattle.cache_core.specs.History.{is_write, access as accessed}
@@ -8,6 +8,7 @@ use Rattle.cache_core.specs.Kinds.{shadow_of}
 use Rattle.cache_core.specs.Residents.{distinct, renewals}
 use Rattle.cache_core.proofs.CacheFacts.{IsWithin-with_one}
 use Rattle.marked_list.specs.Recency.{level_of, brought_front}
+use Rattle.grid_core.specs.Numbers.{number_at}
 use Rattle.grid_core.specs.Recent.{after_use}
 use Rattle.grid_core.specs.Shadows.{HoldsOrder, is_known, levels_in, recent_in}
 use Rattle.grid_core.specs.Shadows.{shadow_sizes}
@@ -84,7 +85,7 @@ invariant_of-self-2 c =
 
 pub returns-clause-stands : goal.returns-clause-stands
 unfolding stacked_served
-returns-clause-stands c = λ h e.
+returns-clause-stands c = λ blocks h is e.
     let old = c.args.self.now in
     let x = c.args.access in
     let g = old.geometry in
@@ -92,19 +93,20 @@ returns-clause-stands c = λ h e.
     let stacks = old.stacks.items in
     let block = c.requires.block in
     let st = e.state in
-    let low = st.numbered in
-    let known = c.in-Ok.ensures.known low ∙ ap (is_known old.shadows) block in
-    let level : (zs : List ℕ) → HoldsOrder old.shadows zs
+    let number : number_at blocks c.args.block ≡ Some c.args.number =
+    ap (number_at blocks) block ∙ is in
+    let known = c.in-Ok.ensures.known blocks number ∙ ap (is_known blocks old.shadows) block in
+    let level : (zs : List ℕ) → HoldsOrder blocks old.shadows zs
     → c.in-Ok.prior.level ≡ level_of sizes zs (x.addr / bsize_of g) =
-    λ zs held. c.in-Ok.ensures.level zs held low ∙ ap (level_of sizes zs) block in
+    λ zs held. c.in-Ok.ensures.level blocks zs number held ∙ ap (level_of sizes zs) block in
     let ys = distinct (renewals (shadow_of (base_rules g)) h) in
     record {
       served = (let n = e.served in omega arith);
       alike = alike-access g h x old.alike _ c.in-Ok.prior.known e.alike
           (known ∙ st.known (x.addr / bsize_of g)) c.count.ensures c.count-2.ensures refl;
-      state = after-access g h x stacks c.serve_rows.new.stacks.items old.shadows
+      state = after-access g h x blocks stacks c.serve_rows.new.stacks.items old.shadows
           c.touch.new.self old.shapes.items c.in-Ok.prior st
-          (shapes-prior g h x sizes (rising-is sizes old.rises) stacks old.shadows
+          (shapes-prior g h x blocks sizes (rising-is sizes old.rises) stacks old.shadows
           old.shapes.items c.in-Ok.prior st known level old.shapes.items old.ranked)
           (c.serve_rows.ensures.stands (bsize_of g) h old.one_size st.rows)
           (c.serve_rows.ensures.counted (bsize_of g) sizes h old.one_size st.rows
@@ -112,29 +114,32 @@ returns-clause-stands c = λ h e.
           (stacked (get_or stacks k d))
           (size-at (bsize_of g) stacks old.one_size k d lt) c.in-Ok.prior.level
           (level ys st.order)) st.counted)
-          (λ zs held. subst (λ b. HoldsOrder c.touch.new.self (brought_front b zs)) block
-          (c.in-Ok.ensures.order zs held low))
-          (λ q. c.in-Ok.ensures.adds low q ∙ ap (λ b. b == q || is_known old.shadows q) block)
-          (c.in-Ok.ensures.numbers low)
+          (λ zs held. subst (λ b. HoldsOrder blocks c.touch.new.self (brought_front b zs)) block
+          (c.in-Ok.ensures.order blocks zs number held))
+          (λ q. c.in-Ok.ensures.adds blocks number q
+          ∙ ap (λ b. b == q || is_known blocks old.shadows q) block)
+          (c.in-Ok.ensures.numbers blocks number st.numbered)
           (c.in-Ok.ensures.recent
           ∙ ap (λ d. after_use d (is_write x) (recent_in old.shadows)) block)
           c.in-Ok.ensures.far c.in-Ok.ensures.sizes;
     }
 
 pub returns-clause-answers : goal.returns-clause-answers
-returns-clause-answers c = λ h e.
+returns-clause-answers c = λ blocks h is e.
     let old = c.args.self.now in
     let x = c.args.access in
     let g = old.geometry in
     let sizes = shadow_sizes old.shadows in
     let block = c.requires.block in
+    let number : number_at blocks c.args.block ≡ Some c.args.number =
+    ap (number_at blocks) block ∙ is in
     record {
       write = c.writes-self.ensures;
       again = λ e. absurd (false≢true e);
       moved = λ _. c.serve_rows.ensures.moved (bsize_of g) h old.one_size e.state.rows;
-      prior = shapes-prior g h x sizes (rising-is sizes old.rises) old.stacks.items
+      prior = shapes-prior g h x blocks sizes (rising-is sizes old.rises) old.stacks.items
           old.shadows old.shapes.items c.in-Ok.prior e.state
-          (c.in-Ok.ensures.known e.state.numbered ∙ ap (is_known old.shadows) block)
-          (λ zs held. c.in-Ok.ensures.level zs held e.state.numbered ∙ ap (level_of sizes zs) block)
+          (c.in-Ok.ensures.known blocks number ∙ ap (is_known blocks old.shadows) block)
+          (λ zs held. c.in-Ok.ensures.level blocks zs number held ∙ ap (level_of sizes zs) block)
           old.shapes.items old.ranked;
     }

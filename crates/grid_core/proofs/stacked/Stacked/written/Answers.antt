@@ -5,7 +5,7 @@ use Rattle.grid_core.proofs.stacked.Stacked.written.Goals as goal
 
 pub returns-clause-lists : goal.returns-clause-lists
 unfolding stacked_rules
-returns-clause-lists c = λ h e. c.in_ok-lists.ensures.lists h e.state.rows
+returns-clause-lists c = λ blocks h e. c.in_ok-lists.ensures.lists h e.state.rows
     ∙ written-shapes h c.args.self.now.shapes.items
 
 pub returns-clause-len : goal.returns-clause-len

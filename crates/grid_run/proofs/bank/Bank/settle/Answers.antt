@@ -1,7 +1,6 @@
 use Rattle.std.proofs.Common.{sym, subst}
 use Rattle.std.specs.List.{All}
 use Rattle.std.proofs.lemmas.Result.{on_ok_weaker}
-use Rattle.grid_core.specs.Numbered.{blocks_in}
 use Rattle.grid_run.specs.Backs.{NothingWaits, WereAsked, back_task}
 use Rattle.grid_run.specs.Banks.{bank_task}
 use Rattle.grid_run.proofs.Slices.{on-items, told-items}
@@ -13,9 +12,9 @@ settle_backs-requires c =
     record {
       room = (
         room.0,
-        subst (All (WereAsked (blocks_in c.args.self.now.numbers) room.0))
-            (sym c.deref_mut.ensures.value) room.1.each,
-        room.2,
+        room.1,
+        subst (All (WereAsked room.0 room.1)) (sym c.deref_mut.ensures.value) room.2.each,
+        room.3,
       );
     }
 
@@ -23,11 +22,10 @@ pub returns-clause-asked : goal.returns-clause-asked
 returns-clause-asked c =
     let b = c.args.self.now in
     let done = c.settle_backs.ensures in
-    on_ok_weaker c.settle_backs.result (λ asked all were. record {
+    on_ok_weaker c.settle_backs.result (λ asked blocks all were. record {
       each = on-items back_task b.backs.items c.deref_mut.result.now c.settle_backs.new.backs
-          b.backs.len (λ old new. All (WereAsked (blocks_in b.numbers) all) old
-          → All (WereAsked (blocks_in c.settle_backs.new.numbers) all) new)
-          b.backs.ok.0 c.deref_mut.ensures.value done.tasks (asked all) were.each;
+          b.backs.len (λ old new. All (WereAsked blocks all) old → All (WereAsked blocks all) new)
+          b.backs.ok.0 c.deref_mut.ensures.value done.tasks (asked blocks all) were.each;
     }) done.asked
 
 pub returns-clause-settled : goal.returns-clause-settled

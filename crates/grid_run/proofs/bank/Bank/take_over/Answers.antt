@@ -1,7 +1,7 @@
 use Rattle.std.proofs.Common.{◌≡◌, ℕ, ◌<◌, List, length, map, ap, sym, subst, ◌∙◌, arith, get_or}
 use Rattle.std.proofs.lemmas.List.{get_or-map, length-map}
 use Rattle.grid_core.proofs.ListLoops.{all_changed, changed_more, next}
-use Rattle.grid_run.specs.Backs.{AreWaiting, back_seats, queue_seats, seats_of_task}
+use Rattle.grid_run.specs.Backs.{AreWaiting, HasNumbers, back_seats, queue_seats, seats_of_task}
 use Rattle.grid_run.specs.Banks.{bank_task}
 use Rattle.grid_run.specs.declared.back.Back.{Back}
 use Rattle.grid_run.specs.declared.bank.Bank.{Bank}
@@ -54,17 +54,20 @@ loop-index-preserved c =
           (queue-inside c.loop-index.queues bank k inside (now.queues.told ∙ c.requires.seats))
           c.take_over.ensures.seats c.take_over.ensures.none;
       backs = changed_more now.backs b x (omega arith) c.take_over.ensures.task tt;
-      asked = λ served all waiting.
-          let here = subst (AreWaiting served all) (sym (now.queues.left k q (omega arith)))
-          (waiting k q (queue-inside c.args.queues.now bank k inside c.requires.seats)) in
-          changed_more (now.asked served all waiting) b x (omega arith) c.take_over.ensures.task
-          (record { asked = λ blocks were. c.take_over.ensures.asked blocks served all here were });
+      asked = λ blocks served all waiting numbered.
+          let there = queue-inside c.args.queues.now bank k inside c.requires.seats in
+          let left = sym (now.queues.left k q (omega arith)) in
+          let here = subst (AreWaiting served all) left (waiting k q there) in
+          let has = subst (HasNumbers blocks) left (numbered k q there) in
+          changed_more (now.asked blocks served all waiting numbered) b x (omega arith)
+          c.take_over.ensures.task
+          (record { asked = c.take_over.ensures.asked blocks served all here has });
     }
 
 pub returns-clause-asked : goal.returns-clause-asked
-returns-clause-asked c = λ served all waiting were.
-    let done = all_changed (c.loop-index.invariant.asked served all waiting)
+returns-clause-asked c = λ blocks served all waiting numbered were.
+    let done = all_changed (c.loop-index.invariant.asked blocks served all waiting numbered)
     c.deref_mut-back-items.ensures.value c.args.self.now.backs.ok.0 (omega arith) in
     record {
-      each = λ k d lt. (done.changed k d lt).asked _ (were.each k d (done.inside k lt));
+      each = λ k d lt. (done.changed k d lt).asked (were.each k d (done.inside k lt));
     }

@@ -1,7 +1,8 @@
-use Rattle.std.specs.Prelude.{⊤}
+use Rattle.std.specs.Prelude.{⊤, ℕ, List}
 use Rattle.std.specs.List.{All}
 use Rattle.grid_core.proofs.ListLoops.{HasChanged}
-use Rattle.grid_run.specs.Backs.{AreWaiting, HasNone, RequestsFor, back_task, queue_seats}
+use Rattle.grid_run.specs.Backs.{AreWaiting, HasNone, HasNumbers, RequestsFor, back_task}
+use Rattle.grid_run.specs.Backs.{queue_seats}
 use Rattle.grid_run.specs.declared.back.Back.{Back}
 use Rattle.grid_run.specs.declared.queue.Queue.{Queue}
 use Rattle.grid_run.proofs.LoopTurns.{TakesOver}
@@ -13,6 +14,7 @@ invariant-loop-index l = record {
   queues : HasChanged (λ (old new : Queue). HasNone new) queue_seats l.initial.queues l.index
       l.queues;
   backs : HasChanged (λ (old new : Back). ⊤) back_task l.initial.back-items l.index l.back-items;
-  asked : (served all : RequestsFor) → All (AreWaiting served all) l.initial.queues →
-      HasChanged (TakesOver served all) back_task l.initial.back-items l.index l.back-items;
+  asked : (blocks : List ℕ) (served all : RequestsFor) →
+      All (AreWaiting served all) l.initial.queues → All (HasNumbers blocks) l.initial.queues →
+      HasChanged (TakesOver blocks served all) back_task l.initial.back-items l.index l.back-items;
 }

@@ -6,7 +6,7 @@ use Rattle.cache_core.specs.History.{Rules}
 use Rattle.cache_core.specs.Standing.{rules_from}
 use Rattle.cache_core.specs.declared.geometry.Geometry.{Geometry}
 use Rattle.cache_core.specs.declared.policy.Policy.{Policy}
-use Rattle.grid_run.specs.Families.{rules_in}
+use Rattle.grid_run.specs.Families.{bsize_on, rules_in}
 use Rattle.grid_run.proofs.family.Family.new.Goals as goal
 
 pub new-requires : goal.new-requires
@@ -31,4 +31,12 @@ invariant_of-result c =
           (sym c.in_ok-engine.ensures.rules)
           (All-map (λ (r : Rules). r.bsize ≡ bsize_of c.first-first.result)
           (λ g. rules_from g c.policy.result) c.geometries.result.now alike);
+      sized = c.in_ok-engine.ensures.bsize;
     }
+
+pub returns-clause-stands : goal.returns-clause-stands
+returns-clause-stands c = λ blocks. record { engine = c.in_ok-engine.ensures.stands blocks }
+
+pub returns-clause-bsize : goal.returns-clause-bsize
+unfolding bsize_on
+returns-clause-bsize c = ap bsize_of c.first-first.ensures

@@ -2,6 +2,7 @@ use Rattle.std.proofs.Common.{map, ap, sym, subst, ◌∙◌}
 use Rattle.grid_run.specs.Backs.{seats_of_task}
 use Rattle.grid_run.specs.Backs.{task_of_shelf}
 use Rattle.grid_run.specs.FirstLevels.{AreSeated, first_of_plan, first_task}
+use Rattle.grid_run.specs.Numbering.{what_of}
 use Rattle.grid_run.specs.Seats.{rules_on}
 use Rattle.grid_run.specs.declared.plan.BackShelf.{BackShelf}
 use Rattle.grid_run.proofs.Placed.{same-first}
@@ -21,10 +22,13 @@ returns c =
         seated = subst AreSeated (sym same) c.requires.seated;
         offered = c.new.ensures.none;
         served = record {
-          i = c.in_ok-fronts_for.ensures.stands;
-          d = c.in_ok-fronts_for-2.ensures.stands;
-          queues = λ k q lt. record { all = sym (c.in_ok-queues_for.ensures.none k q lt).none };
+          i = c.in_ok-fronts_for.ensures.stands _;
+          d = c.in_ok-fronts_for-2.ensures.stands _;
+          queues = λ k q lt. record {
+            all = sym (ap (map what_of) (c.in_ok-queues_for.ensures.none k q lt).none);
+          };
         };
       };
+      none = c.in_ok-queues_for.ensures.none;
       task = same;
     }

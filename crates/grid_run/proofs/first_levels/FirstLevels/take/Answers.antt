@@ -13,6 +13,7 @@ use Rattle.stage_core.proofs.Place.{flat_map_with_past-more}
 use Rattle.grid_run.specs.FirstLevels.{AreSeated, HasServed, first_task}
 use Rattle.grid_run.proofs.Events.{few-option}
 use Rattle.grid_run.proofs.Placed.{served-by-same}
+use Rattle.grid_run.proofs.StayNumbered.{queues-on}
 use Rattle.grid_run.proofs.first_levels.FirstLevels.take.Goals as goal
 
 pub offer-picked-requires : goal.offer-picked-requires
@@ -97,3 +98,8 @@ returns-clause-given c =
           (second given (es ++ event) (c.in_ok-take_some.ensures.served given es picking)));
     })
     c.take_some-2.ensures.served
+
+pub returns-clause-numbers : goal.returns-clause-numbers
+returns-clause-numbers c =
+    on_ok_weaker c.take_some-2.result (queues-on c.in_ok-take_some.ensures.numbers)
+    c.take_some-2.ensures.numbers

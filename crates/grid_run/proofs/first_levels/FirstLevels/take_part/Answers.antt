@@ -3,12 +3,14 @@ use Rattle.std.proofs.Common.{append_assoc, append-nil, length-append, length-ta
 use Rattle.std.proofs.lemmas.List.{take_all, take_more}
 use Rattle.din_trace.specs.declared.record.DinRecord.{DinRecord}
 use Rattle.grid_run.specs.FirstLevels.{WasGiven}
+use Rattle.grid_run.proofs.StayNumbered.{queues-on, queues-same}
 use Rattle.grid_run.proofs.first_levels.FirstLevels.take_part.Goals as goal
 
 pub loop-next-init : goal.loop-next-init
 loop-next-init c = record {
   given = λ served past was. subst (λ (l : List DinRecord). WasGiven served l c.args.self.now)
       (sym (append-nil past)) was;
+  numbers = queues-same _ _;
   task = refl;
 }
 
@@ -44,6 +46,7 @@ loop-next-preserved c =
           (append_assoc past (take k xs) _
           ∙ ap (λ l. past ++ l) (sym (take_more xs k _ c.loop-next-test.true)))
           done;
+      numbers = queues-on c.loop-next.invariant.numbers c.in_ok-take.ensures.numbers;
       task = c.take.ensures.task ∙ c.loop-next.invariant.task;
     }
 

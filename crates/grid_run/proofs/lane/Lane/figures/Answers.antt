@@ -13,7 +13,7 @@ use Rattle.stage_core.specs.declared.selection.Selection.{Selection}
 use Rattle.grid_core.specs.FullyAssociative.{shadow_misses}
 use Rattle.grid_run.specs.Backs.{BackTask, WereAsked, back_task, sent_behind}
 use Rattle.grid_run.specs.Banks.{NothingWaitsIn, WasAsked, tasks_of_banks}
-use Rattle.grid_run.specs.FirstLevels.{HasServed, first_task, sent_by}
+use Rattle.grid_run.specs.FirstLevels.{HasServed, first_task, numbered_by, sent_by}
 use Rattle.grid_run.specs.Fronts.{FrontAt, front_rules}
 use Rattle.grid_run.specs.Lanes.{lane_task}
 use Rattle.grid_run.specs.Families.{FamilyStandsBy}
@@ -88,6 +88,7 @@ returns c = λ rules chosen past place taken.
     ap (λ (s : Selection). events s past) place.selection in
     let es : List DinRecord = events chosen past in
     let f = l.first in
+    let blocks = numbered_by f in
     let given = sent_by (first_task f) past in
     let served = subst (λ (rs : List DinRecord). HasServed given rs f) sel
     taken.lane.given.served in
@@ -95,19 +96,19 @@ returns c = λ rules chosen past place taken.
     let on-d = seat-there place.d in
     let h-i = history side.I es in
     let h-d = history side.D es in
-    let st-i = at-seat f.i.items p.i fi c.index.ensures on-i (FrontAt h-i) served.i in
-    let st-d = at-seat f.d.items p.d fd c.index-2.ensures on-d (FrontAt h-d) served.d in
+    let st-i = at-seat f.i.items p.i fi c.index.ensures on-i (FrontAt blocks h-i) served.i in
+    let st-d = at-seat f.d.items p.d fd c.index-2.ensures on-d (FrontAt blocks h-d) served.d in
     let are = c.deref.ensures.value in
     let at = told-there c.deref.result.now l.banks.items are b p.u.family
     c.back_at.ensures.task in
     let there = back-there l rules chosen p place b at in
-    let were = c.back_at.ensures.asked _
-    (subst (All (WasAsked _)) (sym are) taken.lane.asked) in
-    let asked = subst (λ (rs : List DinRecord). WereAsked were.0
-    (sent_behind (map front_rules f.i.items) (map front_rules f.d.items) rs) b) sel were.1 in
+    let were = c.back_at.ensures.asked blocks _
+    (subst (All (WasAsked blocks _)) (sym are) taken.lane.asked) in
+    let asked = subst (λ (rs : List DinRecord). WereAsked blocks
+    (sent_behind (map front_rules f.i.items) (map front_rules f.d.items) rs) b) sel were in
     let settled = c.back_at.ensures.settled
     (subst (All NothingWaitsIn) (sym are) taken.idle) in
-    let st-u = subst (λ (ws : List What). FamilyStandsBy were.0 b.second.family
+    let st-u = subst (λ (ws : List What). FamilyStandsBy blocks b.second.family
     (second_history ws))
     (requests-there l rules chosen p place b at es)
     (settled-served _ b.second _ asked.second settled) in

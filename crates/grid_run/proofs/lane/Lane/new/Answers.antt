@@ -5,6 +5,7 @@ use Rattle.grid_run.specs.FirstLevels.{FirstTask, first_of_plan, first_task}
 use Rattle.grid_run.specs.Lanes.{lane_task, task_of_plan}
 use Rattle.grid_run.proofs.Given.{seated, taken-all}
 use Rattle.grid_run.proofs.Placed.{matched, same-lane}
+use Rattle.grid_run.proofs.StayNumbered.{none-numbered}
 use Rattle.grid_run.proofs.lane.Lane.new.Goals as goal
 
 pub new-requires : goal.new-requires
@@ -26,7 +27,8 @@ returns c =
     record {
       taken = taken-all (record {
         given = c.in_ok-new.ensures.given;
-        asked = c.in_ok-banks_for.ensures.asked;
+        numbered = none-numbered _ f.queues.items c.in_ok-new.ensures.none;
+        asked = c.in_ok-banks_for.ensures.asked _;
         matched = matched f.queues.items (tasks_of_banks banks) shelves
             (ap (λ (t : FirstTask). t.seats) task) tasks;
       });

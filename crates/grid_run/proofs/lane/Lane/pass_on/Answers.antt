@@ -1,14 +1,15 @@
 use Rattle.std.proofs.Common.{map, ap, refl, sym, subst, ◌∙◌}
 use Rattle.std.specs.List.{All}
 use Rattle.std.specs.Vec.{with_items}
-use Rattle.grid_run.specs.Backs.{AreWaiting, HasNone, queue_seats, seats_of_task}
+use Rattle.grid_run.specs.Backs.{AreWaiting, HasNone, HasNumbers, queue_seats, seats_of_task}
 use Rattle.grid_run.specs.Banks.{NothingWaitsIn, WasAsked, bank_task, tasks_of_banks}
-use Rattle.grid_run.specs.FirstLevels.{first_task, sent_by}
+use Rattle.grid_run.specs.FirstLevels.{first_task, numbered_by, sent_by}
 use Rattle.grid_run.specs.Lanes.{lane_task}
 use Rattle.grid_run.proofs.BankLemmas.{tasks-told}
 use Rattle.grid_run.proofs.Given.{emptied}
 use Rattle.grid_run.proofs.Placed.{same-lane}
 use Rattle.grid_run.proofs.Slices.{on-items, told-items}
+use Rattle.grid_run.proofs.StayNumbered.{none-numbered}
 use Rattle.grid_run.proofs.lane.Lane.pass_on.Goals as goal
 
 pub take_over_all-requires-clause-seats : goal.take_over_all-requires-clause-seats
@@ -34,15 +35,17 @@ returns-clause-given c = λ past records was.
     let served = sent_by (first_task l.first) past in
     let all = sent_by (first_task l.first) records in
     let told = told-items queue_seats l.first.queues qs new-qs are-queues over.queues in
+    let blocks = numbered_by l.first in
+    let none = on-items queue_seats l.first.queues.items qs new-qs l.first.queues.len
+    (λ old new. All HasNone new) l.first.queues.ok.0 are-queues over.queues over.none in
     record {
-      given = emptied l.first (with_items l.first.queues new-qs) records served told
-          (on-items queue_seats l.first.queues.items qs new-qs l.first.queues.len
-          (λ old new. All HasNone new) l.first.queues.ok.0 are-queues over.queues over.none)
-          was.given;
+      given = emptied l.first (with_items l.first.queues new-qs) records served told none was.given;
+      numbered = none-numbered blocks _ none;
       asked = on-items bank_task l.banks.items bs new-bs l.banks.len
-          (λ old new. All (WasAsked served) old → All (WasAsked all) new) l.banks.ok.0 are-banks
-          over.tasks (over.asked served all
-          (subst (All (AreWaiting served all)) (sym are-queues) was.given.served.queues))
+          (λ old new. All (WasAsked blocks served) old → All (WasAsked blocks all) new)
+          l.banks.ok.0 are-banks over.tasks (over.asked blocks served all
+          (subst (All (AreWaiting served all)) (sym are-queues) was.given.served.queues)
+          (subst (All (HasNumbers blocks)) (sym are-queues) was.numbered))
           was.asked;
       matched = told ∙ was.matched ∙ sym (ap (map seats_of_task)
           (tasks-told _ _ (told-items bank_task l.banks bs new-bs are-banks over.tasks)));

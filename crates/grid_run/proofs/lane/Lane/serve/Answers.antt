@@ -22,7 +22,8 @@ returns-clause-given g c =
     let are = c.deref_mut.ensures.value in
     on_ok_weaker c.settle_on.result (λ served past records was. record {
       given = was.given;
-      asked = (lent-served banks lent bs are done.tasks served).asked _ was.asked;
+      numbered = was.numbered;
+      asked = (lent-served banks lent bs are done.tasks served).asked _ _ was.asked;
       matched = was.matched
           ∙ sym (ap (map seats_of_task) (lent-told banks lent bs are done.tasks));
     }) done.served

@@ -3,10 +3,11 @@ use Rattle.std.specs.List.{All}
 use Rattle.std.proofs.lemmas.Result.{on_ok_weaker}
 use Rattle.grid_run.specs.Backs.{seats_of_task}
 use Rattle.grid_run.specs.Banks.{WasAsked}
-use Rattle.grid_run.specs.FirstLevels.{FirstTask, WasGiven, first_task, sent_by}
+use Rattle.grid_run.specs.FirstLevels.{FirstTask, WasGiven, first_task, numbered_by, sent_by}
 use Rattle.grid_run.specs.Lanes.{lane_task}
 use Rattle.grid_run.proofs.BankLemmas.{lent-served, lent-told}
 use Rattle.grid_run.proofs.Given.{few-asked}
+use Rattle.grid_run.proofs.MoreNumbers.{banks-more}
 use Rattle.grid_run.proofs.Placed.{on-ok-both, same-lane}
 use Rattle.grid_run.proofs.lane.Lane.work.Goals as goal
 
@@ -33,9 +34,11 @@ returns-clause-given g c =
     on-ok-both c.take_on.result (λ served took past records was. record {
       given = subst (λ (t : FirstTask). WasGiven (sent_by t past) (records ++ c.args.part.now) f)
           (sym done.task) (took.given _ records was.given);
-      asked = subst (λ (t : FirstTask). All (WasAsked (sent_by t past))
+      numbered = took.numbers.each was.numbered;
+      asked = subst (λ (t : FirstTask). All (WasAsked (numbered_by f) (sent_by t past))
           (take l.banks.len (bs ++ drop (length bs) l.banks.items))) (sym done.task)
-          ((lent-served l.banks lent bs are done.tasks served).asked _ was.asked);
+          (banks-more (numbered_by l.first) (numbered_by f) took.numbers.grows _ _
+          ((lent-served l.banks lent bs are done.tasks served).asked _ _ was.asked));
       matched = ap (λ (t : FirstTask). t.seats) done.task ∙ was.matched
           ∙ sym (ap (map seats_of_task) (lent-told l.banks lent bs are done.tasks));
     }) done.served done.taken

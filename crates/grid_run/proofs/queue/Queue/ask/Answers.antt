@@ -3,8 +3,10 @@ use Rattle.std.proofs.lemmas.Result.{on_ok_weaker}
 use Rattle.cache_core.specs.History.{Rules}
 use Rattle.stage_core.specs.SecondLevel.{parts_of}
 use Rattle.stage_core.specs.declared.message.What.{What}
+use Rattle.grid_run.specs.Numbering.{what_of}
 use Rattle.grid_run.specs.Backs.{IsSeatIn, sent_for}
-use Rattle.grid_run.specs.Fronts.{HasSent, front_rules}
+use Rattle.grid_core.specs.Numbered.{blocks_in}
+use Rattle.grid_run.specs.Fronts.{HasSent, KnowsLast, front_rules}
 use Rattle.grid_run.specs.Seats.{rules_of_seat}
 use Rattle.grid_run.specs.Sending.{event_of}
 use Rattle.grid_run.proofs.Behind.{at-seat, rules-seated}
@@ -24,6 +26,15 @@ send-requires-clause-last c =
           c.requires.sent.2,
     )
 
+pub send-requires-clause-known : goal.send-requires-clause-known
+send-requires-clause-known c =
+    let fs = c.args.fronts.now in
+    let seat = c.seat-seat.result in
+    let on = subst (IsSeatIn (map front_rules fs)) (sym c.seat-seat.ensures)
+    c.requires.placed.seat in
+    (at-seat fs seat c.index-fronts-seat.result c.index-fronts-seat.is on
+    (KnowsLast (blocks_in c.args.numbers.now)) c.requires.known).known
+
 pub returns-clause-asked : goal.returns-clause-asked
 returns-clause-asked c =
     let fs = c.args.fronts.now in
@@ -41,7 +52,7 @@ returns-clause-asked c =
     record {
       all = ap (λ (ws : List What). ws ++ sent_for s (map front_rules fs) h (event_of q) old.seats)
           waiting.all
-          ∙ append_assoc (given old.seats) old.waiting.items _
-          ∙ ap (λ (ws : List What). given old.seats ++ (old.waiting.items ++ ws)) more
+          ∙ append_assoc (given old.seats) (map what_of old.waiting.items) _
+          ∙ ap (λ (ws : List What). given old.seats ++ (map what_of old.waiting.items ++ ws)) more
           ∙ ap (λ (ws : List What). given old.seats ++ ws) (sym (sends h q last));
-    }) c.send.ensures
+    }) c.send.ensures.sent

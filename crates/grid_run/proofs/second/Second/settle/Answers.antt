@@ -1,49 +1,52 @@
-use Rattle.std.proofs.Common.{◌++◌, ℕ, List, length, ap, sym, subst, ◌∙◌, append-nil, arith}
+use Rattle.std.proofs.Common.{◌++◌, List, length, map, ap, sym, subst, ◌∙◌, append-nil, arith}
 use Rattle.std.proofs.Common.{length-append}
-use Rattle.stage_core.specs.SecondLevel.{second_history}
+use Rattle.std.specs.List.{All}
+use Rattle.std.proofs.lemmas.List.{length-map}
 use Rattle.stage_core.specs.declared.message.What.{What}
-use Rattle.grid_core.specs.Numbered.{blocks_in}
-use Rattle.grid_run.specs.Families.{FamilyStandsBy}
+use Rattle.grid_run.specs.Families.{bsize_on}
+use Rattle.grid_run.specs.Numbering.{IsNumbered, what_of}
 use Rattle.grid_run.specs.Sending.{SecondServed}
+use Rattle.grid_run.specs.declared.numbered.Numbered.{Numbered}
 use Rattle.grid_run.proofs.second.Second.settle.Goals as goal
 
-pub serve_each-served-requires : goal.serve_each-served-requires
-serve_each-served-requires c =
-    let asked = c.requires.room.1 in
+pub serve_each-requires : goal.serve_each-requires
+serve_each-requires c =
+    let blocks = c.requires.room.0 in
+    let asked = c.requires.room.2 in
     let waiting = c.args.self.now.waiting.items in
-    let family = c.swap_numbers.new.self in
+    let n = bsize_on c.args.self.now.family in
     record {
-      room = record {
-        past = asked.served;
-        stands = subst (λ (blocks : List ℕ). FamilyStandsBy blocks family
-            (second_history asked.served)) (sym c.swap_numbers.ensures.taken)
-            (c.swap_numbers.ensures.stands _ _ asked.stands);
-        short = omega (
-          arith,
-          c.requires.room.2,
-          ap length asked.all,
-          length-append asked.served waiting,
-          ap length c.deref.ensures.value,
-        );
-      };
+      room = (
+        blocks,
+        record {
+          past = asked.served;
+          stands = asked.stands;
+          numbered = subst (λ (l : List Numbered). All (IsNumbered blocks n) l)
+              (sym c.deref.ensures.value) asked.numbered;
+          short = omega (
+            arith,
+            c.requires.room.3,
+            ap length asked.all,
+            length-append asked.served (map what_of waiting),
+            length-map waiting what_of,
+            ap length c.deref.ensures.value,
+          );
+        },
+      );
     }
 
 pub returns-clause-asked : goal.returns-clause-asked
-returns-clause-asked c = λ ws asked.
-    let lent = c.swap_numbers.new.self in
-    let done = c.serve_each-served.new.family in
-    let family = c.swap_numbers-2.new.self in
-    let blocks = blocks_in c.swap_numbers-2.new.numbers in
-    let stands = subst (λ (blocks : List ℕ). FamilyStandsBy blocks lent
-    (second_history asked.served)) (sym c.swap_numbers.ensures.taken)
-    (c.swap_numbers.ensures.stands _ _ asked.stands) in
-    let served = subst (λ (l : List What). SecondServed l done)
-    (ap (λ l. asked.served ++ l) c.deref.ensures.value ∙ sym asked.all)
-    ((rw c.in_ok-served.was at c.serve_each-served.ensures.served) asked.served stands) in
+returns-clause-asked c = λ blocks ws asked.
+    let done = c.serve_each.new.family in
+    let n = bsize_on c.args.self.now.family in
+    let numbered = subst (λ (l : List Numbered). All (IsNumbered blocks n) l)
+    (sym c.deref.ensures.value) asked.numbered in
     record {
       served = ws;
-      stands = subst (λ (blocks : List ℕ). FamilyStandsBy blocks family (second_history ws))
-          (sym c.swap_numbers-2.ensures.given)
-          (c.swap_numbers-2.ensures.stands _ _ served);
-      all = sym (ap (λ l. ws ++ l) c.clear.ensures.items ∙ append-nil ws);
+      stands = subst (λ (l : List What). SecondServed blocks l done)
+          (ap (λ l. asked.served ++ map what_of l) c.deref.ensures.value ∙ sym asked.all)
+          (c.in_ok-serve_each.ensures.served blocks asked.served numbered asked.stands);
+      all = sym (ap (λ l. ws ++ map what_of l) c.clear.ensures.items ∙ append-nil ws);
+      numbered = λ k d lt. absurd (let none = ap (λ (l : List Numbered). length l)
+          c.clear.ensures.items in omega arith);
     }

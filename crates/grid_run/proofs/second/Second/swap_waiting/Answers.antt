@@ -1,12 +1,18 @@
-use Rattle.std.proofs.Common.{◌++◌, ap, sym}
+use Rattle.std.proofs.Common.{◌++◌, map, ap, sym, subst}
 use Rattle.std.specs.Global.{Vec}
-use Rattle.stage_core.specs.declared.message.What.{What}
+use Rattle.std.specs.List.{All}
+use Rattle.grid_run.specs.Families.{bsize_on}
+use Rattle.grid_run.specs.Numbering.{IsNumbered, what_of}
+use Rattle.grid_run.specs.declared.numbered.Numbered.{Numbered}
 use Rattle.grid_run.proofs.Rooms.{settled-served}
 use Rattle.grid_run.proofs.second.Second.swap_waiting.Goals as goal
 
 pub returns-clause-asked : goal.returns-clause-asked
-returns-clause-asked c = λ blocks ws asked. record {
+returns-clause-asked c = λ blocks ws numbered asked. record {
   served = ws;
   stands = settled-served blocks c.args.self.now ws asked c.requires.settled;
-  all = ap (λ (v : Vec What). ws ++ v.items) (sym c.swap.ensures.x_after);
+  all = ap (λ (v : Vec Numbered). ws ++ map what_of v.items) (sym c.swap.ensures.x_after);
+  numbered = subst (λ (v : Vec Numbered).
+      All (IsNumbered blocks (bsize_on c.args.self.now.family)) v.items)
+      (sym c.swap.ensures.x_after) numbered;
 }

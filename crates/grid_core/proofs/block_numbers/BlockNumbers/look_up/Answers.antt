@@ -1,6 +1,6 @@
 use Rattle.grid_core.specs.Numbers.{number_at}
 use Rattle.grid_core.proofs.Numbers.{right-kept}
-use Rattle.grid_core.proofs.block_numbers.BlockNumbers.number.Goals as goal
+use Rattle.grid_core.proofs.block_numbers.BlockNumbers.look_up.Goals as goal
 
 pub invariant_of-self : goal.invariant_of-self
 invariant_of-self c = record {

@@ -1,0 +1,57 @@
+//! What the caches of an engine have counted, and what the last access did in them.
+
+use crate::engine::Engine;
+use cache_core::{Counts, Outcome, PerClass};
+
+#[tactic(auto, unfolding(crate::specs::Engines::rules_in, crate::specs::Engines::kept_in))]
+impl Engine {
+    ghost use Rattle.std.specs.Prelude.{◌≡◌, ◌<◌, ℕ, List, true, get_or, length};
+    ghost use Rattle.cache_core.specs.declared.access.Access.{Access};
+    ghost use Rattle.cache_core.specs.History.{History};
+    ghost use Rattle.cache_core.specs.Parts.{outcome_of};
+    ghost use Rattle.cache_core.specs.Counts.{counts_of};
+    ghost use Rattle.grid_core.specs.FullyAssociative.{shadow_misses};
+    ghost use Rattle.grid_core.specs.Engines.{EngineStandsBy, HasAnswered, kept_in, rules_in};
+    ghost use Rattle.grid_core.specs.Written.{SendsNothing, none_kept, rules_at};
+
+    /// The counts of one cache. For caches that are served together they are worked out from
+    /// tables and all rows: ask for them at the end, and not after each access.
+    pub fn counts(&self, index: usize) -> Counts
+        requires { index < length (rules_in self.now) }
+        ensures kept { result ≡ (get_or (kept_in self.now) index none_kept).0 }
+        ensures counted { (blocks : List ℕ) (h : History) → EngineStandsBy blocks self.now h →
+            result ≡ counts_of (rules_at (rules_in self.now) index) h }
+    {
+        self.caches.counts(self.seats[index].cell)
+    }
+
+    /// The fully associative misses of one cache.
+    pub fn shadow_misses(&self, index: usize) -> PerClass
+        requires { index < length (rules_in self.now) }
+        ensures kept { result ≡ (get_or (kept_in self.now) index none_kept).1 }
+        ensures counted { (blocks : List ℕ) (h : History) → EngineStandsBy blocks self.now h →
+            result ≡ shadow_misses (rules_at (rules_in self.now) index) h }
+    {
+        self.caches.shadow_misses(self.seats[index].shadow)
+    }
+
+    /// Whether the last access, if no flush came after it, sent nothing to the next level in any
+    /// cache: it wrote nothing back, fetched nothing and is no write that is sent on. May be
+    /// `false` though nothing was sent.
+    pub fn sent_nothing(&self) -> bool
+        ensures { result ≡ true → (h : History) (x : Access) → HasAnswered self.now h x →
+            (index : ℕ) → index < length (rules_in self.now) →
+            SendsNothing (outcome_of (rules_at (rules_in self.now) index) h x) }
+    {
+        self.caches.sent_nothing()
+    }
+
+    /// What the last access did in one cache, if no flush came after it.
+    pub fn answer(&self, index: usize) -> Outcome
+        requires { index < length (rules_in self.now) }
+        ensures { (h : History) (x : Access) → HasAnswered self.now h x →
+            result ≡ outcome_of (rules_at (rules_in self.now) index) h x }
+    {
+        self.caches.answer(self.seats[index].cell)
+    }
+}
