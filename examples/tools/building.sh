@@ -2,9 +2,9 @@
 # by tools.sh.
 # shellcheck shell=bash disable=SC2154  # names that tools.sh and its other files set
 
-# toolchains CHECKOUT: the names of those that built its kept program.
+# toolchains CHECKOUT [PROGRAM]: the names of those that built its kept program, or dinero_pipe.
 toolchains() {
-    sed -n 's/^toolchain //p' "$1/release/dinero_pipe.sums"
+    sed -n 's/^toolchain //p' "$1/release/${2-dinero_pipe}.sums"
 }
 
 # A checkout without what was built, and a toolchain of the kept program's name that proves nothing.

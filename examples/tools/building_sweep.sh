@@ -11,8 +11,10 @@ fake_simulator() {
     printf '#!/bin/sh\n%s\n' "$1" >"$fresh/crates/dinero_grid/out/dinero_grid"
     chmod +x "$fresh/crates/dinero_grid/out/dinero_grid"
 }
+# The kept programs need not be built by the same toolchains.
+grid_toolchain=$(toolchains "$top" dinero_grid | head -n 1)
 sweep_there() {
-    under "$toolchain" "$fresh/bin/sweep" "$@" -- "$top/examples/1-kinds/kinds.din"
+    under "$grid_toolchain" "$fresh/bin/sweep" "$@" -- "$top/examples/1-kinds/kinds.din"
 }
 run "$bin/sweep" "${grid[@]}" -- "$top/examples/1-kinds/kinds.din"
 cp "$out" "$work/table"
