@@ -1,6 +1,7 @@
 pub mod LastUse
 pub mod Living
 pub mod Stamps
+pub mod Oldest
 pub mod Passing
 pub mod Counted
 pub mod LevelLaws

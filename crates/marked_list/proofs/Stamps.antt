@@ -28,7 +28,7 @@ set-stamp stamps b n q lt = by_cases (eqb b q)
     ∙ sym (ap (λ t. cond t n (stamp_at stamps q)) e))
 
 -- a stamp below the two others says a place, and that its block was used
-place-some : (n : ℕ) → n < forgotten → place_of n ≡ Some n
+pub place-some : (n : ℕ) → n < forgotten → place_of n ≡ Some n
 place-some n lt = ap (λ t. cond t (Some n) None) (lt-ltb n forgotten lt)
 
 place-used : (n : ℕ) → n < forgotten → not (eqb n never) ≡ true
@@ -36,13 +36,13 @@ place-used n lt = by_cases (eqb n never)
     (λ e. let same = eqb-true n never e in absurd (omega arith))
     (λ e. ap not e)
 
-place-below : (n p : ℕ) → place_of n ≡ Some p → n < forgotten
+pub place-below : (n p : ℕ) → place_of n ≡ Some p → n < forgotten
 place-below n p is = by_cases (ltb n forgotten)
     (λ e. ltb-true n forgotten e)
     (λ e. absurd (none-some p (sym (ap (λ t. cond t (Some n) None) e) ∙ is)))
 
 -- what is among the last uses is not dead
-living-low : (ms : List ℕ) (b : ℕ) → has (living ms) b ≡ true → b ≢ dead
+pub living-low : (ms : List ℕ) (b : ℕ) → has (living ms) b ≡ true → b ≢ dead
 living-low ms b h e = false≢true (sym (has-filter_not (λ m. not (eqb m dead)) b
     (ap not (eq-eqb b dead e)) ms) ∙ h)
 

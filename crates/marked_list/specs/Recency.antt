@@ -12,6 +12,10 @@ abbrev pub index_of : {X : Type 0} → (X → Bool) → List X → ℕ
 index_of p [] = 0
 index_of p (x ∷ xs) = cond (p x) 0 (suc (index_of p xs))
 
+-- the index of block b in the list, or the length of the list if it is not there
+abbrev pub index_in : ℕ → List ℕ → ℕ
+index_in b ys = index_of (λ m. m == b) ys
+
 -- the level of a block: the index of the first size that holds it, or the number of sizes
 abbrev pub level_of : List ℕ → List ℕ → ℕ → ℕ
 level_of sizes ys b = index_of (is_among b ys) sizes

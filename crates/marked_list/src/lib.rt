@@ -7,6 +7,7 @@
 mod laws;
 mod marked;
 mod marks;
+mod stamp;
 mod uses;
 
 pub use laws::{

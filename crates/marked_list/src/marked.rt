@@ -40,9 +40,9 @@ fn counted(used: usize, last: Option<usize>) -> usize
 #[tactic(auto, unfolding(crate::specs::Marked::order_of, crate::specs::Marked::marked_sizes, crate::specs::Marked::was_used, crate::specs::Marked::kept_uses))]
 impl Marked {
     ghost use Rattle.std.specs.Prelude.{◌≡◌, ◌<◌, ◌≤◌, ◌+◌, ◌*◌, ◌==◌, ◌||◌, ℕ, [], false, length};
-    ghost use Rattle.std.specs.Prelude.{IfOk, OnOk, OnErr, IsErr};
-    ghost use Rattle.std.specs.List.{All};
-    ghost use Rattle.marked_list.specs.Recency.{level_of, brought_front};
+    ghost use Rattle.std.specs.Prelude.{IfOk, OnOk, OnErr, IsErr, get_or, true};
+    ghost use Rattle.std.specs.List.{All, list_any};
+    ghost use Rattle.marked_list.specs.Recency.{index_in, level_of, brought_front};
     ghost use Rattle.marked_list.specs.Marked.{kept_uses, order_of, marked_sizes, was_used};
 
     /// A list for these sizes, with no block. The sizes are numbers of blocks, in any order; a use
@@ -98,6 +98,19 @@ impl Marked {
         ensures { result ≡ was_used self.now number }
     {
         self.uses.knows(number)
+    }
+
+    /// Of some blocks, all of which were used since the last `clear`, the index of the one whose
+    /// last use is the longest ago.
+    pub fn oldest(&self, numbers: &[u32]) -> usize
+        requires { 0 < length numbers.now }
+        ensures inside { result < length numbers.now }
+        ensures oldest { All (λ n. list_any (λ m. m == n) (order_of self.now) ≡ true) numbers.now →
+            (k : ℕ) → k < length numbers.now →
+            index_in (get_or numbers.now k 0) (order_of self.now)
+            ≤ index_in (get_or numbers.now result 0) (order_of self.now) }
+    {
+        self.uses.oldest(numbers)
     }
 
     /// Uses a block, and answers its level before: the index of the first size for which it was

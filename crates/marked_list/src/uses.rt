@@ -7,16 +7,11 @@ ghost use Rattle.cache_core.specs.Residents.{distinct};
 ghost use Rattle.marked_list.specs.Uses.{AreStamps, HaveRoom, forgotten, last_in, living, since};
 ghost use Rattle.marked_list.specs.Uses.{stamp_at, with_dead};
 
+use crate::stamp::{FORGOTTEN, NEVER, least_stamped};
 use std::alloc::{AllocError, Global};
 
 /// Stands in the log at a use that is dead: its block was used again.
 const DEAD: u32 = u32::MAX;
-
-/// The stamp of a block that was never used.
-const NEVER: u32 = u32::MAX;
-
-/// The stamp of a block whose uses were forgotten. A place is less.
-const FORGOTTEN: u32 = u32::MAX - 1;
 
 /// The uses of blocks by number. Numbers, and places in the log, have 32 bits.
 #[derive(Drop)]
@@ -155,6 +150,8 @@ fn behind_living(log: &[u32], place: usize) -> usize
 impl Uses {
     ghost use Rattle.std.specs.Prelude.{◌≡◌, ◌≢◌, ◌<◌, ◌≤◌, ◌+◌, ◌-◌, ◌*◌, ◌==◌, ◌||◌, [], ℕ};
     ghost use Rattle.std.specs.Prelude.{length, take, get_or, true, false, OnOk, OnErr};
+    ghost use Rattle.std.specs.List.{All, list_any};
+    ghost use Rattle.marked_list.specs.Recency.{index_in};
     ghost use Rattle.marked_list.specs.Uses.{dead, last_in, living, since, used_next};
     ghost use Rattle.marked_list.specs.Log.{uses_of, is_stamped};
 
@@ -206,6 +203,19 @@ impl Uses {
         ensures { result ≡ is_stamped self.now number }
     {
         number < self.stamps.len() && self.stamps[number] != NEVER
+    }
+
+    /// Of some blocks that were all used, the index of the one whose last use is the longest ago.
+    pub(crate) fn oldest(&self, numbers: &[u32]) -> usize
+        requires { 0 < length numbers.now }
+        ensures inside { result < length numbers.now }
+        ensures oldest { let order = living (uses_of self.now) in
+            All (λ n. list_any (λ m. m == n) order ≡ true) numbers.now →
+            (k : ℕ) → k < length numbers.now →
+            index_in (get_or numbers.now k 0) order
+            ≤ index_in (get_or numbers.now result 0) order }
+    {
+        least_stamped(&self.stamps, numbers)
     }
 
     /// The place from which on there is one block less: behind the next last use of a block.
