@@ -12,7 +12,7 @@ mod numbers;
 mod sent;
 
 /// The next pseudo-random number, by a linear congruence with Knuth's constants.
-fn next_random(state: &mut u64) -> u64 {
+pub(crate) fn next_random(state: &mut u64) -> u64 {
     *state = state
         .wrapping_mul(6_364_136_223_846_793_005)
         .wrapping_add(1_442_695_040_888_963_407);
@@ -20,11 +20,11 @@ fn next_random(state: &mut u64) -> u64 {
 }
 
 /// How many bytes a block has: enough for up to 32 ways of one set to share rows.
-const BLOCK: u64 = 64;
+pub(crate) const BLOCK: u64 = 64;
 
 /// A pseudo-random access to one of some blocks: low ones and the highest. Most go to a few of
 /// them.
-fn access_of(state: &mut u64, blocks: u64) -> Access {
+pub(crate) fn access_of(state: &mut u64, blocks: u64) -> Access {
     let class = match next_random(state) % 8 {
         0 => Class::Instr,
         1 | 2 | 3 => Class::Write,
@@ -66,7 +66,7 @@ fn geometries_of(rt: &impl Abort, alloc: Global, blocks: &[u64], ways: &[u64]) -
 }
 
 /// The fully associative geometry of the same size.
-fn whole_of(rt: &impl Abort, geometry: Geometry) -> Geometry {
+pub(crate) fn whole_of(rt: &impl Abort, geometry: Geometry) -> Geometry {
     let blocks = geometry.blocks();
     let size = blocks.wrapping_mul(geometry.bsize());
     Geometry::new(size, geometry.bsize(), blocks).expect(rt, "a lawful geometry")
@@ -81,7 +81,7 @@ fn shadow_policy(policy: Policy) -> Policy {
 }
 
 /// A cache of each geometry.
-fn caches_of(
+pub(crate) fn caches_of(
     rt: &impl Abort,
     alloc: Global,
     geometries: &[Geometry],
@@ -149,7 +149,7 @@ fn flush_unlisted(rt: &impl Abort, alloc: Global, engine: &mut Engine, caches: &
 }
 
 /// Serves an access in each shadow.
-fn access_all(rt: &impl Abort, shadows: &mut Vec<Cache>, access: Access) {
+pub(crate) fn access_all(rt: &impl Abort, shadows: &mut Vec<Cache>, access: Access) {
     for cache in shadows.iter_mut() {
         assert!(rt; cache.served() < MAX_EVENTS);
         let _outcome = cache.access(access).expect(rt, "memory");
@@ -157,7 +157,7 @@ fn access_all(rt: &impl Abort, shadows: &mut Vec<Cache>, access: Access) {
 }
 
 /// Flushes each cache.
-fn flush_all(rt: &impl Abort, alloc: Global, caches: &mut Vec<Cache>) {
+pub(crate) fn flush_all(rt: &impl Abort, alloc: Global, caches: &mut Vec<Cache>) {
     let mut bytes = Vec::new(alloc);
     for cache in caches.iter_mut() {
         assert!(rt; cache.served() < MAX_EVENTS);
@@ -165,8 +165,7 @@ fn flush_all(rt: &impl Abort, alloc: Global, caches: &mut Vec<Cache>) {
     }
 }
 
-/// The counts of each cell are those of its cache, and the misses of its shadow are those of the
-/// fully associative cache.
+/// Each cell has the counts of its cache, and its shadow the misses of the fully associative one.
 fn expect_counts(rt: &impl Abort, engine: &Engine, caches: &Vec<Cache>, shadows: &Vec<Cache>) {
     for (index, cache) in caches.iter().enumerate() {
         assert!(rt; index < engine.cells());

@@ -8,6 +8,7 @@ mod list;
 mod ring;
 mod run;
 mod stages;
+mod stamped;
 mod table;
 mod trace;
 
@@ -34,6 +35,10 @@ fn print_caches(rt: &HostRuntime) -> anyhow::Result<()> {
         bail!("no grid");
     };
     println!(rt; "grid_core: {misses:?}")?;
+    let Ok(Some(misses)) = stamped::misses_with_shadow(alloc) else {
+        bail!("no second level");
+    };
+    println!(rt; "stamped_cache: {misses:?}")?;
     Ok(())
 }
 

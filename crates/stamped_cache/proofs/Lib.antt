@@ -1,0 +1,14 @@
+pub mod RowLists
+pub mod RowSizes
+pub mod Oldest
+pub mod Residents
+pub mod Named
+pub mod Holds
+pub mod Loads
+pub mod Leaving
+pub mod CacheFacts
+pub mod Nearness
+pub mod Outcomes
+pub mod Tallies
+pub mod AfterUse
+pub mod MoreNumbers

@@ -1,0 +1,114 @@
+use Rattle.std.proofs.Common.{◌≡◌, ℕ, ◌++◌, ◌∷◌, [], Bool, true, false, ◌&&◌, cond, eqb, List}
+use Rattle.std.proofs.Common.{length, get_or, set, is_some, Some, None, refl, sym, ap, subst}
+use Rattle.std.proofs.Common.{◌∙◌, ◌≢◌, ◌<◌}
+use Rattle.cache_core.specs.declared.access.Access.{Access}
+use Rattle.cache_core.specs.History.{History, Rules, access, is_write}
+use Rattle.cache_core.specs.Parts.{outcome_of}
+use Rattle.stamped_cache.specs.declared.state.State.{State}
+use Rattle.stamped_cache.specs.declared.state.State.TheVariants.{Absent}
+use Rattle.stamped_cache.specs.Holding.{HoldBy}
+use Rattle.stamped_cache.specs.Putting.{HasPlace, IsLeaving, Misses, loaded}
+use Rattle.stamped_cache.specs.Rows.{row_held}
+use Rattle.stamped_cache.specs.States.{is_held, is_marked, state_at}
+use Rattle.stamped_cache.proofs.Loads.{back-is, holds-over, holds-room, room-gone}
+use Rattle.stamped_cache.proofs.contents.put.Goals as goal
+
+loaded-held : (w : Bool) → is_held (loaded w) ≡ true
+loaded-held true = refl
+loaded-held false = refl
+
+loaded-marked : (w : Bool) → is_marked (loaded w) ≡ w
+loaded-marked true = refl
+loaded-marked false = refl
+
+module _ (blocks : List ℕ) (r : Rules) (h : History) (x : Access) (n set' : ℕ)
+    (states : ℕ → State) (rows : ℕ → List ℕ) (write : Bool) (is : write ≡ is_write x)
+    (next : ℕ → State) (turned : ℕ → List ℕ)
+    (others : (t : ℕ) → t ≢ set' → turned t ≡ rows t) where
+  beside : Misses blocks r h x n set' None states rows
+      → ((k : ℕ) → next k ≡ cond (eqb n k) (loaded write) (states k))
+      → turned set' ≡ rows set' ++ n ∷ [] → HoldBy blocks r (access x ∷ h) next turned
+  beside m now row = (subst (λ s. HasPlace r.assoc (rows s) None
+      → turned s ≡ rows s ++ n ∷ [] → ((t : ℕ) → t ≢ s → turned t ≡ rows t)
+      → HoldBy blocks r (access x ∷ h) next turned) (sym m.here)
+      (λ room added same. holds-room blocks r m.stacked m.some m.deep h x states rows m.held n
+      m.number m.absent (loaded write) (loaded-held write) (loaded-marked write ∙ is) room next
+      now turned added same)) m.place row others
+
+  over : (i : ℕ) → Misses blocks r h x n set' (Some i) states rows
+      → ((k : ℕ) → next k ≡ cond (eqb n k) (loaded write)
+      (cond (eqb (get_or (rows set') i 0) k) Absent (states k)))
+      → turned set' ≡ set (rows set') i n → HoldBy blocks r (access x ∷ h) next turned
+  over i m now row = (subst (λ s. HasPlace r.assoc (rows s) (Some i)
+      → IsLeaving blocks r h s (rows s) (Some i)
+      → ((k : ℕ) → next k ≡ cond (eqb n k) (loaded write)
+      (cond (eqb (get_or (rows s) i 0) k) Absent (states k)))
+      → turned s ≡ set (rows s) i n → ((t : ℕ) → t ≢ s → turned t ≡ rows t)
+      → HoldBy blocks r (access x ∷ h) next turned) (sym m.here)
+      (λ place last now replaced same. holds-over blocks r m.stacked m.some m.deep h x states rows
+      m.held n m.number m.absent (loaded write) (loaded-held write) (loaded-marked write ∙ is)
+      place.1 i place.0 last next
+      (λ k. now k ∙ ap (λ v. cond (eqb n k) (loaded write) (cond (eqb v k) Absent (states k))) last)
+      turned replaced same)) m.place m.last now row others
+
+back-over : (blocks : List ℕ) (r : Rules) (h : History) (x : Access) (n set' i : ℕ)
+    (states : ℕ → State) (rows : ℕ → List ℕ) (back : Bool)
+    → back ≡ is_marked (states (get_or (rows set') i 0))
+    → Misses blocks r h x n set' (Some i) states rows
+    → is_some (outcome_of r h x).back ≡ (back && r.wback)
+back-over blocks r h x n set' i states rows back is m =
+    (subst (λ s. HasPlace r.assoc (rows s) (Some i)
+    → IsLeaving blocks r h s (rows s) (Some i)
+    → back ≡ is_marked (states (get_or (rows s) i 0))
+    → is_some (outcome_of r h x).back ≡ (back && r.wback)) (sym m.here)
+    (λ place last was. back-is blocks r m.stacked m.some m.deep h x states rows m.held n m.number
+    m.absent place.1
+    ∙ ap (λ t. t && r.wback) (ap (λ v. is_marked (states v)) (sym last) ∙ sym was)))
+    m.place m.last is
+
+back-beside : (blocks : List ℕ) (r : Rules) (h : History) (x : Access) (n set' : ℕ)
+    (states : ℕ → State) (rows : ℕ → List ℕ) → Misses blocks r h x n set' None states rows
+    → is_some (outcome_of r h x).back ≡ false
+back-beside blocks r h x n set' states rows m =
+    room-gone blocks r m.stacked m.some m.deep h x states rows m.held n m.number m.absent
+    (subst (λ s. length (rows s) < r.assoc) m.here m.place)
+
+pub returns-in-None-clause-held : goal.returns-in-None-clause-held
+returns-in-None-clause-held c = λ blocks r h x is m.
+    let states = state_at c.args.states.now.items in
+    let rows = row_held c.args.rows.now in
+    let n = c.args.number in
+    let s = c.args.set in
+    beside blocks r h x n s states rows c.args.write is (state_at c.put_beside.new.states.items)
+    (row_held c.put_beside.new.rows) c.put_beside.ensures.others
+    (subst (λ l. Misses blocks r h x n s l states rows) c.in-None.is m)
+    c.put_beside.ensures.states c.put_beside.ensures.row
+
+pub returns-in-None-clause-back : goal.returns-in-None-clause-back
+returns-in-None-clause-back c = λ blocks r h x m.
+    let states = state_at c.args.states.now.items in
+    let rows = row_held c.args.rows.now in
+    let n = c.args.number in
+    let s = c.args.set in
+    back-beside blocks r h x n s states rows
+    (subst (λ l. Misses blocks r h x n s l states rows) c.in-None.is m)
+
+pub returns-in-Some-clause-held : goal.returns-in-Some-clause-held
+returns-in-Some-clause-held c = λ blocks r h x is m.
+    let states = state_at c.args.states.now.items in
+    let rows = row_held c.args.rows.now in
+    let n = c.args.number in
+    let s = c.args.set in
+    over blocks r h x n s states rows c.args.write is (state_at c.put_over.new.states.items)
+    (row_held c.put_over.new.rows) c.put_over.ensures.others c.in-Some.index
+    (subst (λ l. Misses blocks r h x n s l states rows) c.in-Some.is m)
+    c.put_over.ensures.states c.put_over.ensures.row
+
+pub returns-in-Some-clause-back : goal.returns-in-Some-clause-back
+returns-in-Some-clause-back c = λ blocks r h x m.
+    let states = state_at c.args.states.now.items in
+    let rows = row_held c.args.rows.now in
+    let n = c.args.number in
+    let s = c.args.set in
+    back-over blocks r h x n s c.in-Some.index states rows c.put_over.result
+    c.put_over.ensures.back (subst (λ l. Misses blocks r h x n s l states rows) c.in-Some.is m)

@@ -1,0 +1,34 @@
+-- What a cache counts of one access or flush.
+use Rattle.std.specs.Prelude.{◌≡◌, ℕ, ◌+◌, ◌≤◌, Bool, true, false, if◌then◌else◌}
+use Rattle.std.specs.Prelude.{Option, Some}
+use Rattle.cache_core.specs.declared.access.Access.{Access}
+use Rattle.cache_core.specs.declared.access.MissKind.{MissKind}
+use Rattle.cache_core.specs.declared.access.MissKind.TheVariants.{Compulsory, Capacity, Conflict}
+use Rattle.cache_core.specs.declared.access.Outcome.{Outcome}
+use Rattle.cache_core.specs.Counting.{AreWithin, IsWithin, with_access, with_one}
+use Rattle.cache_core.specs.Parts.{one_if}
+use Rattle.stamped_cache.specs.declared.tally.Tally.{Tally}
+
+-- why a block misses that was accessed before or not, and that the shadow has or not
+abbrev pub kind_of : Bool → Bool → MissKind
+kind_of known near = if known then (if near then Conflict else Capacity) else Compulsory
+
+-- the outcome of an access that loads its block, by its kind, the first byte of a dirty block that
+-- leaves, if one does, and whether it is a write that is sent on
+abbrev pub load_made : MissKind → Option ℕ → Bool → Outcome
+load_made kind back through =
+    record { hit = false; kind = Some kind; back = back; fetch = true; through = through }
+
+-- what is counted of an access of this outcome, which misses in the shadow or not, and makes its
+-- block dirty or not
+pub record CountsAccess (x : Access) (o : Outcome) (is_far is_first : Bool) (old new : Tally)
+    : Type 0 where
+  pub counts : new.counts ≡ with_access x o old.counts
+  pub far : new.far ≡ with_one x is_far old.far
+  pub first_writes : new.first_writes ≡ one_if is_first + old.first_writes
+
+-- no count is above n
+pub record AreFew (n : ℕ) (t : Tally) : Type 0 where
+  pub counts : AreWithin t.counts n
+  pub far : IsWithin t.far n
+  pub first_writes : t.first_writes ≤ n
