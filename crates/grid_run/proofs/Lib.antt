@@ -2,6 +2,7 @@ pub mod TableLemmas
 pub mod WrittenWords
 pub mod Families
 pub mod Rooms
+pub mod SecondTurns
 pub mod Events
 pub mod Sent
 pub mod Behind

@@ -11,12 +11,16 @@ use Rattle.grid_run.specs.Banks.{WasAsked}
 use Rattle.grid_run.specs.Families.{FamilyStandsBy}
 use Rattle.grid_run.specs.Fronts.{FrontAt}
 use Rattle.grid_run.specs.Numbering.{IsNumbered, IsRight}
+use Rattle.grid_run.specs.SecondCaches.{SecondStandsBy}
 use Rattle.grid_run.specs.declared.back.Back.{Back}
 use Rattle.grid_run.specs.declared.bank.Bank.{Bank}
 use Rattle.grid_run.specs.declared.family.Family.{Family}
 use Rattle.grid_run.specs.declared.front.Front.{Front}
 use Rattle.grid_run.specs.declared.numbered.Known.{Known}
 use Rattle.grid_run.specs.declared.numbered.Numbered.{Numbered}
+use Rattle.grid_run.specs.declared.second_caches.SecondCaches.{SecondCaches}
+use Rattle.grid_run.specs.declared.second_caches.SecondCaches.TheVariants as caches
+use Rattle.stamped_cache.proofs.MoreNumbers.{cache-more}
 
 module _ (blocks more : List ℕ) (on : IsBeginning blocks more) where
   -- a request keeps its number
@@ -50,12 +54,18 @@ module _ (blocks more : List ℕ) (on : IsBeginning blocks more) where
       → All (FrontAt more h) fs
   fronts-more h fs all k d lt = front-more h _ (all k d lt)
 
+  -- the caches of a second level
+  second-more : (u : SecondCaches) (h : History) → SecondStandsBy blocks u h
+      → SecondStandsBy more u h
+  second-more (caches.Lone l) h st = record { cache = cache-more blocks more l.cache h on st.cache }
+  second-more (caches.Family l) h st = family-more l h st
+
   asked-more : (requests : RequestsFor) (b : Back) → WereAsked blocks requests b
       → WereAsked more requests b
   asked-more requests b asked = record {
     second = record {
       served = asked.second.served;
-      stands = family-more b.second.family _ asked.second.stands;
+      stands = second-more b.second.caches _ asked.second.stands;
       all = asked.second.all;
       numbered = all-numbered-more _ _ asked.second.numbered;
     };

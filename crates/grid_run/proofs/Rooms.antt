@@ -11,18 +11,18 @@ use Rattle.stage_core.specs.SecondLevel.{read_as, second_history}
 use Rattle.stage_core.specs.declared.message.What.{What}
 use Rattle.stage_core.proofs.Stands.{second_history-more}
 use Rattle.stage_core.proofs.Worked.{length-second_history}
-use Rattle.grid_run.specs.Families.{CanServe, FamilyStandsBy, bsize_on}
 use Rattle.grid_run.specs.Numbering.{IsNumbered, what_of}
+use Rattle.grid_run.specs.SecondCaches.{SecondCanServe, SecondStandsBy, second_bsize}
 use Rattle.grid_run.specs.Sending.{HasRoom, NothingWaitsFor, SecondAsked, SecondServed}
-use Rattle.grid_run.specs.declared.family.Family.{Family}
 use Rattle.grid_run.specs.declared.numbered.Numbered.{Numbered}
 use Rattle.grid_run.specs.declared.second.Second.{Second}
+use Rattle.grid_run.specs.declared.second_caches.SecondCaches.{SecondCaches}
 
 -- there is room for a request, and others after it
-module _ (blocks : List ℕ) (u : Family) (w : Numbered) (rest : List Numbered)
+module _ (blocks : List ℕ) (u : SecondCaches) (w : Numbered) (rest : List Numbered)
     (room : HasRoom blocks u (w ∷ rest)) where
   -- it can be served
-  pub room-one : CanServe u
+  pub room-one : SecondCanServe u
   room-one =
       let short = room.short in
       record {
@@ -33,11 +33,11 @@ module _ (blocks : List ℕ) (u : Family) (w : Numbered) (rest : List Numbered)
       }
 
   -- it has a number
-  pub room-number : IsNumbered blocks (bsize_on u) w
-  room-number = All-head (IsNumbered blocks (bsize_on u)) w rest room.numbered
+  pub room-number : IsNumbered blocks (second_bsize u) w
+  room-number = All-head (IsNumbered blocks (second_bsize u)) w rest room.numbered
 
   -- and once it is served, there is room for the others
-  pub room-next : (new : Family) → bsize_on new ≡ bsize_on u
+  pub room-next : (new : SecondCaches) → second_bsize new ≡ second_bsize u
       → SecondServed blocks (room.past ++ what_of w ∷ []) new → HasRoom blocks new rest
   room-next new same served =
       let short = room.short in
@@ -45,23 +45,23 @@ module _ (blocks : List ℕ) (u : Family) (w : Numbered) (rest : List Numbered)
         past = room.past ++ what_of w ∷ [];
         stands = served;
         numbered = subst (λ n. All (IsNumbered blocks n) rest) (sym same)
-            (All-tail (IsNumbered blocks (bsize_on u)) w rest room.numbered);
+            (All-tail (IsNumbered blocks (second_bsize u)) w rest room.numbered);
         short = omega (arith, length-append room.past (what_of w ∷ []));
       }
 
 -- one request served at the second level
-pub served-one : (blocks : List ℕ) (old new : Family) (w : What)
-    → ((h : History) → FamilyStandsBy blocks old h → FamilyStandsBy blocks new (read_as w ∷ h))
+pub served-one : (blocks : List ℕ) (old new : SecondCaches) (w : What)
+    → ((h : History) → SecondStandsBy blocks old h → SecondStandsBy blocks new (read_as w ∷ h))
     → (ws : List What) → SecondServed blocks ws old → SecondServed blocks (ws ++ w ∷ []) new
 served-one blocks old new w longer ws st =
-    subst (λ (h : History). FamilyStandsBy blocks new h) (sym (second_history-more ws w))
+    subst (λ (h : History). SecondStandsBy blocks new h) (sym (second_history-more ws w))
     (longer (second_history ws) st)
 
 -- where nothing waits, all that was asked for is served
 pub settled-served : (blocks : List ℕ) (u : Second) (ws : List What) → SecondAsked blocks ws u
-    → NothingWaitsFor u → SecondServed blocks ws u.family
+    → NothingWaitsFor u → SecondServed blocks ws u.caches
 settled-served blocks u ws asked settled =
-    subst (λ (l : List What). SecondServed blocks l u.family)
+    subst (λ (l : List What). SecondServed blocks l u.caches)
     (sym (asked.all ∙ ap (λ l. asked.served ++ map what_of l) settled.none
     ∙ append-nil asked.served))
     asked.stands

@@ -1,5 +1,6 @@
 -- Shelves, and seats on them.
 use Rattle.std.proofs.Common.{◌≡◌, ℕ, ◌/◌, ◌<◌, [], ◌∷◌, ◌++◌, List, length, get_or, map, set}
+use Rattle.std.proofs.Common.{arith, true}
 use Rattle.std.proofs.Common.{Result, Ok, Err, IfOk, OnErr, OnOk, refl, ap, sym, subst, ◌∙◌}
 use Rattle.std.specs.List.{All}
 use Rattle.std.proofs.lemmas.List.{get_or-map, length-map, map_push, map-set}
@@ -9,6 +10,8 @@ use Rattle.cache_core.specs.Policy.{is_fifo}
 use Rattle.cache_core.specs.Standing.{rules_from}
 use Rattle.cache_core.specs.declared.geometry.Geometry.{Geometry}
 use Rattle.cache_core.specs.declared.policy.Policy.{Policy}
+use Rattle.cache_core.specs.declared.policy.Repl.TheVariants.{Lru}
+use Rattle.grid_core.specs.Standing.{stack_rules}
 use Rattle.grid_core.specs.Written.{no_rules}
 use Rattle.grid_core.proofs.Geometries.{ways-are}
 use Rattle.grid_run.specs.Backs.{IsSeatIn}
@@ -36,7 +39,16 @@ same-rules a b p bytes blocks sets =
       walloc = p.walloc;
     }
 
--- so do the same geometry and policy
+-- the rules of a single geometry, with an LRU policy that allocates at writes
+pub lone-rules : (gs : List Geometry) (p : Policy) → length gs ≡ 1 → p.repl ≡ Lru
+    → p.walloc ≡ true → (g : Geometry) → g ≡ get_or gs 0 g
+    → map (λ s. rules_from s p) gs ≡ stack_rules g p.wback ∷ []
+lone-rules [] p one lru loads g at = absurd (omega arith)
+lone-rules (x ∷ []) p one lru loads g at =
+    λ k. rules_from (sym at k) (record { repl = lru k; wback = p.wback; walloc = loads k }) ∷ []
+lone-rules (x ∷ y ∷ gs) p one lru loads g at = absurd (omega arith)
+
+-- the same geometry and policy give the same rules
 pub same-from : (a b : Geometry) (p q : Policy) → a ≡ b → p ≡ q → rules_from a p ≡ rules_from b q
 same-from a b p q at by = ap (λ g. rules_from g p) at ∙ ap (rules_from b) by
 

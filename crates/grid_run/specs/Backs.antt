@@ -10,9 +10,9 @@ use Rattle.stage_core.specs.SecondLevel.{Parts, parts_of, second_level_requests,
 use Rattle.stage_core.specs.declared.message.Side.{Side}
 use Rattle.stage_core.specs.declared.message.Side.TheVariants as side
 use Rattle.stage_core.specs.declared.message.What.{What}
-use Rattle.grid_run.specs.Families.{rules_in}
 use Rattle.grid_run.specs.Numbering.{IsNumbered, StayNumbered, what_of}
 use Rattle.grid_run.specs.Seats.{SeatRules, rules_of_seat, rules_on}
+use Rattle.grid_run.specs.SecondCaches.{second_rules}
 use Rattle.grid_run.specs.Sending.{NothingWaitsFor, SecondAsked}
 use Rattle.grid_run.specs.declared.back.Back.{Back}
 use Rattle.grid_run.specs.declared.plan.BackShelf.{BackShelf}
@@ -34,7 +34,7 @@ back_task b = record {
   i = b.seats.i;
   d = b.seats.d;
   first = b.seats.first;
-  rules = rules_in b.second.family;
+  rules = second_rules b.second.caches;
 }
 
 -- what second levels made for this shelf do

@@ -1,6 +1,8 @@
 pub mod Table
 pub mod Grids
 pub mod Families
+pub mod Lones
+pub mod SecondCaches
 pub mod Numbering
 pub mod Sending
 pub mod Fronts

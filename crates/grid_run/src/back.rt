@@ -2,7 +2,7 @@
 
 ghost use Rattle.std.specs.Prelude.{◌≡◌};
 ghost use Rattle.cache_core.specs.Geometry.{bsize_of};
-ghost use Rattle.grid_run.specs.Families.{bsize_on};
+ghost use Rattle.grid_run.specs.SecondCaches.{second_bsize};
 
 use crate::plan::BackShelf;
 use crate::queue::Queue;
@@ -16,7 +16,7 @@ use std::alloc::Global;
 pub(crate) struct Back {
     seats: BothSeats,
     pub second: Second,
-    ghost sized: { bsize_on second.family ≡ bsize_of seats.first },
+    ghost sized: { second_bsize second.caches ≡ bsize_of seats.first },
 }
 
 #[tactic(auto, unfolding(crate::specs::Backs::back_task, crate::specs::Backs::task_of_shelf))]

@@ -151,7 +151,7 @@ impl Lane {
     {
         let i = &self.first.i[place.i.family].family;
         let d = &self.first.d[place.d.family].family;
-        let u = &back_at(&self.banks, place.u.family).second.family;
+        let u = &back_at(&self.banks, place.u.family).second.caches;
         Figures {
             totals: Totals {
                 i: i.counts(place.i.cell),

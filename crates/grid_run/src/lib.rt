@@ -10,8 +10,9 @@
 //! serves (`front`, `fronts`), and what each pair of them sends waits in a queue (`queue`,
 //! `queues`, `parts`), with the number of its block (`numbered`): these are the `first_levels`.
 //! Behind each queue are second levels (`second`, `back`), which take it over and serve what waits.
-//! One thread serves those of a `bank`, so that different threads can serve the `banks` of a lane.
-//! `beside` does both at once. `requests` has what an event asks of each cache.
+//! Their caches (`second_caches`) are a family too, or a `lone` LRU cache, which stamped_cache
+//! serves. One thread serves the second levels of a `bank`, so that different threads can serve the
+//! `banks` of a lane. `beside` does both at once. `requests` has what an event asks of each cache.
 //!
 //! `plan` finds the place of each row: its lane, and a `seat` among the caches of each kind, which
 //! a `shelf` lists. A lane is the work of a `worker`; `crew` gives records to all workers in
@@ -41,6 +42,7 @@ mod fronts;
 mod grid;
 mod lane;
 mod lists;
+mod lone;
 mod numbered;
 mod numbers;
 mod parts;
@@ -51,6 +53,7 @@ mod requests;
 mod run;
 mod seat;
 mod second;
+mod second_caches;
 mod sharing;
 mod shelf;
 mod simulation;

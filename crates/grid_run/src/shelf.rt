@@ -5,8 +5,12 @@ ghost use Rattle.std.specs.List.{All};
 ghost use Rattle.cache_core.specs.Geometry.{bsize_of};
 
 use crate::lists::add_to;
-use cache_core::{Geometry, NoMemory, Policy};
+use cache_core::{Geometry, NoMemory, Policy, Repl};
 use std::alloc::Global;
+
+/// The most ways of a cache that is served by itself: one that misses looks for the last use of
+/// each block of its set.
+const MOST_WAYS: u64 = 16;
 
 /// The geometries of caches of one block size and one policy, each once.
 #[derive(Drop)]
@@ -19,10 +23,11 @@ pub(crate) struct Shelf {
 
 #[tactic(auto, unfolding(crate::specs::Seats::rules_on))]
 impl Shelf {
-    ghost use Rattle.std.specs.Prelude.{◌≡◌, [], IfOk, IfSome, OnOk, true, map};
+    ghost use Rattle.std.specs.Prelude.{◌≡◌, ◌∷◌, [], IfOk, IfSome, OnOk, true, map};
     ghost use Rattle.std.specs.List.{All};
     ghost use Rattle.cache_core.specs.Geometry.{bsize_of};
     ghost use Rattle.cache_core.specs.Standing.{rules_from};
+    ghost use Rattle.grid_core.specs.Standing.{stack_rules};
     ghost use Rattle.grid_run.specs.Plans.{IsSameShape, Suits};
     ghost use Rattle.grid_run.specs.Seats.{IsCellOf, KeepsCells, rules_on};
 
@@ -68,6 +73,26 @@ impl Shelf {
             return Ok(index);
         }
         add_to(&mut self.geometries, geometry)
+    }
+
+    /// The geometry, if there is just one, of few ways, and the policy is LRU with write
+    /// allocation.
+    pub fn lone(&self) -> Option<Geometry>
+        ensures rules { IfSome result (λ g.
+            rules_on self.now ≡ stack_rules g self.now.policy.wback ∷ []) }
+        ensures bsize { IfSome result (λ g. bsize_of g ≡ bsize_of self.now.first) }
+    {
+        if self.policy.repl != Repl::Lru || !self.policy.walloc {
+            return None;
+        }
+        if self.geometries.len() != 1 {
+            return None;
+        }
+        let geometry = self.geometries[0];
+        if geometry.assoc() > MOST_WAYS {
+            return None;
+        }
+        Some(geometry)
     }
 
     /// The block size, as that of a geometry.

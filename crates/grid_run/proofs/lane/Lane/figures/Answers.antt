@@ -16,7 +16,7 @@ use Rattle.grid_run.specs.Banks.{NothingWaitsIn, WasAsked, tasks_of_banks}
 use Rattle.grid_run.specs.FirstLevels.{HasServed, first_task, numbered_by, sent_by}
 use Rattle.grid_run.specs.Fronts.{FrontAt, front_rules}
 use Rattle.grid_run.specs.Lanes.{lane_task}
-use Rattle.grid_run.specs.Families.{FamilyStandsBy}
+use Rattle.grid_run.specs.SecondCaches.{SecondStandsBy}
 use Rattle.grid_run.specs.Rows.{IsPlaceIn}
 use Rattle.grid_run.specs.declared.back.Back.{Back}
 use Rattle.grid_run.specs.declared.bank.Bank.{Bank}
@@ -108,7 +108,7 @@ returns c = λ rules chosen past place taken.
     (sent_behind (map front_rules f.i.items) (map front_rules f.d.items) rs) b) sel were in
     let settled = c.back_at.ensures.settled
     (subst (All NothingWaitsIn) (sym are) taken.idle) in
-    let st-u = subst (λ (ws : List What). FamilyStandsBy blocks b.second.family
+    let st-u = subst (λ (ws : List What). SecondStandsBy blocks b.second.caches
     (second_history ws))
     (requests-there l rules chosen p place b at es)
     (settled-served _ b.second _ asked.second settled) in

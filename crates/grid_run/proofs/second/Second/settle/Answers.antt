@@ -3,8 +3,8 @@ use Rattle.std.proofs.Common.{length-append}
 use Rattle.std.specs.List.{All}
 use Rattle.std.proofs.lemmas.List.{length-map}
 use Rattle.stage_core.specs.declared.message.What.{What}
-use Rattle.grid_run.specs.Families.{bsize_on}
 use Rattle.grid_run.specs.Numbering.{IsNumbered, what_of}
+use Rattle.grid_run.specs.SecondCaches.{second_bsize}
 use Rattle.grid_run.specs.Sending.{SecondServed}
 use Rattle.grid_run.specs.declared.numbered.Numbered.{Numbered}
 use Rattle.grid_run.proofs.second.Second.settle.Goals as goal
@@ -14,7 +14,7 @@ serve_each-requires c =
     let blocks = c.requires.room.0 in
     let asked = c.requires.room.2 in
     let waiting = c.args.self.now.waiting.items in
-    let n = bsize_on c.args.self.now.family in
+    let n = second_bsize c.args.self.now.caches in
     record {
       room = (
         blocks,
@@ -37,8 +37,8 @@ serve_each-requires c =
 
 pub returns-clause-asked : goal.returns-clause-asked
 returns-clause-asked c = λ blocks ws asked.
-    let done = c.serve_each.new.family in
-    let n = bsize_on c.args.self.now.family in
+    let done = c.serve_each.new.self in
+    let n = second_bsize c.args.self.now.caches in
     let numbered = subst (λ (l : List Numbered). All (IsNumbered blocks n) l)
     (sym c.deref.ensures.value) asked.numbered in
     record {

@@ -1,8 +1,8 @@
 use Rattle.std.proofs.Common.{◌++◌, map, ap, sym, subst}
 use Rattle.std.specs.Global.{Vec}
 use Rattle.std.specs.List.{All}
-use Rattle.grid_run.specs.Families.{bsize_on}
 use Rattle.grid_run.specs.Numbering.{IsNumbered, what_of}
+use Rattle.grid_run.specs.SecondCaches.{second_bsize}
 use Rattle.grid_run.specs.declared.numbered.Numbered.{Numbered}
 use Rattle.grid_run.proofs.Rooms.{settled-served}
 use Rattle.grid_run.proofs.second.Second.swap_waiting.Goals as goal
@@ -13,6 +13,6 @@ returns-clause-asked c = λ blocks ws numbered asked. record {
   stands = settled-served blocks c.args.self.now ws asked c.requires.settled;
   all = ap (λ (v : Vec Numbered). ws ++ map what_of v.items) (sym c.swap.ensures.x_after);
   numbered = subst (λ (v : Vec Numbered).
-      All (IsNumbered blocks (bsize_on c.args.self.now.family)) v.items)
+      All (IsNumbered blocks (second_bsize c.args.self.now.caches)) v.items)
       (sym c.swap.ensures.x_after) numbered;
 }
