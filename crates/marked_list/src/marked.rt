@@ -62,7 +62,8 @@ impl Marked {
         })
     }
 
-    /// Forgets all uses but the last ones.
+    /// Forgets all uses but the last ones. Not inlined, since few uses need it.
+    #[inline(never)]
     fn shorten(&mut self)
         ensures short { length (uses_of self.new.uses) < 4096 + 2 * self.new.used }
         ensures order { order_of self.new ≡ order_of self.old }
@@ -74,6 +75,7 @@ impl Marked {
     }
 
     /// Serves a use of a block, as `touch` does.
+    #[inline(always)]
     fn serve(&mut self, number: usize) -> Result<usize, AllocError>
         requires low { number < u32.MAX }
         requires short { length (uses_of self.old.uses) < 4096 + 2 * self.old.used }
@@ -118,6 +120,7 @@ impl Marked {
     /// A number of `u32::MAX` or more answers an error, as if memory were wanting. So does a use
     /// for which the list has no place left: it has places for `u32::MAX - 1` uses, and keeps at
     /// most two for each block and 4,096 more, so that takes some 2^31 blocks or more.
+    #[inline(always)]
     pub fn touch(&mut self, number: usize) -> Result<usize, AllocError>
         ensures level { IfOk result (λ level.
             level ≡ level_of (marked_sizes self.old) (order_of self.old) number) }

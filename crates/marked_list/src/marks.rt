@@ -44,6 +44,7 @@ pub(crate) fn is_rising(sizes: &[usize]) -> bool
 }
 
 /// Whether the last use is at this place or after it.
+#[inline(always)]
 fn is_since(place: usize, last: Option<usize>) -> bool
     ensures { result ≡ covers place last }
 {
@@ -108,7 +109,9 @@ fn move_rest(marks: &mut [Mark], from: usize, uses: &Uses, last: Option<usize>, 
 }
 
 /// Moves all marks, and answers the level of the block before the use. Of rising sizes, those from
-/// the level on have the block, so that their marks stay.
+/// the level on have the block, so that their marks stay. Not inlined, so that a use at the first
+/// level is served by less code.
+#[inline(never)]
 fn move_all(
     marks: &mut [Mark],
     uses: &Uses,
@@ -131,7 +134,18 @@ fn move_all(
     level
 }
 
-/// The same for the marks of a vector.
+/// Whether the first mark has the last use.
+#[inline(always)]
+fn first_has(marks: &Vec<Mark>, last: Option<usize>) -> bool
+    ensures { result ≡ true → (0 < length marks.now.items)
+        × (covers (get_or marks.now.items 0 no_mark).place last ≡ true) }
+{
+    !marks.is_empty() && is_since(marks[0].place, last)
+}
+
+/// The same for the marks of a vector. Of rising sizes, all marks stay if the first has the last
+/// use.
+#[inline(always)]
 pub(crate) fn move_each(
     marks: &mut Vec<Mark>,
     uses: &Uses,
@@ -147,6 +161,9 @@ pub(crate) fn move_each(
         (rising ≡ true → IsStrictlyIncreasing (map size_of marks.old.items)) →
         AreMarks ms marks.old.items → AreMarks (used_next b ms) marks.new.items }
 {
+    if rising && first_has(marks, last) {
+        return 0;
+    }
     move_all(marks, uses, last, used, rising)
 }
 

@@ -26,7 +26,20 @@ pub(crate) struct Uses {
     ghost short: { length log.items + 1 < 2 ^ 32 },
 }
 
+/// Makes room for a stamp of this number, which has none. Not inlined, so that a block that has a
+/// stamp is served by less code.
+#[inline(never)]
+fn grow_to(stamps: &mut Vec<u32>, number: usize) -> Result<(), AllocError>
+    requires low { number < u32.MAX }
+    requires none { length stamps.old.items ≤ number }
+    ensures kept { (q : ℕ) → stamp_at stamps.new.items q ≡ stamp_at stamps.old.items q }
+    ensures room { OnOk result (number < length stamps.new.items) }
+{
+    stamps.resize(number + 1, NEVER)
+}
+
 /// Makes room for a stamp of this number.
+#[inline(always)]
 fn grow(stamps: &mut Vec<u32>, number: usize) -> Result<(), AllocError>
     requires { number < u32.MAX }
     ensures kept { (q : ℕ) → stamp_at stamps.new.items q ≡ stamp_at stamps.old.items q }
@@ -35,10 +48,11 @@ fn grow(stamps: &mut Vec<u32>, number: usize) -> Result<(), AllocError>
     if number < stamps.len() {
         return Ok(());
     }
-    stamps.resize(number + 1, NEVER)
+    grow_to(stamps, number)
 }
 
 /// Adds a use to the log, and stamps its block with the place.
+#[inline(always)]
 fn note(log: &mut Vec<u32>, stamps: &mut Vec<u32>, number: usize) -> Result<(), AllocError>
     requires number { number < length stamps.old.items }
     requires low { number < u32.MAX }
@@ -230,6 +244,7 @@ impl Uses {
 
     /// Adds a use of a block, whose use before it is told. Where the log has all the places that a
     /// stamp can say, it is refused as if memory were wanting.
+    #[inline(always)]
     pub(crate) fn add(&mut self, number: usize, last: Option<usize>) -> Result<(), AllocError>
         requires low { number < u32.MAX }
         requires last { last ≡ last_in (uses_of self.old) number }

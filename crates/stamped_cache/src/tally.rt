@@ -5,7 +5,7 @@ ghost use Rattle.cache_core.specs.Counting.{AreWithin, with_access};
 ghost use Rattle.grid_core.specs.Hits.{hit_made};
 ghost use Rattle.stamped_cache.specs.Counted.{kind_of, load_made};
 
-use cache_core::{Access, Counts, MissKind, Outcome, PerClass};
+use cache_core::{Access, Counts, MissKind, PerClass};
 
 /// All counts of a cache.
 #[derive(Clone, Copy, Debug)]
@@ -45,14 +45,8 @@ fn add_hit(counts: &mut Counts, access: Access, through: bool)
     requires { AreWithin counts.old (2 ^ 44) }
     ensures { counts.new ≡ with_access access (hit_made through) counts.old }
 {
-    let outcome = Outcome {
-        hit: true,
-        kind: None,
-        back: None,
-        fetch: false,
-        through,
-    };
-    counts.add_access(access, outcome);
+    counts.fetches.count(access, true);
+    counts.sent_on += through as u64;
 }
 
 /// Adds an access that loads its block. A dirty block may leave, and it may be a write that is sent
@@ -105,7 +99,9 @@ impl Tally {
     {
         let write = access.writes();
         add_hit(&mut self.counts, access, write && !wback);
-        self.far.count(access, !near);
+        if !near {
+            self.far.count(access, true);
+        }
         self.first_writes += (write && !marked) as u64;
     }
 
