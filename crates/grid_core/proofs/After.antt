@@ -138,18 +138,19 @@ module _ (g : Geometry) (h : History) (x : Access) where
             (recent-access (bsize_of g) (recent_in shadows) h x st.recent);
       }
 
--- a flush
-
-far-flush : (r : Rules) (h : History) → shadow_misses r h ≡ shadow_misses r (flush ∷ h)
+-- a flush leaves the misses of the shadow as they are
+pub far-flush : (r : Rules) (h : History) → shadow_misses r h ≡ shadow_misses r (flush ∷ h)
 unfolding shadow_misses counts_of tally
 far-flush r h = refl
 
-module _ (g : Geometry) (h : History) where
-  referenced-flush : (c : ℕ) → list_any (λ t. t == c) (referenced_blocks (base_rules g) h)
-      ≡ list_any (λ t. t == c) (referenced_blocks (base_rules g) (flush ∷ h))
-  unfolding referenced_blocks
-  referenced-flush c = refl
+-- and the known blocks known
+pub referenced-flush : (r : Rules) (h : History) (b : ℕ)
+    → list_any (λ t. t == b) (referenced_blocks r h)
+    ≡ list_any (λ t. t == b) (referenced_blocks r (flush ∷ h))
+unfolding referenced_blocks
+referenced-flush r h b = refl
 
+module _ (g : Geometry) (h : History) where
   pub after-flush : (blocks : List ℕ) (stacks stacks' : List Stack) (shadows shadows' : Shadows)
       (shapes : List Shape) → IsAfter blocks g stacks shadows shapes h
       → All (λ s. StandsFor s (flush ∷ h)) stacks'
@@ -166,7 +167,7 @@ module _ (g : Geometry) (h : History) where
         order = subst (HoldsOrder blocks shadows')
             (sym (ap distinct (renewals-flush (shadow_of (base_rules g)) h))) order;
         numbered = low;
-        known = λ c. same c ∙ st.known c ∙ referenced-flush c;
+        known = λ c. same c ∙ st.known c ∙ referenced-flush (base_rules g) h c;
         counted = subst (λ (z : List ℕ). All (IsCountedIn z (flush ∷ h)) rows') (sym sizes)
             counted;
         far = λ k d lt.
@@ -177,10 +178,10 @@ module _ (g : Geometry) (h : History) where
             (recent-none (bsize_of g) (flush ∷ h));
       }
 
--- the shadow of a shape has missed nothing at the start
-far-start : (s : Shape) → none_by_class ≡ shadow_misses (shape_rules s) []
+-- the shadow has missed nothing at the start
+pub far-start : (r : Rules) → none_by_class ≡ shadow_misses r []
 unfolding counts_of tally shadow_misses
-far-start s = refl
+far-start r = refl
 
 -- before the first event
 pub after-start : (blocks : List ℕ) (g : Geometry) (stacks : List Stack) (shadows : Shadows)
@@ -197,7 +198,7 @@ after-start blocks g stacks shadows shapes levels empty order known low none far
   counted = λ k d lt. (empty k d lt).counted (shadow_sizes shadows);
   far = λ k d lt.
       let s = get_or shapes k d in
-      far s.rank ∙ far-start s;
+      far s.rank ∙ far-start (shape_rules s);
   recent = subst (λ p. IsRecent (bsize_of g) p []) (sym none) (recent-none (bsize_of g) []);
 }
 

@@ -9,7 +9,8 @@ use Rattle.cache_core.proofs.Reuse.{has}
 use Rattle.cache_core.proofs.Cases.{by_cases}
 use Rattle.marked_list.specs.Recency.{is_among, level_of, brought_front}
 
-some-is : (o : Option ℕ) → is_some o ≡ true → o ≡ Some (unwrap_or o 0)
+-- what is some number is its own number
+pub some-is : (o : Option ℕ) → is_some o ≡ true → o ≡ Some (unwrap_or o 0)
 some-is None h = cc
 some-is (Some v) h = refl
 

@@ -4,7 +4,7 @@ use Rattle.std.proofs.Common.{ap, inl, inr, length, false, None, Option, ◌∷�
 use Rattle.std.specs.List.{list_any}
 use Rattle.std.proofs.Math.ListN.{get_or-eq_default}
 use Rattle.std.proofs.lemmas.Bool.{cases_lt, false≢true}
-use Rattle.cache_core.specs.History.{History, Rules, flush}
+use Rattle.cache_core.specs.History.{History, Rules}
 use Rattle.cache_core.specs.Kinds.{referenced_blocks}
 use Rattle.cache_core.specs.Residents.{distinct, renewals}
 use Rattle.cache_core.proofs.Lawful.{sane_of}
@@ -53,13 +53,6 @@ state-inside states n held = elim (cases_lt n (length states)) [
   | inl lt ↦ lt
   | inr le ↦ absurd (false≢true (sym (ap is_held (get_or-eq_default states Absent le)) ∙ held))
 ]
-
--- a flush leaves the known blocks known
-pub referenced-flush : (r : Rules) (h : History) (b : ℕ)
-    → list_any (λ t. t == b) (referenced_blocks r h)
-    ≡ list_any (λ t. t == b) (referenced_blocks r (flush ∷ h))
-unfolding referenced_blocks
-referenced-flush r h b = refl
 
 -- blocks that were used by their numbers are used where the same numbers were
 pub used-same : (old new : Marked) → ((n : ℕ) → was_used new n ≡ was_used old n) → (o : Option ℕ)

@@ -1,7 +1,7 @@
 -- What a cache holds, event by event.
 use Rattle.std.proofs.Common.{◌≡◌, ℕ, ◌<◌, Bool, true, false, cond, ◌&&◌, ◌||◌}
-use Rattle.std.proofs.Common.{eqb, List, [], ◌∷◌, length, map, Some, None, is_some}
-use Rattle.std.proofs.Common.{take, unwrap_or, Option, refl, sym, ap, subst, ◌∙◌}
+use Rattle.std.proofs.Common.{eqb, List, [], ◌∷◌, length, map, Some, take, unwrap_or}
+use Rattle.std.proofs.Common.{refl, sym, ap, subst, ◌∙◌}
 use Rattle.std.proofs.lemmas.Bool.{eqb-true, eqb-false, eq-eqb, ne_eqb, false≢true}
 use Rattle.std.proofs.lemmas.Bool.{false_from_ne_true}
 use Rattle.std.proofs.Math.Seq.{take-nil}
@@ -18,6 +18,7 @@ use Rattle.cache_core.proofs.Victim.{resident-renewed}
 use Rattle.grid_core.specs.Numbers.{number_at}
 use Rattle.grid_core.specs.Shadows.{number_by}
 use Rattle.grid_core.specs.Ways.{IsStacked}
+use Rattle.grid_core.proofs.Numbering.{some-is}
 use Rattle.grid_core.proofs.Numbers.{number-apart}
 use Rattle.grid_core.proofs.Onces.{once-length}
 use Rattle.stamped_cache.specs.declared.state.State.{State}
@@ -28,10 +29,6 @@ use Rattle.stamped_cache.proofs.Named.{number-found, same-numbers}
 use Rattle.stamped_cache.proofs.Residents.{has-resident}
 use Rattle.stamped_cache.proofs.Residents.{hit-has, hit-resident}
 use Rattle.stamped_cache.proofs.Residents.{residents-once, written-after}
-
-some-is : (o : Option ℕ) → is_some o ≡ true → o ≡ Some (unwrap_or o 0)
-some-is None e = absurd cc
-some-is (Some n) e = refl
 
 -- a number is that of block a just if it is that of a block that is a
 pub same-number : (blocks : List ℕ) (a n : ℕ) → number_at blocks a ≡ Some n → (y k : ℕ)

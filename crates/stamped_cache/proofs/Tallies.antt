@@ -7,8 +7,7 @@ use Rattle.cache_core.specs.declared.access.Outcome.{Outcome}
 use Rattle.cache_core.specs.declared.counts.Counts.{Counts}
 use Rattle.cache_core.specs.History.{History, Rules, access, block_of, flush, is_write}
 use Rattle.cache_core.specs.Counting.{AreWithin, IsWithin, with_flush, with_one}
-use Rattle.cache_core.specs.Counts.{counts_of, flushed_back, flushes_in, no_counts, none_by_class}
-use Rattle.cache_core.specs.Counts.{tally}
+use Rattle.cache_core.specs.Counts.{counts_of, flushed_back, flushes_in, no_counts, tally}
 use Rattle.cache_core.specs.Dirty.{dirty_blocks, is_dirty, is_written}
 use Rattle.cache_core.specs.Kinds.{shadow_of}
 use Rattle.cache_core.specs.Parts.{one_if}
@@ -63,21 +62,13 @@ module _ (r : Rules) (h : History) (x : Access) where
       and-true true = refl
       and-true false = refl
 
--- a flush changes neither
-pub far-flush : (r : Rules) (h : History) → shadow_misses r h ≡ shadow_misses r (flush ∷ h)
-unfolding shadow_misses counts_of tally
-far-flush r h = refl
-
+-- a flush adds no first write
 pub first-flush : (r : Rules) (h : History)
     → tally (is_first_write r) h ≡ tally (is_first_write r) (flush ∷ h)
 unfolding tally
 first-flush r h = refl
 
--- at the start nothing is counted
-pub far-start : (r : Rules) → none_by_class ≡ shadow_misses r []
-unfolding shadow_misses counts_of tally
-far-start r = refl
-
+-- and at the start there are none
 pub first-start : (r : Rules) → 0 ≡ tally (is_first_write r) []
 unfolding tally
 first-start r = refl

@@ -4,13 +4,14 @@ use Rattle.cache_core.specs.Residents.{distinct}
 use Rattle.cache_core.proofs.Nothing.{renewals-flush}
 use Rattle.grid_core.specs.Numbers.{number_at}
 use Rattle.grid_core.specs.Shadows.{number_by}
+use Rattle.grid_core.proofs.After.{far-flush, referenced-flush}
 use Rattle.stamped_cache.specs.Rows.{row_held}
 use Rattle.stamped_cache.specs.Stamped.{counts_in, has_failed, misses_in}
 use Rattle.stamped_cache.specs.Stamped.{rules_in, served_in}
 use Rattle.stamped_cache.specs.States.{state_at}
-use Rattle.stamped_cache.proofs.CacheFacts.{assoc-some, is-stacked, referenced-flush, used-same}
+use Rattle.stamped_cache.proofs.CacheFacts.{assoc-some, is-stacked, used-same}
 use Rattle.stamped_cache.proofs.Holds.{holds-nothing}
-use Rattle.stamped_cache.proofs.Tallies.{counts-flush, far-flush, first-flush}
+use Rattle.stamped_cache.proofs.Tallies.{counts-flush, first-flush}
 use Rattle.stamped_cache.proofs.cache.StampedCache.flush.Goals as goal
 
 pub returns-clause-stands : goal.returns-clause-stands

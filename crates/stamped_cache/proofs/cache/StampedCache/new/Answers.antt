@@ -9,13 +9,14 @@ use Rattle.cache_core.proofs.Lawful.{sane_of}
 use Rattle.grid_core.specs.Numbers.{number_at}
 use Rattle.grid_core.specs.Shadows.{number_by}
 use Rattle.grid_core.specs.Standing.{stack_rules}
+use Rattle.grid_core.proofs.After.{far-start}
 use Rattle.stamped_cache.specs.Rows.{row_held}
 use Rattle.stamped_cache.specs.Stamped.{counts_in, has_failed, misses_in}
 use Rattle.stamped_cache.specs.Stamped.{rules_in, served_in}
 use Rattle.stamped_cache.specs.States.{state_at}
 use Rattle.stamped_cache.proofs.CacheFacts.{none-renewed, referenced-none, used-none}
 use Rattle.stamped_cache.proofs.Holds.{holds-nothing}
-use Rattle.stamped_cache.proofs.Tallies.{counts-start, far-start, first-start}
+use Rattle.stamped_cache.proofs.Tallies.{counts-start, first-start}
 use Rattle.stamped_cache.proofs.cache.StampedCache.new.Goals as goal
 
 one-size : (v k d : ℕ) → 0 < v → k < 1 → 0 < slice_index_or (v ∷ []) k d
