@@ -225,7 +225,7 @@ impl StampedCache {
         ensures failed { has_failed self.old ≡ true → IsErr result }
         ensures rules { rules_in self.new ≡ rules_in self.old }
     {
-        if self.failed {
+        if self.failed() {
             return Err(NoMemory);
         }
         forget_all(&mut self.states);
