@@ -41,7 +41,8 @@ filter-skip p m e (n ∷ ms) = by_cases (eqb n m)
     rw (f, out) (filter-skip p m e ms))
     (λ f. rw f (ap (λ l. cond (p n) (n ∷ l) l) (filter-skip p m e ms)))
 
-distinct-filter : (p : ℕ → Bool) (ms : List ℕ) → distinct (filter p ms) ≡ filter p (distinct ms)
+-- a filter may come before or after the repetitions are taken out
+pub distinct-filter : (p : ℕ → Bool) (ms : List ℕ) → distinct (filter p ms) ≡ filter p (distinct ms)
 distinct-filter p [] = refl
 distinct-filter p (m ∷ ms) = by_cases (p m)
     (λ e. rw e (ap (λ l. m ∷ l) (ap (filter (λ n. not (eqb n m))) (distinct-filter p ms)

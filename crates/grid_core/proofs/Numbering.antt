@@ -42,13 +42,13 @@ module _ (g : ℕ → Option ℕ) where
 
 -- a test of numbers that agrees with one of blocks, on a list of blocks
 module _ (f : ℕ → ℕ) (n b : ℕ) where
-  abbrev Agree : List ℕ → Type 0
+  abbrev pub Agree : List ℕ → Type 0
   Agree ys = (y : ℕ) → has ys y ≡ true → eqb (f y) n ≡ eqb y b
 
-  agree-head : (y : ℕ) (ys : List ℕ) → Agree (y ∷ ys) → eqb (f y) n ≡ eqb y b
+  pub agree-head : (y : ℕ) (ys : List ℕ) → Agree (y ∷ ys) → eqb (f y) n ≡ eqb y b
   agree-head y ys a = a y (or_left (eqb y y) (has ys y) (eq-eqb y y refl))
 
-  agree-tail : (y : ℕ) (ys : List ℕ) → Agree (y ∷ ys) → Agree ys
+  pub agree-tail : (y : ℕ) (ys : List ℕ) → Agree (y ∷ ys) → Agree ys
   agree-tail y ys a z h = a z (or_right (eqb y z) (has ys z) h)
 
   among-map : (size : ℕ) (ys : List ℕ) → Agree ys

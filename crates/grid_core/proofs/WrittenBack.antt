@@ -36,7 +36,7 @@ module _ (r : Rules) (through : r.wback ≡ false) where
   unfolding is_dirty
   clean h b = ap (λ t. t && is_resident r (renewals r h) b && is_written r h b) through
 
-  none-dirty : (h : History) → length (dirty_blocks r h) ≡ 0
+  pub none-dirty : (h : History) → length (dirty_blocks r h) ≡ 0
   unfolding dirty_blocks
   none-dirty h = ap (λ l. length (rising l))
       (filter-nothing (is_dirty r h) (renewals r h) (clean h))

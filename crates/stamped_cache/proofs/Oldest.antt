@@ -1,6 +1,6 @@
 -- The last resident of a full set is the one that stands furthest behind in the order of all
 -- blocks, also where blocks go by numbers.
-use Rattle.std.proofs.Common.{◌≡◌, ℕ, zero, suc, ◌-◌, ◌%◌, ◌<◌, ◌≤◌, Bool, true, false, cond, not}
+use Rattle.std.proofs.Common.{◌≡◌, ℕ, zero, suc, ◌-◌, ◌%◌, ◌<◌, ◌≤◌, Bool, true, false, cond}
 use Rattle.std.proofs.Common.{◌||◌, eqb, List, [], ◌∷◌, length, get_or, take, filter, map}
 use Rattle.std.proofs.Common.{length-take, refl, sym, ap, subst, ◌∙◌, arith}
 use Rattle.std.proofs.lemmas.Bool.{eqb-true, eq-eqb, false≢true, or_left, or_right}
@@ -12,45 +12,19 @@ use Rattle.cache_core.specs.Order.{residents_of}
 use Rattle.cache_core.proofs.Ascending.{same_test}
 use Rattle.cache_core.proofs.Cases.{by_cases}
 use Rattle.cache_core.proofs.Reuse.{has}
-use Rattle.cache_core.proofs.Shift.{without, IsOnce, IsOnce-filter, IsOnce-distinct}
+use Rattle.cache_core.proofs.Shift.{IsOnce, IsOnce-filter, IsOnce-distinct}
 use Rattle.cache_core.proofs.Shift.{has-filter_not}
 use Rattle.marked_list.specs.Recency.{index_of}
 use Rattle.grid_core.specs.Ways.{IsStacked}
+use Rattle.grid_core.proofs.MoreSets.{distinct-filter}
+use Rattle.grid_core.proofs.Numbering.{Agree, agree-head, agree-tail}
 use Rattle.stamped_cache.proofs.RowLists.{has-get_or, other-member}
 
 -- the place of a number in a list, or the length of the list
 abbrev pub place : ℕ → List ℕ → ℕ
 place a ys = index_of (λ m. eqb m a) ys
 
-module _ {X : Type 0} (p q : X → Bool) where
-  filter-swap : (ys : List X) → filter p (filter q ys) ≡ filter q (filter p ys)
-  filter-swap [] = refl
-  filter-swap (y ∷ ys) = by_cases (p y)
-      (λ e. by_cases (q y)
-      (λ f. rw (e, f, e) (ap (λ l. y ∷ l) (filter-swap ys)))
-      (λ f. rw (e, f) (filter-swap ys)))
-      (λ e. by_cases (q y)
-      (λ f. rw (e, f, e) (filter-swap ys))
-      (λ f. rw (e, f) (filter-swap ys)))
-
 module _ (p : ℕ → Bool) where
-  filter-without : (b : ℕ) → p b ≡ false → (ys : List ℕ) → filter p (without b ys) ≡ filter p ys
-  filter-without b fails [] = refl
-  filter-without b fails (y ∷ ys) = by_cases (eqb y b)
-      (λ e. let f : p y ≡ false = subst (λ z. p z ≡ false) (sym (eqb-true y b e)) fails in
-      rw (e, f) (filter-without b fails ys))
-      (λ e. by_cases (p y)
-      (λ f. rw (e, f) (ap (λ l. y ∷ l) (filter-without b fails ys)))
-      (λ f. rw (e, f) (filter-without b fails ys)))
-
-  -- a filter may come before or after the repetitions are taken out
-  pub distinct-filter : (ms : List ℕ) → distinct (filter p ms) ≡ filter p (distinct ms)
-  distinct-filter [] = refl
-  distinct-filter (m ∷ ms) = by_cases (p m)
-      (λ e. rw e (ap (λ l. m ∷ l) (ap (without m) (distinct-filter ms)
-      ∙ filter-swap (λ n. not (eqb n m)) p (distinct ms))))
-      (λ e. rw e (distinct-filter ms ∙ sym (filter-without m e (distinct ms))))
-
   filter-passes : (ys : List ℕ) (v : ℕ) → has (filter p ys) v ≡ true → p v ≡ true
   filter-passes ys v there = true_from_ne_false (p v) (λ e.
       false≢true (sym (has-filter_not p v e ys) ∙ there))
@@ -158,22 +132,13 @@ module _ (r : Rules) (st : IsStacked r) (h : History) where
       (last-behind (λ m. eqb (m % r.sets) t) all_used (IsOnce-distinct (renewals r h))
       r.assoc ways u)
 
--- a test of numbers that agrees with one of blocks, on a list of blocks
-module _ (f : ℕ → ℕ) (n a : ℕ) where
-  abbrev Agree : List ℕ → Type 0
-  Agree ys = (y : ℕ) → has ys y ≡ true → eqb (f y) n ≡ eqb y a
-
-  agree-head : (y : ℕ) (ys : List ℕ) → Agree (y ∷ ys) → eqb (f y) n ≡ eqb y a
-  agree-head y ys g = g y (or_left (eqb y y) (has ys y) (eq-eqb y y refl))
-
-  agree-tail : (y : ℕ) (ys : List ℕ) → Agree (y ∷ ys) → Agree ys
-  agree-tail y ys g z h = g z (or_right (eqb y z) (has ys z) h)
-
-  place-agree : (ys : List ℕ) → Agree ys → place n (map f ys) ≡ place a ys
-  place-agree [] g = refl
-  place-agree (y ∷ ys) g =
-      ap (λ t. cond t 0 (suc (place n (map f ys)))) (agree-head y ys g)
-      ∙ ap (λ k. cond (eqb y a) 0 (suc k)) (place-agree ys (agree-tail y ys g))
+-- a test of numbers that agrees with one of blocks finds the same place
+place-agree : (f : ℕ → ℕ) (n a : ℕ) (ys : List ℕ) → Agree f n a ys
+    → place n (map f ys) ≡ place a ys
+place-agree f n a [] g = refl
+place-agree f n a (y ∷ ys) g =
+    ap (λ t. cond t 0 (suc (place n (map f ys)))) (agree-head f n a y ys g)
+    ∙ ap (λ k. cond (eqb y a) 0 (suc k)) (place-agree f n a ys (agree-tail f n a y ys g))
 
 module _ (f : ℕ → ℕ) (ys : List ℕ)
     (apart : (a c : ℕ) → has ys a ≡ true → has ys c ≡ true → f a ≡ f c → a ≡ c) where

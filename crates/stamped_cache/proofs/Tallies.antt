@@ -1,7 +1,6 @@
 -- What a cache counts, event by event.
 use Rattle.std.proofs.Common.{◌≡◌, ℕ, ◌+◌, ◌<◌, ◌≤◌, Bool, true, false, cond, not, ◌&&◌, []}
-use Rattle.std.proofs.Common.{List, eqb, ◌∷◌, length, refl, sym, ap, subst, ◌∙◌, arith}
-use Rattle.std.proofs.lemmas.Bool.{eq-eqb, false≢true, or_left}
+use Rattle.std.proofs.Common.{◌∷◌, length, refl, sym, ap, subst, ◌∙◌, arith}
 use Rattle.cache_core.specs.declared.access.Access.{Access}
 use Rattle.cache_core.specs.declared.access.Outcome.{Outcome}
 use Rattle.cache_core.specs.declared.counts.Counts.{Counts}
@@ -13,13 +12,11 @@ use Rattle.cache_core.specs.Kinds.{shadow_of}
 use Rattle.cache_core.specs.Parts.{one_if}
 use Rattle.cache_core.specs.Residents.{hits, is_resident, renewals}
 use Rattle.cache_core.proofs.CacheFacts.{AreWithin-with_access, IsWithin-with_one}
-use Rattle.cache_core.proofs.Owed.{has-dirty}
-use Rattle.cache_core.proofs.Reuse.{has}
 use Rattle.cache_core.proofs.Steps.{counts-step, flush-counts, outcome_of-hit}
 use Rattle.grid_core.specs.FullyAssociative.{shadow_misses}
 use Rattle.grid_core.specs.WriteBacks.{is_first_write}
-use Rattle.grid_core.proofs.Totals.{within-more}
 use Rattle.grid_core.proofs.WriteBacks.{backs-are-first-writes}
+use Rattle.grid_core.proofs.WrittenBack.{none-dirty}
 use Rattle.stamped_cache.specs.declared.tally.Tally.{Tally}
 use Rattle.stamped_cache.specs.Counted.{AreFew, CountsAccess}
 
@@ -72,17 +69,6 @@ first-flush r h = refl
 pub first-start : (r : Rules) → 0 ≡ tally (is_first_write r) []
 unfolding tally
 first-start r = refl
-
-nothing-in : (ys : List ℕ) → ((y : ℕ) → has ys y ≡ true → ⊥) → length ys ≡ 0
-nothing-in [] none = refl
-nothing-in (y ∷ ys) none = absurd (none y (or_left (eqb y y) (has ys y) (eq-eqb y y refl)))
-
--- under write through nothing is dirty
-none-dirty : (r : Rules) → r.wback ≡ false → (h : History) → length (dirty_blocks r h) ≡ 0
-unfolding is_dirty
-none-dirty r through h = nothing-in (dirty_blocks r h) (λ y there. false≢true
-    (sym (ap (λ t. t && is_resident r (renewals r h) y && is_written r h y) through)
-    ∙ has-dirty r h y there))
 
 -- a flush writes back what was made dirty and was not written back
 module _ (r : Rules) (allocates : r.walloc ≡ true) (some : 0 < r.assoc) (h : History) where
