@@ -1,6 +1,6 @@
 -- What holds of every cache that stands for a history.
 use Rattle.std.proofs.Common.{◌≡◌, ◌<◌, ℕ, true, List, Some, refl, sym, ◌∙◌}
-use Rattle.std.proofs.Common.{ap, inl, inr, length, false, None, Option, ◌∷◌, [], ◌==◌}
+use Rattle.std.proofs.Common.{ap, inl, inr, length, false, None, Option, [], ◌==◌}
 use Rattle.std.specs.List.{list_any}
 use Rattle.std.proofs.Math.ListN.{get_or-eq_default}
 use Rattle.std.proofs.lemmas.Bool.{cases_lt, false≢true}
