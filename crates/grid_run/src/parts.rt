@@ -73,7 +73,9 @@ pub(crate) fn ask_parts(
     ask_part(waiting, numbers, known, first, through)
 }
 
-/// Adds write-backs, and then a flush, if there is one.
+/// Adds write-backs, and then a flush, if there is one. Not inlined, so that what accesses send is
+/// added by less code.
+#[inline(never)]
 pub(crate) fn ask_write_backs(
     waiting: &mut Vec<Numbered>,
     numbers: &mut BlockNumbers,

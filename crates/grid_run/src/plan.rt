@@ -15,7 +15,7 @@ ghost use Rattle.grid_run.specs.Rows.{HasPlace, HavePlaces, IsPlaceIn, IsSound};
 use crate::grid::{Row, Setup};
 use crate::lists::add_to;
 use crate::seat::{BothSeats, Seat, seat_for};
-use crate::sharing::{count_groups, group_after, portion_of};
+use crate::sharing::{Sharing, share_rows};
 use crate::shelf::Shelf;
 use cache_core::{Geometry, NoMemory, Policy};
 use stage_core::{Config, Selection};
@@ -224,6 +224,41 @@ fn place_for(
     Ok(Some(place))
 }
 
+/// Plans the caches of the row of this index, if it was not refused.
+fn plan_row(
+    alloc: Global,
+    lanes: &mut Vec<LanePlan>,
+    rows: &[Row],
+    sharing: &Sharing,
+    row: usize,
+) -> Result<(), NoMemory>
+    requires { All IsBoundedRow rows.now }
+    ensures { OnOk result (All IsSound lanes.old.items → All IsSound lanes.new.items) }
+{
+    if row >= rows.len() || row >= sharing.portions.len() {
+        return Ok(());
+    }
+    place_for(alloc, lanes, &rows[row].setup, sharing.portions[row])?;
+    Ok(())
+}
+
+/// Plans the caches of the rows in the order of their sharing. So caches that share rows of blocks
+/// stand beside one another in their lanes.
+fn plan_in_order(
+    alloc: Global,
+    lanes: &mut Vec<LanePlan>,
+    rows: &[Row],
+    sharing: &Sharing,
+) -> Result<(), NoMemory>
+    requires { All IsBoundedRow rows.now }
+    ensures { OnOk result (All IsSound lanes.old.items → All IsSound lanes.new.items) }
+{
+    for row in &sharing.order {
+        plan_row(alloc, lanes, rows, sharing, *row)?;
+    }
+    Ok(())
+}
+
 /// The plan for the rows of a grid, which are divided into so many portions.
 pub(crate) fn plan_for(alloc: Global, rows: &[Row], portions: usize) -> Result<Plan, NoMemory>
     requires { All IsBoundedRow rows.now }
@@ -233,12 +268,10 @@ pub(crate) fn plan_for(alloc: Global, rows: &[Row], portions: usize) -> Result<P
 {
     let mut lanes = Vec::new(alloc);
     let mut places = Vec::new(alloc);
-    let groups = count_groups(rows);
-    let mut group = 0;
+    let sharing = share_rows(alloc, rows, portions)?;
+    plan_in_order(alloc, &mut lanes, rows, &sharing)?;
     for (index, row) in rows.iter().enumerate() {
-        group = group_after(rows, index, group);
-        let portion = portion_of(group, groups, portions);
-        let place = place_for(alloc, &mut lanes, &row.setup, portion)?;
+        let place = place_for(alloc, &mut lanes, &row.setup, sharing.portions[index])?;
         add_to(&mut places, place)?;
     }
     Ok(Plan { lanes, places })

@@ -1,12 +1,19 @@
 //! How the rows of a grid are divided into portions.
 
-use crate::grid::{Row, Setup};
-use stage_core::Config;
+ghost use Rattle.std.specs.Prelude.{◌≡◌, IfOk, length};
 
-/// Whether two configurations have the same first-level caches, so that one engine may serve their
-/// second levels.
-fn share_first_level(one: &Config, other: &Config) -> bool {
-    one.i() == other.i() && one.d() == other.d()
+use crate::grid::{Row, Setup};
+use crate::lists::add_to;
+use cache_core::NoMemory;
+use stage_core::Config;
+use std::alloc::Global;
+
+/// A row that is simulated: its index, and how many sets its first-level caches have.
+#[derive(Clone, Copy, Debug)]
+struct Simulated {
+    row: usize,
+    i_sets: u64,
+    d_sets: u64,
 }
 
 /// The configuration of a row, if it was not refused.
@@ -17,48 +24,130 @@ fn config_of(row: &Row) -> Option<&Config> {
     }
 }
 
-/// The configuration of the last row that was not refused.
-fn last_config(rows: &[Row]) -> Option<&Config> {
-    rows.iter().rev().find_map(config_of)
+/// The rows that are simulated, in their order.
+fn simulated_rows(alloc: Global, rows: &[Row]) -> Result<Vec<Simulated>, NoMemory> {
+    let mut simulated = Vec::new(alloc);
+    for (row, asked) in rows.iter().enumerate() {
+        if let Some(config) = config_of(asked) {
+            let i_sets = config.i().0.sets();
+            let d_sets = config.d().0.sets();
+            let one = Simulated {
+                row,
+                i_sets,
+                d_sets,
+            };
+            add_to(&mut simulated, one)?;
+        }
+    }
+    Ok(simulated)
 }
 
-/// The group of a row, by that of the row before it. Rows that have the same first-level caches are
-/// a group, if no other rows stand between them but refused ones, whose group does not matter. The
-/// groups are numbered from 0.
-pub(crate) fn group_after(rows: &[Row], index: usize, group: usize) -> usize {
-    if index >= rows.len() {
+/// The rows that are simulated. Those whose data caches have as many sets stand beside one another,
+/// and of these, those whose instruction caches have as many. Else they keep their order.
+fn by_sets(alloc: Global, rows: &[Row]) -> Result<Vec<Simulated>, NoMemory> {
+    let mut ordered = simulated_rows(alloc, rows)?;
+    if ordered.sort_by_key(|one| one.i_sets).is_err() {
+        return Err(NoMemory);
+    }
+    if ordered.sort_by_key(|one| one.d_sets).is_err() {
+        return Err(NoMemory);
+    }
+    Ok(ordered)
+}
+
+/// Whether two configurations have the same first-level caches, so that one engine may serve their
+/// second levels.
+fn share_first_level(one: Option<&Config>, other: Option<&Config>) -> bool {
+    match (one, other) {
+        (Some(one), Some(other)) => one.i() == other.i() && one.d() == other.d(),
+        _ => false,
+    }
+}
+
+/// The group of the row at a place, by that of the row before it. Rows beside one another that have
+/// the same first-level caches are a group. The groups are numbered from 0.
+fn group_after(rows: &[Row], ordered: &[Simulated], place: usize, group: usize) -> usize {
+    if place == 0 || place >= ordered.len() {
         return group;
     }
-    let Some(config) = config_of(&rows[index]) else {
-        return group;
-    };
-    match last_config(&rows[..index]) {
-        Some(last) if !share_first_level(last, config) => group.saturating_add(1),
-        _ => group,
+    let last = rows.get(ordered[place - 1].row).and_then(config_of);
+    let next = rows.get(ordered[place].row).and_then(config_of);
+    if share_first_level(last, next) {
+        group
+    } else {
+        group.saturating_add(1)
     }
 }
 
 /// How many groups there are.
-pub(crate) fn count_groups(rows: &[Row]) -> usize {
+fn count_groups(rows: &[Row], ordered: &[Simulated]) -> usize {
     let mut group = 0;
-    for index in 0..rows.len() {
-        group = group_after(rows, index, group);
+    for place in 0..ordered.len() {
+        group = group_after(rows, ordered, place, group);
     }
     group.saturating_add(1)
 }
 
 /// The portion of a group, of so many, if there are `count` groups. A group is not divided: its
-/// second levels are cheaper together. Groups beside one another have more caches in common, so
-/// each portion has runs of them. It has two, one from each half of the grid: the small caches,
-/// which send most to their second levels, often stand at one end.
-pub(crate) fn portion_of(group: usize, count: usize, portions: usize) -> usize {
-    if portions == 0 || count == 0 {
+/// second levels are cheaper together. Groups beside one another have more in common, so each
+/// portion has runs of them. It has two, one from each half of the groups: the small caches, which
+/// send most to their second levels, often stand at one end. A group goes where its middle is. If
+/// there are no more groups than portions, each has its own.
+fn portion_of(group: usize, count: usize, portions: usize) -> usize {
+    if portions == 0 {
         return 0;
     }
-    let part = group.saturating_mul(2).saturating_mul(portions) / count;
+    if count <= portions {
+        return group;
+    }
+    let middle = group.saturating_mul(2).saturating_add(1);
+    let part = middle.saturating_mul(portions) / count;
     if part < portions {
         part
     } else {
         (portions - 1).saturating_sub(part - portions)
     }
+}
+
+/// Notes the portion of each row that is simulated.
+fn note_portions(rows: &[Row], ordered: &[Simulated], portions: usize, noted: &mut [usize])
+    ensures { length noted.new ≡ length noted.old }
+{
+    let count = count_groups(rows, ordered);
+    let mut group = 0;
+    for (place, one) in ordered.iter().enumerate() {
+        group = group_after(rows, ordered, place, group);
+        if one.row < noted.len() {
+            noted[one.row] = portion_of(group, count, portions);
+        }
+    }
+}
+
+/// In which order the rows are planned, and in which portion each of them is.
+#[derive(Drop)]
+pub(crate) struct Sharing {
+    /// The rows that are simulated, by their indices.
+    pub order: Vec<usize>,
+    /// The portion of each row. That of one that was refused does not matter.
+    pub portions: Vec<usize>,
+}
+
+/// Divides the rows into so many portions. Data caches with as many sets share rows of blocks, so
+/// most of them go to one portion, and stand beside one another there.
+pub(crate) fn share_rows(alloc: Global, rows: &[Row], portions: usize) -> Result<Sharing, NoMemory>
+    ensures { IfOk result (λ sharing. length sharing.portions.items ≡ length rows.now) }
+{
+    let ordered = by_sets(alloc, rows)?;
+    let mut noted = Vec::new(alloc);
+    if noted.resize(rows.len(), 0).is_err() {
+        return Err(NoMemory);
+    }
+    note_portions(rows, &ordered, portions, &mut noted);
+    let Ok(order) = ordered.iter().map(|one| one.row).collect(alloc) else {
+        return Err(NoMemory);
+    };
+    Ok(Sharing {
+        order,
+        portions: noted,
+    })
 }
