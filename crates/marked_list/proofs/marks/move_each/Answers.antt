@@ -1,9 +1,9 @@
-use Rattle.std.proofs.Common.{◌≡◌, ◌≤◌, ◌++◌, List, length, map, take, drop, sym, ap, subst}
-use Rattle.std.proofs.Common.{◌∙◌, arith}
+use Rattle.std.proofs.Common.{◌≡◌, ◌++◌, List, length, map, take, drop, sym, ap, subst}
+use Rattle.std.proofs.Common.{arith}
 use Rattle.std.specs.List.Sorted.{IsStrictlyIncreasing}
 use Rattle.std.proofs.lemmas.Grind.{common_steps}
 use Rattle.marked_list.specs.Recency.{index_of}
-use Rattle.marked_list.specs.Uses.{last_in, used_next}
+use Rattle.marked_list.specs.Uses.{used_next}
 use Rattle.marked_list.specs.declared.marks.Mark.{Mark}
 use Rattle.marked_list.specs.Marks.{AreMarks, covers, size_of}
 use Rattle.marked_list.proofs.Living.{once-is}
