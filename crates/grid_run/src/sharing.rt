@@ -8,12 +8,13 @@ use cache_core::NoMemory;
 use stage_core::Config;
 use std::alloc::Global;
 
-/// A row that is simulated: its index, and how many sets its first-level caches have.
+/// A row that is simulated: its index, how many sets its first-level caches have, and its group.
 #[derive(Clone, Copy, Debug)]
-struct Simulated {
+struct RowSets {
     row: usize,
     i_sets: u64,
     d_sets: u64,
+    group: usize,
 }
 
 /// The configuration of a row, if it was not refused.
@@ -24,17 +25,16 @@ fn config_of(row: &Row) -> Option<&Config> {
     }
 }
 
-/// The rows that are simulated, in their order.
-fn simulated_rows(alloc: Global, rows: &[Row]) -> Result<Vec<Simulated>, NoMemory> {
+/// The rows that are simulated, in their order, not yet in groups.
+fn simulated_rows(alloc: Global, rows: &[Row]) -> Result<Vec<RowSets>, NoMemory> {
     let mut simulated = Vec::new(alloc);
     for (row, asked) in rows.iter().enumerate() {
         if let Some(config) = config_of(asked) {
-            let i_sets = config.i().0.sets();
-            let d_sets = config.d().0.sets();
-            let one = Simulated {
+            let one = RowSets {
                 row,
-                i_sets,
-                d_sets,
+                i_sets: config.i().0.sets(),
+                d_sets: config.d().0.sets(),
+                group: 0,
             };
             add_to(&mut simulated, one)?;
         }
@@ -44,7 +44,7 @@ fn simulated_rows(alloc: Global, rows: &[Row]) -> Result<Vec<Simulated>, NoMemor
 
 /// The rows that are simulated. Those whose data caches have as many sets stand beside one another,
 /// and of these, those whose instruction caches have as many. Else they keep their order.
-fn by_sets(alloc: Global, rows: &[Row]) -> Result<Vec<Simulated>, NoMemory> {
+fn by_sets(alloc: Global, rows: &[Row]) -> Result<Vec<RowSets>, NoMemory> {
     let mut ordered = simulated_rows(alloc, rows)?;
     if ordered.sort_by_key(|one| one.i_sets).is_err() {
         return Err(NoMemory);
@@ -64,26 +64,18 @@ fn share_first_level(one: Option<&Config>, other: Option<&Config>) -> bool {
     }
 }
 
-/// The group of the row at a place, by that of the row before it. Rows beside one another that have
-/// the same first-level caches are a group. The groups are numbered from 0.
-fn group_after(rows: &[Row], ordered: &[Simulated], place: usize, group: usize) -> usize {
-    if place == 0 || place >= ordered.len() {
-        return group;
-    }
-    let last = rows.get(ordered[place - 1].row).and_then(config_of);
-    let next = rows.get(ordered[place].row).and_then(config_of);
-    if share_first_level(last, next) {
-        group
-    } else {
-        group.saturating_add(1)
-    }
-}
-
-/// How many groups there are.
-fn count_groups(rows: &[Row], ordered: &[Simulated]) -> usize {
-    let mut group = 0;
-    for place in 0..ordered.len() {
-        group = group_after(rows, ordered, place, group);
+/// Numbers the groups from 0, and answers how many there are. Rows beside one another that have the
+/// same first-level caches are a group.
+fn number_groups(rows: &[Row], ordered: &mut [RowSets]) -> usize {
+    let mut group = 0usize;
+    let mut last = None;
+    for one in ordered.iter_mut() {
+        let config = rows.get(one.row).and_then(config_of);
+        if last.is_some() && !share_first_level(last, config) {
+            group = group.saturating_add(1);
+        }
+        one.group = group;
+        last = config;
     }
     group.saturating_add(1)
 }
@@ -109,16 +101,13 @@ fn portion_of(group: usize, count: usize, portions: usize) -> usize {
     }
 }
 
-/// Notes the portion of each row that is simulated.
-fn note_portions(rows: &[Row], ordered: &[Simulated], portions: usize, noted: &mut [usize])
+/// Notes the portion of each of these rows, which are so many groups.
+fn note_portions(ordered: &[RowSets], count: usize, portions: usize, noted: &mut [usize])
     ensures { length noted.new ≡ length noted.old }
 {
-    let count = count_groups(rows, ordered);
-    let mut group = 0;
-    for (place, one) in ordered.iter().enumerate() {
-        group = group_after(rows, ordered, place, group);
+    for one in ordered {
         if one.row < noted.len() {
-            noted[one.row] = portion_of(group, count, portions);
+            noted[one.row] = portion_of(one.group, count, portions);
         }
     }
 }
@@ -137,12 +126,13 @@ pub(crate) struct Sharing {
 pub(crate) fn share_rows(alloc: Global, rows: &[Row], portions: usize) -> Result<Sharing, NoMemory>
     ensures { IfOk result (λ sharing. length sharing.portions.items ≡ length rows.now) }
 {
-    let ordered = by_sets(alloc, rows)?;
+    let mut ordered = by_sets(alloc, rows)?;
+    let count = number_groups(rows, &mut ordered);
     let mut noted = Vec::new(alloc);
     if noted.resize(rows.len(), 0).is_err() {
         return Err(NoMemory);
     }
-    note_portions(rows, &ordered, portions, &mut noted);
+    note_portions(&ordered, count, portions, &mut noted);
     let Ok(order) = ordered.iter().map(|one| one.row).collect(alloc) else {
         return Err(NoMemory);
     };
