@@ -30,7 +30,7 @@ module _ (fs : List Front) (seat : Seat) (f : Front) (at : f ≡ get_or fs seat.
   rules-there = get_or-map front_rules fs seat.family f [] family-inside ∙ ap front_rules (sym at)
 
   -- and one at its cell
-  cell-inside : seat.cell < length (front_rules f)
+  pub cell-inside : seat.cell < length (front_rules f)
   cell-inside = subst (λ (rs : List Rules). seat.cell < length rs) rules-there placed.cell
 
   -- it has the rules of the seat

@@ -17,6 +17,7 @@ use Rattle.grid_run.specs.Banks.{WasAsked}
 use Rattle.grid_run.specs.FirstLevels.{FirstTask, WasGiven, first_task, numbered_by, sent_by}
 use Rattle.grid_run.specs.Fronts.{front_rules}
 use Rattle.grid_run.specs.Numbering.{what_of}
+use Rattle.grid_run.specs.Picking.{picked_by}
 use Rattle.grid_run.specs.Seats.{SeatRules, rules_of_seat}
 use Rattle.grid_run.specs.Lanes.{HasGiven, HasTaken}
 use Rattle.grid_run.specs.declared.bank.Bank.{Bank}
@@ -76,10 +77,10 @@ unfolding first_task
 emptied f qs records before seats none given =
     let is = map front_rules f.i.items in
     let ds = map front_rules f.d.items in
-    let sent = sent_behind is ds (events f.selector.selection records) in
+    let sent = sent_behind is ds (events (picked_by f.picker) records) in
     record {
       seated = subst (λ (ps : List BothSeats). All (AreSeatsIn is ds) ps) (sym seats) given.seated;
-      offered = given.offered;
+      picked = given.picked;
       served = record {
         i = given.served.i;
         d = given.served.d;

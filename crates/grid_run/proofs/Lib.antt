@@ -5,6 +5,8 @@ pub mod Rooms
 pub mod SecondTurns
 pub mod Events
 pub mod Sent
+pub mod Fetching
+pub mod Selections
 pub mod Behind
 pub mod Placed
 pub mod MoreNumbers

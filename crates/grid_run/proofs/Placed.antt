@@ -23,11 +23,11 @@ use Rattle.grid_run.specs.Seats.{SeatRules, rules_of_seat}
 use Rattle.grid_run.specs.declared.back.Back.{Back}
 use Rattle.grid_run.specs.declared.first_levels.FirstLevels.{FirstLevels}
 use Rattle.grid_run.specs.declared.lane.Lane.{Lane}
+use Rattle.grid_run.specs.declared.picker.Picker.{Picker}
 use Rattle.grid_run.specs.declared.plan.BackShelf.{BackShelf}
 use Rattle.grid_run.specs.declared.plan.Place.{Place}
 use Rattle.grid_run.specs.declared.queue.Queue.{Queue}
 use Rattle.grid_run.specs.declared.seat.BothSeats.{BothSeats}
-use Rattle.stage_core.specs.declared.selection.Selector.{Selector}
 
 -- what follows from two facts of the answer Ok
 pub on-ok-both : {T E A B C : Type 0} (r : Result T E) → (A → B → C) → OnOk r A → OnOk r B
@@ -46,10 +46,10 @@ pub ok-so : {T E P : Type 0} (r : Result T E) {v : T} → r ≡ Ok v → OnOk r 
 ok-so (Ok t) is p = p
 ok-so (Err e) is p = absurd cc
 
--- first levels with another selector have served the same
-pub served-by-same : (given : RequestsFor) (s : Selector) (f : FirstLevels) (es : List DinRecord)
-    → HasServed given es f → HasServed given es (record f { selector = s })
-served-by-same given s f es served =
+-- first levels with another picker have served the same
+pub served-by-same : (given : RequestsFor) (p : Picker) (f : FirstLevels) (es : List DinRecord)
+    → HasServed given es f → HasServed given es (record f { picker = p })
+served-by-same given p f es served =
     record { i = served.i; d = served.d; queues = served.queues }
 
 -- seats of caches of both sides are seats of caches of each

@@ -4,13 +4,13 @@ use Rattle.std.specs.List.{All}
 use Rattle.din_trace.specs.declared.record.DinRecord.{DinRecord}
 use Rattle.grid_core.specs.Numbered.{blocks_in}
 use Rattle.stage_core.specs.Events.{events, history}
-use Rattle.stage_core.specs.Standing.{WasOffered}
 use Rattle.stage_core.specs.declared.message.Side.TheVariants as side
 use Rattle.stage_core.specs.declared.selection.Selection.{Selection}
 use Rattle.grid_run.specs.Backs.{AreSeatsIn, AreWaiting, QueuesStayNumbered}
 use Rattle.grid_run.specs.Backs.{RequestsFor, queue_seats, seats_of_task, sent_behind}
 use Rattle.grid_run.specs.Backs.{task_of_shelf}
 use Rattle.grid_run.specs.Fronts.{FrontAt, front_rules}
+use Rattle.grid_run.specs.Picking.{HasPicked, picked_by}
 use Rattle.grid_run.specs.Seats.{SeatRules, rules_on}
 use Rattle.grid_run.specs.declared.first_levels.FirstLevels.{FirstLevels}
 use Rattle.grid_run.specs.declared.plan.LanePlan.{LanePlan}
@@ -27,7 +27,7 @@ pub record FirstTask : Type 0 where
 -- what these do
 unfoldable pub first_task : FirstLevels → FirstTask
 first_task f = record {
-  selection = f.selector.selection;
+  selection = picked_by f.picker;
   i = map front_rules f.i.items;
   d = map front_rules f.d.items;
   seats = map queue_seats f.queues.items;
@@ -73,8 +73,8 @@ pub record HasServed (given : RequestsFor) (es : List DinRecord) (f : FirstLevel
 pub record WasGiven (given : RequestsFor) (records : List DinRecord) (f : FirstLevels)
     : Type 0 where
   pub seated : AreSeated (first_task f)
-  pub offered : WasOffered f.selector records
-  pub served : HasServed given (events f.selector.selection records) f
+  pub picked : HasPicked records f.picker
+  pub served : HasServed given (events (picked_by f.picker) records) f
 
 -- caches were given these records behind all that they had been given
 pub record HaveTaken (records : List DinRecord) (old new : FirstLevels) : Type 0 where

@@ -8,6 +8,7 @@ use Rattle.grid_run.specs.Backs.{task_of_shelf}
 use Rattle.grid_run.specs.Banks.{NothingWaitsIn, WasAsked, tasks_of_banks}
 use Rattle.grid_run.specs.FirstLevels.{WasGiven, first_task, numbered_by, sent_by}
 use Rattle.grid_run.specs.Fronts.{front_rules}
+use Rattle.grid_run.specs.Picking.{picked_by}
 use Rattle.grid_run.specs.Seats.{SeatRules, rules_on}
 use Rattle.grid_run.specs.declared.lane.Lane.{Lane}
 use Rattle.grid_run.specs.declared.plan.LanePlan.{LanePlan}
@@ -22,7 +23,7 @@ pub record LaneTask : Type 0 where
 -- what this lane does
 unfoldable pub lane_task : Lane → LaneTask
 lane_task l = record {
-  selection = l.first.selector.selection;
+  selection = picked_by l.first.picker;
   i = map front_rules l.first.i.items;
   d = map front_rules l.first.d.items;
   backs = tasks_of_banks l.banks.items;

@@ -9,6 +9,9 @@ pub mod Fronts
 pub mod Seats
 pub mod Backs
 pub mod Banks
+pub mod Fetching
+pub mod Selections
+pub mod Picking
 pub mod FirstLevels
 pub mod Lanes
 pub mod Workers

@@ -1,7 +1,7 @@
 //! The first-level caches of a lane.
 
 ghost use Rattle.std.specs.Prelude.{◌≡◌, ◌<◌, ◌≤◌, ◌+◌, ◌*◌, ◌^◌, ◌++◌, ◌∷◌, [], List, IfOk};
-ghost use Rattle.std.specs.Prelude.{OnOk, length, map, option_to_list};
+ghost use Rattle.std.specs.Prelude.{OnOk, length, map, option_to_list, take};
 ghost use Rattle.std.specs.List.{All};
 ghost use Rattle.cache_core.specs.History.{History};
 ghost use Rattle.grid_core.specs.Numbered.{blocks_in};
@@ -17,7 +17,8 @@ ghost use Rattle.grid_run.specs.Fronts.{FrontAt, front_rules};
 ghost use Rattle.grid_run.specs.Sending.{event_of};
 
 use crate::front::Front;
-use crate::fronts::{are_silent, fronts_for, serve_again, serve_fronts};
+use crate::fronts::{are_silent, fronts_for, serve_again, serve_fetches, serve_fronts};
+use crate::picker::Picker;
 use crate::plan::LanePlan;
 use crate::queue::Queue;
 use crate::queues::{ask_queues, queues_for};
@@ -25,14 +26,14 @@ use crate::requests::{Request, asked_of};
 use cache_core::NoMemory;
 use din_trace::{DinRecord, Label, MAX_LIMIT};
 use grid_core::BlockNumbers;
-use stage_core::{Selector, Side, selections_make_at_most_two};
+use stage_core::{Side, selections_make_at_most_two};
 use std::alloc::Global;
 
-/// A selector, the first-level caches that serve what it selects, and the queues of what these
-/// send.
+/// A picker, the first-level caches that serve the events that it picks, and the queues of what
+/// these send.
 #[derive(Drop)]
 pub(crate) struct FirstLevels {
-    selector: Selector,
+    picker: Picker,
     pub i: Vec<Front>,
     pub d: Vec<Front>,
     pub queues: Vec<Queue>,
@@ -123,7 +124,7 @@ impl FirstLevels {
         ensures task { IfOk result (λ first. first_task first ≡ first_of_plan plan.now) }
     {
         Ok(FirstLevels {
-            selector: Selector::new(plan.selection),
+            picker: Picker::new(plan.selection),
             i: fronts_for(alloc, &plan.i)?,
             d: fronts_for(alloc, &plan.d)?,
             queues: queues_for(alloc, &plan.backs)?,
@@ -141,7 +142,7 @@ impl FirstLevels {
             HasServed served es self.old → HasServed served (es ++ event ∷ []) self.new) }
         ensures numbers { OnOk result (StaysNumberedIn self.old self.new) }
         ensures task { first_task self.new ≡ first_task self.old }
-        ensures selector { self.new.selector ≡ self.old.selector }
+        ensures picker { self.new.picker ≡ self.old.picker }
     {
         let numbers = &mut self.numbers;
         serve_side(&mut self.i, &mut self.queues, numbers, Side::I, event)?;
@@ -162,7 +163,7 @@ impl FirstLevels {
             HasServed served es self.old → HasServed served (es ++ option_to_list event) self.new) }
         ensures numbers { OnOk result (StaysNumberedIn self.old self.new) }
         ensures task { first_task self.new ≡ first_task self.old }
-        ensures selector { self.new.selector ≡ self.old.selector }
+        ensures picker { self.new.picker ≡ self.old.picker }
     {
         match event {
             Some(event) => self.take_event(event),
@@ -180,9 +181,28 @@ impl FirstLevels {
         ensures task { first_task self.new ≡ first_task self.old }
     {
         selections_make_at_most_two();
-        let picked = self.selector.offer(next);
+        let picked = self.picker.offer(next);
         self.take_some(picked.event)?;
         self.take_some(picked.inserted())
+    }
+
+    /// Takes the fetches that stand first among these records, as long as they go the short way, if
+    /// each record is an event as it is. Answers how many these are.
+    fn take_fetches(&mut self, part: &[DinRecord]) -> usize
+        requires room { (served : RequestsFor) × (past : List Event)
+            × WasGiven served past self.old × (length past + length part.now ≤ MAX_LIMIT) }
+        ensures inside { result ≤ length part.now }
+        ensures given { (served : RequestsFor) (past : List Event) →
+            WasGiven served past self.old →
+            WasGiven served (past ++ take result part.now) self.new }
+        ensures numbers { StaysNumberedIn self.old self.new }
+        ensures task { first_task self.new ≡ first_task self.old }
+    {
+        selections_make_at_most_two();
+        if !self.picker.is_whole() {
+            return 0;
+        }
+        serve_fetches(&mut self.i, part)
     }
 
     /// Takes records in their order.
@@ -194,8 +214,11 @@ impl FirstLevels {
         ensures numbers { OnOk result (StaysNumberedIn self.old self.new) }
         ensures task { first_task self.new ≡ first_task self.old }
     {
-        for next in part {
-            self.take(*next)?;
+        let mut index = 0;
+        'records: while index < part.len() {
+            self.take(part[index])?;
+            index += 1;
+            index += self.take_fetches(&part[index..]);
         }
         Ok(())
     }

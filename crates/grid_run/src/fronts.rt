@@ -1,20 +1,28 @@
 //! The first-level caches of one side.
 
-ghost use Rattle.std.specs.Prelude.{◌≡◌, ◌<◌, ◌^◌, ◌∷◌, [], ℕ, List, IfOk, OnOk, map, length};
-ghost use Rattle.std.specs.Prelude.{true, false};
+ghost use Rattle.std.specs.Prelude.{◌≡◌, ◌<◌, ◌≤◌, ◌+◌, ◌*◌, ◌^◌, ◌++◌, ◌∷◌, [], ℕ, List};
+ghost use Rattle.std.specs.Prelude.{IfOk, OnOk, map, length, take, true, false};
 ghost use Rattle.std.specs.List.{All};
 ghost use Rattle.cache_core.specs.History.{History};
 ghost use Rattle.cache_core.specs.Lists.{IsBeginning};
+ghost use Rattle.din_trace.specs.declared.record.DinRecord.{DinRecord as Event};
 ghost use Rattle.grid_core.specs.Numbered.{blocks_in};
+ghost use Rattle.stage_core.specs.Events.{history};
+ghost use Rattle.stage_core.specs.declared.message.Side.TheVariants as side;
+ghost use Rattle.grid_run.specs.Backs.{IsSeatIn};
+ghost use Rattle.grid_run.specs.Fetching.{AsksNoData, fetched};
 ghost use Rattle.grid_run.specs.Fronts.{FrontAt, HasSent, IsSilent, front_rules};
-ghost use Rattle.grid_run.specs.Seats.{rules_on};
+ghost use Rattle.grid_run.specs.Seats.{rules_of_seat, rules_on};
 ghost use Rattle.grid_run.specs.Sending.{event_of};
+ghost use Rattle.grid_run.specs.declared.seat.Seat.{Seat};
 
+use crate::fetches::fetch_on;
 use crate::front::Front;
 use crate::lists::made_for_each;
 use crate::requests::Request;
 use crate::shelf::Shelf;
 use cache_core::NoMemory;
+use din_trace::{DinRecord, MAX_LIMIT};
 use grid_core::BlockNumbers;
 use std::alloc::Global;
 
@@ -73,6 +81,29 @@ pub(crate) fn serve_again(fronts: &mut Vec<Front>, request: Request) -> bool
         return false;
     }
     fronts[0].again(access)
+}
+
+/// Serves the fetches that stand first among these records, as long as they go the short way, if
+/// all instruction caches are served together. Answers how many these are. They send nothing.
+pub(crate) fn serve_fetches(fronts: &mut Vec<Front>, part: &[DinRecord]) -> usize
+    requires room { (blocks : List ℕ) × (es : List Event)
+        × All (FrontAt blocks (history side.I es)) fronts.old.items
+        × (length es + length part.now ≤ 2 * MAX_LIMIT) }
+    ensures inside { result ≤ length part.now }
+    ensures stands { (blocks : List ℕ) (es : List Event) →
+        All (FrontAt blocks (history side.I es)) fronts.old.items →
+        All (FrontAt blocks (history side.I (es ++ take result part.now))) fronts.new.items }
+    ensures silent { (blocks : List ℕ) (es : List Event) →
+        All (FrontAt blocks (history side.I es)) fronts.old.items →
+        (seat : Seat) → IsSeatIn (map front_rules fronts.old.items) seat → fetched
+        (rules_of_seat (map front_rules fronts.old.items) seat) es (take result part.now) ≡ [] }
+    ensures no_data { All AsksNoData (take result part.now) }
+    ensures rules { map front_rules fronts.new.items ≡ map front_rules fronts.old.items }
+{
+    if fronts.len() == 1 {
+        return fetch_on(&mut fronts[0], part);
+    }
+    0
 }
 
 /// Whether no cache sent anything for the last request. May be `false` though none did.

@@ -4,11 +4,12 @@
 //! in the caches of that row. Then it writes a line for each row. [`write_heads`],
 //! [`write_counted`] and [`write_refused`] write the lines of a table from given figures.
 //!
-//! The rows are divided into portions, one for each thread. A `lane` has the rows of one portion
-//! that have one selection; what these have in common is done once. In it, the first-level caches
-//! of a side that have one block size and one policy are a `family`, which an engine of grid_core
-//! serves (`front`, `fronts`), and what each pair of them sends waits in a queue (`queue`,
-//! `queues`, `parts`), with the number of its block (`numbered`): these are the `first_levels`.
+//! The rows are divided into portions, one for each thread (`sharing`). A `lane` has the rows of
+//! one portion that have one selection; what these have in common is done once. In it, a `picker`
+//! makes events of the records. The first-level caches of a side that have one block size and one
+//! policy are a `family`, which an engine of grid_core serves (`front`, `fronts`, `fetches`), and
+//! what each pair of them sends waits in a queue (`queue`, `queues`, `parts`), with the number of
+//! its block (`numbered`): these are the `first_levels`.
 //! Behind each queue are second levels (`second`, `back`), which take it over and serve what waits.
 //! Their caches (`second_caches`) are a family too, or a `lone` LRU cache, which stamped_cache
 //! serves. One thread serves the second levels of a `bank`, so that different threads can serve the
@@ -35,6 +36,7 @@ mod beside;
 mod crew;
 mod family;
 mod fault;
+mod fetches;
 mod figures;
 mod first_levels;
 mod front;
@@ -46,6 +48,7 @@ mod lone;
 mod numbered;
 mod numbers;
 mod parts;
+mod picker;
 mod plan;
 mod queue;
 mod queues;

@@ -20,7 +20,7 @@ returns c =
     record {
       given = record {
         seated = subst AreSeated (sym same) c.requires.seated;
-        offered = c.new.ensures.none;
+        picked = c.new.ensures.none;
         served = record {
           i = c.in_ok-fronts_for.ensures.stands _;
           d = c.in_ok-fronts_for-2.ensures.stands _;

@@ -17,6 +17,7 @@ use Rattle.grid_run.specs.FirstLevels.{HasServed, first_task, numbered_by, sent_
 use Rattle.grid_run.specs.Fronts.{FrontAt, front_rules}
 use Rattle.grid_run.specs.Lanes.{lane_task}
 use Rattle.grid_run.specs.SecondCaches.{SecondStandsBy}
+use Rattle.grid_run.specs.Picking.{picked_by}
 use Rattle.grid_run.specs.Rows.{IsPlaceIn}
 use Rattle.grid_run.specs.declared.back.Back.{Back}
 use Rattle.grid_run.specs.declared.bank.Bank.{Bank}
@@ -84,7 +85,7 @@ returns c = λ rules chosen past place taken.
     let fi = c.index.result.now in
     let fd = c.index-2.result.now in
     let b = c.back_at.result.now in
-    let sel : events l.first.selector.selection past ≡ events chosen past =
+    let sel : events (picked_by l.first.picker) past ≡ events chosen past =
     ap (λ (s : Selection). events s past) place.selection in
     let es : List DinRecord = events chosen past in
     let f = l.first in
