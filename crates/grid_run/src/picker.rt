@@ -14,11 +14,13 @@ pub(crate) struct Picker {
     /// Whether each record is an event as it is.
     whole: bool,
     ghost takes: { whole ≡ true → TakesAll selector.selection },
+    ghost every: { TakesAll selector.selection → whole ≡ true },
 }
 
 /// Whether a selection leaves nothing out and puts nothing in.
 fn takes_all(selection: Selection) -> bool
-    ensures { result ≡ true → TakesAll selection }
+    ensures takes { result ≡ true → TakesAll selection }
+    ensures every { TakesAll selection → result ≡ true }
 {
     selection.skip == 0 && selection.max == 0 && selection.every == 0
 }
@@ -45,6 +47,7 @@ impl Picker {
     /// Whether each record is an event as it is.
     pub fn is_whole(&self) -> bool
         ensures takes { result ≡ true → TakesAll (picked_by self.now) }
+        ensures every { TakesAll (picked_by self.now) → result ≡ true }
         ensures picked { result ≡ true → (past : List Event) → HasPicked past self.now }
     {
         self.whole
