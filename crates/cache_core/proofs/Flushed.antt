@@ -19,8 +19,8 @@ use Rattle.cache_core.specs.Row.{empty_way, row, is_dirty_way, block_addr_of, wa
 use Rattle.cache_core.proofs.Reuse.{has, has-ways_of, has-take, has-filter}
 use Rattle.cache_core.proofs.Turns.{absent}
 use Rattle.cache_core.proofs.Victim.{resident-renewed}
-use Rattle.cache_core.proofs.Ascending.{same_test, same-rising, rises-rising, has-rising}
-use Rattle.cache_core.proofs.Ascending.{rises-times, has-permutation, has-dedup}
+use Rattle.cache_core.proofs.Rising.{same_test, same-rising, rises-rising, has-rising}
+use Rattle.cache_core.proofs.Rising.{rises-times, has-permutation, has-dedup}
 
 -- whether some dirty way has this first byte
 abbrev holds_dirty : ℕ → Way → Bool
@@ -218,7 +218,7 @@ module _ (r : Rules) (pos : 0 < r.bsize) (setful : 0 < r.sets) (h : History) (xs
       (subst (λ l. list_any (holds_dirty z) l ≡ true) (sym (rows t (mod-lt b.0 setful))) shown)
 
   -- the first bytes of the dirty ways, sorted and without repetitions, are those of the dirty
-  -- blocks in ascending order
+  -- blocks in rising order
   pub flushed-is : (ys : List ℕ) → IsPermutation block_addrs ys → IsSorted nat_cmp ys
       → dedup eqb ys ≡ wanted
   unfolding dirty_blocks

@@ -1,6 +1,6 @@
 pub mod AccessStep
 pub mod Again
-pub mod Ascending
+pub mod Rising
 pub mod AtAccess
 pub mod CacheFacts
 pub mod Cases

@@ -16,7 +16,7 @@ use Rattle.cache_core.specs.Order.{ranked}
 use Rattle.cache_core.proofs.AtAccess.{at_access}
 use Rattle.cache_core.proofs.Reuse.{has, has-take}
 use Rattle.cache_core.proofs.Shift.{IsOnce}
-use Rattle.cache_core.proofs.Ascending.{not-itself, rest-rises, rises-rising, has-rising}
+use Rattle.cache_core.proofs.Rising.{not-itself, rest-rises, rises-rising, has-rising}
 use Rattle.cache_core.proofs.Flushed.{has-filter_both, filter-has}
 use Rattle.cache_core.proofs.Turns.{renewals-yes, renewals-no, block-hit}
 use Rattle.cache_core.proofs.Victim.{resident-renewed, no-way, elsewhere, front-is, later-is}

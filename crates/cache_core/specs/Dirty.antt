@@ -4,13 +4,13 @@ use Rattle.std.specs.Prelude.{◌∷◌, filter}
 use Rattle.cache_core.specs.History.{access, flush, History, Rules, block_of, is_write}
 use Rattle.cache_core.specs.Residents.{hits, uses, renewals, is_resident}
 
--- an ascending list with this number inserted, unless it is there already
+-- a rising list with this number inserted, unless it is there already
 abbrev pub inserted : ℕ → List ℕ → List ℕ
 inserted x [] = x ∷ []
 inserted x (y ∷ ys) =
     if nat_lt x y then x ∷ y ∷ ys else (if x == y then y ∷ ys else y ∷ inserted x ys)
 
--- the numbers of a list in ascending order, each once
+-- the numbers of a list in rising order, each once
 abbrev pub rising : List ℕ → List ℕ
 rising [] = []
 rising (x ∷ xs) = inserted x (rising xs)
@@ -29,6 +29,6 @@ module _ (r : Rules) where
   unfoldable pub is_dirty : History → ℕ → Bool
   is_dirty h b = r.wback && is_resident r (renewals r h) b && is_written h b
 
-  -- the dirty blocks, in ascending order
+  -- the dirty blocks, in rising order
   unfoldable pub dirty_blocks : History → List ℕ
   dirty_blocks h = rising (filter (is_dirty h) (renewals r h))

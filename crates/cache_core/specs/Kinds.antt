@@ -12,6 +12,13 @@ use Rattle.cache_core.specs.Residents.{hits, renewals}
 abbrev pub shadow_of : Rules → Rules
 shadow_of r = record r { sets = 1; assoc = r.blocks; fifo = false }
 
+-- why an access misses, by whether its block was ever accessed and whether the shadow hits: a miss
+-- is compulsory if the block never was; otherwise it is a capacity miss if the shadow misses too,
+-- and a conflict miss if the shadow hits
+abbrev pub kind_by : Bool → Bool → MissKind
+kind_by referenced in_shadow =
+    if referenced then (if in_shadow then Conflict else Capacity) else Compulsory
+
 module _ (r : Rules) where
   -- the blocks of all accesses so far, also of those before a flush
   unfoldable pub referenced_blocks : History → List ℕ
@@ -19,13 +26,10 @@ module _ (r : Rules) where
   referenced_blocks (flush ∷ h) = referenced_blocks h
   referenced_blocks (access x ∷ h) = block_of r x ∷ referenced_blocks h
 
-  -- a miss is compulsory if its block was never accessed before; otherwise it is a capacity miss if
-  -- the shadow misses too, and a conflict miss if the shadow hits
+  -- why the access x misses, by its block and its shadow
   unfoldable pub kind_of_miss : History → Access → MissKind
-  kind_of_miss h x =
-      if list_any (λ b. b == block_of r x) (referenced_blocks h)
-      then (if hits (shadow_of r) (renewals (shadow_of r) h) x then Conflict else Capacity)
-      else Compulsory
+  kind_of_miss h x = kind_by (list_any (λ b. b == block_of r x) (referenced_blocks h))
+      (hits (shadow_of r) (renewals (shadow_of r) h) x)
 
 -- whether this is the kind k; a hit has no kind
 abbrev pub is_kind : MissKind → Option MissKind → Bool

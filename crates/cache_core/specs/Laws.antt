@@ -60,7 +60,7 @@ PartsAreCharged = (r : Rules) (h : History) (x : Access) →
 abbrev pub FlushesLeaveNoneDirty : Type 0
 FlushesLeaveNoneDirty = (r : Rules) (h : History) → dirty_blocks r (flush ∷ h) ≡ []
 
--- the list of the dirty blocks is strictly ascending, so no block is in it twice
+-- the list of the dirty blocks is strictly rising, so no block is in it twice
 abbrev pub DirtyBlocksRise : Type 0
 DirtyBlocksRise = (r : Rules) (h : History) → IsStrictlyIncreasing (dirty_blocks r h)
 

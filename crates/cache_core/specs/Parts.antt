@@ -1,6 +1,6 @@
 -- The outcome of one access, which includes what it sends to the next level.
-use Rattle.std.specs.Prelude.{ℕ, ◌+◌, ◌*◌, Bool, ◌&&◌, ◌||◌, not, if◌then◌else◌, Option, Some, None}
-use Rattle.std.specs.Prelude.{is_some}
+use Rattle.std.specs.Prelude.{◌≡◌, ℕ, ◌+◌, ◌*◌, Bool, false, ◌&&◌, ◌||◌, not, if◌then◌else◌}
+use Rattle.std.specs.Prelude.{Option, Some, None, is_some}
 use Rattle.cache_core.specs.declared.access.Access.{Access}
 use Rattle.cache_core.specs.declared.access.Outcome.{Outcome}
 use Rattle.cache_core.specs.History.{History, Rules, is_write}
@@ -29,6 +29,12 @@ module _ (r : Rules) where
     fetch = loads r (renewals r h) x;
     through = is_write x && (not r.wback || not (uses r (renewals r h) x));
   }
+
+-- none of the parts is there
+pub record SendsNothing (o : Outcome) : Type 0 where
+  pub back : o.back ≡ None
+  pub fetch : o.fetch ≡ false
+  pub through : o.through ≡ false
 
 -- how many parts an outcome has
 abbrev pub part_count : Outcome → ℕ

@@ -4,9 +4,9 @@ use Rattle.std.specs.Prelude.{◌||◌, not, ◌==◌, cond, if◌then◌else◌
 use Rattle.std.specs.Prelude.{Some, None, is_some}
 use Rattle.std.specs.Option.{option_map_or}
 use Rattle.cache_core.specs.declared.access.Outcome.{Outcome}
-use Rattle.cache_core.specs.declared.access.MissKind.TheVariants.{Compulsory, Capacity, Conflict}
 use Rattle.cache_core.specs.declared.ways.Way.{Way}
 use Rattle.cache_core.specs.History.{Rules, History}
+use Rattle.cache_core.specs.Kinds.{kind_by}
 use Rattle.cache_core.specs.Residents.{renewals}
 use Rattle.cache_core.specs.Dirty.{is_written}
 use Rattle.cache_core.specs.Parts.{one_if}
@@ -117,8 +117,7 @@ module _ (wback walloc : Bool) (b : ℕ) (write : Bool) (row : List Way) (seen :
 abbrev pub outcome_made : Bool → Bool → Bool → Bool → Option ℕ → Bool → Bool → Outcome
 outcome_made wback walloc write hit back referenced in_shadow = record {
   hit = hit;
-  kind = (if hit then None else Some
-      (if referenced then (if in_shadow then Conflict else Capacity) else Compulsory));
+  kind = (if hit then None else Some (kind_by referenced in_shadow));
   back = back;
   fetch = (not write || walloc || hit) && not hit;
   through = write && (not wback || not (not write || walloc || hit));

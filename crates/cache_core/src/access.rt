@@ -65,6 +65,19 @@ pub struct Outcome {
     pub through: bool,
 }
 
+impl Outcome {
+    ghost use Rattle.std.specs.Prelude.{◌≡◌, true};
+    ghost use Rattle.cache_core.specs.Parts.{SendsNothing};
+
+    /// Whether nothing goes to the next level.
+    pub fn sends_nothing(self) -> bool
+        ensures sends { result ≡ true → SendsNothing self }
+        ensures every { SendsNothing self → result ≡ true }
+    {
+        self.back.is_none() && !self.fetch && !self.through
+    }
+}
+
 /// What the sets of a cache answer to one access.
 #[derive(Clone, Copy, Debug, PartialEq, Eq)]
 pub struct Served {

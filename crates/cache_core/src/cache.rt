@@ -135,7 +135,7 @@ impl Cache {
     }
 
     /// Empties the cache and its shadow, and appends the addresses of the first bytes of the dirty
-    /// blocks to `out`, in ascending order. The blocks that were ever accessed stay known. After an
+    /// blocks to `out`, in rising order. The blocks that were ever accessed stay known. After an
     /// error the counts and `out` are unchanged, and the cache has failed.
     pub fn flush(&mut self, out: &mut Vec<u64>) -> Result<(), NoMemory>
         requires { served_of self.old < MAX_EVENTS }

@@ -1,13 +1,11 @@
 //! The blocks that a cache holds, without its counts and the kinds of its misses.
 
-ghost use Rattle.std.specs.Prelude.{◌≡◌, true, if◌then◌else◌};
-ghost use Rattle.cache_core.specs.declared.access.MissKind.TheVariants.{Compulsory, Capacity};
-ghost use Rattle.cache_core.specs.declared.access.MissKind.TheVariants.{Conflict};
+ghost use Rattle.std.specs.Prelude.{◌≡◌, true};
 ghost use Rattle.cache_core.specs.Geometry.{sets_of, assoc_of};
 ghost use Rattle.cache_core.specs.Row.{outcome_made};
 ghost use Rattle.cache_core.specs.Sets.{has_shape};
 
-use crate::access::{Access, MissKind, Outcome, Served};
+use crate::access::{Access, Outcome, Served};
 use crate::geometry::Geometry;
 use crate::kinds::Prior;
 use crate::policy::{Policy, may_load};
@@ -29,30 +27,12 @@ pub struct Contents {
     ghost room: { has_shape (sets_of geometry) (assoc_of geometry) sets ≡ true },
 }
 
-/// Why an access missed.
-fn miss_kind(prior: Prior) -> MissKind
-    ensures { result ≡ (if prior.referenced
-        then (if prior.in_shadow then Conflict else Capacity) else Compulsory) }
-{
-    if !prior.referenced {
-        MissKind::Compulsory
-    } else if prior.in_shadow {
-        MissKind::Conflict
-    } else {
-        MissKind::Capacity
-    }
-}
-
 /// The outcome of an access, from what its set answered and what was known of its block.
 fn outcome_from(policy: Policy, write: bool, served: Served, prior: Prior) -> Outcome
     ensures { result ≡ outcome_made policy.wback policy.walloc write
         served.hit served.back prior.referenced prior.in_shadow }
 {
-    let kind = if served.hit {
-        None
-    } else {
-        Some(miss_kind(prior))
-    };
+    let kind = if served.hit { None } else { Some(prior.kind()) };
     let uses = served.hit || may_load(write, policy);
     Outcome {
         hit: served.hit,
@@ -147,7 +127,7 @@ impl Contents {
         outcome_from(self.policy, access.writes(), served, prior)
     }
 
-    /// The first bytes of the dirty blocks, in ascending order: what a flush writes back.
+    /// The first bytes of the dirty blocks, in rising order: what a flush writes back.
     pub fn dirty(&self) -> Result<Vec<u64>, NoMemory>
         ensures list { IfOk result (λ list. (h : History) → Holds self.now h →
             list.items ≡ map (λ b. b * (rules_held self.now).bsize)

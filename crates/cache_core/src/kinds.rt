@@ -8,6 +8,7 @@ ghost use Rattle.std.specs.Option.{option_map_or};
 ghost use Rattle.cache_core.specs.Recent.{IsFirst};
 ghost use Rattle.lru.specs.LruCache.{lru_cache, promoted, put_entries};
 
+use crate::access::MissKind;
 use lru::LruCache;
 use std::alloc::{AllocError, Global};
 use std::collections::HashSet;
@@ -30,6 +31,24 @@ pub struct Prior {
     pub referenced: bool,
     /// Whether the shadow has it.
     pub in_shadow: bool,
+}
+
+impl Prior {
+    ghost use Rattle.std.specs.Prelude.{◌≡◌};
+    ghost use Rattle.cache_core.specs.Kinds.{kind_by};
+
+    /// Why an access to the block misses, if it does.
+    pub fn kind(self) -> MissKind
+        ensures { result ≡ kind_by self.referenced self.in_shadow }
+    {
+        if !self.referenced {
+            MissKind::Compulsory
+        } else if self.in_shadow {
+            MissKind::Conflict
+        } else {
+            MissKind::Capacity
+        }
+    }
 }
 
 /// Whether this is the block that was used last.

@@ -81,7 +81,7 @@ fn dirty_in(alloc: Global, sets: &Sets) -> Result<Vec<u64>, AllocError>
     }
 }
 
-/// The first bytes of the dirty blocks, in ascending order, each once.
+/// The first bytes of the dirty blocks, in rising order, each once.
 pub(crate) fn dirty_block_addrs(alloc: Global, sets: &Sets) -> Result<Vec<u64>, AllocError>
     ensures block_addrs { IfOk result (λ v. (ys : List ℕ)
         × IsPermutation (map block_addr_of (filter is_dirty_way (ways_in sets.now))) ys

@@ -13,7 +13,7 @@ use Rattle.cache_core.specs.History.{History, Rules, access, flush, block_of, is
 use Rattle.cache_core.specs.Kinds.{referenced_blocks, shadow_of}
 use Rattle.cache_core.specs.Parts.{outcome_of}
 use Rattle.cache_core.specs.Residents.{distinct, hits, renewals}
-use Rattle.cache_core.proofs.Ascending.{once-more}
+use Rattle.cache_core.proofs.Rising.{once-more}
 use Rattle.cache_core.proofs.Lawful.{sane_of}
 use Rattle.cache_core.proofs.Steps.{counts-step}
 use Rattle.marked_list.specs.Recency.{brought_front}

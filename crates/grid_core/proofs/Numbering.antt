@@ -4,7 +4,7 @@ use Rattle.std.proofs.Common.{is_some}
 use Rattle.std.proofs.Common.{List, [], ◌∷◌, map, filter, Option, Some, None, unwrap_or}
 use Rattle.std.proofs.Common.{refl, sym, ap, ◌∙◌, inl, inr, arith}
 use Rattle.std.proofs.lemmas.Bool.{eqb-true, eq-eqb, ne_eqb, or_cases, or_left, or_right}
-use Rattle.cache_core.proofs.Ascending.{same_test}
+use Rattle.cache_core.proofs.Rising.{same_test}
 use Rattle.cache_core.proofs.Reuse.{has}
 use Rattle.cache_core.proofs.Cases.{by_cases}
 use Rattle.marked_list.specs.Recency.{is_among, level_of, brought_front}

@@ -3,12 +3,15 @@ use Rattle.std.proofs.Common.{◌≡◌, ℕ, suc, ◌+◌, ◌<◌, Bool, true,
 use Rattle.std.proofs.Common.{List, [], ◌∷◌, ◌++◌, length, get_or, Some, None}
 use Rattle.std.proofs.Common.{length-append, unwrap_or}
 use Rattle.std.proofs.Common.{refl, sym, ap, subst, ◌∙◌, arith}
+use Rattle.std.specs.Prelude.{nat_eq}
 use Rattle.std.specs.List.{position_or_len}
 use Rattle.std.proofs.lemmas.Bool.{eqb-true, lt-ltb, ltb-true}
+use Rattle.std.proofs.lemmas.List.Folds.{list_any_at}
+use Rattle.std.proofs.lemmas.List.Quantifiers.{position-Some}
 use Rattle.cache_core.specs.Lists.{IsBeginning}
 use Rattle.grid_core.specs.declared.at_hand.Entry.{Entry}
 use Rattle.grid_core.specs.AtHand.{AreRight}
-use Rattle.grid_core.specs.Numbers.{number_at}
+use Rattle.grid_core.specs.Numbers.{number_at, with_number}
 
 -- the place of b, or the length of the list
 abbrev place : ℕ → List ℕ → ℕ
@@ -42,6 +45,13 @@ same-place a b (x ∷ xs) lt e = (elim (eqb a x) as (λ t. eqb a x ≡ t
             | false ↦ λ g below same. same-place a b xs (omega arith) (omega arith)
           ]) refl
     ]) refl lt e
+
+-- a block that has a number gets no other
+pub with-known : (xs : List ℕ) (b n : ℕ) → number_at xs b ≡ Some n → xs ≡ with_number b xs
+with-known xs b n e =
+    let at = position-Some (nat_eq b) xs n 0 e in
+    let is = list_any_at (nat_eq b) xs n 0 at.0 at.1 in
+    rw is refl
 
 -- no two blocks have one number
 pub number-apart : (xs : List ℕ) (a b n : ℕ) → number_at xs a ≡ Some n → number_at xs b ≡ Some n

@@ -4,14 +4,14 @@ use Rattle.std.proofs.Common.{length, get_or, map, refl, sym, ap, subst, ◌∙�
 use Rattle.std.specs.List.{All}
 use Rattle.cache_core.specs.declared.access.Access.{Access}
 use Rattle.cache_core.specs.History.{History, Rules, is_write}
-use Rattle.cache_core.specs.Parts.{outcome_of}
+use Rattle.cache_core.specs.Parts.{SendsNothing, outcome_of}
 use Rattle.grid_core.specs.declared.cells.Shape.{Shape}
 use Rattle.grid_core.specs.declared.places.Place.{Place}
 use Rattle.grid_core.specs.declared.places.Place.TheVariants.{Together, Apart}
 use Rattle.grid_core.specs.Cells.{HitsIn, shape_rules}
 use Rattle.grid_core.specs.Hits.{hit_made}
 use Rattle.grid_core.specs.Places.{IsPlace, rules_placed}
-use Rattle.grid_core.specs.Written.{SendsNothing, rules_at}
+use Rattle.grid_core.specs.Written.{rules_at}
 
 -- where all hit, and no write is sent on, nothing is sent
 pub hits-send-nothing : (h : History) (x : Access) (wback through : Bool) (shapes : List Shape)

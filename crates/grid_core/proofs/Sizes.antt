@@ -10,8 +10,8 @@ use Rattle.std.proofs.lemmas.List.Elements.{All-nil, All-cons, All-head, All-tai
 use Rattle.std.proofs.lemmas.Map.Keys.{IsStrictlyIncreasing-dedup}
 use Rattle.cache_core.specs.declared.geometry.Geometry.{Geometry}
 use Rattle.cache_core.specs.Geometry.{blocks_of}
-use Rattle.cache_core.proofs.Ascending.{has-permutation, has-dedup}
-use Rattle.cache_core.proofs.Ascending.{same-rising, rises-rising, has-rising}
+use Rattle.cache_core.proofs.Rising.{has-permutation, has-dedup}
+use Rattle.cache_core.proofs.Rising.{same-rising, rises-rising, has-rising}
 use Rattle.cache_core.specs.Dirty.{rising}
 use Rattle.cache_core.proofs.Reuse.{has}
 use Rattle.cache_core.proofs.Cases.{by_cases}

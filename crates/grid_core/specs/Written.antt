@@ -1,6 +1,5 @@
--- Words for lists of caches, and for what a cache sends to the next level.
-use Rattle.std.specs.Prelude.{◌≡◌, ℕ, ◌*◌, false, None, List, get_or, map}
-use Rattle.cache_core.specs.declared.access.Outcome.{Outcome}
+-- Words for lists of caches, and for what a flush writes back in each.
+use Rattle.std.specs.Prelude.{ℕ, ◌*◌, false, List, get_or, map}
 use Rattle.cache_core.specs.declared.counts.Counts.{Counts}
 use Rattle.cache_core.specs.declared.counts.PerClass.{PerClass}
 use Rattle.cache_core.specs.History.{History, Rules}
@@ -26,13 +25,6 @@ rules_at rs k = get_or rs k no_rules
 -- the first bytes of the blocks that a flush writes back, in rising order
 abbrev pub written_by : History → Rules → List ℕ
 written_by h r = map (λ b. b * r.bsize) (dirty_blocks r h)
-
--- the access sends nothing to the next level: it writes nothing back, fetches nothing, and is no
--- write that is sent on
-pub record SendsNothing (o : Outcome) : Type 0 where
-  pub back : o.back ≡ None
-  pub fetch : o.fetch ≡ false
-  pub through : o.through ≡ false
 
 -- nothing was counted, for what lies past the end of a list
 abbrev pub none_kept : Counts × PerClass

@@ -1,9 +1,9 @@
 //! Numbers for blocks.
 
-ghost use Rattle.std.specs.Prelude.{◌≡◌, Some, IfOk};
+ghost use Rattle.std.specs.Prelude.{◌≡◌, Some, IfOk, OnOk, OnErr};
 ghost use Rattle.cache_core.specs.Lists.{IsBeginning};
 ghost use Rattle.grid_core.specs.AtHand.{AreRight};
-ghost use Rattle.grid_core.specs.Numbers.{number_at};
+ghost use Rattle.grid_core.specs.Numbers.{number_at, with_number};
 
 use crate::at_hand::{Entry, at_hand, keep_at_hand};
 use cache_core::NoMemory;
@@ -25,6 +25,8 @@ pub struct BlockNumbers {
 fn number_block(blocks: &mut IndexSet<u64>, block: u64) -> Result<usize, AllocError>
     ensures number { IfOk result (λ n. number_at blocks.new.keys block ≡ Some n) }
     ensures grows { IsBeginning blocks.old.keys blocks.new.keys }
+    ensures only { OnOk result (blocks.new.keys ≡ with_number block blocks.old.keys) }
+    ensures refused { OnErr result (blocks.new.keys ≡ blocks.old.keys) }
 {
     let Ok((number, _)) = blocks.insert_full(block) else {
         return Err(AllocError);
@@ -34,10 +36,10 @@ fn number_block(blocks: &mut IndexSet<u64>, block: u64) -> Result<usize, AllocEr
 
 #[tactic(auto, unfolding(crate::specs::Numbered::blocks_in))]
 impl BlockNumbers {
-    ghost use Rattle.std.specs.Prelude.{◌≡◌, [], Some, IfOk};
+    ghost use Rattle.std.specs.Prelude.{◌≡◌, [], Some, IfOk, OnOk, OnErr};
     ghost use Rattle.cache_core.specs.Lists.{IsBeginning};
     ghost use Rattle.grid_core.specs.Numbered.{blocks_in};
-    ghost use Rattle.grid_core.specs.Numbers.{number_at};
+    ghost use Rattle.grid_core.specs.Numbers.{MayNumber, number_at, with_number};
 
     /// No block is numbered, and no memory is taken for any.
     pub fn new(alloc: Global) -> BlockNumbers
@@ -54,6 +56,10 @@ impl BlockNumbers {
     fn look_up(&mut self, block: u64) -> Result<usize, AllocError>
         ensures number { IfOk result (λ n. number_at (blocks_in self.new) block ≡ Some n) }
         ensures grows { IsBeginning (blocks_in self.old) (blocks_in self.new) }
+        ensures only { OnOk result
+            (blocks_in self.new ≡ with_number block (blocks_in self.old)) }
+        ensures refused { OnErr result
+            (MayNumber block (blocks_in self.old) (blocks_in self.new)) }
     {
         let number = number_block(&mut self.blocks, block)?;
         keep_at_hand(&mut self.entries, block, number)?;
@@ -61,11 +67,16 @@ impl BlockNumbers {
     }
 
     /// The number of a block. A block that has none gets the next one. If memory is refused, the
-    /// blocks that had numbers keep them. This is inlined, since most blocks are at hand.
+    /// blocks that had numbers keep them, and this one may have got one. This is inlined, since
+    /// most blocks are at hand.
     #[inline(always)]
     pub fn number(&mut self, block: u64) -> Result<usize, NoMemory>
         ensures number { IfOk result (λ n. number_at (blocks_in self.new) block ≡ Some n) }
         ensures grows { IsBeginning (blocks_in self.old) (blocks_in self.new) }
+        ensures only { OnOk result
+            (blocks_in self.new ≡ with_number block (blocks_in self.old)) }
+        ensures refused { OnErr result
+            (MayNumber block (blocks_in self.old) (blocks_in self.new)) }
     {
         if let Some(number) = at_hand(&self.entries, block) {
             return Ok(number);

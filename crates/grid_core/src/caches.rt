@@ -84,7 +84,7 @@ impl Caches {
     ghost use Rattle.std.specs.List.{All};
     ghost use Rattle.cache_core.specs.History.{History, access as accessed, flush as flushed};
     ghost use Rattle.cache_core.specs.Counts.{counts_of};
-    ghost use Rattle.cache_core.specs.Parts.{outcome_of};
+    ghost use Rattle.cache_core.specs.Parts.{SendsNothing, outcome_of};
     ghost use Rattle.grid_core.specs.Cells.{items_of};
     ghost use Rattle.grid_core.specs.Caches.{AreInStep, CachesStandBy, HasPlace, HaveAnswered};
     ghost use Rattle.grid_core.specs.Caches.{HaveSameRules, HaveSameCounts, counts_in, misses_in};
@@ -92,7 +92,7 @@ impl Caches {
     ghost use Rattle.grid_core.specs.Numbers.{IsNumberIn};
     ghost use Rattle.grid_core.specs.Places.{rules_placed, shadow_placed};
     ghost use Rattle.grid_core.specs.Singles.{AreFew};
-    ghost use Rattle.grid_core.specs.Written.{written_by, SendsNothing};
+    ghost use Rattle.grid_core.specs.Written.{written_by};
 
     /// Serves an access, whose block has this number, where some caches are of their own. What can
     /// fail comes first, and only then is it counted. Not inlined, so that caches that all have a

@@ -42,20 +42,20 @@ pub struct Engine {
 
 #[tactic(auto, unfolding(crate::specs::Engines::rules_in, crate::specs::Engines::served_in, crate::specs::Engines::kept_in, crate::specs::Engines::has_failed, crate::specs::Engines::bsize_in, crate::specs::Engines::numbered_in))]
 impl Engine {
-    ghost use Rattle.std.specs.Prelude.{◌≡◌, ◌<◌, ◌+◌, ◌∷◌, [], List, map, true, false};
+    ghost use Rattle.std.specs.Prelude.{◌≡◌, ◌<◌, ◌+◌, ◌/◌, ◌∷◌, [], List, map, true, false};
     ghost use Rattle.std.specs.Prelude.{OnOk, OnErr, IfOk, IsErr, length, ℕ};
     ghost use Rattle.std.specs.List.{All};
     ghost use Rattle.cache_core.specs.Geometry.{bsize_of};
     ghost use Rattle.cache_core.specs.History.{History, access as accessed, flush as flushed};
-    ghost use Rattle.cache_core.specs.Parts.{outcome_of};
+    ghost use Rattle.cache_core.specs.Parts.{SendsNothing, outcome_of};
     ghost use Rattle.cache_core.specs.Standing.{rules_from};
     ghost use Rattle.cache_core.specs.Lists.{IsBeginning};
     ghost use Rattle.grid_core.specs.Cells.{items_of};
     ghost use Rattle.grid_core.specs.Engines.{EngineStandsBy, EngineStandsFor, HasAnswered};
     ghost use Rattle.grid_core.specs.Engines.{bsize_in, has_failed, kept_in, numbered_in};
     ghost use Rattle.grid_core.specs.Engines.{rules_in, served_in};
-    ghost use Rattle.grid_core.specs.Numbers.{IsNumberOf};
-    ghost use Rattle.grid_core.specs.Written.{rules_at, written_by, SendsNothing};
+    ghost use Rattle.grid_core.specs.Numbers.{IsNumberOf, MayNumber, with_number};
+    ghost use Rattle.grid_core.specs.Written.{rules_at, written_by};
 
     /// Empty caches of these geometries, which have the block size of `first`, and of this policy.
     /// Only the block size of `first` counts, and it need not be among them: there may be none.
@@ -112,6 +112,10 @@ impl Engine {
             × (served_in self.new ≡ served_in self.old)) }
         ensures failed { has_failed self.old ≡ true → IsErr result }
         ensures numbers { IsBeginning (numbered_in self.old) (numbered_in self.new) }
+        ensures only { OnOk result (numbered_in self.new
+            ≡ with_number (access.addr / bsize_in self.old) (numbered_in self.old)) }
+        ensures refused { OnErr result (MayNumber (access.addr / bsize_in self.old)
+            (numbered_in self.old) (numbered_in self.new)) }
         ensures rules { rules_in self.new ≡ rules_in self.old }
         ensures bsize { bsize_in self.new ≡ bsize_in self.old }
     {

@@ -3,10 +3,9 @@
 ghost use Rattle.std.specs.Prelude.{◌≡◌, ◌<◌, ◌≤◌, not, ◌&&◌, nat_lt, if◌then◌else◌};
 ghost use Rattle.std.specs.Prelude.{Some, None, map};
 ghost use Rattle.std.specs.List.{All};
-ghost use Rattle.cache_core.specs.declared.access.MissKind.TheVariants.{Compulsory, Capacity};
-ghost use Rattle.cache_core.specs.declared.access.MissKind.TheVariants.{Conflict};
 ghost use Rattle.cache_core.specs.History.{History, is_write};
 ghost use Rattle.cache_core.specs.declared.access.Access.{Access};
+ghost use Rattle.cache_core.specs.Kinds.{kind_by};
 ghost use Rattle.cache_core.specs.Parts.{outcome_of};
 ghost use Rattle.grid_core.specs.Ways.{with_ways};
 ghost use Rattle.grid_core.specs.Standing.{HasMoved, rules_of, found_in};
@@ -31,17 +30,13 @@ pub(crate) fn no_outcome() -> Outcome {
 
 /// Why an access misses, if it does, in the cache whose size has this rank.
 fn kind_in(hit: bool, prior: PriorLevel, rank: usize) -> Option<MissKind>
-    ensures { result ≡ (if hit then None else Some (if prior.known
-        then (if not (nat_lt rank prior.level) then Conflict else Capacity) else Compulsory)) }
+    ensures { result ≡ (if hit then None
+        else Some (kind_by prior.known (not (nat_lt rank prior.level)))) }
 {
     if hit {
         None
-    } else if !prior.known {
-        Some(MissKind::Compulsory)
-    } else if rank < prior.level {
-        Some(MissKind::Capacity)
     } else {
-        Some(MissKind::Conflict)
+        Some(prior.at(rank).kind())
     }
 }
 

@@ -6,7 +6,7 @@ ghost use Rattle.std.specs.List.Sorted.{IsPermutation, IsNonDecreasingBy};
 ghost use Rattle.cache_core.specs.Geometry.{bsize_of, blocks_of, sets_of};
 ghost use Rattle.grid_core.specs.Slot.{HasWords};
 ghost use Rattle.grid_core.specs.Standing.{IsEmptyStack, rules_of, stack_rules};
-ghost use Rattle.grid_core.specs.declared.cells.Shape.{Shape as Cut};
+ghost use Rattle.grid_core.specs.declared.cells.Shape.{Shape};
 ghost use Rattle.grid_core.specs.Shapes.{has_size, HaveBsize, IsSuitedShape};
 ghost use Rattle.grid_core.specs.Cells.{IsPlacedAmong, shape_rules};
 ghost use Rattle.grid_core.specs.State.{IsRanked, IsShapeFor};
@@ -70,7 +70,7 @@ fn shape_for(
     requires few { length sizes.now < usize.MAX }
     requires words { HasWords geometry × All HasWords geometries.now }
     ensures own { IfOk result (λ s. IsShapeFor sizes.now stacks.new.items geometry wback s) }
-    ensures kept { OnOk result ((s : Cut) → IsSuitedShape stacks.old.items s →
+    ensures kept { OnOk result ((s : Shape) → IsSuitedShape stacks.old.items s →
         IsSuitedShape stacks.new.items s) }
     ensures empty { OnOk result (
         All (IsEmptyStack (length sizes.now + 1)) stacks.old.items →

@@ -6,7 +6,7 @@ ghost use Rattle.marked_list.specs.Marked.{marked_sizes};
 
 use crate::recent::{Recent, is_again, nothing_recent, used_now};
 use crate::sums::{count_at, sum_from, zeros};
-use cache_core::{Access, MAX_EVENTS, PerClass};
+use cache_core::{Access, MAX_EVENTS, PerClass, Prior};
 use marked_list::Marked;
 use std::alloc::{AllocError, Global};
 
@@ -16,6 +16,23 @@ use std::alloc::{AllocError, Global};
 pub(crate) struct PriorLevel {
     pub known: bool,
     pub level: usize,
+}
+
+impl PriorLevel {
+    ghost use Rattle.std.specs.Prelude.{◌≡◌, nat_lt, not};
+
+    /// What is known of the block for the shadow whose size has this rank.
+    pub fn at(self, rank: usize) -> Prior
+        ensures { result ≡ record {
+          referenced = self.known;
+          in_shadow = not (nat_lt rank self.level);
+        } }
+    {
+        Prior {
+            referenced: self.known,
+            in_shadow: rank >= self.level,
+        }
+    }
 }
 
 /// What is known of the block that was used last: all shadows have it.

@@ -4,7 +4,6 @@ ghost use Rattle.std.specs.Prelude.{◌≡◌, ◌≤◌, ◌+◌, true, if◌th
 ghost use Rattle.cache_core.specs.Counting.{AreWithin};
 ghost use Rattle.cache_core.specs.Parts.{one_if};
 ghost use Rattle.cache_core.specs.Standing.{dirty_held};
-ghost use Rattle.grid_core.specs.Written.{SendsNothing};
 
 use crate::outcome::no_outcome;
 use crate::places::Place;
@@ -29,13 +28,6 @@ pub(crate) struct Single {
         + dirty_held contents ≤ settled + one_if pending },
 }
 
-/// Whether an access of this outcome sends nothing to the next level.
-fn sends_nothing(outcome: Outcome) -> bool
-    ensures { result ≡ true → SendsNothing outcome }
-{
-    outcome.back.is_none() && !outcome.fetch && !outcome.through
-}
-
 #[tactic(auto, unfolding(crate::specs::Singles::HasSettled, crate::specs::Singles::IsPending))]
 impl Single {
     ghost use Rattle.std.specs.Prelude.{◌≡◌, ◌<◌, ◌≤◌, ◌+◌, ◌∷◌, ℕ, true, [], IfOk, OnOk};
@@ -43,11 +35,11 @@ impl Single {
     ghost use Rattle.cache_core.specs.History.{History, access as accessed, flush as flushed};
     ghost use Rattle.cache_core.specs.Standing.{IsKnown, rules_from};
     ghost use Rattle.cache_core.specs.Counts.{counts_of};
-    ghost use Rattle.cache_core.specs.Parts.{outcome_of};
+    ghost use Rattle.cache_core.specs.Parts.{SendsNothing, outcome_of};
     ghost use Rattle.grid_core.specs.Singles.{SingleStandsFor, SingleReached, SingleHasAnswered};
     ghost use Rattle.grid_core.specs.Singles.{HasSettled, IsPending, single_rules, single_counts};
     ghost use Rattle.grid_core.specs.Singles.{single_dirty};
-    ghost use Rattle.grid_core.specs.Written.{written_by, SendsNothing};
+    ghost use Rattle.grid_core.specs.Written.{written_by};
 
     /// An empty cache, whose shadow is at this place.
     pub fn new(
@@ -164,7 +156,7 @@ impl Single {
         ensures { result ≡ true → (h : History) (x : Access) → SingleHasAnswered h x self.now →
             SendsNothing (outcome_of (single_rules self.now) h x) }
     {
-        sends_nothing(self.answer)
+        self.answer.sends_nothing()
     }
 
     /// What the last access did.

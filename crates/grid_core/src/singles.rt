@@ -4,7 +4,7 @@ ghost use Rattle.std.specs.Prelude.{◌≡◌, ◌<◌, ◌+◌, ◌∷◌, ℕ,
 ghost use Rattle.std.specs.List.{All};
 ghost use Rattle.cache_core.specs.declared.access.Access.{Access as Accessed};
 ghost use Rattle.cache_core.specs.History.{History, Rules, access as accessed, flush as flushed};
-ghost use Rattle.cache_core.specs.Parts.{outcome_of};
+ghost use Rattle.cache_core.specs.Parts.{SendsNothing, outcome_of};
 ghost use Rattle.cache_core.specs.Standing.{IsKnown};
 ghost use Rattle.grid_core.specs.Cells.{items_of};
 ghost use Rattle.grid_core.specs.Places.{IsPlace, shadow_placed};
@@ -14,7 +14,7 @@ ghost use Rattle.grid_core.specs.Singles.{SingleStandsFor, SingleReached, Single
 ghost use Rattle.grid_core.specs.Singles.{HasSettled, IsPending, single_rules, single_counts};
 ghost use Rattle.grid_core.specs.Singles.{single_shading, AreFew};
 ghost use Rattle.grid_core.specs.StackedCells.{StackedHasAnswered, stacked_rules};
-ghost use Rattle.grid_core.specs.Written.{written_by, SendsNothing};
+ghost use Rattle.grid_core.specs.Written.{written_by};
 
 use crate::places::Place;
 use crate::shade::Shade;

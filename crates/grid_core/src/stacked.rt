@@ -66,7 +66,7 @@ impl Stacked {
     ghost use Rattle.cache_core.specs.Geometry.{bsize_of};
     ghost use Rattle.cache_core.specs.History.{History, access as accessed, flush as flushed};
     ghost use Rattle.cache_core.specs.History.{is_write};
-    ghost use Rattle.cache_core.specs.Parts.{outcome_of};
+    ghost use Rattle.cache_core.specs.Parts.{SendsNothing, outcome_of};
     ghost use Rattle.cache_core.specs.Counts.{counts_of};
     ghost use Rattle.grid_core.specs.Recent.{IsAgain};
     ghost use Rattle.grid_core.specs.Shadows.{recent_in};
@@ -77,7 +77,7 @@ impl Stacked {
     ghost use Rattle.grid_core.specs.Numbers.{IsNumberOf};
     ghost use Rattle.grid_core.specs.StackedCells.{StackedHasAnswered, StackedStandsBy};
     ghost use Rattle.grid_core.specs.StackedCells.{stacked_kept, stacked_rules, stacked_served};
-    ghost use Rattle.grid_core.specs.Written.{rules_at, written_by, none_kept, SendsNothing};
+    ghost use Rattle.grid_core.specs.Written.{rules_at, written_by, none_kept};
 
     /// Empty caches of these geometries, which have the block size of `first`.
     pub fn new(

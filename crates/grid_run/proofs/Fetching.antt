@@ -1,11 +1,14 @@
 -- Fetches that follow one another: what they add to histories, and to what is sent.
-use Rattle.std.proofs.Common.{◌≡◌, ◌++◌, ◌∷◌, [], List, refl, ap, sym, ◌∙◌, append-nil}
+use Rattle.std.proofs.Common.{◌≡◌, ◌++◌, ◌∷◌, [], ℕ, List, refl, ap, sym, ◌∙◌, append-nil}
 use Rattle.std.proofs.Common.{append_assoc}
 use Rattle.std.specs.List.{All, flat_map}
 use Rattle.std.proofs.lemmas.List.Elements.{All-head, All-tail}
-use Rattle.cache_core.specs.History.{Rules}
+use Rattle.cache_core.specs.History.{Rules, access}
+use Rattle.cache_core.specs.declared.access.Access.{Access}
 use Rattle.din_trace.specs.declared.record.DinRecord.{DinRecord}
-use Rattle.stage_core.specs.Events.{history}
+use Rattle.din_trace.specs.declared.record.Label.{Label}
+use Rattle.din_trace.specs.declared.record.Label.TheVariants as label
+use Rattle.stage_core.specs.Events.{asked_by, history}
 use Rattle.stage_core.specs.Places.{flat_map_after}
 use Rattle.stage_core.specs.SecondLevel.{Parts, parts_of, second_level_requests, sent_up}
 use Rattle.stage_core.specs.declared.message.Side.TheVariants as side
@@ -28,6 +31,15 @@ fetched-more r es more e none last =
     flat_map_after-append (sent_up (parts_of r) side.I) es more (e ∷ [])
     ∙ ap (λ (ws : List What). fetched r es more ++ ws) (append-nil one)
     ∙ ap (λ (ws : List What). ws ++ one) none ∙ last
+
+-- an event that makes an access to the instruction caches asks nothing of the data caches
+pub asks-no-data : (l : Label) (a : ℕ) (x : Access) → access x ∷ [] ≡ asked_by side.I l a
+    → asked_by side.D l a ≡ []
+asks-no-data label.Instr a x one = refl
+asks-no-data label.Read a x one = absurd cc
+asks-no-data label.Write a x one = absurd cc
+asks-no-data label.Misc a x one = absurd cc
+asks-no-data label.Flush a x one = absurd cc
 
 -- events that ask nothing of the data caches leave their history
 pub data-stay : (es more : List DinRecord) → All AsksNoData more

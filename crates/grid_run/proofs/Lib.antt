@@ -6,7 +6,6 @@ pub mod SecondTurns
 pub mod Events
 pub mod Sent
 pub mod Fetching
-pub mod Selections
 pub mod Behind
 pub mod Placed
 pub mod MoreNumbers

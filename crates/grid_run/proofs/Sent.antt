@@ -8,8 +8,8 @@ use Rattle.cache_core.specs.History.{History, Rules, access, flush}
 use Rattle.cache_core.specs.declared.access.Access.{Access}
 use Rattle.grid_core.specs.Cells.{items_of}
 use Rattle.cache_core.specs.History.{block_of}
-use Rattle.cache_core.specs.Parts.{outcome_of}
-use Rattle.grid_core.specs.Written.{SendsNothing, rules_at, written_by}
+use Rattle.cache_core.specs.Parts.{SendsNothing, outcome_of}
+use Rattle.grid_core.specs.Written.{rules_at, written_by}
 use Rattle.stage_core.specs.Places.{list_if}
 use Rattle.stage_core.specs.SecondLevel.{back, fetch_class, parts_of}
 use Rattle.stage_core.specs.declared.message.Side.{Side}

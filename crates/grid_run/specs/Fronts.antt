@@ -3,9 +3,9 @@ use Rattle.std.specs.Prelude.{◌≡◌, ◌<◌, ◌⊎◌, ℕ, List, length, 
 use Rattle.std.specs.Global.{Vec}
 use Rattle.cache_core.specs.History.{History, Rules}
 use Rattle.grid_core.specs.Cells.{items_of}
-use Rattle.cache_core.specs.Parts.{outcome_of}
+use Rattle.cache_core.specs.Parts.{SendsNothing, outcome_of}
 use Rattle.cache_core.specs.declared.access.Access.{Access}
-use Rattle.grid_core.specs.Written.{SendsNothing, rules_at, written_by}
+use Rattle.grid_core.specs.Written.{rules_at, written_by}
 use Rattle.grid_run.specs.Families.{HasServedLast, FamilyStandsBy, rules_in}
 use Rattle.grid_run.specs.Numbering.{IsRight}
 use Rattle.grid_run.specs.declared.front.Front.{Front}

@@ -10,7 +10,6 @@ pub mod Seats
 pub mod Backs
 pub mod Banks
 pub mod Fetching
-pub mod Selections
 pub mod Picking
 pub mod FirstLevels
 pub mod Lanes

@@ -2,7 +2,7 @@
 
 ghost use Rattle.std.specs.Prelude.{◌≡◌, ◌<◌, ◌≤◌, ◌+◌, ℕ, List, OnOk, length, map};
 ghost use Rattle.std.specs.List.{All};
-ghost use Rattle.din_trace.specs.declared.record.DinRecord.{DinRecord as Event};
+ghost use Rattle.din_trace.specs.declared.record.DinRecord.{DinRecord};
 ghost use Rattle.grid_run.specs.Backs.{AreFew, RequestsFor};
 ghost use Rattle.grid_run.specs.Banks.{HaveServed, WasAsked, bank_task};
 ghost use Rattle.grid_run.specs.FirstLevels.{HaveTaken, WasGiven, first_task};
@@ -38,8 +38,8 @@ fn settle_and_take(
 ) -> Result<(), NoMemory>
     requires near { (blocks : List ℕ) × (all : RequestsFor)
         × All (WasAsked blocks all) banks.old × AreFew all }
-    requires room { (served : RequestsFor) × (past : List Event) × WasGiven served past first.old
-        × (length past + length part.now ≤ MAX_LIMIT) }
+    requires room { (served : RequestsFor) × (past : List DinRecord)
+        × WasGiven served past first.old × (length past + length part.now ≤ MAX_LIMIT) }
     ensures served { OnOk result (HaveServed banks.old banks.new) }
     ensures tasks { map bank_task banks.new ≡ map bank_task banks.old }
     ensures taken { OnOk result (HaveTaken part.now first.old first.new) }
@@ -64,8 +64,8 @@ fn take_beside<T: Threads + Sync>(
         × All (WasAsked blocks all) far.old × AreFew all }
     requires near { (blocks : List ℕ) × (all : RequestsFor)
         × All (WasAsked blocks all) near.old × AreFew all }
-    requires room { (served : RequestsFor) × (past : List Event) × WasGiven served past first.old
-        × (length past + length part.now ≤ MAX_LIMIT) }
+    requires room { (served : RequestsFor) × (past : List DinRecord)
+        × WasGiven served past first.old × (length past + length part.now ≤ MAX_LIMIT) }
     ensures far { OnOk result (HaveServed far.old far.new) }
     ensures near { OnOk result (HaveServed near.old near.new) }
     ensures tasks { (map bank_task far.new ≡ map bank_task far.old)
@@ -83,7 +83,7 @@ fn take_beside<T: Threads + Sync>(
         &mut ||
             requires near { (blocks : List ℕ) × (all : RequestsFor)
                 × All (WasAsked blocks all) near.now × AreFew all }
-            requires room { (served : RequestsFor) × (past : List Event)
+            requires room { (served : RequestsFor) × (past : List DinRecord)
                 × WasGiven served past first.now × (length past + length part.now ≤ MAX_LIMIT) }
         { settle_and_take(first, part, near) },
     );
@@ -102,8 +102,8 @@ pub(crate) fn take_on<T: Threads + Sync>(
 ) -> Result<(), NoMemory>
     requires asked { (blocks : List ℕ) × (all : RequestsFor)
         × All (WasAsked blocks all) banks.old × AreFew all }
-    requires room { (served : RequestsFor) × (past : List Event) × WasGiven served past first.old
-        × (length past + length part.now ≤ MAX_LIMIT) }
+    requires room { (served : RequestsFor) × (past : List DinRecord)
+        × WasGiven served past first.old × (length past + length part.now ≤ MAX_LIMIT) }
     ensures served { OnOk result (HaveServed banks.old banks.new) }
     ensures tasks { map bank_task banks.new ≡ map bank_task banks.old }
     ensures taken { OnOk result (HaveTaken part.now first.old first.new) }

@@ -3,7 +3,7 @@
 ghost use Rattle.std.specs.Prelude.{◌≡◌, ◌<◌, ◌+◌, ◌≤◌, ◌++◌, [], List, IfOk, OnOk};
 ghost use Rattle.std.specs.Prelude.{length, map};
 ghost use Rattle.std.specs.List.{All};
-ghost use Rattle.din_trace.specs.declared.record.DinRecord.{DinRecord as Event};
+ghost use Rattle.din_trace.specs.declared.record.DinRecord.{DinRecord};
 ghost use Rattle.grid_run.specs.Lanes.{task_of_plan};
 ghost use Rattle.grid_run.specs.Rows.{IsSound};
 ghost use Rattle.grid_run.specs.Workers.{MayHaveSettled, MayHaveTaken, Took, worker_task};
@@ -55,9 +55,9 @@ fn take_batch<T: Threads + Sync>(
     batch: &[DinRecord],
 )
     requires threads { 0 < threads }
-    requires room { (past : List Event) × All (MayHaveTaken past) workers.old
+    requires room { (past : List DinRecord) × All (MayHaveTaken past) workers.old
         × (length past + length batch.now ≤ MAX_LIMIT) }
-    ensures taken { (past : List Event) → All (MayHaveTaken past) workers.old →
+    ensures taken { (past : List DinRecord) → All (MayHaveTaken past) workers.old →
         All (MayHaveTaken (past ++ batch.now)) workers.new }
     ensures tasks { map worker_task workers.new ≡ map worker_task workers.old }
 {
@@ -66,7 +66,7 @@ fn take_batch<T: Threads + Sync>(
         workers,
         threads,
         &|_, worker: &mut Worker|
-            requires { (past : List Event) × MayHaveTaken past worker.now
+            requires { (past : List DinRecord) × MayHaveTaken past worker.now
                 × (length past + length batch.now ≤ MAX_LIMIT) }
         { worker.take(rt, share, batch) },
     );
@@ -81,9 +81,9 @@ fn take_in<T: Threads + Sync>(
     batch: &[DinRecord],
 )
     requires threads { 0 < threads }
-    requires room { (past : List Event) × All (MayHaveTaken past) workers.old.items
+    requires room { (past : List DinRecord) × All (MayHaveTaken past) workers.old.items
         × (length past + length batch.now ≤ MAX_LIMIT) }
-    ensures taken { (past : List Event) → All (MayHaveTaken past) workers.old.items →
+    ensures taken { (past : List DinRecord) → All (MayHaveTaken past) workers.old.items →
         All (MayHaveTaken (past ++ batch.now)) workers.new.items }
     ensures tasks { map worker_task workers.new.items ≡ map worker_task workers.old.items }
 {
@@ -93,9 +93,9 @@ fn take_in<T: Threads + Sync>(
 /// Each worker serves what waits for its second levels.
 fn settle_each<T: Threads + Sync>(rt: &T, workers: &mut [Worker], threads: usize, share: usize)
     requires threads { 0 < threads }
-    requires room { (past : List Event) × All (MayHaveTaken past) workers.old
+    requires room { (past : List DinRecord) × All (MayHaveTaken past) workers.old
         × (length past ≤ MAX_LIMIT) }
-    ensures settled { (past : List Event) → All (MayHaveTaken past) workers.old →
+    ensures settled { (past : List DinRecord) → All (MayHaveTaken past) workers.old →
         All (MayHaveSettled past) workers.new }
     ensures tasks { map worker_task workers.new ≡ map worker_task workers.old }
 {
@@ -104,7 +104,7 @@ fn settle_each<T: Threads + Sync>(rt: &T, workers: &mut [Worker], threads: usize
         workers,
         threads,
         &|_, worker: &mut Worker|
-            requires { (past : List Event) × MayHaveTaken past worker.now
+            requires { (past : List DinRecord) × MayHaveTaken past worker.now
                 × (length past ≤ MAX_LIMIT) }
         { worker.settle(rt, share) },
     );
@@ -113,9 +113,9 @@ fn settle_each<T: Threads + Sync>(rt: &T, workers: &mut [Worker], threads: usize
 /// The same for the workers of a vector.
 fn settle_in<T: Threads + Sync>(rt: &T, workers: &mut Vec<Worker>, threads: usize, share: usize)
     requires threads { 0 < threads }
-    requires room { (past : List Event) × All (MayHaveTaken past) workers.old.items
+    requires room { (past : List DinRecord) × All (MayHaveTaken past) workers.old.items
         × (length past ≤ MAX_LIMIT) }
-    ensures settled { (past : List Event) → All (MayHaveTaken past) workers.old.items →
+    ensures settled { (past : List DinRecord) → All (MayHaveTaken past) workers.old.items →
         All (MayHaveSettled past) workers.new.items }
     ensures tasks { map worker_task workers.new.items ≡ map worker_task workers.old.items }
 {
@@ -124,7 +124,7 @@ fn settle_in<T: Threads + Sync>(rt: &T, workers: &mut Vec<Worker>, threads: usiz
 
 /// Answers `NoMemory` if some worker was refused memory.
 fn tell_failure(workers: &[Worker]) -> Result<(), NoMemory>
-    ensures { OnOk result ((past : List Event) → All (MayHaveSettled past) workers.now
+    ensures { OnOk result ((past : List DinRecord) → All (MayHaveSettled past) workers.now
         → All (Took past) workers.now) }
 {
     for worker in workers {
@@ -157,9 +157,9 @@ impl Crew {
         rt: &T,
         batch: &Vec<DinRecord>,
     ) -> Result<(), NoMemory>
-        requires room { (past : List Event) × All (MayHaveTaken past) self.old.workers.items
+        requires room { (past : List DinRecord) × All (MayHaveTaken past) self.old.workers.items
             × (length past + length batch.now.items ≤ MAX_LIMIT) }
-        ensures taken { OnOk result ((past : List Event) →
+        ensures taken { OnOk result ((past : List DinRecord) →
             All (MayHaveTaken past) self.old.workers.items →
             All (MayHaveTaken (past ++ batch.now.items)) self.new.workers.items) }
         ensures tasks { map worker_task self.new.workers.items
@@ -172,9 +172,9 @@ impl Crew {
     /// All workers serve what waits for their second levels: with a thread each, that is what the
     /// last batch left, if it was a short one.
     pub fn settle<T: Threads + Sync>(&mut self, rt: &T) -> Result<(), NoMemory>
-        requires room { (past : List Event) × All (MayHaveTaken past) self.old.workers.items
+        requires room { (past : List DinRecord) × All (MayHaveTaken past) self.old.workers.items
             × (length past ≤ MAX_LIMIT) }
-        ensures settled { OnOk result ((past : List Event) →
+        ensures settled { OnOk result ((past : List DinRecord) →
             All (MayHaveTaken past) self.old.workers.items →
             All (Took past) self.new.workers.items) }
         ensures tasks { map worker_task self.new.workers.items

@@ -3,7 +3,7 @@
 ghost use Rattle.std.specs.Prelude.{◌≡◌};
 ghost use Rattle.std.specs.List.{All};
 ghost use Rattle.cache_core.specs.Geometry.{bsize_of};
-ghost use Rattle.cache_core.specs.History.{Rules as Kept};
+ghost use Rattle.cache_core.specs.History.{Rules};
 ghost use Rattle.grid_core.specs.Engines.{bsize_in, rules_in as rules_served};
 
 use crate::numbered::Numbered;
@@ -17,7 +17,7 @@ use std::alloc::Global;
 pub(crate) struct Family {
     first: Geometry,
     engine: Engine,
-    ghost alike: { All (λ (r : Kept). r.bsize ≡ bsize_of first) (rules_served engine) },
+    ghost alike: { All (λ (r : Rules). r.bsize ≡ bsize_of first) (rules_served engine) },
     ghost sized: { bsize_in engine ≡ bsize_of first },
 }
 
@@ -27,13 +27,13 @@ impl Family {
     ghost use Rattle.std.specs.Prelude.{length, map, true, false};
     ghost use Rattle.cache_core.specs.Geometry.{bsize_of};
     ghost use Rattle.cache_core.specs.History.{History, access as accessed, flush as flushed};
-    ghost use Rattle.cache_core.specs.Parts.{outcome_of};
-    ghost use Rattle.cache_core.specs.declared.access.Access.{Access as Asked};
+    ghost use Rattle.cache_core.specs.Parts.{SendsNothing, outcome_of};
+    ghost use Rattle.cache_core.specs.declared.access.Access.{Access};
     ghost use Rattle.cache_core.specs.Counts.{counts_of};
     ghost use Rattle.grid_core.specs.Cells.{items_of};
     ghost use Rattle.grid_core.specs.FullyAssociative.{shadow_misses};
     ghost use Rattle.grid_core.specs.Numbers.{IsNumberOf};
-    ghost use Rattle.grid_core.specs.Written.{SendsNothing, rules_at, written_by};
+    ghost use Rattle.grid_core.specs.Written.{rules_at, written_by};
     ghost use Rattle.stage_core.specs.SecondLevel.{read_as};
     ghost use Rattle.grid_run.specs.Families.{CanServe, HasServedLast, FamilyStandsBy};
     ghost use Rattle.grid_run.specs.Families.{bsize_on, rules_in};
@@ -104,7 +104,7 @@ impl Family {
     }
 
     /// Serves a flush, and answers for each cache the first bytes of the blocks that it writes
-    /// back, in ascending order.
+    /// back, in rising order.
     pub fn flush(&mut self) -> Result<Vec<Vec<u64>>, NoMemory>
         requires room { CanServe self.old }
         ensures backs { IfOk result (λ lists. (blocks : List ℕ) (h : History) →
@@ -137,7 +137,7 @@ impl Family {
     /// What the last access did in one cache.
     pub fn outcome(&self, cell: usize) -> Outcome
         requires { cell < length (rules_in self.now) }
-        ensures { (h : History) (x : Asked) → HasServedLast self.now h x →
+        ensures { (h : History) (x : Access) → HasServedLast self.now h x →
             result ≡ outcome_of (rules_at (rules_in self.now) cell) h x }
     {
         self.engine.answer(cell)
@@ -145,7 +145,7 @@ impl Family {
 
     /// Whether the last access sent nothing in any cache. May be `false` though nothing was sent.
     pub fn sent_nothing(&self) -> bool
-        ensures { result ≡ true → (h : History) (x : Asked) → HasServedLast self.now h x →
+        ensures { result ≡ true → (h : History) (x : Access) → HasServedLast self.now h x →
             (cell : ℕ) → cell < length (rules_in self.now) →
             SendsNothing (outcome_of (rules_at (rules_in self.now) cell) h x) }
     {

@@ -5,7 +5,7 @@ ghost use Rattle.std.specs.Prelude.{OnOk, length, map, option_to_list, take};
 ghost use Rattle.std.specs.List.{All};
 ghost use Rattle.cache_core.specs.History.{History};
 ghost use Rattle.grid_core.specs.Numbered.{blocks_in};
-ghost use Rattle.din_trace.specs.declared.record.DinRecord.{DinRecord as Event};
+ghost use Rattle.din_trace.specs.declared.record.DinRecord.{DinRecord};
 ghost use Rattle.stage_core.specs.Events.{IsBounded, history};
 ghost use Rattle.grid_run.specs.Backs.{AreWaiting, HasNone, IsPlacedOn, QueuesStayNumbered};
 ghost use Rattle.grid_run.specs.Backs.{RequestsFor};
@@ -88,14 +88,15 @@ fn serve_side(
 ) -> Result<(), NoMemory>
     requires placed { All (IsPlacedOn side (map front_rules fronts.old.items))
         (map queue_seats queues.old.items) }
-    requires room { (es : List Event)
+    requires room { (es : List DinRecord)
         × All (FrontAt (blocks_in numbers.old) (history side es)) fronts.old.items
         × (length es < 2 * MAX_LIMIT) }
-    ensures stands { OnOk result ((es : List Event) →
+    ensures stands { OnOk result ((es : List DinRecord) →
         All (FrontAt (blocks_in numbers.old) (history side es)) fronts.old.items →
         All (FrontAt (blocks_in numbers.new) (history side (es ++ event ∷ [])))
         fronts.new.items) }
-    ensures asked { OnOk result ((served : RequestsFor) (es : List Event) (before : RequestsFor) →
+    ensures asked { OnOk result ((served : RequestsFor) (es : List DinRecord)
+        (before : RequestsFor) →
         All (FrontAt (blocks_in numbers.old) (history side es)) fronts.old.items →
         All (AreWaiting served before) queues.old.items → All (AreWaiting served (followed_by before
         (sent_on_side side (map front_rules fronts.old.items) es event))) queues.new.items) }
@@ -136,9 +137,9 @@ impl FirstLevels {
     #[inline(always)]
     fn take_event(&mut self, event: DinRecord) -> Result<(), NoMemory>
         requires seated { AreSeated (first_task self.old) }
-        requires room { (served : RequestsFor) × (es : List Event) × HasServed served es self.old
-            × (length es < 2 * MAX_LIMIT) }
-        ensures served { OnOk result ((served : RequestsFor) (es : List Event) →
+        requires room { (served : RequestsFor) × (es : List DinRecord)
+            × HasServed served es self.old × (length es < 2 * MAX_LIMIT) }
+        ensures served { OnOk result ((served : RequestsFor) (es : List DinRecord) →
             HasServed served es self.old → HasServed served (es ++ event ∷ []) self.new) }
         ensures numbers { OnOk result (StaysNumberedIn self.old self.new) }
         ensures task { first_task self.new ≡ first_task self.old }
@@ -157,9 +158,9 @@ impl FirstLevels {
     #[inline(always)]
     fn take_some(&mut self, event: Option<DinRecord>) -> Result<(), NoMemory>
         requires seated { AreSeated (first_task self.old) }
-        requires room { (served : RequestsFor) × (es : List Event) × HasServed served es self.old
-            × (length es < 2 * MAX_LIMIT) }
-        ensures served { OnOk result ((served : RequestsFor) (es : List Event) →
+        requires room { (served : RequestsFor) × (es : List DinRecord)
+            × HasServed served es self.old × (length es < 2 * MAX_LIMIT) }
+        ensures served { OnOk result ((served : RequestsFor) (es : List DinRecord) →
             HasServed served es self.old → HasServed served (es ++ option_to_list event) self.new) }
         ensures numbers { OnOk result (StaysNumberedIn self.old self.new) }
         ensures task { first_task self.new ≡ first_task self.old }
@@ -173,9 +174,9 @@ impl FirstLevels {
 
     /// Takes a record, and serves the events that the selection makes of it.
     fn take(&mut self, next: DinRecord) -> Result<(), NoMemory>
-        requires room { (served : RequestsFor) × (past : List Event)
+        requires room { (served : RequestsFor) × (past : List DinRecord)
             × WasGiven served past self.old × (length past < MAX_LIMIT) }
-        ensures given { OnOk result ((served : RequestsFor) (past : List Event) →
+        ensures given { OnOk result ((served : RequestsFor) (past : List DinRecord) →
             WasGiven served past self.old → WasGiven served (past ++ next ∷ []) self.new) }
         ensures numbers { OnOk result (StaysNumberedIn self.old self.new) }
         ensures task { first_task self.new ≡ first_task self.old }
@@ -189,10 +190,10 @@ impl FirstLevels {
     /// Takes the fetches that stand first among these records, as long as they go the short way, if
     /// each record is an event as it is. Answers how many these are.
     fn take_fetches(&mut self, part: &[DinRecord]) -> usize
-        requires room { (served : RequestsFor) × (past : List Event)
+        requires room { (served : RequestsFor) × (past : List DinRecord)
             × WasGiven served past self.old × (length past + length part.now ≤ MAX_LIMIT) }
         ensures inside { result ≤ length part.now }
-        ensures given { (served : RequestsFor) (past : List Event) →
+        ensures given { (served : RequestsFor) (past : List DinRecord) →
             WasGiven served past self.old →
             WasGiven served (past ++ take result part.now) self.new }
         ensures numbers { StaysNumberedIn self.old self.new }
@@ -207,9 +208,9 @@ impl FirstLevels {
 
     /// Takes records in their order.
     pub fn take_part(&mut self, part: &[DinRecord]) -> Result<(), NoMemory>
-        requires room { (served : RequestsFor) × (past : List Event)
+        requires room { (served : RequestsFor) × (past : List DinRecord)
             × WasGiven served past self.old × (length past + length part.now ≤ MAX_LIMIT) }
-        ensures given { OnOk result ((served : RequestsFor) (past : List Event) →
+        ensures given { OnOk result ((served : RequestsFor) (past : List DinRecord) →
             WasGiven served past self.old → WasGiven served (past ++ part.now) self.new) }
         ensures numbers { OnOk result (StaysNumberedIn self.old self.new) }
         ensures task { first_task self.new ≡ first_task self.old }

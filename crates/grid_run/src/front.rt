@@ -55,7 +55,7 @@ impl Front {
     ghost use Rattle.grid_core.specs.Numbered.{blocks_in};
     ghost use Rattle.grid_core.specs.Written.{rules_at};
     ghost use Rattle.stage_core.specs.SecondLevel.{parts_of};
-    ghost use Rattle.grid_run.specs.declared.requests.Request.{Request as Asked};
+    ghost use Rattle.grid_run.specs.declared.requests.Request.{Request};
     ghost use Rattle.grid_run.specs.declared.requests.Request.TheVariants as asked;
     ghost use Rattle.grid_run.specs.Fronts.{FrontAt, HasSent, IsSilent, front_rules};
     ghost use Rattle.grid_run.specs.Numbering.{IsRight, StayNumbered, what_of};
@@ -164,9 +164,9 @@ impl Front {
         waiting: &mut Vec<Numbered>,
     ) -> Result<(), NoMemory>
         requires inside { cell < length (front_rules self.now) }
-        requires last { (h : History) × (q : Asked) × HasSent h q self.now }
+        requires last { (h : History) × (q : Request) × HasSent h q self.now }
         requires known { IsRight (blocks_in numbers.old) self.now.known }
-        ensures sent { OnOk result ((h : History) (q : Asked) → HasSent h q self.now →
+        ensures sent { OnOk result ((h : History) (q : Request) → HasSent h q self.now →
             map what_of waiting.new.items ≡ map what_of waiting.old.items
             ++ parts_of (rules_at (front_rules self.now) cell) side h (event_of q)) }
         ensures numbers { OnOk result (StayNumbered (bsize_of first) (blocks_in numbers.old)

@@ -5,7 +5,7 @@ ghost use Rattle.std.specs.Prelude.{IfOk, OnOk, map, length, take, true, false};
 ghost use Rattle.std.specs.List.{All};
 ghost use Rattle.cache_core.specs.History.{History};
 ghost use Rattle.cache_core.specs.Lists.{IsBeginning};
-ghost use Rattle.din_trace.specs.declared.record.DinRecord.{DinRecord as Event};
+ghost use Rattle.din_trace.specs.declared.record.DinRecord.{DinRecord};
 ghost use Rattle.grid_core.specs.Numbered.{blocks_in};
 ghost use Rattle.stage_core.specs.Events.{history};
 ghost use Rattle.stage_core.specs.declared.message.Side.TheVariants as side;
@@ -86,14 +86,14 @@ pub(crate) fn serve_again(fronts: &mut Vec<Front>, request: Request) -> bool
 /// Serves the fetches that stand first among these records, as long as they go the short way, if
 /// all instruction caches are served together. Answers how many these are. They send nothing.
 pub(crate) fn serve_fetches(fronts: &mut Vec<Front>, part: &[DinRecord]) -> usize
-    requires room { (blocks : List ℕ) × (es : List Event)
+    requires room { (blocks : List ℕ) × (es : List DinRecord)
         × All (FrontAt blocks (history side.I es)) fronts.old.items
         × (length es + length part.now ≤ 2 * MAX_LIMIT) }
     ensures inside { result ≤ length part.now }
-    ensures stands { (blocks : List ℕ) (es : List Event) →
+    ensures stands { (blocks : List ℕ) (es : List DinRecord) →
         All (FrontAt blocks (history side.I es)) fronts.old.items →
         All (FrontAt blocks (history side.I (es ++ take result part.now))) fronts.new.items }
-    ensures silent { (blocks : List ℕ) (es : List Event) →
+    ensures silent { (blocks : List ℕ) (es : List DinRecord) →
         All (FrontAt blocks (history side.I es)) fronts.old.items →
         (seat : Seat) → IsSeatIn (map front_rules fronts.old.items) seat → fetched
         (rules_of_seat (map front_rules fronts.old.items) seat) es (take result part.now) ≡ [] }

@@ -23,10 +23,10 @@ pub(crate) struct Lane {
 #[tactic(auto, unfolding(crate::specs::Lanes::lane_task, crate::specs::Lanes::task_of_plan))]
 impl Lane {
     ghost use Rattle.std.specs.Prelude.{◌≡◌, ◌+◌, ◌≤◌, ◌++◌, [], List, IfOk, OnOk, length};
-    ghost use Rattle.din_trace.specs.declared.record.DinRecord.{DinRecord as Event};
+    ghost use Rattle.din_trace.specs.declared.record.DinRecord.{DinRecord};
     ghost use Rattle.stage_core.specs.Events.{IsBounded, events};
     ghost use Rattle.stage_core.specs.SecondLevel.{Hierarchy};
-    ghost use Rattle.stage_core.specs.declared.selection.Selection.{Selection as Chosen};
+    ghost use Rattle.stage_core.specs.declared.selection.Selection.{Selection};
     ghost use Rattle.grid_run.specs.Grids.{figures_of};
     ghost use Rattle.grid_run.specs.Lanes.{AreIdle, HasGiven, HasSettled, HasTaken, IsPlaced};
     ghost use Rattle.grid_run.specs.Lanes.{lane_task, task_of_plan};
@@ -52,10 +52,10 @@ impl Lane {
         threads: usize,
         part: &[DinRecord],
     ) -> Result<(), NoMemory>
-        requires room { (records : List Event) × HasTaken records self.old
+        requires room { (records : List DinRecord) × HasTaken records self.old
             × (length records + length part.now ≤ MAX_LIMIT) }
-        ensures given { OnOk result ((past records : List Event) → HasGiven past records self.old
-            → HasGiven past (records ++ part.now) self.new) }
+        ensures given { OnOk result ((past records : List DinRecord) →
+            HasGiven past records self.old → HasGiven past (records ++ part.now) self.new) }
         ensures idle { OnOk result (AreIdle self.new) }
         ensures task { lane_task self.new ≡ lane_task self.old }
     {
@@ -66,10 +66,10 @@ impl Lane {
 
     /// The second levels serve what they were given.
     fn serve<T: Threads + Sync>(&mut self, rt: &T, threads: usize) -> Result<(), NoMemory>
-        requires room { (records : List Event) × HasTaken records self.old
+        requires room { (records : List DinRecord) × HasTaken records self.old
             × (length records ≤ MAX_LIMIT) }
-        ensures given { OnOk result ((past records : List Event) → HasGiven past records self.old
-            → HasGiven past records self.new) }
+        ensures given { OnOk result ((past records : List DinRecord) →
+            HasGiven past records self.old → HasGiven past records self.new) }
         ensures idle { OnOk result (AreIdle self.new) }
         ensures task { lane_task self.new ≡ lane_task self.old }
     {
@@ -81,9 +81,9 @@ impl Lane {
     /// The second levels, which are idle, are given all that waits in the queues. The queues get
     /// their empty lists.
     fn pass_on(&mut self)
-        requires taken { (records : List Event) × HasTaken records self.old }
+        requires taken { (records : List DinRecord) × HasTaken records self.old }
         requires idle { AreIdle self.old }
-        ensures given { (past records : List Event) → HasGiven past records self.old
+        ensures given { (past records : List DinRecord) → HasGiven past records self.old
             → HasGiven records records self.new }
         ensures task { lane_task self.new ≡ lane_task self.old }
     {
@@ -92,9 +92,9 @@ impl Lane {
 
     /// Serves all that waits for the second levels.
     pub fn settle<T: Threads + Sync>(&mut self, rt: &T, threads: usize) -> Result<(), NoMemory>
-        requires room { (records : List Event) × HasTaken records self.old
+        requires room { (records : List DinRecord) × HasTaken records self.old
             × (length records ≤ MAX_LIMIT) }
-        ensures settled { OnOk result ((records : List Event) → HasTaken records self.old
+        ensures settled { OnOk result ((records : List DinRecord) → HasTaken records self.old
             → HasSettled records self.new) }
         ensures task { lane_task self.new ≡ lane_task self.old }
     {
@@ -106,9 +106,9 @@ impl Lane {
     /// Serves all that waits for the second levels, and gives the lists back to the queues, so that
     /// each queue does with one list.
     pub fn catch_up<T: Threads + Sync>(&mut self, rt: &T, threads: usize) -> Result<(), NoMemory>
-        requires room { (records : List Event) × HasTaken records self.old
+        requires room { (records : List DinRecord) × HasTaken records self.old
             × (length records ≤ MAX_LIMIT) }
-        ensures given { OnOk result ((records : List Event) → HasTaken records self.old
+        ensures given { OnOk result ((records : List DinRecord) → HasTaken records self.old
             → HasGiven records records self.new) }
         ensures task { lane_task self.new ≡ lane_task self.old }
     {
@@ -125,9 +125,9 @@ impl Lane {
         threads: usize,
         part: &[DinRecord],
     ) -> Result<(), NoMemory>
-        requires room { (records : List Event) × HasTaken records self.old
+        requires room { (records : List DinRecord) × HasTaken records self.old
             × (length records + length part.now ≤ MAX_LIMIT) }
-        ensures taken { OnOk result ((records : List Event) → HasTaken records self.old
+        ensures taken { OnOk result ((records : List DinRecord) → HasTaken records self.old
             → HasTaken (records ++ part.now) self.new) }
         ensures task { lane_task self.new ≡ lane_task self.old }
     {
@@ -144,8 +144,9 @@ impl Lane {
 
     /// What the caches of a row have counted.
     pub fn figures(&self, place: &Place) -> Figures
-        requires { (c : Hierarchy) × (s : Chosen) × IsPlaceIn (lane_task self.now) c s place.now }
-        ensures { (c : Hierarchy) (s : Chosen) (past : List Event) →
+        requires { (c : Hierarchy) × (s : Selection)
+            × IsPlaceIn (lane_task self.now) c s place.now }
+        ensures { (c : Hierarchy) (s : Selection) (past : List DinRecord) →
             IsPlaceIn (lane_task self.now) c s place.now → HasSettled past self.now →
             result ≡ figures_of c (events s past) }
     {

@@ -1,7 +1,7 @@
 //! Which events a selection makes of the records of a trace.
 
 ghost use Rattle.std.specs.Prelude.{◌≡◌, true};
-ghost use Rattle.grid_run.specs.Selections.{TakesAll};
+ghost use Rattle.stage_core.specs.Events.{TakesAll};
 
 use din_trace::{DinRecord, MAX_LIMIT};
 use stage_core::{Picked, Selection, Selector};
@@ -17,20 +17,11 @@ pub(crate) struct Picker {
     ghost every: { TakesAll selector.selection → whole ≡ true },
 }
 
-/// Whether a selection leaves nothing out and puts nothing in.
-fn takes_all(selection: Selection) -> bool
-    ensures takes { result ≡ true → TakesAll selection }
-    ensures every { TakesAll selection → result ≡ true }
-{
-    selection.skip == 0 && selection.max == 0 && selection.every == 0
-}
-
 impl Picker {
     ghost use Rattle.std.specs.Prelude.{◌≡◌, ◌<◌, ◌++◌, ◌∷◌, [], List, length, true};
-    ghost use Rattle.din_trace.specs.declared.record.DinRecord.{DinRecord as Event};
-    ghost use Rattle.stage_core.specs.Events.{IsBounded, events_at, picked_events};
+    ghost use Rattle.din_trace.specs.declared.record.DinRecord.{DinRecord};
+    ghost use Rattle.stage_core.specs.Events.{IsBounded, TakesAll, events_at, picked_events};
     ghost use Rattle.grid_run.specs.Picking.{HasPicked, picked_by};
-    ghost use Rattle.grid_run.specs.Selections.{TakesAll};
 
     /// A picker that was offered nothing.
     pub fn new(selection: Selection) -> Picker
@@ -40,7 +31,7 @@ impl Picker {
     {
         Picker {
             selector: Selector::new(selection),
-            whole: takes_all(selection),
+            whole: selection.takes_all(),
         }
     }
 
@@ -48,7 +39,7 @@ impl Picker {
     pub fn is_whole(&self) -> bool
         ensures takes { result ≡ true → TakesAll (picked_by self.now) }
         ensures every { TakesAll (picked_by self.now) → result ≡ true }
-        ensures picked { result ≡ true → (past : List Event) → HasPicked past self.now }
+        ensures picked { result ≡ true → (past : List DinRecord) → HasPicked past self.now }
     {
         self.whole
     }
@@ -56,11 +47,11 @@ impl Picker {
     /// Takes the next record, and answers its events.
     #[inline(always)]
     pub fn offer(&mut self, next: DinRecord) -> Picked
-        requires room { (past : List Event) × HasPicked past self.old
+        requires room { (past : List DinRecord) × HasPicked past self.old
             × (length past < MAX_LIMIT) }
-        ensures picked { (past : List Event) → HasPicked past self.old →
+        ensures picked { (past : List DinRecord) → HasPicked past self.old →
             picked_events result ≡ events_at (picked_by self.old) past next }
-        ensures stands { (past : List Event) → HasPicked past self.old →
+        ensures stands { (past : List DinRecord) → HasPicked past self.old →
             HasPicked (past ++ next ∷ []) self.new }
         ensures selection { picked_by self.new ≡ picked_by self.old }
     {

@@ -25,7 +25,7 @@ impl Queue {
     ghost use Rattle.grid_run.specs.Backs.{HasNone, StaysNumbered, seat_on, sent_for};
     ghost use Rattle.grid_run.specs.Fronts.{HasSent, KnowsLast, front_rules};
     ghost use Rattle.grid_run.specs.Sending.{event_of};
-    ghost use Rattle.grid_run.specs.declared.requests.Request.{Request as Asked};
+    ghost use Rattle.grid_run.specs.declared.requests.Request.{Request};
 
     /// An empty queue behind these seats.
     pub fn new(alloc: Global, seats: BothSeats) -> Queue
@@ -57,9 +57,9 @@ impl Queue {
         numbers: &mut BlockNumbers,
     ) -> Result<(), NoMemory>
         requires placed { IsPlacedOn side (map front_rules fronts.now) self.old.seats }
-        requires sent { (h : History) × (q : Asked) × All (HasSent h q) fronts.now }
+        requires sent { (h : History) × (q : Request) × All (HasSent h q) fronts.now }
         requires known { All (KnowsLast (blocks_in numbers.old)) fronts.now }
-        ensures asked { OnOk result ((served : RequestsFor) (h : History) (q : Asked)
+        ensures asked { OnOk result ((served : RequestsFor) (h : History) (q : Request)
             (before : RequestsFor) → All (HasSent h q) fronts.now →
             AreWaiting served before self.old → AreWaiting served (followed_by before
             (sent_for side (map front_rules fronts.now) h (event_of q))) self.new) }

@@ -9,8 +9,8 @@ ghost use Rattle.grid_run.specs.Backs.{QueuesStayNumbered, queue_seats, seats_of
 ghost use Rattle.grid_run.specs.Backs.{task_of_shelf};
 ghost use Rattle.grid_run.specs.Fronts.{HasSent, KnowsLast, front_rules};
 ghost use Rattle.grid_run.specs.Sending.{event_of};
-ghost use Rattle.grid_run.specs.declared.plan.BackShelf.{BackShelf as Planned};
-ghost use Rattle.grid_run.specs.declared.requests.Request.{Request as Asked};
+ghost use Rattle.grid_run.specs.declared.plan.BackShelf.{BackShelf};
+ghost use Rattle.grid_run.specs.declared.requests.Request.{Request};
 
 use crate::front::Front;
 use crate::lists::made_for_each;
@@ -41,7 +41,7 @@ fn queue_for(alloc: Global, shelf: &BackShelf) -> Result<Queue, NoMemory>
 /// An empty queue for the second levels of each of these shelves.
 pub(crate) fn queues_for(alloc: Global, shelves: &[BackShelf]) -> Result<Vec<Queue>, NoMemory>
     ensures seats { IfOk result (λ queues. map queue_seats queues.items
-        ≡ map (λ (shelf : Planned). seats_of_task (task_of_shelf shelf)) shelves.now) }
+        ≡ map (λ (shelf : BackShelf). seats_of_task (task_of_shelf shelf)) shelves.now) }
     ensures none { IfOk result (λ queues. All HasNone queues.items) }
 {
     made_for_each!(alloc, shelves, queue_for)
@@ -56,9 +56,9 @@ pub(crate) fn ask_queues(
 ) -> Result<(), NoMemory>
     requires placed { All (IsPlacedOn side (map front_rules fronts.now))
         (map queue_seats queues.old.items) }
-    requires sent { (h : History) × (q : Asked) × All (HasSent h q) fronts.now }
+    requires sent { (h : History) × (q : Request) × All (HasSent h q) fronts.now }
     requires known { All (KnowsLast (blocks_in numbers.old)) fronts.now }
-    ensures asked { OnOk result ((served : RequestsFor) (h : History) (q : Asked)
+    ensures asked { OnOk result ((served : RequestsFor) (h : History) (q : Request)
         (before : RequestsFor) → All (HasSent h q) fronts.now →
         All (AreWaiting served before) queues.old.items →
         All (AreWaiting served (followed_by before

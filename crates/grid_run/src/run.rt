@@ -6,7 +6,7 @@ ghost use Rattle.std.specs.List.{All};
 ghost use Rattle.din_trace.specs.Text.{Remaining};
 ghost use Rattle.din_trace.specs.Remaining.{Script, Fate, Follows};
 ghost use Rattle.din_trace.specs.Source.{HasLeft, Takes};
-ghost use Rattle.din_trace.specs.declared.record.DinRecord.{DinRecord as Event};
+ghost use Rattle.din_trace.specs.declared.record.DinRecord.{DinRecord};
 ghost use Rattle.grid_run.specs.Readings.{HasReadBatch};
 ghost use Rattle.grid_run.specs.Rows.{ServedAll};
 ghost use Rattle.grid_run.specs.Workers.{MayHaveTaken, worker_task};
@@ -58,9 +58,9 @@ fn take_and_read<R: ByteReader + Send, T: Threads + Sync>(
     next: &mut Vec<DinRecord>,
     size: usize,
 ) -> Result<bool, GridFault>
-    requires room { (past : List Event) × All (MayHaveTaken past) crew.old.workers.items
+    requires room { (past : List DinRecord) × All (MayHaveTaken past) crew.old.workers.items
         × (length past + length batch.now.items ≤ MAX_LIMIT) }
-    ensures taken { OnOk result ((past : List Event) →
+    ensures taken { OnOk result ((past : List DinRecord) →
         All (MayHaveTaken past) crew.old.workers.items →
         All (MayHaveTaken (past ++ batch.now.items)) crew.new.workers.items) }
     ensures tasks { map worker_task crew.new.workers.items
@@ -80,7 +80,7 @@ fn take_and_read<R: ByteReader + Send, T: Threads + Sync>(
         rt,
         &mut || read_batch(source, next, size),
         &mut ||
-            requires { (past : List Event) × All (MayHaveTaken past) crew.now.workers.items
+            requires { (past : List DinRecord) × All (MayHaveTaken past) crew.now.workers.items
                 × (length past + length batch.now.items ≤ MAX_LIMIT) }
         { crew.take(rt, batch) },
     );

@@ -20,7 +20,7 @@ impl Second {
     ghost use Rattle.std.specs.Prelude.{map};
     ghost use Rattle.std.specs.List.{All};
     ghost use Rattle.cache_core.specs.Geometry.{bsize_of};
-    ghost use Rattle.stage_core.specs.declared.message.What.{What as Sent};
+    ghost use Rattle.stage_core.specs.declared.message.What.{What};
     ghost use Rattle.grid_run.specs.Numbering.{IsNumbered, what_of};
     ghost use Rattle.grid_run.specs.Seats.{rules_on};
     ghost use Rattle.grid_run.specs.SecondCaches.{second_bsize, second_rules};
@@ -44,7 +44,7 @@ impl Second {
     /// Exchanges the requests that wait, of which there are none here, for others.
     pub fn swap_waiting(&mut self, waiting: &mut Vec<Numbered>)
         requires settled { NothingWaitsFor self.old }
-        ensures asked { (blocks : List ℕ) (ws : List Sent) →
+        ensures asked { (blocks : List ℕ) (ws : List What) →
             All (IsNumbered blocks (second_bsize self.old.caches)) waiting.old.items →
             SecondAsked blocks ws self.old →
             SecondAsked blocks (ws ++ map what_of waiting.old.items) self.new }
@@ -63,9 +63,9 @@ impl Second {
 
     /// Serves all requests that wait.
     pub fn settle(&mut self) -> Result<(), NoMemory>
-        requires room { (blocks : List ℕ) × (ws : List Sent) × SecondAsked blocks ws self.old
+        requires room { (blocks : List ℕ) × (ws : List What) × SecondAsked blocks ws self.old
             × (length ws ≤ 2 ^ 44) }
-        ensures asked { OnOk result ((blocks : List ℕ) (ws : List Sent) →
+        ensures asked { OnOk result ((blocks : List ℕ) (ws : List What) →
             SecondAsked blocks ws self.old → SecondAsked blocks ws self.new) }
         ensures settled { OnOk result (NothingWaitsFor self.new) }
         ensures bsize { second_bsize self.new.caches ≡ second_bsize self.old.caches }

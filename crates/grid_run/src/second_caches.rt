@@ -2,7 +2,7 @@
 
 ghost use Rattle.std.specs.Prelude.{◌≡◌, ◌++◌, List, ℕ, OnOk, map};
 ghost use Rattle.std.specs.List.{All};
-ghost use Rattle.stage_core.specs.declared.message.What.{What as Sent};
+ghost use Rattle.stage_core.specs.declared.message.What.{What};
 ghost use Rattle.grid_run.specs.Families.{bsize_on, rules_in};
 ghost use Rattle.grid_run.specs.Numbering.{IsNumbered, what_of};
 ghost use Rattle.grid_run.specs.Sending.{HasRoom, SecondServed};
@@ -28,7 +28,7 @@ pub(crate) enum SecondCaches {
 fn serve_together(family: &mut Family, requests: &[Numbered]) -> Result<(), NoMemory>
     requires room { (blocks : List ℕ)
         × HasRoom blocks (SecondCaches.Family family.old) requests.now }
-    ensures served { OnOk result ((blocks : List ℕ) (ws : List Sent) →
+    ensures served { OnOk result ((blocks : List ℕ) (ws : List What) →
         All (IsNumbered blocks (bsize_on family.old)) requests.now →
         SecondServed blocks ws (SecondCaches.Family family.old) →
         SecondServed blocks (ws ++ map what_of requests.now) (SecondCaches.Family family.new)) }
@@ -49,7 +49,7 @@ impl SecondCaches {
     ghost use Rattle.cache_core.specs.History.{History};
     ghost use Rattle.grid_core.specs.FullyAssociative.{shadow_misses};
     ghost use Rattle.grid_core.specs.Written.{rules_at};
-    ghost use Rattle.stage_core.specs.declared.message.What.{What as Sent};
+    ghost use Rattle.stage_core.specs.declared.message.What.{What};
     ghost use Rattle.grid_run.specs.Numbering.{IsNumbered, what_of};
     ghost use Rattle.grid_run.specs.Seats.{rules_on};
     ghost use Rattle.grid_run.specs.SecondCaches.{SecondStandsBy, second_bsize, second_rules};
@@ -73,7 +73,7 @@ impl SecondCaches {
     /// Serves requests in their order.
     pub fn serve_each(&mut self, requests: &[Numbered]) -> Result<(), NoMemory>
         requires room { (blocks : List ℕ) × HasRoom blocks self.old requests.now }
-        ensures served { OnOk result ((blocks : List ℕ) (ws : List Sent) →
+        ensures served { OnOk result ((blocks : List ℕ) (ws : List What) →
             All (IsNumbered blocks (second_bsize self.old)) requests.now →
             SecondServed blocks ws self.old →
             SecondServed blocks (ws ++ map what_of requests.now) self.new) }

@@ -24,13 +24,13 @@ fn put_words<W: ByteWriter>(writer: &mut W, words: &[String]) -> Result<(), Devi
     Ok(())
 }
 
-/// Writes the head of one column: the name of a cache, and what the column has.
-fn put_head<W: ByteWriter>(writer: &mut W, cache: &str, name: &str) -> Result<(), DeviceFailed>
+/// Writes the head of one column, which is told in two parts.
+fn put_head<W: ByteWriter>(writer: &mut W, front: &str, rest: &str) -> Result<(), DeviceFailed>
     ensures { Writes W.contents W.failures writer.old writer.new result
-        (tabbed (cache.now ++ name.now)) }
+        (tabbed (front.now ++ rest.now)) }
 {
-    writer.put(cache.as_bytes())?;
-    put_word(writer, name.as_bytes())
+    writer.put(front.as_bytes())?;
+    put_word(writer, rest.as_bytes())
 }
 
 /// Writes the head of the column of one class: the name of a cache, what the column has, and the

@@ -23,10 +23,10 @@ pub(crate) struct Worker {
 #[tactic(auto, unfolding(crate::specs::Workers::worker_task))]
 impl Worker {
     ghost use Rattle.std.specs.Prelude.{◌≡◌, ◌+◌, ◌≤◌, ◌++◌, [], List, IfOk, length};
-    ghost use Rattle.din_trace.specs.declared.record.DinRecord.{DinRecord as Event};
+    ghost use Rattle.din_trace.specs.declared.record.DinRecord.{DinRecord};
     ghost use Rattle.stage_core.specs.Events.{events};
     ghost use Rattle.stage_core.specs.SecondLevel.{Hierarchy};
-    ghost use Rattle.stage_core.specs.declared.selection.Selection.{Selection as Chosen};
+    ghost use Rattle.stage_core.specs.declared.selection.Selection.{Selection};
     ghost use Rattle.grid_run.specs.Grids.{figures_of};
     ghost use Rattle.grid_run.specs.Lanes.{task_of_plan};
     ghost use Rattle.grid_run.specs.Rows.{IsPlaceIn, IsSound};
@@ -46,9 +46,9 @@ impl Worker {
 
     /// Takes some records in their order.
     fn take_part<T: Threads + Sync>(&mut self, rt: &T, threads: usize, part: &[DinRecord])
-        requires room { (past : List Event) × MayHaveTaken past self.old
+        requires room { (past : List DinRecord) × MayHaveTaken past self.old
             × (length past + length part.now ≤ MAX_LIMIT) }
-        ensures taken { (past : List Event) → MayHaveTaken past self.old
+        ensures taken { (past : List DinRecord) → MayHaveTaken past self.old
             → MayHaveTaken (past ++ part.now) self.new }
         ensures task { worker_task self.new ≡ worker_task self.old }
     {
@@ -59,9 +59,9 @@ impl Worker {
 
     /// Takes records in their order, part by part.
     fn take_parts<T: Threads + Sync>(&mut self, rt: &T, threads: usize, batch: &[DinRecord])
-        requires room { (past : List Event) × MayHaveTaken past self.old
+        requires room { (past : List DinRecord) × MayHaveTaken past self.old
             × (length past + length batch.now ≤ MAX_LIMIT) }
-        ensures taken { (past : List Event) → MayHaveTaken past self.old
+        ensures taken { (past : List DinRecord) → MayHaveTaken past self.old
             → MayHaveTaken (past ++ batch.now) self.new }
         ensures task { worker_task self.new ≡ worker_task self.old }
     {
@@ -77,9 +77,9 @@ impl Worker {
     /// the slowest one. So a worker with one thread lets nothing wait for the next batch, which
     /// would make them uneven.
     pub fn take<T: Threads + Sync>(&mut self, rt: &T, threads: usize, batch: &[DinRecord])
-        requires room { (past : List Event) × MayHaveTaken past self.old
+        requires room { (past : List DinRecord) × MayHaveTaken past self.old
             × (length past + length batch.now ≤ MAX_LIMIT) }
-        ensures taken { (past : List Event) → MayHaveTaken past self.old
+        ensures taken { (past : List DinRecord) → MayHaveTaken past self.old
             → MayHaveTaken (past ++ batch.now) self.new }
         ensures task { worker_task self.new ≡ worker_task self.old }
     {
@@ -91,9 +91,9 @@ impl Worker {
 
     /// Serves what waits for the second levels.
     pub fn settle<T: Threads + Sync>(&mut self, rt: &T, threads: usize)
-        requires room { (past : List Event) × MayHaveTaken past self.old
+        requires room { (past : List DinRecord) × MayHaveTaken past self.old
             × (length past ≤ MAX_LIMIT) }
-        ensures settled { (past : List Event) → MayHaveTaken past self.old
+        ensures settled { (past : List DinRecord) → MayHaveTaken past self.old
             → MayHaveSettled past self.new }
         ensures task { worker_task self.new ≡ worker_task self.old }
     {
@@ -111,8 +111,9 @@ impl Worker {
 
     /// What the caches of a row have counted.
     pub fn figures(&self, place: &Place) -> Figures
-        requires { (c : Hierarchy) × (s : Chosen) × IsPlaceIn (worker_task self.now) c s place.now }
-        ensures { (c : Hierarchy) (s : Chosen) (past : List Event) →
+        requires { (c : Hierarchy) × (s : Selection)
+            × IsPlaceIn (worker_task self.now) c s place.now }
+        ensures { (c : Hierarchy) (s : Selection) (past : List DinRecord) →
             IsPlaceIn (worker_task self.now) c s place.now → Took past self.now →
             result ≡ figures_of c (events s past) }
     {

@@ -8,7 +8,7 @@ use Rattle.std.proofs.lemmas.Bool.{false≢true}
 use Rattle.std.proofs.lemmas.List.{length-reverse, reverse-append, reverse-reverse, get_or_at}
 use Rattle.std.proofs.lemmas.List.{get_or_append_left, get_or-reverse, get_or_default}
 use Rattle.std.proofs.lemmas.Option.{same_Some}
-use Rattle.cache_core.proofs.Ascending.{has-at}
+use Rattle.cache_core.proofs.Rising.{has-at}
 use Rattle.cache_core.proofs.Nothing.{take_none}
 use Rattle.cache_core.proofs.Reuse.{has}
 use Rattle.cache_core.proofs.Cases.{by_cases}

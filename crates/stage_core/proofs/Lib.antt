@@ -12,3 +12,4 @@ pub mod OnePop
 pub mod Threads
 pub mod Waits
 pub mod Picks
+pub mod Selections

@@ -1,7 +1,7 @@
 -- The event list that a selection makes of a trace, and the requests of an event to each side.
-use Rattle.std.specs.Prelude.{◌≤◌, ◌^◌, Some, None, option_to_list, ℕ, ◌+◌, ◌-◌, ◌%◌, Bool, true}
-use Rattle.std.specs.Prelude.{false, not, ◌==◌, ◌&&◌, ◌||◌, nat_lt, nat_le, List, [], ◌∷◌, ◌++◌}
-use Rattle.std.specs.Prelude.{count_by, reverse, if◌then◌else◌}
+use Rattle.std.specs.Prelude.{◌≡◌, ◌≤◌, ◌^◌, Some, None, option_to_list, ℕ, ◌+◌, ◌-◌, ◌%◌, Bool}
+use Rattle.std.specs.Prelude.{true, false, not, ◌==◌, ◌&&◌, ◌||◌, nat_lt, nat_le, List, [], ◌∷◌}
+use Rattle.std.specs.Prelude.{◌++◌, count_by, reverse, if◌then◌else◌}
 use Rattle.std.specs.List.{flat_map}
 use Rattle.din_trace.specs.declared.record.DinRecord.{DinRecord}
 use Rattle.din_trace.specs.declared.record.Label.{Label}
@@ -20,6 +20,12 @@ pub record IsBounded (s : Selection) : Type 0 where
   pub skip : s.skip ≤ 2 ^ 40
   pub max : s.max ≤ 2 ^ 40
   pub every : s.every ≤ 2 ^ 40
+
+-- the selection leaves nothing out, and puts nothing in
+pub record TakesAll (s : Selection) : Type 0 where
+  pub skip : s.skip ≡ 0
+  pub max : s.max ≡ 0
+  pub every : s.every ≡ 0
 
 -- is it the label of a flush record?
 abbrev pub is_flush_label : Label → Bool

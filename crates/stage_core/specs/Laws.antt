@@ -1,7 +1,7 @@
 -- Laws over the definitions.
 use Rattle.std.specs.Prelude.{◌≡◌, ℕ, ◌*◌, ◌<◌, ◌≤◌, List, length}
 use Rattle.din_trace.specs.declared.record.DinRecord.{DinRecord}
-use Rattle.stage_core.specs.Events.{events}
+use Rattle.stage_core.specs.Events.{TakesAll, events}
 use Rattle.stage_core.specs.SecondLevel.{Parts, Hierarchy, parts_in, second_level_requests}
 use Rattle.stage_core.specs.SecondLevel.{second_history}
 use Rattle.stage_core.specs.Streams.{order, to_side, from_side, replies}
@@ -32,6 +32,11 @@ SecondLevelSeesAtMostTwo = (c : Hierarchy) (es : List DinRecord) →
 abbrev pub SelectionsMakeAtMostTwo : Type 0
 SelectionsMakeAtMostTwo = (s : Selection) (records : List DinRecord)
     → length (events s records) ≤ 2 * length records
+
+-- if a selection takes all, the events of a trace are its records
+abbrev pub TakingAllKeepsEachRecord : Type 0
+TakingAllKeepsEachRecord = (s : Selection) → TakesAll s → (records : List DinRecord)
+    → events s records ≡ records
 
 -- threads of which each waits in vain or has ended have all ended, if each ring holds a message or
 -- more

@@ -41,7 +41,7 @@ flush_all side.I = []
 flush_all side.D = what.FlushAll ∷ []
 
 -- the parts of a request to a side's cache after a history; a flush writes the dirty blocks back in
--- ascending order
+-- rising order
 unfoldable pub parts_of : Rules → Side → History → Event → List What
 parts_of r s h (access x) = access_parts s (block_of r x * r.bsize) x (outcome_of r h x)
 parts_of r s h flush = map back (map (λ b. b * r.bsize) (dirty_blocks r h)) ++ flush_all s

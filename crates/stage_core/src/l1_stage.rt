@@ -55,7 +55,7 @@ fn put_access(
 )
     ensures { outbox.new ≡ answer place (access_parts side first access outcome) }
 {
-    if outcome.back.is_none() && !outcome.fetch && !outcome.through {
+    if outcome.sends_nothing() {
         outbox.answer_nothing(place);
     } else {
         *outbox = access_box(alloc, side, place, first, access, outcome);

@@ -41,7 +41,7 @@ pub use l2_stage::L2Stage;
 pub use laws::{
     definitions_meet_worked_examples, finish_ends_each_stream, merge_takes_the_requests,
     second_level_sees_at_most_two, selections_make_at_most_two, stages_answer_their_streams,
-    waiting_threads_have_ended,
+    taking_all_keeps_each_record, waiting_threads_have_ended,
 };
 pub use memory::NoMemory;
 pub use merge::Merge;

@@ -32,11 +32,14 @@ pub use schedule::drive;
 use std::alloc::Global;
 use std::marker::Model;
 
-/// One of the four machines. The second level belongs to the merge.
+/// One of the four machines.
 #[derive(Clone, Copy)]
-pub enum Machine {
+pub(crate) enum Machine {
+    /// The splitter.
     Splitter,
+    /// The first-level stage of a side.
     Stage(Side),
+    /// The merge, with the second level that it feeds.
     Merging,
 }
 

@@ -25,6 +25,20 @@ pub struct Selection {
     pub every: u64,
 }
 
+impl Selection {
+    ghost use Rattle.std.specs.Prelude.{◌≡◌, true};
+    ghost use Rattle.stage_core.specs.Events.{TakesAll};
+
+    /// Whether it leaves nothing out and puts nothing in. The events of a trace are then its
+    /// records: see [`taking_all_keeps_each_record`](crate::taking_all_keeps_each_record).
+    pub fn takes_all(self) -> bool
+        ensures takes { result ≡ true → TakesAll self }
+        ensures every { TakesAll self → result ≡ true }
+    {
+        self.skip == 0 && self.max == 0 && self.every == 0
+    }
+}
+
 /// What a selector makes of a record: the record if it is selected, and whether a flush is inserted
 /// after it.
 #[derive(Clone, Copy, Debug, PartialEq, Eq)]
@@ -136,7 +150,7 @@ fn add(events: &mut Vec<DinRecord>, event: Option<DinRecord>) -> Result<(), NoMe
 }
 
 /// The event list of a trace.
-pub fn events_of(
+pub(crate) fn events_of(
     alloc: Global,
     selection: Selection,
     records: &[DinRecord],

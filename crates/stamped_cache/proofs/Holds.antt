@@ -24,7 +24,7 @@ use Rattle.grid_core.proofs.Onces.{once-length}
 use Rattle.stamped_cache.specs.declared.state.State.{State}
 use Rattle.stamped_cache.specs.declared.state.State.TheVariants.{Absent, Written}
 use Rattle.stamped_cache.specs.Holding.{HoldBy, IsStateOf}
-use Rattle.stamped_cache.specs.States.{is_held, is_marked}
+use Rattle.stamped_cache.specs.States.{is_held, was_written}
 use Rattle.stamped_cache.proofs.Named.{number-found, same-numbers}
 use Rattle.stamped_cache.proofs.Residents.{has-resident}
 use Rattle.stamped_cache.proofs.Residents.{hit-has, hit-resident}
@@ -118,47 +118,47 @@ module _ (blocks : List ℕ) (r : Rules) (st : IsStacked r) (some : 0 < r.assoc)
     still-held k = ap is_held (now k)
         ∙ by_cases (eqb n k)
         (λ e. ap (λ t. is_held (cond (t && is_write x) Written (states k))) e
-        ∙ marked-held (is_write x) (states k)
+        ∙ written-held (is_write x) (states k)
         (subst (λ j. is_held (states j) ≡ true) (eqb-true n k e) here))
         (λ e. ap (λ t. is_held (cond (t && is_write x) Written (states k))) e)
       where
-        marked-held : (w : Bool) (q : State) → is_held q ≡ true
+        written-held : (w : Bool) (q : State) → is_held q ≡ true
             → is_held (cond w Written q) ≡ is_held q
-        marked-held true q g = sym g
-        marked-held false q g = refl
+        written-held true q g = sym g
+        written-held false q g = refl
 
-    marked-next : (y k : ℕ) → number_at blocks y ≡ Some k → is_held (next k) ≡ true
-        → is_marked (next k) ≡ is_written r after y
-    marked-next y k e there =
+    written-next : (y k : ℕ) → number_at blocks y ≡ Some k → is_held (next k) ≡ true
+        → was_written (next k) ≡ is_written r after y
+    written-next y k e there =
         let was : is_held (states k) ≡ true = sym (still-held k) ∙ there in
-        let before = (held.each y k e).marked was in
+        let before = (held.each y k e).written was in
         let resident = sym (held.each y k e).held ∙ was in
-        ap is_marked (now k) ∙ by_cases (eqb b y)
-        (λ t. ap (λ u. is_marked (cond (u && is_write x) Written (states k)))
+        ap was_written (now k) ∙ by_cases (eqb b y)
+        (λ t. ap (λ u. was_written (cond (u && is_write x) Written (states k)))
         (same-block y k e ∙ t)
-        ∙ marked-by (is_write x) (states k)
+        ∙ written-by (is_write x) (states k)
         ∙ ap (λ u. is_write x || u) (before ∙ sym (ap (λ u. u && is_written r h y) resident))
         ∙ sym (subst (λ z. is_written r after y
         ≡ (is_write x || (is_resident r (renewals r h) z && is_written r h z)))
         (eqb-true b y t) (written-after r st h x y
         ∙ ap (λ u. cond u (is_write x || (is_resident r (renewals r h) b && is_written r h b))
         (is_written r h y)) t)))
-        (λ t. ap (λ u. is_marked (cond (u && is_write x) Written (states k)))
+        (λ t. ap (λ u. was_written (cond (u && is_write x) Written (states k)))
         (same-block y k e ∙ t) ∙ before
         ∙ sym (written-after r st h x y
         ∙ ap (λ u. cond u (is_write x || (is_resident r (renewals r h) b && is_written r h b))
         (is_written r h y)) t))
       where
-        marked-by : (w : Bool) (q : State) → is_marked (cond w Written q) ≡ (w || is_marked q)
-        marked-by true q = refl
-        marked-by false q = refl
+        written-by : (w : Bool) (q : State) → was_written (cond w Written q) ≡ (w || was_written q)
+        written-by true q = refl
+        written-by false q = refl
 
     pub holds-hit : HoldBy blocks r after next rows
     holds-hit = record {
       named = λ y res. held.named y (sym (hit-resident r st h x some hit y) ∙ res);
       each = λ y k e. record {
         held = still-held k ∙ (held.each y k e).held ∙ sym (hit-resident r st h x some hit y);
-        marked = marked-next y k e;
+        written = written-next y k e;
       };
       low = λ k there. held.low k (sym (still-held k) ∙ there);
       sets = λ t lt. record {
@@ -200,7 +200,7 @@ holds-nothing blocks r h states rows none absent empty =
       named = λ y res. absurd (false≢true (sym (gone y) ∙ res));
       each = λ y n e. record {
         held = ap is_held (absent n) ∙ sym (gone y);
-        marked = λ there. absurd (false≢true (ap is_held (sym (absent n)) ∙ there));
+        written = λ there. absurd (false≢true (ap is_held (sym (absent n)) ∙ there));
       };
       low = λ n there. absurd (false≢true (ap is_held (sym (absent n)) ∙ there));
       sets = λ s lt. record {

@@ -23,7 +23,7 @@ use Rattle.grid_core.proofs.Numbers.{number-low}
 use Rattle.stamped_cache.specs.declared.state.State.{State}
 use Rattle.stamped_cache.specs.declared.state.State.TheVariants.{Absent}
 use Rattle.stamped_cache.specs.Holding.{HoldBy, IsRowOf, IsStateOf}
-use Rattle.stamped_cache.specs.States.{is_held, is_marked}
+use Rattle.stamped_cache.specs.States.{is_held, was_written}
 use Rattle.stamped_cache.proofs.Holds.{resident-apart, resident-number, row-length, row-once}
 use Rattle.stamped_cache.proofs.Holds.{same-block, same-number}
 use Rattle.stamped_cache.proofs.Named.{all, has-without, none, number-found, number-gone}
@@ -117,7 +117,7 @@ module _ (blocks : List ℕ) (r : Rules) (st : IsStacked r) (some : 0 < r.assoc)
     gone-resident = full-last r st h x some miss filled
 
     -- it is written back if it was written
-    pub back-is : is_some (outcome_of r h x).back ≡ (is_marked (states (num gone)) && r.wback)
+    pub back-is : is_some (outcome_of r h x).back ≡ (was_written (states (num gone)) && r.wback)
     unfolding is_dirty
     back-is =
         let resident = gone-resident in
@@ -125,8 +125,8 @@ module _ (blocks : List ℕ) (r : Rules) (st : IsStacked r) (some : 0 < r.assoc)
         ap is_some (full-back r st h x some miss filled)
         ∙ some-by (is_dirty r h gone)
         ∙ mid-true r.wback (is_resident r (renewals r h) gone) (is_written r h gone) resident
-        ∙ ap (λ t. r.wback && t) (sym (was.marked (was.held ∙ resident)))
-        ∙ and-comm r.wback (is_marked (states (num gone)))
+        ∙ ap (λ t. r.wback && t) (sym (was.written (was.held ∙ resident)))
+        ∙ and-comm r.wback (was_written (states (num gone)))
       where
         some-by : (t : Bool) → is_some (cond t (Some (gone * r.bsize)) None) ≡ t
         some-by true = refl
@@ -139,13 +139,13 @@ module _ (blocks : List ℕ) (r : Rules) (st : IsStacked r) (some : 0 < r.assoc)
         and-comm false false = refl
 
   -- the state of the block of the access
-  module _ (new : State) (is-held : is_held new ≡ true) (is-marked : is_marked new ≡ is_write x)
+  module _ (new : State) (is-held : is_held new ≡ true) (was-written : was_written new ≡ is_write x)
     where
       new-state : (y k : ℕ) → number_at blocks y ≡ Some k → eqb b y ≡ true
           → is_resident r (renewals r after) y ≡ true → IsStateOf r after y new
       new-state y k e t res = record {
         held = is-held ∙ sym res;
-        marked = λ _. is-marked ∙ sym (subst (λ z. is_written r after z ≡ is_write x)
+        written = λ _. was-written ∙ sym (subst (λ z. is_written r after z ≡ is_write x)
             (eqb-true b y t) written-b);
       }
 
@@ -181,7 +181,7 @@ module _ (blocks : List ℕ) (r : Rules) (st : IsStacked r) (some : 0 < r.assoc)
               (record {
                 held = (held.each y k e).held ∙ sym (room-resident r st h x some miss short y
                     ∙ ap (λ u. u || is_resident r (renewals r h) y) t);
-                marked = λ g. (held.each y k e).marked g ∙ sym (written-other y t);
+                written = λ g. (held.each y k e).written g ∙ sym (written-other y t);
               }))
 
           pub holds-room : HoldBy blocks r after next turned
@@ -258,13 +258,13 @@ module _ (blocks : List ℕ) (r : Rules) (st : IsStacked r) (some : 0 < r.assoc)
             (λ u. subst (IsStateOf r after y) (sym (ap (λ p. cond p Absent (states k)) u))
             (record {
               held = sym (resident-is y false true t u ∙ none (is_resident r (renewals r h) y));
-              marked = λ g. absurd (false≢true g);
+              written = λ g. absurd (false≢true g);
             }))
             (λ u. subst (IsStateOf r after y) (sym (ap (λ p. cond p Absent (states k)) u))
             (record {
               held = (held.each y k e).held
                   ∙ sym (resident-is y false false t u ∙ all (is_resident r (renewals r h) y));
-              marked = λ g. (held.each y k e).marked g ∙ sym (written-other y t);
+              written = λ g. (held.each y k e).written g ∙ sym (written-other y t);
             })))))
 
         pub holds-over : HoldBy blocks r after next turned

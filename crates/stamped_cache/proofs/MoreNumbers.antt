@@ -54,7 +54,7 @@ module _ (blocks more : List ℕ) (on : IsBeginning blocks more) (r : Rules) (h 
                 ap (λ o. unwrap_or o 0) (sym e ∙ kept y (number_by blocks y) is) in
                 let lt = number-low blocks y (number_by blocks y) is in
                 absurd (omega arith)));
-            marked = λ there. absurd (false≢true (sym absent ∙ there));
+            written = λ there. absurd (false≢true (sym absent ∙ there));
           }
     ];
     low = λ n there. let lt = held.low n there in let le = longer in omega arith;

@@ -3,7 +3,7 @@ use Rattle.std.proofs.Common.{Bool, ◌≡◌, ℕ, true, false, not, ◌&&◌, 
 use Rattle.std.proofs.Common.{inl, inr, refl, sym, ap, subst, ◌∙◌}
 use Rattle.std.proofs.lemmas.Bool.{eqb-true, eq-eqb, ne_eqb, false≢true, and_parts, and_from}
 use Rattle.std.proofs.lemmas.Bool.{or_cases, or_left, or_right, false_from_ne_true}
-use Rattle.cache_core.proofs.Ascending.{same_test}
+use Rattle.cache_core.proofs.Rising.{same_test}
 use Rattle.cache_core.proofs.Cases.{by_cases}
 use Rattle.cache_core.proofs.Reuse.{has, has-filter}
 use Rattle.cache_core.proofs.Shift.{without, has-filter_not}

@@ -9,7 +9,7 @@ use Rattle.std.proofs.lemmas.List.{get_or-take}
 use Rattle.cache_core.specs.History.{Rules, History}
 use Rattle.cache_core.specs.Residents.{distinct, in_set, renewals}
 use Rattle.cache_core.specs.Order.{residents_of}
-use Rattle.cache_core.proofs.Ascending.{same_test}
+use Rattle.cache_core.proofs.Rising.{same_test}
 use Rattle.cache_core.proofs.Cases.{by_cases}
 use Rattle.cache_core.proofs.Reuse.{has}
 use Rattle.cache_core.proofs.Shift.{IsOnce, IsOnce-filter, IsOnce-distinct}

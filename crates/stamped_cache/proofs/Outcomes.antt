@@ -4,14 +4,14 @@ use Rattle.std.proofs.Common.{None, refl, sym, ap, ◌∙◌}
 use Rattle.std.specs.List.{list_any}
 use Rattle.cache_core.specs.declared.access.Access.{Access}
 use Rattle.cache_core.specs.History.{History, Rules, block_of, is_write}
-use Rattle.cache_core.specs.Kinds.{referenced_blocks, shadow_of}
+use Rattle.cache_core.specs.Kinds.{kind_by, referenced_blocks, shadow_of}
 use Rattle.cache_core.specs.Parts.{outcome_of}
 use Rattle.cache_core.specs.Residents.{hits, is_resident, renewals}
 use Rattle.cache_core.specs.Row.{outcome_made}
 use Rattle.cache_core.proofs.Steps.{outcome-is, outcome_of-hit}
 use Rattle.grid_core.specs.Hits.{hit_made}
 use Rattle.grid_core.specs.Ways.{IsStacked}
-use Rattle.stamped_cache.specs.Counted.{kind_of, load_made}
+use Rattle.stamped_cache.specs.Counted.{load_made}
 use Rattle.stamped_cache.proofs.Residents.{hit-back}
 
 made-hit : (wback w known near : Bool)
@@ -23,7 +23,7 @@ made-hit false false known near = refl
 
 made-load : (wback w known near : Bool) (back : Option ℕ)
     → outcome_made wback true w false back known near
-    ≡ load_made (kind_of known near) back (w && not wback)
+    ≡ load_made (kind_by known near) back (w && not wback)
 made-load true true known near back = refl
 made-load true false known near back = refl
 made-load false true known near back = refl
@@ -64,7 +64,7 @@ module _ (r : Rules) (st : IsStacked r) (h : History) (x : Access) where
       → known ≡ list_any (λ t. t == block_of r x) (referenced_blocks r h)
       → near ≡ hits (shadow_of r) (renewals (shadow_of r) h) x
       → outcome_of r h x
-      ≡ load_made (kind_of known near) (outcome_of r h x).back (is_write x && not r.wback)
+      ≡ load_made (kind_by known near) (outcome_of r h x).back (is_write x && not r.wback)
   outcome-load known near miss was there = made-of false (outcome_of r h x).back known near
       (outcome_of-hit r h x ∙ miss) refl (sym was) (sym there)
       ∙ made-load r.wback (is_write x) known near (outcome_of r h x).back

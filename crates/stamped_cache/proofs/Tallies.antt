@@ -35,12 +35,12 @@ module _ (r : Rules) (h : History) (x : Access) where
   unfolding tally
   first-next = refl
 
-  pub first-hit : (marked : Bool) → r.wback ≡ true
+  pub first-hit : (written : Bool) → r.wback ≡ true
       → is_resident r (renewals r h) (block_of r x) ≡ true
-      → marked ≡ is_written r h (block_of r x)
-      → is_first_write r h x ≡ (is_write x && not marked)
+      → written ≡ is_written r h (block_of r x)
+      → is_first_write r h x ≡ (is_write x && not written)
   unfolding is_dirty
-  first-hit marked back hit is =
+  first-hit written back hit is =
       ap (λ t. is_write x && not (t && is_resident r (renewals r h) (block_of r x)
       && is_written r h (block_of r x))) back
       ∙ ap (λ t. is_write x && not (t && is_written r h (block_of r x))) hit

@@ -1,17 +1,12 @@
 -- What a cache counts of one access or flush.
-use Rattle.std.specs.Prelude.{◌≡◌, ℕ, ◌+◌, ◌≤◌, Bool, true, false, if◌then◌else◌}
+use Rattle.std.specs.Prelude.{◌≡◌, ℕ, ◌+◌, ◌≤◌, Bool, true, false}
 use Rattle.std.specs.Prelude.{Option, Some}
 use Rattle.cache_core.specs.declared.access.Access.{Access}
 use Rattle.cache_core.specs.declared.access.MissKind.{MissKind}
-use Rattle.cache_core.specs.declared.access.MissKind.TheVariants.{Compulsory, Capacity, Conflict}
 use Rattle.cache_core.specs.declared.access.Outcome.{Outcome}
 use Rattle.cache_core.specs.Counting.{AreWithin, IsWithin, with_access, with_one}
 use Rattle.cache_core.specs.Parts.{one_if}
 use Rattle.stamped_cache.specs.declared.tally.Tally.{Tally}
-
--- why a block misses that was accessed before or not, and that the shadow has or not
-abbrev pub kind_of : Bool → Bool → MissKind
-kind_of known near = if known then (if near then Conflict else Capacity) else Compulsory
 
 -- the outcome of an access that loads its block, by its kind, the first byte of a dirty block that
 -- leaves, if one does, and whether it is a write that is sent on

@@ -8,12 +8,12 @@ use Rattle.cache_core.specs.Order.{residents_of}
 use Rattle.grid_core.specs.Numbers.{number_at}
 use Rattle.grid_core.specs.Shadows.{number_by}
 use Rattle.stamped_cache.specs.declared.state.State.{State}
-use Rattle.stamped_cache.specs.States.{is_held, is_marked}
+use Rattle.stamped_cache.specs.States.{is_held, was_written}
 
 -- this is the state of block y after a history
 pub record IsStateOf (r : Rules) (h : History) (y : ℕ) (s : State) : Type 0 where
   pub held : is_held s ≡ is_resident r (renewals r h) y
-  pub marked : is_held s ≡ true → is_marked s ≡ is_written r h y
+  pub written : is_held s ≡ true → was_written s ≡ is_written r h y
 
 -- the row has the numbers of the residents of set s, each once and in any order
 pub record IsRowOf (blocks : List ℕ) (r : Rules) (h : History) (s : ℕ) (row : List ℕ)

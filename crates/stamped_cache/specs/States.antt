@@ -14,7 +14,7 @@ is_held Clean = true
 is_held Written = true
 
 -- a write used it at its last load or after that
-abbrev pub is_marked : State → Bool
-is_marked Absent = false
-is_marked Clean = false
-is_marked Written = true
+abbrev pub was_written : State → Bool
+was_written Absent = false
+was_written Clean = false
+was_written Written = true

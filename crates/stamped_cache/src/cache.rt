@@ -8,9 +8,9 @@ ghost use Rattle.stamped_cache.specs.Rows.{sets_in, ways_in};
 
 use crate::contents::put;
 use crate::rows::Rows;
-use crate::state::{State, forget_all, grow, mark, state_of};
-use crate::tally::{Before, Tally};
-use cache_core::{Access, Counts, Geometry, MAX_EVENTS, NoMemory, PerClass};
+use crate::state::{State, forget_all, grow, note_write, state_of};
+use crate::tally::Tally;
+use cache_core::{Access, Counts, Geometry, MAX_EVENTS, NoMemory, PerClass, Prior};
 use marked_list::Marked;
 use std::alloc::{AllocError, Global};
 
@@ -98,9 +98,9 @@ impl StampedCache {
         ensures rules { rules_in self.new ≡ rules_in self.old }
     {
         let level = self.order.touch(number)?;
-        mark(&mut self.states, number, access.writes());
+        note_write(&mut self.states, number, access.writes());
         self.tally
-            .hit(access, level == 0, state.is_marked(), self.wback);
+            .hit(access, level == 0, state.was_written(), self.wback);
         self.served += 1;
         Ok(())
     }
@@ -153,9 +153,11 @@ impl StampedCache {
             number as u32,
             write,
         );
-        let near = level == 0;
-        self.tally
-            .load(access, Before { known, near }, back, self.wback);
+        let prior = Prior {
+            referenced: known,
+            in_shadow: level == 0,
+        };
+        self.tally.load(access, prior, back, self.wback);
         self.served += 1;
         Ok(())
     }

@@ -3,13 +3,13 @@
 ghost use Rattle.std.specs.Prelude.{◌≡◌, ◌≢◌, ◌<◌, ◌==◌, ◌++◌, ◌∷◌, [], ◌&&◌, ℕ, List};
 ghost use Rattle.std.specs.Prelude.{if◌then◌else◌, get_or, is_some, length, set as set_at};
 ghost use Rattle.cache_core.specs.declared.access.Access.{Access};
-ghost use Rattle.cache_core.specs.History.{History, Rules as Kept, access as accessed, is_write};
+ghost use Rattle.cache_core.specs.History.{History, Rules, access as accessed, is_write};
 ghost use Rattle.cache_core.specs.Parts.{outcome_of};
 ghost use Rattle.stamped_cache.specs.declared.state.State.TheVariants.{Absent};
 ghost use Rattle.stamped_cache.specs.Holding.{HoldBy};
 ghost use Rattle.stamped_cache.specs.Putting.{HasPlace, Misses, loaded};
 ghost use Rattle.stamped_cache.specs.Rows.{row_held, sets_in, ways_in};
-ghost use Rattle.stamped_cache.specs.States.{is_marked, state_at};
+ghost use Rattle.stamped_cache.specs.States.{was_written, state_at};
 
 use crate::rows::Rows;
 use crate::state::{State, set_state, state_of};
@@ -44,7 +44,7 @@ fn put_over(
     requires index { index < length (row_held rows.old set) }
     requires number { number < length states.old.items }
     ensures back { result
-        ≡ is_marked (state_at states.old.items (get_or (row_held rows.old set) index 0)) }
+        ≡ was_written (state_at states.old.items (get_or (row_held rows.old set) index 0)) }
     ensures states { (k : ℕ) → state_at states.new.items k
         ≡ (if number == k then loaded write
         else (if get_or (row_held rows.old set) index 0 == k then Absent
@@ -55,10 +55,10 @@ fn put_over(
     ensures ways { ways_in rows.new ≡ ways_in rows.old }
 {
     let left = rows.replace(set, index, number) as usize;
-    let marked = state_of(states, left).is_marked();
+    let written = state_of(states, left).was_written();
     set_state(states, left, State::Absent);
     set_state(states, number as usize, State::of_load(write));
-    marked
+    written
 }
 
 /// Puts a block of this number into a set, and lets the one at an index leave, if there is one.
@@ -74,10 +74,10 @@ pub(crate) fn put(
     requires set { set < sets_in rows.old }
     requires place { HasPlace (ways_in rows.old) (row_held rows.old set) leaving }
     requires number { number < length states.old.items }
-    ensures held { (blocks : List ℕ) (r : Kept) (h : History) (x : Access) → write ≡ is_write x →
+    ensures held { (blocks : List ℕ) (r : Rules) (h : History) (x : Access) → write ≡ is_write x →
         Misses blocks r h x number set leaving (state_at states.old.items) (row_held rows.old) →
         HoldBy blocks r (accessed x ∷ h) (state_at states.new.items) (row_held rows.new) }
-    ensures back { (blocks : List ℕ) (r : Kept) (h : History) (x : Access) →
+    ensures back { (blocks : List ℕ) (r : Rules) (h : History) (x : Access) →
         Misses blocks r h x number set leaving (state_at states.old.items) (row_held rows.old) →
         is_some (outcome_of r h x).back ≡ (result && r.wback) }
     ensures sets { sets_in rows.new ≡ sets_in rows.old }

@@ -4,7 +4,7 @@ ghost use Rattle.std.specs.Prelude.{◌≡◌, ◌<◌, ◌≤◌, ◌==◌, ◌
 ghost use Rattle.std.specs.Prelude.{if◌then◌else◌, length, OnOk};
 ghost use Rattle.stamped_cache.specs.declared.state.State.TheVariants.{Absent, Written};
 ghost use Rattle.stamped_cache.specs.Putting.{loaded};
-ghost use Rattle.stamped_cache.specs.States.{is_held, is_marked, state_at};
+ghost use Rattle.stamped_cache.specs.States.{is_held, was_written, state_at};
 
 use std::alloc::AllocError;
 
@@ -36,8 +36,8 @@ impl State {
     }
 
     /// Whether a write used the block at its last load or after that.
-    pub fn is_marked(self) -> bool
-        ensures { result ≡ is_marked self }
+    pub fn was_written(self) -> bool
+        ensures { result ≡ was_written self }
     {
         match self {
             State::Absent | State::Clean => false,
@@ -83,8 +83,8 @@ pub(crate) fn set_state(states: &mut Vec<State>, number: usize, state: State)
 
 /// Lets a block whose state is kept be written, if this is a write.
 #[inline(always)]
-pub(crate) fn mark(states: &mut Vec<State>, number: usize, write: bool)
-    ensures marks { number < length states.old.items → (n : ℕ) → state_at states.new.items n
+pub(crate) fn note_write(states: &mut Vec<State>, number: usize, write: bool)
+    ensures notes { number < length states.old.items → (n : ℕ) → state_at states.new.items n
         ≡ (if number == n && write then Written else state_at states.old.items n) }
 {
     if write {

@@ -3,9 +3,9 @@
 ghost use Rattle.std.specs.Prelude.{◌≡◌, ◌+◌, ◌^◌, ℕ, Option, is_some, if◌then◌else◌};
 ghost use Rattle.cache_core.specs.Counting.{AreWithin, with_access};
 ghost use Rattle.grid_core.specs.Hits.{hit_made};
-ghost use Rattle.stamped_cache.specs.Counted.{kind_of, load_made};
+ghost use Rattle.stamped_cache.specs.Counted.{load_made};
 
-use cache_core::{Access, Counts, MissKind, PerClass};
+use cache_core::{Access, Counts, MissKind, PerClass, Prior};
 
 /// All counts of a cache.
 #[derive(Clone, Copy, Debug)]
@@ -16,27 +16,6 @@ pub(crate) struct Tally {
     /// The writes that found their blocks not written, and so made them dirty under write back.
     /// Each of these blocks is written back once, or is dirty still.
     pub first_writes: u64,
-}
-
-/// What was known before an access that misses: whether its block was ever accessed, and whether
-/// the shadow had it.
-#[derive(Clone, Copy, Debug)]
-pub(crate) struct Before {
-    pub known: bool,
-    pub near: bool,
-}
-
-/// Why an access misses.
-fn kind_by(before: Before) -> MissKind
-    ensures { result ≡ kind_of before.known before.near }
-{
-    if !before.known {
-        MissKind::Compulsory
-    } else if before.near {
-        MissKind::Conflict
-    } else {
-        MissKind::Capacity
-    }
 }
 
 /// Adds an access that hits. It may be a write that is sent on.
@@ -74,7 +53,8 @@ impl Tally {
     ghost use Rattle.cache_core.specs.Counts.{no_counts, none_by_class};
     ghost use Rattle.cache_core.specs.History.{is_write};
     ghost use Rattle.grid_core.specs.Hits.{hit_made};
-    ghost use Rattle.stamped_cache.specs.Counted.{AreFew, CountsAccess, kind_of, load_made};
+    ghost use Rattle.cache_core.specs.Kinds.{kind_by};
+    ghost use Rattle.stamped_cache.specs.Counted.{AreFew, CountsAccess, load_made};
 
     /// Nothing.
     pub fn new() -> Tally
@@ -92,37 +72,36 @@ impl Tally {
     /// Counts an access that hits, whose block the shadow has or not, and a write used before or
     /// not.
     #[inline(always)]
-    pub fn hit(&mut self, access: Access, near: bool, marked: bool, wback: bool)
+    pub fn hit(&mut self, access: Access, near: bool, written: bool, wback: bool)
         requires { AreFew (2 ^ 44) self.old }
         ensures { CountsAccess access (hit_made (is_write access && not wback)) (not near)
-            (is_write access && not marked) self.old self.new }
+            (is_write access && not written) self.old self.new }
     {
         let write = access.writes();
         add_hit(&mut self.counts, access, write && !wback);
         if !near {
             self.far.count(access, true);
         }
-        self.first_writes += (write && !marked) as u64;
+        self.first_writes += (write && !written) as u64;
     }
 
     /// Counts an access that loads its block. `back` says whether a written block leaves.
-    pub fn load(&mut self, access: Access, before: Before, back: bool, wback: bool)
+    pub fn load(&mut self, access: Access, prior: Prior, back: bool, wback: bool)
         requires { AreFew (2 ^ 44) self.old }
         ensures { (address : Option ℕ) → is_some address ≡ (back && wback) →
-            CountsAccess access (load_made (kind_of before.known before.near) address
-            (is_write access && not wback)) (not before.near) (is_write access)
+            CountsAccess access (load_made (kind_by prior.referenced prior.in_shadow) address
+            (is_write access && not wback)) (not prior.in_shadow) (is_write access)
             self.old self.new }
     {
         let write = access.writes();
-        let kind = kind_by(before);
         add_load(
             &mut self.counts,
             access,
-            kind,
+            prior.kind(),
             back && wback,
             write && !wback,
         );
-        self.far.count(access, !before.near);
+        self.far.count(access, !prior.in_shadow);
         self.first_writes += write as u64;
     }
 

@@ -195,7 +195,7 @@ impl Slow {
         }
     }
 
-    /// Empties the cache. The answer is the first bytes of the dirty blocks, in ascending order.
+    /// Empties the cache. The answer is the first bytes of the dirty blocks, in rising order.
     pub(super) fn flush(&mut self, rt: &impl Abort) -> Vec<u64> {
         let mut firsts = Vec::new(self.alloc);
         for used in &self.own.list {

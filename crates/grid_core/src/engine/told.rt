@@ -8,11 +8,11 @@ impl Engine {
     ghost use Rattle.std.specs.Prelude.{◌≡◌, ◌<◌, ℕ, List, true, get_or, length};
     ghost use Rattle.cache_core.specs.declared.access.Access.{Access};
     ghost use Rattle.cache_core.specs.History.{History};
-    ghost use Rattle.cache_core.specs.Parts.{outcome_of};
+    ghost use Rattle.cache_core.specs.Parts.{SendsNothing, outcome_of};
     ghost use Rattle.cache_core.specs.Counts.{counts_of};
     ghost use Rattle.grid_core.specs.FullyAssociative.{shadow_misses};
     ghost use Rattle.grid_core.specs.Engines.{EngineStandsBy, HasAnswered, kept_in, rules_in};
-    ghost use Rattle.grid_core.specs.Written.{SendsNothing, none_kept, rules_at};
+    ghost use Rattle.grid_core.specs.Written.{none_kept, rules_at};
 
     /// The counts of one cache. For caches that are served together they are worked out from
     /// tables and all rows: ask for them at the end, and not after each access.

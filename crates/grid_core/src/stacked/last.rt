@@ -12,10 +12,10 @@ impl Stacked {
     ghost use Rattle.cache_core.specs.declared.access.Access.{Access};
     ghost use Rattle.cache_core.specs.History.{History, block_of};
     ghost use Rattle.cache_core.specs.Kinds.{referenced_blocks, shadow_of};
-    ghost use Rattle.cache_core.specs.Parts.{outcome_of};
+    ghost use Rattle.cache_core.specs.Parts.{SendsNothing, outcome_of};
     ghost use Rattle.cache_core.specs.Residents.{hits, renewals};
     ghost use Rattle.grid_core.specs.StackedCells.{StackedHasAnswered, is_silent, stacked_rules};
-    ghost use Rattle.grid_core.specs.Written.{SendsNothing, rules_at};
+    ghost use Rattle.grid_core.specs.Written.{rules_at};
 
     /// Whether the block of the last access was accessed before.
     pub fn knew(&self) -> bool

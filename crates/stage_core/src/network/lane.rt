@@ -17,7 +17,7 @@ use std::alloc::Global;
 
 /// A first-level stage, the ring to it and the ring from it to the merge.
 #[derive(Drop)]
-pub struct Lane {
+pub(crate) struct Lane {
     pub to: Ring<ToStage>,
     pub stage: L1Stage,
     pub from: Ring<FromStage>,

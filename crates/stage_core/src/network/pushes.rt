@@ -12,7 +12,7 @@ use std::alloc::Global;
 
 /// A message of the splitter, together with the ring that it goes to.
 #[derive(Clone, Copy)]
-pub enum Push {
+pub(crate) enum Push {
     Order(Turn),
     To(Side, ToStage),
 }
@@ -42,7 +42,7 @@ fn add_routed(pushes: &mut Vec<Push>, routed: Routed) -> Result<(), NoMemory>
 }
 
 /// All pushes of the splitter for an event list, up to those of Finish.
-pub fn pushes_of(alloc: Global, events: &[DinRecord]) -> Result<Vec<Push>, NoMemory>
+pub(crate) fn pushes_of(alloc: Global, events: &[DinRecord]) -> Result<Vec<Push>, NoMemory>
     requires { length events.now ≤ 2 * MAX_LIMIT }
     ensures { IfOk result (λ made. made.items ≡ pushes events.now) }
 {
@@ -57,7 +57,7 @@ pub fn pushes_of(alloc: Global, events: &[DinRecord]) -> Result<Vec<Push>, NoMem
 }
 
 /// Pushes a message of the splitter into its ring.
-pub fn push_to(
+pub(crate) fn push_to(
     push: Push,
     order: &mut Ring<Turn>,
     i: &mut Ring<ToStage>,

@@ -9,7 +9,7 @@ use std::marker::Model;
 
 /// The messages that were pushed, in their order, and how many of them were popped.
 #[derive(Drop)]
-pub struct Ring<T: Copy> {
+pub(crate) struct Ring<T: Copy> {
     carried: Vec<T>,
     popped: usize,
 }

@@ -1,5 +1,5 @@
 use Rattle.std.proofs.Common.{filter}
-use Rattle.cache_core.proofs.Ascending.{same_test, rises-rising}
+use Rattle.cache_core.proofs.Rising.{same_test, rises-rising}
 use Rattle.cache_core.specs.Residents.{renewals}
 use Rattle.cache_core.specs.Dirty.{is_dirty, dirty_blocks}
 use Rattle.cache_core.proofs.Owed.{dirty-has, has-dirty}

@@ -1,8 +1,7 @@
 use Rattle.std.proofs.Common.{sym, subst}
 use Rattle.std.proofs.lemmas.List.Elements.{AllWithin-more, at_read}
-use Rattle.cache_core.specs.Parts.{outcome_of}
+use Rattle.cache_core.specs.Parts.{SendsNothing, outcome_of}
 use Rattle.grid_core.specs.Singles.{SingleHasAnswered, single_rules}
-use Rattle.grid_core.specs.Written.{SendsNothing}
 use Rattle.grid_core.proofs.singles.none_sent.Goals as goal
 
 pub loop-single-preserved : goal.loop-single-preserved

@@ -1,9 +1,8 @@
 use Rattle.std.specs.List.{All, AllWithin}
 use Rattle.cache_core.specs.declared.access.Access.{Access}
 use Rattle.cache_core.specs.History.{History}
-use Rattle.cache_core.specs.Parts.{outcome_of}
+use Rattle.cache_core.specs.Parts.{SendsNothing, outcome_of}
 use Rattle.grid_core.specs.Singles.{SingleHasAnswered, single_rules}
-use Rattle.grid_core.specs.Written.{SendsNothing}
 use Rattle.grid_core.proofs.singles.none_sent.Given as goal
 
 -- the caches that were passed sent nothing

@@ -9,7 +9,7 @@ use Rattle.stamped_cache.specs.declared.state.State.TheVariants.{Absent}
 use Rattle.stamped_cache.specs.Holding.{HoldBy}
 use Rattle.stamped_cache.specs.Putting.{HasPlace, IsLeaving, Misses, loaded}
 use Rattle.stamped_cache.specs.Rows.{row_held}
-use Rattle.stamped_cache.specs.States.{is_held, is_marked, state_at}
+use Rattle.stamped_cache.specs.States.{is_held, was_written, state_at}
 use Rattle.stamped_cache.proofs.Loads.{back-is, holds-over, holds-room, room-gone}
 use Rattle.stamped_cache.proofs.contents.put.Goals as goal
 
@@ -17,9 +17,9 @@ loaded-held : (w : Bool) → is_held (loaded w) ≡ true
 loaded-held true = refl
 loaded-held false = refl
 
-loaded-marked : (w : Bool) → is_marked (loaded w) ≡ w
-loaded-marked true = refl
-loaded-marked false = refl
+loaded-written : (w : Bool) → was_written (loaded w) ≡ w
+loaded-written true = refl
+loaded-written false = refl
 
 module _ (blocks : List ℕ) (r : Rules) (h : History) (x : Access) (n set' : ℕ)
     (states : ℕ → State) (rows : ℕ → List ℕ) (write : Bool) (is : write ≡ is_write x)
@@ -32,7 +32,7 @@ module _ (blocks : List ℕ) (r : Rules) (h : History) (x : Access) (n set' : �
       → turned s ≡ rows s ++ n ∷ [] → ((t : ℕ) → t ≢ s → turned t ≡ rows t)
       → HoldBy blocks r (access x ∷ h) next turned) (sym m.here)
       (λ room added same. holds-room blocks r m.stacked m.some m.deep h x states rows m.held n
-      m.number m.absent (loaded write) (loaded-held write) (loaded-marked write ∙ is) room next
+      m.number m.absent (loaded write) (loaded-held write) (loaded-written write ∙ is) room next
       now turned added same)) m.place row others
 
   over : (i : ℕ) → Misses blocks r h x n set' (Some i) states rows
@@ -46,24 +46,24 @@ module _ (blocks : List ℕ) (r : Rules) (h : History) (x : Access) (n set' : �
       → turned s ≡ set (rows s) i n → ((t : ℕ) → t ≢ s → turned t ≡ rows t)
       → HoldBy blocks r (access x ∷ h) next turned) (sym m.here)
       (λ place last now replaced same. holds-over blocks r m.stacked m.some m.deep h x states rows
-      m.held n m.number m.absent (loaded write) (loaded-held write) (loaded-marked write ∙ is)
+      m.held n m.number m.absent (loaded write) (loaded-held write) (loaded-written write ∙ is)
       place.1 i place.0 last next
       (λ k. now k ∙ ap (λ v. cond (eqb n k) (loaded write) (cond (eqb v k) Absent (states k))) last)
       turned replaced same)) m.place m.last now row others
 
 back-over : (blocks : List ℕ) (r : Rules) (h : History) (x : Access) (n set' i : ℕ)
     (states : ℕ → State) (rows : ℕ → List ℕ) (back : Bool)
-    → back ≡ is_marked (states (get_or (rows set') i 0))
+    → back ≡ was_written (states (get_or (rows set') i 0))
     → Misses blocks r h x n set' (Some i) states rows
     → is_some (outcome_of r h x).back ≡ (back && r.wback)
 back-over blocks r h x n set' i states rows back is m =
     (subst (λ s. HasPlace r.assoc (rows s) (Some i)
     → IsLeaving blocks r h s (rows s) (Some i)
-    → back ≡ is_marked (states (get_or (rows s) i 0))
+    → back ≡ was_written (states (get_or (rows s) i 0))
     → is_some (outcome_of r h x).back ≡ (back && r.wback)) (sym m.here)
     (λ place last was. back-is blocks r m.stacked m.some m.deep h x states rows m.held n m.number
     m.absent place.1
-    ∙ ap (λ t. t && r.wback) (ap (λ v. is_marked (states v)) (sym last) ∙ sym was)))
+    ∙ ap (λ t. t && r.wback) (ap (λ v. was_written (states v)) (sym last) ∙ sym was)))
     m.place m.last is
 
 back-beside : (blocks : List ℕ) (r : Rules) (h : History) (x : Access) (n set' : ℕ)

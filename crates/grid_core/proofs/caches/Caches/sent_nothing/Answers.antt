@@ -1,11 +1,10 @@
 use Rattle.std.proofs.Common.{List, arith, subst, sym}
 use Rattle.std.specs.List.{All}
 use Rattle.cache_core.specs.History.{Rules}
-use Rattle.cache_core.specs.Parts.{outcome_of}
+use Rattle.cache_core.specs.Parts.{SendsNothing, outcome_of}
 use Rattle.grid_core.specs.declared.single.Single.{Single}
 use Rattle.grid_core.specs.Caches.{together_rules, apart_rules}
 use Rattle.grid_core.specs.Singles.{single_rules, SingleHasAnswered}
-use Rattle.grid_core.specs.Written.{SendsNothing}
 use Rattle.grid_core.proofs.Silence.{at-rules, at-place}
 use Rattle.grid_core.proofs.caches.Caches.sent_nothing.Goals as goal
 

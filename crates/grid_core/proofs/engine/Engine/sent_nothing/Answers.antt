@@ -1,9 +1,8 @@
 use Rattle.std.proofs.Common.{get_or, subst}
 use Rattle.cache_core.specs.History.{Rules}
-use Rattle.cache_core.specs.Parts.{outcome_of}
+use Rattle.cache_core.specs.Parts.{SendsNothing, outcome_of}
 use Rattle.cache_core.specs.Standing.{rules_from}
 use Rattle.grid_core.specs.Engines.{rules_in}
-use Rattle.grid_core.specs.Written.{SendsNothing}
 use Rattle.grid_core.proofs.Silence.{at-rules}
 use Rattle.grid_core.proofs.engine.Engine.sent_nothing.Goals as goal
 

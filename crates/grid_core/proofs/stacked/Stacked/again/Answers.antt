@@ -1,9 +1,8 @@
 use Rattle.std.proofs.Common.{◌&&◌, not, sym, ap, ◌∙◌}
 use Rattle.cache_core.specs.History.{is_write}
-use Rattle.cache_core.specs.Parts.{outcome_of}
+use Rattle.cache_core.specs.Parts.{SendsNothing, outcome_of}
 use Rattle.grid_core.specs.Cells.{shape_rules}
 use Rattle.grid_core.specs.StackedCells.{stacked_rules}
-use Rattle.grid_core.specs.Written.{SendsNothing}
 use Rattle.grid_core.proofs.Silence.{at-rules, hits-send-nothing}
 use Rattle.grid_core.proofs.stacked.Stacked.again.Goals as goal
 

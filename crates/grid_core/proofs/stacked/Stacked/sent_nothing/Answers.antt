@@ -1,10 +1,9 @@
 use Rattle.std.proofs.Common.{◌≡◌, Bool, false, ◌&&◌, ◌||◌, not, map, sym, ap, ◌∙◌}
 use Rattle.std.specs.List.{list_all}
-use Rattle.cache_core.specs.Parts.{outcome_of}
+use Rattle.cache_core.specs.Parts.{SendsNothing, outcome_of}
 use Rattle.grid_core.specs.Cells.{hit_at, shape_rules}
 use Rattle.grid_core.specs.StackedCells.{is_silent, stacked_rules}
 use Rattle.grid_core.specs.Standing.{found_in}
-use Rattle.grid_core.specs.Written.{SendsNothing}
 use Rattle.grid_core.proofs.Silence.{at-rules, hits-send-nothing}
 use Rattle.grid_core.proofs.stacked.Stacked.sent_nothing.Goals as goal
 

@@ -5,6 +5,7 @@ use Rattle.din_trace.specs.declared.record.DinRecord.{DinRecord}
 use Rattle.grid_core.specs.Numbered.{blocks_in}
 use Rattle.grid_core.proofs.ListLoops.{told-at}
 use Rattle.stage_core.specs.Events.{events}
+use Rattle.stage_core.proofs.Selections.{events-themselves}
 use Rattle.grid_run.specs.Backs.{AreSeatsIn, parts_at, queue_seats, sent_behind}
 use Rattle.grid_run.specs.FirstLevels.{AreSeated, HasServed, first_task}
 use Rattle.grid_run.specs.Fronts.{FrontAt, front_rules}
@@ -12,7 +13,6 @@ use Rattle.grid_run.specs.Picking.{picked_by}
 use Rattle.grid_run.proofs.Behind.{waiting-same}
 use Rattle.grid_run.proofs.Fetching.{data-stay, requests-stay}
 use Rattle.grid_run.proofs.Placed.{same-first, served-same}
-use Rattle.grid_run.proofs.Selections.{events-themselves}
 use Rattle.grid_run.proofs.StayNumbered.{queues-same}
 use Rattle.grid_run.proofs.first_levels.FirstLevels.take_fetches.Goals as goal
 

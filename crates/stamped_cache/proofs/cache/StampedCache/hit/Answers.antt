@@ -11,7 +11,7 @@ use Rattle.stamped_cache.specs.declared.state.State.TheVariants.{Written}
 use Rattle.stamped_cache.specs.Rows.{row_held}
 use Rattle.stamped_cache.specs.Stamped.{counts_in, has_failed, misses_in}
 use Rattle.stamped_cache.specs.Stamped.{rules_in, served_in}
-use Rattle.stamped_cache.specs.States.{is_held, is_marked, state_at}
+use Rattle.stamped_cache.specs.States.{is_held, was_written, state_at}
 use Rattle.stamped_cache.proofs.AfterUse.{known-after, near-before, numbered-after, order-after}
 use Rattle.stamped_cache.proofs.CacheFacts.{assoc-some, is-stacked, state-inside}
 use Rattle.stamped_cache.proofs.Holds.{holds-hit}
@@ -43,8 +43,8 @@ returns-clause-stands c = λ blocks h is st.
       known = known-after blocks old h st x n is new order used;
       numbered = numbered-after blocks old h st x n is new order used;
       holds = holds-hit blocks r (is-stacked old) (assoc-some old) h x states rows st.holds n is
-          held (state_at c.mark.new.states.items)
-          (λ k. c.mark.ensures.marks (state-inside old.states.items n held) k
+          held (state_at c.note_write.new.states.items)
+          (λ k. c.note_write.ensures.notes (state-inside old.states.items n held) k
           ∙ ap (λ w. cond (eqb n k && w) Written (states k)) c.writes.ensures);
       counts = counted.counts
           ∙ ap (λ o. with_access x o old.tally.counts)
@@ -55,9 +55,9 @@ returns-clause-stands c = λ blocks h is st.
           ∙ far-next r h x (eqb level 0)
           (near-before blocks old h st x n is level c.in_ok-level.ensures.level);
       first_writes = λ back. counted.first_writes
-          ∙ ap (λ k. one_if (is_write x && not c.is_marked.result) + k) (st.first_writes back)
+          ∙ ap (λ k. one_if (is_write x && not c.was_written.result) + k) (st.first_writes back)
           ∙ ap (λ t. one_if t + tally (is_first_write r) h)
-          (sym (first-hit r h x c.is_marked.result back hit
-          (c.is_marked.ensures ∙ ap is_marked c.requires.state ∙ each.marked held)))
+          (sym (first-hit r h x c.was_written.result back hit
+          (c.was_written.ensures ∙ ap was_written c.requires.state ∙ each.written held)))
           ∙ sym (first-next r h x);
     }

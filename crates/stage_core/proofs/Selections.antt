@@ -4,10 +4,10 @@ use Rattle.std.proofs.Common.{refl, ap, ◌∙◌, arith, count_by}
 use Rattle.std.proofs.lemmas.List.Sums.{fold_push}
 use Rattle.din_trace.specs.declared.record.DinRecord.{DinRecord}
 use Rattle.din_trace.specs.declared.record.Label.{Label}
-use Rattle.stage_core.specs.Events.{events, events_at, is_reference, picked, picked_events}
+use Rattle.stage_core.specs.Events.{TakesAll, events, events_at, is_reference, picked}
+use Rattle.stage_core.specs.Events.{picked_events}
 use Rattle.stage_core.specs.Places.{flat_map_after}
 use Rattle.stage_core.specs.declared.selection.Selection.{Selection}
-use Rattle.grid_run.specs.Selections.{TakesAll}
 
 -- what is last in a list counts, if it is of those that count
 counts-last : {X : Type 0} (p : X → Bool) (xs : List X) (x : X) → p x ≡ true
