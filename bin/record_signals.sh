@@ -38,7 +38,6 @@ end_witness() {
 # forward SIGNAL
 # shellcheck disable=SC2317  # the traps call it
 forward() {
-    caught=yes
     if [ -z "$traced" ]; then
         early=$1
     elif ! is_started || ! was_for_all "$1" || ! has_stayed; then

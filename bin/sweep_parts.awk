@@ -2,8 +2,8 @@
 # of a grid would else all end at nearly one time. Each part reads the trace anew. sweep_grid.awk is
 # read before it, and sweep_plan.awk beside it.
 
-# Work is counted in thousandths of what one configuration does for a byte of the trace. A second or
-# so is 400 million bytes of a recorded trace, or more, and 100 million of one that misses often.
+# Work is counted in thousandths of what reading and two first-level caches do for a byte of the
+# trace. A second or so is 400 million bytes of a recorded trace, or more, and 100 million of one that misses often.
 # The parts of a run have at least `least` each, by their mean, and together at most `worst` times
 # the work of the run. By how much a trace is packed is a guess.
 BEGIN {
@@ -44,8 +44,8 @@ function parts_of_run(line,   before, whole, parts, work, some) {
 # work_of(LINE): of a run, as recorded traces have it (docs/PERFORMANCE.md, "Sweeps"); others have
 # more work that parts don't share. Caches of the first level that differ only in size and ways are
 # one family, whose caches share most of their work. A pair of them has its own requests to the
-# second level. To read the trace takes 30 % of what one configuration does, a family 35 %, another
-# pair 12 %, and another second level 1.2 %. Values that belong to no cache are of all.
+# second level. To read the trace takes 30 % of that work, a family 35 %, and besides, a pair takes
+# 12 %, and a second level 1.2 %. Values that belong to no cache are of all.
 function work_of(line,   word, some, d, n, families, all, pairs, rows) {
     split(line, word, "\t")
     families["l1-i"] = families["l1-d"] = all = pairs = rows = 1

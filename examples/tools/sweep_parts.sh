@@ -49,12 +49,12 @@ cut_as() {
     verdict "$1" $?
 }
 
-# In hundredths of what one configuration costs, a run has the work 30, and 35 for the instruction
-# cache and for each of the 1, 2 or 4 families of data caches, which differ in more than their size,
-# and 13.2 for each configuration. Of all 28, two parts with two families each cost 640 in place of
-# 575, which is 1.11 times as much, and four parts 1.34 times, which is more than a fourth. Of 8
-# with four families, two parts cost 1.21 times as much; of 4 with four families 1.252 times, and of
-# 6 with two families 1.30 times.
+# In hundredths of what reading and two families cost, a run has the work 30, and 35 for the
+# instruction cache and for each of the 1, 2 or 4 families of data caches, which differ in more than
+# their size, and 13.2 for each configuration. Of all 28, two parts with two families each cost 640
+# in place of 575, which is 1.11 times as much, and four parts 1.34 times, which is more than a
+# fourth. Of 8 with four families, two parts cost 1.21 times as much; of 4 with four families 1.252
+# times, and of 6 with two families 1.30 times.
 test_cuts() {
     local below=(--vary --l2-usize 512,1k,2k,4k "${wide[@]:0:9}" "${rest[@]:0:6}" --l2-ubsize 8)
     whole_of "${wide[@]}"
