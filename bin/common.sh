@@ -41,9 +41,10 @@ show_help() {
 
 # Where POSIXLY_CORRECT is set, a file that can't be opened would end the shell without a word. What
 # SHELLOPTS may hold would leave a star a star, take words for variables, or refuse to write to a
-# file that is there; and what BASHOPTS may hold, make two lines of a text with a backslash.
+# file that is there; and what BASHOPTS may hold, make two lines of a text with a backslash, take
+# large letters for small ones, or find other files for a star, or none.
 set +fkC +o posix
-shopt -u xpg_echo
+shopt -u xpg_echo nocasematch nocaseglob nullglob failglob dotglob extdebug lastpipe
 # The signal of a limit on files would end a tool without a word. The program of record gets it.
 # shellcheck disable=SC2154  # each command sets its name
 [ "$self" = record ] || trap '' XFSZ

@@ -60,8 +60,9 @@ print_way() {
     cat <<END
 #!/bin/sh
 if [ "\${1-}" = --version ]; then
-    (echo '$1 $3') 2>/dev/null || exit 4
-    exit 0
+    (echo '$1 $3') 2>/dev/null && exit
+    echo '$1: the version could not be written' >&2
+    exit 4
 fi
 way=\$0
 case \$0 in
@@ -69,7 +70,12 @@ case \$0 in
 *) [ -e "\$0" ] && way=./\$0 || way=\$(command -v -- "\$0") ;;
 esac
 [ ! -L "\$way" ] || way=\$(readlink -f -- "\$way")
-exec "\${way%/*}/../lib/dinero_pipe/$2" "\$@"
+way=\${way%/*}/../lib/dinero_pipe/$2
+if [ ! -x "\$way" ]; then
+    echo '$1: lib/dinero_pipe/$2 is missing: install it again' >&2
+    exit 69
+fi
+exec "\$way" "\$@"
 END
 }
 

@@ -168,7 +168,7 @@ check_words() {
 }
 
 check_size() {
-    [[ $size =~ ^[1-9][0-9]{2,4}x[1-9][0-9]{2,4}$ ]] || refuse "--size: not WxH: '$size'"
+    [[ $size =~ ^[1-9][0-9]{0,4}x[1-9][0-9]{0,4}$ ]] || refuse "--size: not WxH: '$size'"
     if [ "${size%x*}" -lt 200 ] || [ "${size#*x}" -lt 150 ] || [ "${size%x*}" -gt 10000 ] ||
         [ "${size#*x}" -gt 10000 ]; then
         refuse "--size: not from 200x150 to 10000x10000: '$size'"

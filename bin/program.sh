@@ -96,6 +96,7 @@ note_standing() {
     local built part began
     find_built "$1"
     part=$built.from.part$$
+    leftovers+=("$part")
     : > "$part" && began=$(stat -c %Y -- "$part") && standing "$1" > "$part" &&
         touch -d "@$((began - 1))" -- "$part" && mv -fT -- "$part" "$built.from"
 }

@@ -5,8 +5,11 @@
 # program, too. Only what was sent to this command alone is sent on, or it would come twice.
 
 traced=
+started=
 early=
 witness=
+# The signals that all got and that this command has still to catch, a bit for each.
+seen=0
 
 # forward_signals: from here on, instead of ending this command.
 forward_signals() {
@@ -22,7 +25,7 @@ forward_signals() {
 begin_witness() {
     (
         trap '' HUP INT QUIT TERM
-        exec {words}>&- {trace}>&- {messages}>&-
+        exec {words}>&- {trace}>&- {messages}>&- {go}>&- {input}<&-
         [ -z "$printed" ] || exec {printed}>&-
         exec env --block-signal=HUP,INT,QUIT,TERM tail --pid=$$ -s 1 -f /dev/null
     ) < /dev/null > /dev/null 2>&1 &
@@ -38,15 +41,18 @@ end_witness() {
 # forward SIGNAL
 # shellcheck disable=SC2317  # the traps call it
 forward() {
-    if [ -z "$traced" ]; then
+    if [ -z "$started" ]; then
         early=$1
     elif ! is_started || ! was_for_all "$1" || ! has_stayed; then
         send "$1"
     fi
 }
 
-# forward_early: what came before there was a process to send it to.
-forward_early() {
+# start_program: its process waits for this with the signals as they are for programs. What came
+# before may have been passed over there.
+start_program() {
+    started=yes
+    echo >&"$go"
     [ -z "$early" ] || send "$early"
 }
 
@@ -61,20 +67,30 @@ is_started() {
     [ ! "/proc/$traced/exe" -ef "/proc/$$/exe" ]
 }
 
-# was_for_all SIGNAL: it waits at the witness, too. The kernel sends it there before it comes to
-# this command, which is older; but `timeout` may send it here before it sends it to the group.
+# was_for_all SIGNAL: it has waited at the witness, too. The kernel sends it there before it comes
+# to this command, which is older; but `timeout` may send it here before it sends it to the group.
+# Within a trap, `return` alone would give the status of the command before the trap.
 was_for_all() {
-    waits_at_witness "$1" || { sleep 0.1 || true; waits_at_witness "$1"; } || return
-    # What it has seen would be taken for the next one.
-    end_witness
-    begin_witness
+    has_waited "$1" || { sleep 0.1 || true; has_waited "$1"; } || return 1
+    seen=$((seen & ~(1 << ($1 - 1))))
 }
 
-# waits_at_witness SIGNAL
-waits_at_witness() {
+# has_waited SIGNAL
+has_waited() {
+    note_waiting
+    (((seen >> ($1 - 1)) & 1))
+}
+
+# note_waiting: adds to `seen` the signals that wait at the witness. Then another one takes its
+# place, or they would be taken for the next ones.
+note_waiting() {
     local key mask=0
-    while read -r key mask && [ "$key" != ShdPnd: ]; do :; done < "/proc/$witness/status"
-    (((16#$mask >> ($1 - 1)) & 1))
+    while IFS=$' \t' read -r key mask && [ "$key" != ShdPnd: ]; do :; done < "/proc/$witness/status"
+    mask=$((16#$mask))
+    [ $mask -ne 0 ] || return 0
+    seen=$((seen | mask))
+    end_witness
+    begin_witness
 } 2>/dev/null
 
 # has_stayed: the program has not left the process group.

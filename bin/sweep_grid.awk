@@ -96,9 +96,18 @@ function is_alone(d) {
     return varied[d] in is_lead || varied[d] == "skipcount" || varied[d] == "maxcount"
 }
 
-# number_of_row(): of the whole row that was read, its number in the grid, or 0 if it is not of it.
+# is_whole(): the row that was read has all fields. The last one tells no fault, and the counts are
+# numbers, or it tells one, and they are hyphens.
+function is_whole(   i, form) {
+    if (NF != 2 + options + head_count || $NF == "") return 0
+    form = $NF == "-" ? "^[0-9]+([.][0-9]+)?$" : "^-$"
+    for (i = 3 + options; i < NF; i++) if ($i !~ form) return 0
+    return 1
+}
+
+# number_of_row(): of the row that was read, its number in the grid, or 0 if it is not of it.
 function number_of_row(   i, name, n) {
-    if (NF != 2 + options + head_count || !($1 in trace_at) || $2 "" != sum_of[$1] "") return 0
+    if (!is_whole() || !($1 in trace_at) || $2 "" != sum_of[$1] "") return 0
     for (i = 1; i <= options; i++) {
         name = option[i]
         if (name in dimension_of) continue

@@ -15,7 +15,7 @@ FNR == 1 {
     next
 }
 
-NF != 2 + options + head_count { gone++; if (!damaged) damaged = FNR; next }
+!is_whole() { gone++; if (!damaged) damaged = FNR; next }
 $1 in trace_at && $2 "" != sum_of[$1] "" { said = "changed" OFS $1; gone++; next }
 
 {

@@ -102,7 +102,10 @@ parse() {
             return
             ;;
         --restart) restarts=yes && shift && continue ;;
-        --full) full=--full && shift && continue ;;
+        --full)
+            [ -z "$full" ] || refuse '--full is given twice'
+            full=--full && shift && continue
+            ;;
         --*=*)
             set -- "${1%%=*}" "${1#*=}" "${@:2}"
             is_joined=yes
@@ -277,6 +280,8 @@ check_files() {
     local trace unpacker
     for trace in "${traces[@]}"; do
         [[ $trace != *[$'\t\n']* ]] || refuse 'the name of a trace has a tab or a line feed'
+        [ ! -f /dev/stdout ] || [ ! "$trace" -ef /dev/stdout ] ||
+            refuse "$trace is where the table goes"
         check_trace "$trace"
         unpackers+=("$unpacker")
     done

@@ -126,7 +126,11 @@ for name in grid pipe plot record sweep; do
     verdict "the version of dinero_$name" $?
 done
 mv 'a b' usr
+to_full 'the version to a full disk' 'dinero_grid: the version could not be written' \
+    usr/bin/dinero_grid --version
 mv usr/lib/dinero_pipe/dinero_grid .
+ends 'the installed dinero_grid without the program' 69 \
+    'dinero_grid: lib/dinero_pipe/dinero_grid is missing: install it again' usr/bin/dinero_grid
 ends 'the installed sweep without its simulator' 69 \
     'sweep: dinero_grid is missing: install it again' usr/bin/dinero_sweep "${grid[@]}" -- kinds.din
 mv dinero_grid usr/lib/dinero_pipe

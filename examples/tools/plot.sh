@@ -93,6 +93,9 @@ test_plot() {
         verdict "a picture of the $kind as PDF" $?
     done
     test_lacking_tables
+    test_faulty_tables
+    test_places
+    test_ended
     test_choice
     test_streams
 }
@@ -115,6 +118,9 @@ test_lacking_tables() {
     ends 'plot of whole counts that are not there' 1 \
         'plot: lacking.tsv: the table has no column l1-dcache-fully-associative-misses' \
         "$plot" kinds lacking.tsv none.svg --whole-counts
+}
+
+test_faulty_tables() {
     head -n 1 kinds.tsv >empty.tsv
     awk -F '\t' -v OFS='\t' 'NR > 1 { $NF = "l1-dsize" } { print }' kinds.tsv >faults.tsv
     ends 'plot of lines that all have a fault' 1 \
@@ -133,6 +139,9 @@ test_lacking_tables() {
     head -n 1 kinds.tsv | cat - <(echo $'kinds.din\t8\t1') >short.tsv
     ends 'plot of a line that is cut off' 1 \
         'plot: short.tsv: line 2: 3 fields, where the names are 37' "$plot" rates short.tsv none.svg
+}
+
+test_places() {
     ends 'plot into no folder' 4 \
         'plot: nowhere/none.svg could not be written: No such file or directory' \
         "$plot" kinds kinds.tsv nowhere/none.svg
@@ -156,6 +165,9 @@ test_lacking_tables() {
             [ "$(<"$err")" = 'plot: the picture would replace its table: table.svg; try --help' ]
         verdict "plot of $table in the place of its table" $?
     done
+}
+
+test_ended() {
     mkdir "$work/ended" && printf '#!/bin/sh\nkill -KILL $$\n' >"$work/ended/gnuplot"
     chmod +x "$work/ended/gnuplot"
     ends 'plot with a gnuplot that is ended' 4 'plot: gnuplot failed: it ended with status 137' \

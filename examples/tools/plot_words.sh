@@ -27,6 +27,7 @@ refuses 'unknown cache: l3-cache' --cache l3-cache
 refuses 'unknown cache: ' --cache=
 refuses "--size: not WxH: '336'" --size 336
 refuses "--size: not from 200x150 to 10000x10000: '199x150'" --size 199x150
+refuses "--size: not from 200x150 to 10000x10000: '10x10'" --size 10x10
 refuses "--size: not from 200x150 to 10000x10000: '200x10001'" --size 200x10001
 refuses "--font: a size is from 4 to 200: 'sans,3'" --font sans,3
 refuses "--font: not NAME or NAME,SIZE: 'sans,8.5'" --font sans,8.5

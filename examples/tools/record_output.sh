@@ -61,6 +61,12 @@ test_no_output() {
         "${recorded[@]}" --output "$out" true
     refuses_output 'record --output to where standard error goes' 2 \
         "standard error goes to $err; try --help" "${recorded[@]}" --output "$err" true
+    cp /bin/true printer
+    refuses_output 'record --output to the program' 2 'printer is the program; try --help' \
+        "${recorded[@]}" --output printer ./printer
+    cmp -s printer /bin/true
+    verdict 'and it is as it was' $?
+    rm printer
     fails 'record --output twice' 2 'record: --output is given twice; try --help' \
         "${recorded[@]}" --output a --output=b true
     fails 'record --output without a value' 2 'record: --output has no value; try --help' \

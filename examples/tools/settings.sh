@@ -54,6 +54,9 @@ done
 ends 'sweep of a word with a backslash, with xpg_echo' 2 \
     'sweep: unknown word: a\nb (traces stand behind --); try --help' \
     env BASHOPTS=xpg_echo "$sweep" 'a\nb'
+ends 'plot of a size with a large letter, with nocasematch' 2 \
+    "plot: --size: not WxH: '400X300'; try --help" \
+    env BASHOPTS=nocasematch "$bin/plot" rates none.tsv none.svg --size 400X300
 
 # How long a shell reads at most. The first run takes longer, and has ended in the second one.
 test_long_read() {

@@ -97,6 +97,7 @@ refused 'unknown word: kinds.din (traces stand behind --)' "${grid[@]}" kinds.di
 refused 'unknown option: --l3-usize' --l3-usize 4 "${grid[@]}" -- kinds.din
 refused 'unknown option: --quick' --vary --quick 1,2 "${grid[@]}" -- kinds.din
 refused '--l1-dsize is given twice' --l1-dsize 8 "${grid[@]}" -- kinds.din
+refused '--full is given twice' --full --full "${grid[@]}" -- kinds.din
 refused '--l2-usize is required' "${grid[@]:0:12}" --l2-ubsize 8 -- kinds.din
 refused "--l1-dsize: no such value: '8,,16'" --vary --l1-dsize 8,,16 "${rest[@]}" -- kinds.din
 refused "--l1-dsize: no such value: '8;ls'" --vary --l1-dsize '8;ls' "${rest[@]}" -- kinds.din
@@ -130,12 +131,19 @@ status=${PIPESTATUS[0]}
 [ "$status" -eq 141 ] && [ ! -s "$err" ]
 verdict 'sweep whose reader goes away' $?
 
+cp kinds.din own.din
+status=0
+"$sweep" "${grid[@]}" -- own.din >>own.din 2>"$err" || status=$?
+[ "$status" -eq 2 ] && [ "$(<"$err")" = 'sweep: own.din is where the table goes; try --help' ] &&
+    cmp -s own.din kinds.din
+verdict 'sweep whose table goes to its trace' $?
+
 # interrupted NAME SIGNAL WORD..: once the table has the lines of one trace. Ctrl-C goes to the
 # whole group.
 several=(long.din again.din third.din)
 ln -s long.din again.din
-# The last one is longer, so that an interrupt comes before its end.
-cat long.din long.din long.din long.din >third.din
+# The last one is much longer, so that an interrupt comes before its end on a busy machine, too.
+for _ in {1..12}; do cat long.din; done >third.din
 interrupted() {
     start "$sweep" "${@:3}" --jobs 1 "${long[@]}" -- "${several[@]}"
     until_true lines_at_least "$out" 7

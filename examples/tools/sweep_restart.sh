@@ -39,8 +39,22 @@ test_restart() {
     verdict 'its rows alone are forgotten, and simulated again' $?
     [ -L many ] && [ "$(stat -c %a real-log)" = 640 ] && [ -z "$(find . -name '*.part*')" ]
     verdict 'the log has its place and its mode' $?
+    test_damaged_fields
     test_damaged_lines
     rm many real-log "${three[@]}"
+}
+
+# In one line, a count that is no number, a fault beside counts, or neither.
+test_damaged_fields() {
+    local change
+    cp many before
+    for change in 's/[0-9]+\t-$/1x5\t-/' 's/-$/refused/' 's/-$//'; do
+        sed -E "4$change" before >many
+        ends "a log with a damaged field: $change" 2 \
+            'sweep: many: line 4 is damaged; --restart forgets it' \
+            "$sweep" --resume many "${grid[@]}" -- b.din c.din
+    done
+    cp before many
 }
 
 # Two lines of the log that are none: the rows of all three traces stay, and one that is lost is
