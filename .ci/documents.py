@@ -114,8 +114,12 @@ def check_names(top, paths):
 
 
 def check_uses(top, paths):
-    uses = [path for path in paths if re.match(r"crates/uses/src/.*\.rt$", str(path))]
-    text = "\n".join((top / path).read_text(encoding="utf-8") for path in uses)
+    texts = {
+        path: (top / path).read_text(encoding="utf-8")
+        for path in paths
+        if re.match(r"crates/uses/src/.*\.rt$", str(path))
+    }
+    unseen = {path for path in texts if path.name != "main.rt"}
     for path in paths:
         if not re.match(r"crates/\w+/README\.md$", str(path)):
             continue
@@ -124,8 +128,12 @@ def check_uses(top, paths):
             if line == "```rust":
                 block, start = [], number
             elif line == "```" and block is not None:
-                if "\n".join(block) not in text:
+                found = {it for it, text in texts.items() if "\n".join(block) in text}
+                if not found:
                     yield path, start, "the use does not stand in crates/uses/src"
+                unseen -= found
                 block = None
             elif block is not None:
                 block.append(line)
+    for path in sorted(unseen):
+        yield path, 1, "no README shows this use"

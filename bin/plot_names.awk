@@ -92,8 +92,8 @@ function trace_name(trace,   other, short, several) {
     return several > 1 ? trace : short
 }
 
-# title(): what all points have in common, as far as the table knows it: the trace and the cache with
-# its options, and what else was chosen. Lines with a fault are never drawn.
+# title(): what all points have in common, as far as the table knows it: the trace and the cache
+# with its options, and what else was chosen. Lines with a fault are never drawn.
 function title(   options, count, i, prefix, text, is_told) {
     text = common("trace")
     text = (text == "" ? "" : text ", ") cache

@@ -1,5 +1,5 @@
-# The places of a picture, each with a point of one line of the table, or of several whose counts have
-# to be the same. Read before plot_points.awk, whose names it uses.
+# The places of a picture, each with a point of one line of the table, or of several whose counts
+# have to be the same. Read before plot_points.awk, whose names it uses.
 
 # place_of(OPTION, VALUE): among its other values.
 function place_of(option, value) {

@@ -244,8 +244,8 @@ function rank_groups(   i, j) {
     }
 }
 
-# goes_before(J, I): numbers are in their order. Words, and numbers that are equal, such as 1 and 01,
-# are in that of the table.
+# goes_before(J, I): numbers are in their order. Words, and numbers that are equal, such as 1 and
+# 01, are in that of the table.
 function goes_before(j, i,   apart) {
     apart = has_words ? 0 : place_of(by, value_of[j]) - place_of(by, value_of[i])
     return apart < 0 || (apart == 0 && j < i)

@@ -3,9 +3,9 @@
 # read before it, and sweep_plan.awk beside it.
 
 # Work is counted in thousandths of what reading and two first-level caches do for a byte of the
-# trace. A second or so is 400 million bytes of a recorded trace, or more, and 100 million of one that misses often.
-# The parts of a run have at least `least` each, by their mean, and together at most `worst` times
-# the work of the run. By how much a trace is packed is a guess.
+# trace. A second or so is 400 million bytes of a recorded trace, or more, and 100 million of one
+# that misses often. The parts of a run have at least `least` each, by their mean, and together at
+# most `worst` times the work of the run. By how much a trace is packed is a guess.
 BEGIN {
     least = 1000 * 250000000
     worst = 1.25

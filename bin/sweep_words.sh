@@ -101,11 +101,8 @@ parse() {
             traces=("${@:2}")
             return
             ;;
-        --restart) restarts=yes && shift && continue ;;
-        --full)
-            [ -z "$full" ] || refuse '--full is given twice'
-            full=--full && shift && continue
-            ;;
+        --restart) once "$1" && restarts=yes && shift && continue ;;
+        --full) once "$1" && full=--full && shift && continue ;;
         --*=*)
             set -- "${1%%=*}" "${1#*=}" "${@:2}"
             is_joined=yes

@@ -7,8 +7,9 @@
 #     sbatch examples/sweep.sbatch
 #     bin/sweep --gather lab/slurm > lab/columns.tsv       # once the array has ended
 #
-# The configurations of a task that failed have lines with a fault, and lab/slurm-N.out says why.
-# --gather names such tasks; `sbatch --array=N,M-P examples/sweep.sbatch` runs these again.
+# A configuration that failed has a line with a fault, and lab/slurm-N.out of its task says why.
+# --gather names the tasks that have not left all of their lines; `sbatch --array=N,M-P
+# examples/sweep.sbatch` runs these again.
 #SBATCH --job-name=sweep
 #SBATCH --array=1-7
 #SBATCH --cpus-per-task=1

@@ -98,6 +98,7 @@ refused 'unknown option: --l3-usize' --l3-usize 4 "${grid[@]}" -- kinds.din
 refused 'unknown option: --quick' --vary --quick 1,2 "${grid[@]}" -- kinds.din
 refused '--l1-dsize is given twice' --l1-dsize 8 "${grid[@]}" -- kinds.din
 refused '--full is given twice' --full --full "${grid[@]}" -- kinds.din
+refused '--restart is given twice' --restart --restart --resume log "${grid[@]}" -- kinds.din
 refused '--l2-usize is required' "${grid[@]:0:12}" --l2-ubsize 8 -- kinds.din
 refused "--l1-dsize: no such value: '8,,16'" --vary --l1-dsize 8,,16 "${rest[@]}" -- kinds.din
 refused "--l1-dsize: no such value: '8;ls'" --vary --l1-dsize '8;ls' "${rest[@]}" -- kinds.din

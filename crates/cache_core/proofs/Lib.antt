@@ -1,6 +1,5 @@
 pub mod AccessStep
 pub mod Again
-pub mod Rising
 pub mod AtAccess
 pub mod CacheFacts
 pub mod Cases
@@ -24,6 +23,7 @@ pub mod PassSteps
 pub mod PowerOfTwo
 pub mod PushedOut
 pub mod Reuse
+pub mod Rising
 pub mod RowStep
 pub mod RowTurns
 pub mod RowsOf

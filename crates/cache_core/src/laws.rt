@@ -39,8 +39,7 @@ pub fn write_backs_are_charged()
     ensures flushes { FlushesLeaveNoneDirty }
 {}
 
-/// The list of the dirty blocks has exactly the blocks that are dirty, each once, in rising
-/// order.
+/// The list of the dirty blocks has exactly the blocks that are dirty, each once, in rising order.
 pub fn dirty_blocks_are_the_dirty_ones()
     ensures rises { DirtyBlocksRise }
     ensures dirty { DirtyBlocksAreDirty }

@@ -15,3 +15,4 @@ pub mod Tables
 pub mod Plains
 pub mod Passed
 pub mod Told
+pub mod Lent

@@ -35,6 +35,17 @@ pub trait ByteReader {
         ensures { Reads remaining failures self.old self.new result buffer.new };
 }
 
+/// A reader that is lent is one, too: its owner has what it leaves.
+impl<R: ByteReader> ByteReader for &mut R {
+    ghost remaining = { λ lent. R.remaining lent.now };
+
+    ghost failures = { λ lent. R.failures lent.now };
+
+    fn fill(&mut self, buffer: &mut [u8]) -> Result<usize, DeviceFailed> {
+        ByteReader::fill(&mut **self, buffer)
+    }
+}
+
 /// A `ByteReader` made from a reader of std. Any error of std's reader is `DeviceFailed`.
 #[derive(Debug, Drop)]
 pub struct FromRead<R> {

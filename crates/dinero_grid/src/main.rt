@@ -23,7 +23,7 @@ ghost use Rattle.din_trace.specs.Device.{Writes, once_more, held_bytes, behind_b
 ghost use Rattle.din_trace.specs.Device.{waiting_bytes, write_failures};
 ghost use Rattle.din_trace.specs.Line.{ADDRESS_MAX};
 ghost use Rattle.din_trace.specs.Text.{fault};
-ghost use Rattle.dinero_options.specs.Streams.{HasGiven, IsFaultWithin};
+ghost use Rattle.din_trace.specs.Faults.{GaveAll, IsFaultOf};
 ghost use Rattle.grid_options.specs.Grid.{AnswersGridWords};
 ghost use Rattle.grid_options.specs.Refusals.{IsUnexplained};
 ghost use Rattle.dinero_grid.specs.GridFaultText.{Explains, explanation, fault_line, status_after};
@@ -31,20 +31,20 @@ ghost use Rattle.dinero_grid.specs.GridRuns.{AreAccepted, HasTable};
 
 use crate::fault::{Fault, fault_text, status};
 use crate::table::table;
-use din_trace::{ByteWriter, DeviceFailed, FromRead, FromWrite, MAX_LIMIT, TraceFault};
+use din_trace::{ByteReader, ByteWriter, DeviceFailed, FromRead, FromWrite, MAX_LIMIT, TraceFault};
 use dinero_options::{NoMemory, WordsFault, unreadable_arguments_fault};
 use grid_options::{GridWordsFault, grid_help_text, grid_refusal_text, parse_grid_words};
 use grid_run::GridFault;
 use std::alloc::{AllocError, Global};
 use std::env;
-use std::io::{BufWriter, Read, Write};
+use std::io::{BufWriter, Write};
 use std::process::ExitCode;
 use std::thread::Threads;
 
 /// Reads the trace that the reader gives once, and writes the table of the grid that the words
 /// after the program's name ask for, which then has left the buffer. Answers whether some
 /// configuration was refused. If the words are refused, nothing is read.
-fn run<T: Threads + Sync, R: Read + Send, W: Write + Drop>(
+fn run<T: Threads + Sync, R: ByteReader + Send, W: Write + Drop>(
     rt: &T,
     alloc: Global,
     words: &[String],
@@ -56,7 +56,8 @@ fn run<T: Threads + Sync, R: Read + Send, W: Write + Drop>(
         (held_bytes (writer_contents W.contents) output.old)
         (behind_bytes W.contents output.new)) }
     ensures whole { IfOk result (λ some. (text : List ℕ)
-        × HasGiven R.remaining input.old text × (fault ADDRESS_MAX text MAX_LIMIT ≡ None)
+        × GaveAll R.remaining R.failures input.old text
+        × (fault ADDRESS_MAX text MAX_LIMIT ≡ None)
         × HasTable (map string_bytes words.now) text some
         (held_bytes (writer_contents W.contents) output.old)
         (behind_bytes W.contents output.new)) }
@@ -69,7 +70,7 @@ fn run<T: Threads + Sync, R: Read + Send, W: Write + Drop>(
         → AreAccepted (map string_bytes words.now) }
     ensures trace { (text : List ℕ) → R.remaining input.old ≡ Some text
         → (why : TraceFault) → result ≡ Err (Fault.Run (GridFault.Trace why))
-        → IsFaultWithin text MAX_LIMIT why }
+        → IsFaultOf R.remaining R.failures input.old text MAX_LIMIT why }
     ensures memory { result ≢ Err (Fault.Run (GridFault.Trace TraceFault.Memory)) }
     ensures sound { OnOk result (write_failures output.new ≡ write_failures output.old) }
     ensures write { result ≡ Err (Fault.Run GridFault.Write)
@@ -81,23 +82,26 @@ fn run<T: Threads + Sync, R: Read + Send, W: Write + Drop>(
         Ok(asked) => asked,
         Err(fault) => return Err(Fault::Words(fault)),
     };
-    match table(rt, alloc, asked, FromRead::new(input), output) {
+    match table(rt, alloc, asked, input, output) {
         Ok(some_refused) => Ok(some_refused),
         Err(fault) => Err(Fault::Run(fault)),
     }
 }
 
-/// Writes the help.
-fn write_help<W: ByteWriter>(alloc: Global, output: &mut W) -> Result<bool, Fault>
+/// Writes the help, if there was memory for its text.
+fn write_help<W: ByteWriter>(
+    help: Result<String, NoMemory>,
+    output: &mut W,
+) -> Result<bool, Fault>
     ensures well { IfOk result (λ some_refused. some_refused ≡ false) }
-    ensures sound { OnOk result (W.failures output.new ≡ W.failures output.old) }
-    ensures write { result ≡ Err (Fault.Run GridFault.Write)
-        → W.failures output.new ≡ once_more (W.failures output.old) }
-    ensures unwritten { IfErr result (λ why. why ≢ Fault.Run GridFault.Write
-        → (why ≡ Fault.Words (GridWordsFault.Words WordsFault.Memory))
+    ensures text { IfOk help (λ text. Writes W.contents W.failures output.old output.new result
+        (string_bytes text)) }
+    ensures fault { OnOk help (IfErr result (λ why. why ≡ Fault.Run GridFault.Write)) }
+    ensures memory { OnErr help
+        ((result ≡ Err (Fault.Words (GridWordsFault.Words WordsFault.Memory)))
         × (output.new ≡ output.old)) }
 {
-    let Ok(text) = grid_help_text(alloc) else {
+    let Ok(text) = help else {
         return Err(Fault::Words(GridWordsFault::Words(WordsFault::Memory)));
     };
     match output.put(text.as_bytes()) {
@@ -192,8 +196,9 @@ fn main(rt: HostRuntime) -> ExitCode {
     let alloc = rt.alloc();
     let ran = match (words_of(&rt), BufWriter::new(alloc, rt.stdout())) {
         (Ok(words), Ok(buffer)) => {
+            let mut input = FromRead::new(rt.stdin());
             let mut output = FromWrite::new(buffer);
-            let ran = run(&rt, alloc, words.as_slice(), &mut rt.stdin(), &mut output);
+            let ran = run(&rt, alloc, words.as_slice(), &mut input, &mut output);
             let _ = explain(alloc, words.as_slice(), &ran, &mut errors);
             ran
         }
@@ -202,7 +207,7 @@ fn main(rt: HostRuntime) -> ExitCode {
     };
     let ended = match ran {
         Err(Fault::Words(GridWordsFault::Words(WordsFault::Help))) => {
-            write_help(alloc, &mut FromWrite::new(rt.stdout()))
+            write_help(grid_help_text(alloc), &mut FromWrite::new(rt.stdout()))
         }
         ran => ran,
     };

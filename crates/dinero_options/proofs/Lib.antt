@@ -2,4 +2,3 @@ pub mod AnswerLemmas
 pub mod CountLemmas
 pub mod FirstLemmas
 pub mod LineLemmas
-pub mod StreamLemmas

@@ -3,4 +3,3 @@ pub mod Values
 pub mod Answer
 pub mod Refusals
 pub mod TraceRefusals
-pub mod Streams

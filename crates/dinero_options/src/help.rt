@@ -103,7 +103,9 @@ pub(crate) fn help<'a>(option: Opt) -> &'a str {
         }
         Opt::Ring => "Messages that each ring between two stages holds: 1 to 65536",
         Opt::Skipcount => "References left out at the front of the trace: any count",
-        Opt::Maxcount => "References simulated behind those: any count, 0 for all",
+        Opt::Maxcount => {
+            "References simulated behind those: any count, 0 for all; the rest is read, too"
+        }
         Opt::Flushcount => "References between two flushes put in: any count, 0 for none",
     }
 }

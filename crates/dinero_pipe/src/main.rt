@@ -13,8 +13,8 @@ mod fault;
 #[cfg(test)]
 mod tests;
 
-ghost use Rattle.std.specs.Prelude.{◌≡◌, ◌≢◌, ℕ, List, [], Some, None, Result, Err, OnOk, IfErr};
-ghost use Rattle.std.specs.Prelude.{map, string_bytes};
+ghost use Rattle.std.specs.Prelude.{◌≡◌, ◌≢◌, ℕ, List, [], Some, None, Result, Err, OnOk, OnErr};
+ghost use Rattle.std.specs.Prelude.{IfOk, IfErr, map, string_bytes};
 ghost use Rattle.std.specs.Io.Buffered.{writer_contents};
 ghost use Rattle.std.specs.Io.KnownBytes.{Appends};
 ghost use Rattle.din_trace.specs.Device.{Writes, once_more, held_bytes, behind_bytes};
@@ -25,18 +25,17 @@ ghost use Rattle.din_trace.specs.Faults.{GaveAll, IsFaultOf};
 ghost use Rattle.stage_core.specs.Events.{IsBounded};
 ghost use Rattle.sim_run.specs.TraceReport.{report_of};
 ghost use Rattle.dinero_options.specs.Answer.{AnswersWords};
-ghost use Rattle.dinero_options.specs.Streams.{HasGiven, IsFaultWithin};
 ghost use Rattle.dinero_pipe.specs.FaultText.{fault_line, status_after};
 ghost use Rattle.dinero_pipe.specs.Runs.{AreAccepted, HasReport};
 
 use crate::fault::{Fault, fault_text, status};
 use din_trace::{ByteReader, ByteWriter, DeviceFailed, FromRead, FromWrite, MAX_LIMIT, TraceFault};
-use dinero_options::{WordsFault, help_text, parse_words, unreadable_arguments_fault};
+use dinero_options::{NoMemory, WordsFault, help_text, parse_words, unreadable_arguments_fault};
 use sim_run::{OpenGate, RunFault, simulate};
 use stage_core::{Config, Selection};
 use std::alloc::Global;
 use std::env;
-use std::io::{BufWriter, Read, Write};
+use std::io::{BufWriter, Write};
 use std::process::ExitCode;
 use std::sync::Wait;
 use std::thread::Threads;
@@ -84,7 +83,7 @@ fn report<H: Threads + Wait + Sync, R: ByteReader + Drop, W: Write + Drop>(
 /// Simulates the trace that the reader gives in the caches that the words after the program's name
 /// ask for, and writes its report, which then has left the buffer. If the words are refused,
 /// nothing is read.
-fn run<H: Threads + Wait + Sync, R: Read, W: Write + Drop>(
+fn run<H: Threads + Wait + Sync, R: ByteReader, W: Write + Drop>(
     rt: &H,
     alloc: Global,
     words: &[String],
@@ -95,7 +94,7 @@ fn run<H: Threads + Wait + Sync, R: Read, W: Write + Drop>(
         ((fault ADDRESS_MAX text MAX_LIMIT ≡ None) × HasReport (map string_bytes words.now) text
         (held_bytes (writer_contents W.contents) output.old)
         (behind_bytes W.contents output.new)) }
-    ensures whole { OnOk result ((text : List ℕ) × HasGiven R.remaining input.old text
+    ensures whole { OnOk result ((text : List ℕ) × GaveAll R.remaining R.failures input.old text
         × (fault ADDRESS_MAX text MAX_LIMIT ≡ None) × HasReport (map string_bytes words.now) text
         (held_bytes (writer_contents W.contents) output.old)
         (behind_bytes W.contents output.new)) }
@@ -108,7 +107,7 @@ fn run<H: Threads + Wait + Sync, R: Read, W: Write + Drop>(
         → AreAccepted (map string_bytes words.now) }
     ensures trace { (text : List ℕ) → R.remaining input.old ≡ Some text
         → (why : TraceFault) → result ≡ Err (Fault.Run (RunFault.Trace why))
-        → IsFaultWithin text MAX_LIMIT why }
+        → IsFaultOf R.remaining R.failures input.old text MAX_LIMIT why }
     ensures memory { result ≢ Err (Fault.Run (RunFault.Trace TraceFault.Memory)) }
     ensures sound { OnOk result (write_failures output.new ≡ write_failures output.old) }
     ensures write { result ≡ Err (Fault.Run RunFault.Write)
@@ -120,21 +119,24 @@ fn run<H: Threads + Wait + Sync, R: Read, W: Write + Drop>(
         Ok(asked) => asked,
         Err(fault) => return Err(Fault::Words(fault)),
     };
-    match report(rt, alloc, &config, &selection, FromRead::new(input), output) {
+    match report(rt, alloc, &config, &selection, input, output) {
         Ok(()) => Ok(()),
         Err(fault) => Err(Fault::Run(fault)),
     }
 }
 
-/// Writes the help.
-fn write_help<W: ByteWriter>(alloc: Global, output: &mut W) -> Result<(), Fault>
-    ensures sound { OnOk result (W.failures output.new ≡ W.failures output.old) }
-    ensures write { result ≡ Err (Fault.Run RunFault.Write)
-        → W.failures output.new ≡ once_more (W.failures output.old) }
-    ensures unwritten { IfErr result (λ why. why ≢ Fault.Run RunFault.Write
-        → (why ≡ Fault.Words WordsFault.Memory) × (output.new ≡ output.old)) }
+/// Writes the help, if there was memory for its text.
+fn write_help<W: ByteWriter>(
+    help: Result<String, NoMemory>,
+    output: &mut W,
+) -> Result<(), Fault>
+    ensures text { IfOk help (λ text. Writes W.contents W.failures output.old output.new result
+        (string_bytes text)) }
+    ensures fault { OnOk help (IfErr result (λ why. why ≡ Fault.Run RunFault.Write)) }
+    ensures memory { OnErr help ((result ≡ Err (Fault.Words WordsFault.Memory))
+        × (output.new ≡ output.old)) }
 {
-    let Ok(text) = help_text(alloc) else {
+    let Ok(text) = help else {
         return Err(Fault::Words(WordsFault::Memory));
     };
     match output.put(text.as_bytes()) {
@@ -177,15 +179,16 @@ fn main(rt: HostRuntime) -> ExitCode {
     let alloc = rt.alloc();
     let ran = match (words_of(&rt), BufWriter::new(alloc, rt.stdout())) {
         (Ok(words), Ok(buffer)) => {
+            let mut input = FromRead::new(rt.stdin());
             let mut output = FromWrite::new(buffer);
-            run(&rt, alloc, words.as_slice(), &mut rt.stdin(), &mut output)
+            run(&rt, alloc, words.as_slice(), &mut input, &mut output)
         }
         (Err(fault), _) => Err(fault),
         (Ok(_), Err(_)) => Err(Fault::Run(RunFault::Memory)),
     };
     let ended = match ran {
         Err(Fault::Words(WordsFault::Help)) => {
-            write_help(alloc, &mut FromWrite::new(rt.stdout()))
+            write_help(help_text(alloc), &mut FromWrite::new(rt.stdout()))
         }
         ran => ran,
     };

@@ -21,7 +21,7 @@ use crate::stacked::Stacked;
 use cache_core::{Access, Counts, MAX_EVENTS, Outcome, PerClass};
 use std::alloc::{AllocError, Global};
 
-/// Caches of one policy: those that have a stack order, and those of their own. Where there are
+/// Caches of one policy: those that are served together, and those of their own. Where there are
 /// any of the latter, one of the former tells them which blocks were accessed before. Their shadows
 /// are those of the former too, or where writes do not allocate, caches for that alone.
 #[derive(Drop)]
@@ -95,8 +95,8 @@ impl Caches {
     ghost use Rattle.grid_core.specs.Written.{written_by};
 
     /// Serves an access, whose block has this number, where some caches are of their own. What can
-    /// fail comes first, and only then is it counted. Not inlined, so that caches that all have a
-    /// stack order are served by less code.
+    /// fail comes first, and only then is it counted. Not inlined, so that caches that are all
+    /// served together take less code.
     #[inline(never)]
     fn access_each(&mut self, access: Access, number: usize) -> Result<(), AllocError>
         requires { (n : ℕ) × AreInStep n self.old × (n < MAX_EVENTS) }
@@ -141,7 +141,7 @@ impl Caches {
         self.access_each(access, number)
     }
 
-    /// Serves an access the short way, if all caches have a stack order: see `Stacked::again`.
+    /// Serves an access the short way, if all caches are served together: see `Stacked::again`.
     #[inline(always)]
     pub fn again(&mut self, access: Access) -> bool
         requires { (n : ℕ) × AreInStep n self.old × (n < MAX_EVENTS) }

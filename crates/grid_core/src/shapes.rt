@@ -83,7 +83,7 @@ fn is_wider(geometry: Geometry, other: Geometry) -> bool
         && geometry.assoc() <= other.assoc()
 }
 
-/// The wider of two geometries, if they have as many sets; else the first.
+/// The wider of two geometries, if they have the same number of sets; else the first.
 fn wider(geometry: Geometry, other: Geometry) -> Geometry
     ensures wider { (g : Geometry) → IsWider g geometry → IsWider g result }
     ensures words { HasWords geometry → HasWords other → HasWords result }
@@ -94,7 +94,7 @@ fn wider(geometry: Geometry, other: Geometry) -> Geometry
     geometry
 }
 
-/// The widest geometry of as many sets.
+/// The widest geometry of the same number of sets.
 fn widest(geometries: &[Geometry], geometry: Geometry) -> Geometry
     ensures wider { IsWider geometry result }
     ensures words { HasWords geometry → All HasWords geometries.now → HasWords result }
@@ -119,7 +119,8 @@ fn find_stack(stacks: &[Stack], geometry: Geometry, ways: usize, wback: bool) ->
 }
 
 /// The index of rows that serve a cache of this geometry. Where there are none, new ones are made,
-/// as wide as the widest cache of as many sets, which tell so many levels in the shadows apart.
+/// as wide as the widest cache of that number of sets, which tell so many levels in the shadows
+/// apart.
 pub(crate) fn stack_for(
     alloc: Global,
     stacks: &mut Vec<Stack>,

@@ -1,4 +1,4 @@
-//! A cache of its own: one that has no stack order.
+//! A cache of its own: one that no stack order serves.
 
 ghost use Rattle.std.specs.Prelude.{◌≡◌, ◌≤◌, ◌+◌, true, if◌then◌else◌, is_some};
 ghost use Rattle.cache_core.specs.Counting.{AreWithin};

@@ -22,8 +22,7 @@ pub(crate) fn next_random(state: &mut u64) -> u64 {
 /// How many bytes a block has: enough for up to 32 ways of one set to share rows.
 pub(crate) const BLOCK: u64 = 64;
 
-/// A pseudo-random access to one of some blocks: low ones and the highest. Most go to a few of
-/// them.
+/// A pseudo-random access to one of some blocks, low ones and the highest; most go to a few.
 pub(crate) fn access_of(state: &mut u64, blocks: u64) -> Access {
     let class = match next_random(state) % 8 {
         0 => Class::Instr,

@@ -1,5 +1,5 @@
 -- Room at the second level, and requests one after another.
-use Rattle.std.proofs.Common.{◌≡◌, ℕ, suc, ◌+◌, ◌<◌, List, [], ◌∷◌, ◌++◌, length, map}
+use Rattle.std.proofs.Common.{◌≡◌, ℕ, suc, ◌+◌, ◌<◌, ◌^◌, List, [], ◌∷◌, ◌++◌, length, map}
 use Rattle.std.proofs.Common.{drop, take, get_or, sym, ap, subst, ◌∙◌, append_assoc, append-nil}
 use Rattle.std.proofs.Common.{length-append, arith}
 use Rattle.std.specs.List.{All}
@@ -12,11 +12,18 @@ use Rattle.stage_core.specs.declared.message.What.{What}
 use Rattle.stage_core.proofs.Stands.{second_history-more}
 use Rattle.stage_core.proofs.Worked.{length-second_history}
 use Rattle.grid_run.specs.Numbering.{IsNumbered, what_of}
-use Rattle.grid_run.specs.SecondCaches.{SecondCanServe, SecondStandsBy, second_bsize}
+use Rattle.grid_run.specs.SecondCaches.{SecondStandsBy, second_bsize}
 use Rattle.grid_run.specs.Sending.{HasRoom, NothingWaitsFor, SecondAsked, SecondServed}
 use Rattle.grid_run.specs.declared.numbered.Numbered.{Numbered}
 use Rattle.grid_run.specs.declared.second.Second.{Second}
 use Rattle.grid_run.specs.declared.second_caches.SecondCaches.{SecondCaches}
+
+-- the caches have room for one more request
+pub record SecondCanServe (u : SecondCaches) : Type 0 where
+  pub blocks : List ℕ
+  pub past : History
+  pub stands : SecondStandsBy blocks u past
+  pub short : length past < 2 ^ 44
 
 -- there is room for a request, and others after it
 module _ (blocks : List ℕ) (u : SecondCaches) (w : Numbered) (rest : List Numbered)

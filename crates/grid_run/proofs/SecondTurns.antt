@@ -7,13 +7,13 @@ use Rattle.cache_core.specs.History.{History}
 use Rattle.stage_core.specs.SecondLevel.{read_as}
 use Rattle.stage_core.specs.declared.message.What.{What}
 use Rattle.grid_run.specs.Numbering.{IsNumbered, what_of}
-use Rattle.grid_run.specs.SecondCaches.{SecondCanServe, SecondStandsBy, second_bsize}
+use Rattle.grid_run.specs.SecondCaches.{SecondStandsBy, second_bsize}
 use Rattle.grid_run.specs.Sending.{HasRoom, SecondServed}
 use Rattle.grid_run.specs.declared.numbered.Numbered.{Numbered}
 use Rattle.grid_run.specs.declared.numbered.Sort.TheVariants as sort
 use Rattle.grid_run.specs.declared.second_caches.SecondCaches.{SecondCaches}
-use Rattle.grid_run.proofs.Rooms.{asked-to, requests-from, room-next, room-number, room-one}
-use Rattle.grid_run.proofs.Rooms.{served-one}
+use Rattle.grid_run.proofs.Rooms.{SecondCanServe, asked-to, requests-from, room-next}
+use Rattle.grid_run.proofs.Rooms.{room-number, room-one, served-one}
 
 -- a request for what lies past the end of a list
 abbrev pub nothing : Numbered

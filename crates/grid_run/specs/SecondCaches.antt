@@ -1,5 +1,5 @@
 -- The caches of a second level.
-use Rattle.std.specs.Prelude.{◌<◌, ◌^◌, ℕ, List, [], ◌∷◌, length}
+use Rattle.std.specs.Prelude.{ℕ, List, [], ◌∷◌}
 use Rattle.cache_core.specs.History.{History, Rules}
 use Rattle.grid_run.specs.Families.{FamilyStandsBy, bsize_on, rules_in}
 use Rattle.grid_run.specs.Lones.{LoneStandsBy, lone_rules}
@@ -20,10 +20,3 @@ second_bsize (caches.Family l) = bsize_on l
 abbrev pub SecondStandsBy : List ℕ → SecondCaches → History → Type 0
 SecondStandsBy blocks (caches.Lone l) h = LoneStandsBy blocks l h
 SecondStandsBy blocks (caches.Family l) h = FamilyStandsBy blocks l h
-
--- the caches have room for one more request
-pub record SecondCanServe (u : SecondCaches) : Type 0 where
-  pub blocks : List ℕ
-  pub past : History
-  pub stands : SecondStandsBy blocks u past
-  pub short : length past < 2 ^ 44

@@ -170,7 +170,7 @@ impl Crew {
     }
 
     /// All workers serve what waits for their second levels: with a thread each, that is what the
-    /// last batch left, if it was a short one.
+    /// batches since the last long one left.
     pub fn settle<T: Threads + Sync>(&mut self, rt: &T) -> Result<(), NoMemory>
         requires room { (past : List DinRecord) × All (MayHaveTaken past) self.old.workers.items
             × (length past ≤ MAX_LIMIT) }

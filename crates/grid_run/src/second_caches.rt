@@ -14,11 +14,11 @@ use crate::shelf::Shelf;
 use cache_core::{Counts, NoMemory, PerClass};
 use std::alloc::Global;
 
-/// Second-level caches of one block size and one policy. A single LRU cache that allocates at
-/// writes is served in a faster way than several caches, or any other one.
+/// Second-level caches of one block size and one policy. A single LRU cache of few ways that
+/// allocates at writes is served in a faster way than several caches, or any other one.
 #[derive(Drop)]
 pub(crate) enum SecondCaches {
-    /// One LRU cache that allocates at writes.
+    /// One LRU cache of few ways that allocates at writes.
     Lone(Lone),
     /// Others, served together.
     Family(Family),

@@ -42,8 +42,8 @@ fn simulated_rows(alloc: Global, rows: &[Row]) -> Result<Vec<RowSets>, NoMemory>
     Ok(simulated)
 }
 
-/// The rows that are simulated. Those whose data caches have as many sets stand beside one another,
-/// and of these, those whose instruction caches have as many. Else they keep their order.
+/// The rows that are simulated, in the order of the numbers of sets of their data caches, and where
+/// these are alike, of their instruction caches. Else they keep their order.
 fn by_sets(alloc: Global, rows: &[Row]) -> Result<Vec<RowSets>, NoMemory> {
     let mut ordered = simulated_rows(alloc, rows)?;
     if ordered.sort_by_key(|one| one.i_sets).is_err() {
@@ -121,8 +121,8 @@ pub(crate) struct Sharing {
     pub portions: Vec<usize>,
 }
 
-/// Divides the rows into so many portions. Data caches with as many sets share rows of blocks, so
-/// most of them go to one portion, and stand beside one another there.
+/// Divides the rows into so many portions. Data caches with the same number of sets share rows of
+/// blocks, so most of them go to one portion, and stand beside one another there.
 pub(crate) fn share_rows(alloc: Global, rows: &[Row], portions: usize) -> Result<Sharing, NoMemory>
     ensures { IfOk result (λ sharing. length sharing.portions.items ≡ length rows.now) }
 {

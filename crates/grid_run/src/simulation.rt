@@ -109,12 +109,12 @@ fn write_table<W: ByteWriter>(
 }
 
 /// Reads a trace of at most `limit` bytes once, simulates what each row selects of it in the caches
-/// of that row, writes the table and flushes the writer. Of the trace, memory holds a buffer of
-/// bytes, two batches of records, a bounded number of requests that wait for second levels, and
-/// what the caches know of its blocks. Each number of a selection is at most 2^40. The rings of the
-/// configurations are not used. At most `threads` threads simulate at once, this one among them; 0
-/// counts as 1. Unless there is only one, another one reads. The table does not depend on how many
-/// there are.
+/// of that row, writes the table and flushes the writer. At any time, memory holds one buffer of
+/// the trace's bytes, two batches of its records, a bounded number of requests that wait for second
+/// levels, and what the caches know of its blocks. Each number of a selection is at most 2^40. The
+/// rings of the configurations are not used. At most `threads` threads simulate at once, this one
+/// among them; 0 counts as 1. Unless there is only one, another one reads. The table does not
+/// depend on how many there are.
 pub fn simulate_grid<T: Threads + Sync, R: ByteReader + Drop + Send, W: ByteWriter>(
     rt: &T,
     alloc: Global,

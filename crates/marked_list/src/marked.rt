@@ -116,10 +116,11 @@ impl Marked {
     }
 
     /// Uses a block, and answers its level before: the index of the first size for which it was
-    /// among the blocks used last, or the number of sizes. After an error nothing is changed.
-    /// A number of `u32::MAX` or more answers an error, as if memory were wanting. So does a use
-    /// for which the list has no place left: it has places for `u32::MAX - 1` uses, and keeps at
-    /// most two for each block and 4,096 more, so that takes some 2^31 blocks or more.
+    /// among the blocks used last, or the number of sizes. After an error the order is as before,
+    /// and so is which blocks were ever used. A number of `u32::MAX` or more answers an error, as
+    /// if memory were wanting. So does a use for which the list has no place left: it has places
+    /// for `u32::MAX - 1` uses, and keeps at most two for each block and 4,096 more, so that takes
+    /// some 2^31 blocks or more.
     #[inline(always)]
     pub fn touch(&mut self, number: usize) -> Result<usize, AllocError>
         ensures level { IfOk result (λ level.

@@ -57,7 +57,7 @@ impl Bell {
     }
 
     /// Another handle of the same bell. This allocates nothing.
-    pub fn share(&self) -> Result<Bell, NoMemory> {
+    pub(crate) fn share(&self) -> Result<Bell, NoMemory> {
         match (Arc::try_clone(&self.word), Arc::try_clone(&self.yields)) {
             (Ok(word), Ok(yields)) => Ok(Bell { word, yields }),
             _ => Err(NoMemory),

@@ -8,8 +8,9 @@
 //! Items can be moved in bulk. A sender may post items into an outbox, which never waits, and
 //! publish them together. A receiver takes several items out of the ring at once. A thread that
 //! waits sleeps until the other end wakes it by its [`Bell`]. A thread that waits at several rings
-//! makes them with [`ring_from`]. The modules: `tx` and `rx` are the ends, `patience` is how they
-//! wait, `bell` how they wake one another, and `yields` what they learn of one another's yields.
+//! makes them with [`ring_from`]. The modules: `tx` and `rx` are the ends, and `gone` is what they
+//! answer if the other end was dropped. `patience` is how they wait, `bell` how they wake one
+//! another, and `yields` what they learn of one another's yields.
 //!
 //! Proved: a successful call appends its item to the list of sent or received items, and nothing
 //! else changes these lists. Posted items count as sent, so publishing does not change the list. A
@@ -22,6 +23,7 @@
 #![tactic(auto)]
 
 mod bell;
+mod gone;
 mod memory;
 mod patience;
 mod rx;
@@ -34,11 +36,12 @@ ghost use Rattle.pipe_rings.specs.Rings.{AreEnds, SameTx, SameRx, IsBehindBy, Is
 ghost use Rattle.pipe_rings.specs.Rings.{HasRoom, posted, unannounced_of};
 
 pub use bell::Bell;
+pub use gone::{Gone, SenderGone};
 pub use memory::NoMemory;
 use rtrb::RingBuffer;
-pub use rx::{Rx, SenderGone};
+pub use rx::Rx;
 use std::alloc::Global;
-pub use tx::{Gone, OUTBOX, Tx};
+pub use tx::{MOST_UNANNOUNCED, OUTBOX, Tx};
 
 /// Makes a ring with room for `capacity` items, and returns its two ends. The outbox has room for
 /// [`OUTBOX`] items. All memory of the ring is allocated here.

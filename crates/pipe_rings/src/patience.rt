@@ -18,8 +18,8 @@ const MOST_LOOKS_BEFORE_YIELDS: u32 = 16;
 /// How often a thread yields before it sleeps.
 const MOST_YIELDS: u32 = 2_048;
 
-/// After how many sleeps in a row a thread that looks only once before each of them tries the most
-/// looks again, at first.
+/// A thread may look only once before each sleep. After so many such sleeps in a row it tries the
+/// most looks again, at first.
 const FIRST_TRIAL: u32 = 8;
 
 /// The same number at most. Each trial that fails doubles it.

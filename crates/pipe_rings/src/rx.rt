@@ -4,6 +4,7 @@ ghost use Rattle.std.specs.Prelude.{◌≡◌, ◌-◌, ◌≤◌, length, take,
 ghost use Rattle.rtrb.specs.Ring as ring;
 
 use crate::bell::Bell;
+use crate::gone::SenderGone;
 use crate::memory::NoMemory;
 use crate::patience::Patience;
 use rtrb::Consumer;
@@ -31,10 +32,6 @@ pub struct Rx<T: Copy> {
     ghost kept: { take left (drop (count - left) batch.items)
         ≡ drop (length (ring.received end) - left) (ring.received end) },
 }
-
-/// The sender was dropped, and all items that it published were received.
-#[derive(Debug, Clone, Copy, PartialEq, Eq)]
-pub struct SenderGone;
 
 #[tactic(auto, unfolding(crate::specs::Rings::received, crate::specs::Rings::LookedForItem))]
 impl<T: Copy> Rx<T> {

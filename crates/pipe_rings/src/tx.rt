@@ -4,6 +4,7 @@ ghost use Rattle.std.specs.Prelude.{◌≡◌, ◌≤◌, length, vec_capacity};
 ghost use Rattle.rtrb.specs.Ring as ring;
 
 use crate::bell::Bell;
+use crate::gone::Gone;
 use crate::memory::NoMemory;
 use crate::patience::Patience;
 use rtrb::Producer;
@@ -14,7 +15,7 @@ use std::sync::Wait;
 pub const OUTBOX: usize = 512;
 
 /// How many items a sender offers at most before it wakes a sleeping receiver.
-const MOST_UNANNOUNCED: usize = 512;
+pub const MOST_UNANNOUNCED: usize = 512;
 
 /// The sending end of a ring. It can move to another thread.
 pub struct Tx<T: Copy> {
@@ -35,17 +36,10 @@ pub struct Tx<T: Copy> {
     ghost reserved: { room ≤ vec_capacity outbox },
 }
 
-/// The receiver was dropped. The item that was not sent comes back.
-#[derive(Debug, Clone, Copy, PartialEq, Eq)]
-pub struct Gone<T> {
-    /// The item that was not sent.
-    pub item: T,
-}
-
 #[tactic(auto, unfolding(crate::specs::Rings::sent, crate::specs::Rings::posted, crate::specs::Rings::HasRoom, crate::specs::Rings::LookedForRoom))]
 impl<T: Copy> Tx<T> {
-    ghost use Rattle.std.specs.Prelude.{◌≡◌, ◌<◌, [], ◌∷◌, ◌++◌, ◌↔◌, OnOk, IfErr, IsTrue, false};
-    ghost use Rattle.std.specs.Prelude.{length, ◌≤◌, ◌+◌, ◌-◌, ◌^◌, min, IfOk};
+    ghost use Rattle.std.specs.Prelude.{◌≡◌, ◌<◌, [], ◌∷◌, ◌++◌, ◌↔◌, OnOk, OnErr, IfErr, IsTrue};
+    ghost use Rattle.std.specs.Prelude.{length, ◌≤◌, ◌+◌, ◌-◌, ◌^◌, min, IfOk, false};
     ghost use Rattle.pipe_rings.specs.Rings.{sent, posted, SameTx, HasRoom, LookedForRoom};
     ghost use Rattle.pipe_rings.specs.Rings.{IsAnnounced, unannounced_of, outbox_for};
 
@@ -81,7 +75,8 @@ impl<T: Copy> Tx<T> {
     }
 
     /// Sends the item after all posted items, and waits until the ring has room for them. If the
-    /// receiver is gone, the item comes back, even if the ring has room.
+    /// receiver is gone, the item comes back, even if the ring has room. Some posted items may have
+    /// been published by then.
     pub fn send<R: Wait>(&mut self, rt: &R, item: T) -> Result<(), Gone<T>>
         ensures ring { SameTx self.old self.new }
         ensures ok { OnOk result (sent self.new ≡ sent self.old ++ item ∷ []) }
@@ -89,6 +84,8 @@ impl<T: Copy> Tx<T> {
         ensures room { OnOk result (HasRoom self.new) }
         ensures announced { OnOk result (IsAnnounced self.new) }
         ensures gone { IfErr result (λ g. (g.item ≡ item) × (sent self.new ≡ sent self.old)) }
+        ensures left { OnErr result (length (posted self.new) ≤ length (posted self.old)) }
+        ensures kept { OnErr result (HasRoom self.old → HasRoom self.new) }
     {
         for _ in rt.forever() {
             if self.is_cut() {
@@ -270,6 +267,8 @@ impl<T: Copy> Tx<T> {
         ensures pushed { IsTrue result → sent self.new ≡ sent self.old ++ item ∷ [] }
         ensures published { IsTrue result → (posted self.new ≡ []) × HasRoom self.new }
         ensures full { result ≡ false → sent self.new ≡ sent self.old }
+        ensures left { length (posted self.new) ≤ length (posted self.old) }
+        ensures room { HasRoom self.old → HasRoom self.new }
         ensures announced { IsAnnounced self.new }
     {
         self.publish();

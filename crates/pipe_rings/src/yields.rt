@@ -27,8 +27,8 @@ const TRUSTED: u64 = 10;
 /// The greatest credit.
 const MOST_CREDIT: u64 = 16;
 
-/// What a long yield costs, of a credit that then counts as [`TRUSTED`] at most. A neighbour that
-/// saw the thread yield, and was woken in time, brings one.
+/// What a long yield takes from the credit, which is cut to [`TRUSTED`] first. A neighbour that saw
+/// the thread yield, and was woken in time, adds one.
 const PRICE: u64 = 3;
 
 /// Whether a thread may yield, and whether it yields just now. Its neighbours change this without

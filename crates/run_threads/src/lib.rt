@@ -2,7 +2,7 @@
 //!
 //! [`run_pipeline`] reads a trace record by record and simulates the selected records. The splitter
 //! runs in the caller's thread, each first-level stage in its own, and the merge with the second
-//! level in the fourth. They share only five rings.
+//! level in the fourth. They share only five rings, each with the bells that wake its ends.
 //!
 //! The bodies of the threads wait for one another only in the functions of `waits`: a body has no
 //! runtime with which an end of a ring could wait. Each of them that a thread can call requires

@@ -21,8 +21,8 @@ use std::sync::Wait;
 use std::thread::Threads;
 
 /// Reads a trace of at most `limit` bytes, simulates the selected records in four threads while the
-/// trace is read, writes the report and flushes the writer. Of the trace, memory holds a buffer of
-/// bytes at a time, and the messages on their way. Each number of the selection is at most 2^40.
+/// trace is read, writes the report and flushes the writer. At any time, memory holds one buffer of
+/// the trace's bytes, and the messages on their way. Each number of the selection is at most 2^40.
 ///
 /// The answer `Ok` holds what was counted, and what the rings have carried: all threads have ended,
 /// and each message that was sent was received, once and in order.

@@ -1,4 +1,5 @@
-//! Runs over traces in memory. The expected values were worked out by hand.
+//! Runs over traces in memory. The expected counts were worked out by hand, and so were the texts
+//! of `layout`; the other texts are those of the report of the expected counts.
 
 mod devices;
 mod faults;

@@ -44,6 +44,24 @@ victim_trace = at_label label.Write 0 ∷ at_label label.Read 8 ∷ at_label lab
 abbrev flush_trace : List DinRecord
 flush_trace = at_label label.Write 8 ∷ at_label label.Write 0 ∷ at_label label.Flush 0 ∷ []
 
+-- the same caches, but for a data cache that writes through
+abbrev through : Hierarchy
+through = record { i = lru 4 4 1; d = record (lru 4 2 2) { wback = false; }; u = lru 8 2 2 }
+
+-- two writes to one block
+abbrev through_trace : List DinRecord
+through_trace = at_label label.Write 2 ∷ at_label label.Write 2 ∷ []
+
+-- a fetch
+abbrev fetch_trace : List DinRecord
+fetch_trace = at_label label.Instr 6 ∷ []
+
+-- three fetches, and a flush before, behind and between any two of them
+abbrev part_trace : List DinRecord
+part_trace = at_label label.Flush 0 ∷ at_label label.Instr 0 ∷ at_label label.Flush 1
+    ∷ at_label label.Instr 4 ∷ at_label label.Flush 2 ∷ at_label label.Instr 8
+    ∷ at_label label.Flush 3 ∷ []
+
 -- the streams and counts of these traces, worked out by hand
 pub record WorkedExamples : Type 0 where
   pub order_victim : order victim_trace ≡ turn.D ∷ turn.D ∷ turn.D ∷ turn.Finish ∷ []
@@ -84,9 +102,28 @@ pub record WorkedExamples : Type 0 where
       ∷ access_of class.Read 8 ∷ []
   pub messages_flush : messages (parts_in small) flush_trace ≡ 21
   pub backs_flush : (totals small flush_trace).u.written_back ≡ 2
+  -- the second write finds its block, and is sent on alone
+  pub from_d_through : from_side (parts_in through) side.D through_trace
+      ≡ from_stage.Part 1 1 (what.Fetch class.Read 0) ∷ from_stage.Part 1 2 (what.Through 2)
+      ∷ from_stage.Done 1 2
+      ∷ from_stage.Part 2 1 (what.Through 2) ∷ from_stage.Done 2 1
+      ∷ from_stage.Finish ∷ []
+  -- a fetch of the program is one at the second level, too
+  pub from_i_fetch : from_side (parts_in small) side.I fetch_trace
+      ≡ from_stage.Part 1 1 (what.Fetch class.Instr 4) ∷ from_stage.Done 1 1
+      ∷ from_stage.Finish ∷ []
+  pub second_fetch : second_history (second_level_requests (parts_in small) fetch_trace)
+      ≡ access_of class.Instr 4 ∷ []
   -- for an empty trace, each ring carries only `Finish`
   pub messages_none : messages (parts_in small) [] ≡ 5
   -- a flush is inserted after every second reference
   pub put_in : events record { skip = 0; max = 0; every = 2 } victim_trace
       ≡ at_label label.Write 0 ∷ at_label label.Read 8 ∷ at_label label.Flush 0
       ∷ at_label label.Read 16 ∷ []
+  -- of a part of one reference behind the first, the flush before it is kept, and the one behind it
+  -- is left out
+  pub one_behind_one : events record { skip = 1; max = 1; every = 0 } part_trace
+      ≡ at_label label.Flush 1 ∷ at_label label.Instr 4 ∷ []
+  -- without a bound, all that comes behind is kept
+  pub all_behind_two : events record { skip = 2; max = 0; every = 0 } part_trace
+      ≡ at_label label.Flush 2 ∷ at_label label.Instr 8 ∷ at_label label.Flush 3 ∷ []

@@ -1,9 +1,7 @@
 use Rattle.std.proofs.Common.{rules, ◌≡◌, ◌∙◌, Err, map, string_bytes, subst}
-use Rattle.std.specs.Io.KnownBytes.{Consumes}
-use Rattle.din_trace.specs.Device as device
+use Rattle.din_trace.proofs.Lent.{lent_fault, lent_gave_all}
 use Rattle.run_threads.specs.declared.fault.RunFault.TheVariants.{Trace}
 use Rattle.dinero_options.specs.Answer.{AnswersWords}
-use Rattle.dinero_options.proofs.StreamLemmas.{fault_within}
 use Rattle.dinero_pipe.proofs.run.Goals as goal
 
 pub returns-in-Err-clause-words : goal.returns-in-Err-clause-words
@@ -14,7 +12,7 @@ returns-in-Err-clause-words g c why is =
 
 pub returns-in-Ok-report-clause-report : goal.returns-in-Ok-report-clause-report
 returns-in-Ok-report-clause-report g c text known =
-    let told = c.in-Ok-report.ensures.report text (c.new.ensures.remaining ∙ known) in (
+    let told = c.in-Ok-report.ensures.report text known in (
       told.0,
       record {
         config = c.in-Ok.asked.0;
@@ -34,19 +32,13 @@ returns-in-Err-report-clause-accepted g c why is = record {
 pub returns-in-Err-report-clause-trace : goal.returns-in-Err-report-clause-trace
 returns-in-Err-report-clause-trace g c text known why is =
     let met : c.report.result ≡ Err (Trace why) = search rules in
-    fault_within (c.report.ensures.trace text (c.new.ensures.remaining ∙ known) why met)
+    lent_fault (λ lent. lent.now) _ (c.report.ensures.trace text known why met)
 
 pub returns-in-Ok-report-clause-whole : goal.returns-in-Ok-report-clause-whole
-unfolding device.unread_bytes
 returns-in-Ok-report-clause-whole g c =
     let told = c.in-Ok-report.ensures.whole in (
       told.0,
-      record {
-        last = told.1.last.inner.now;
-        gave = subst (λ left. Consumes left (g.R.Read.remaining told.1.last.inner.now) told.0)
-            c.new.ensures.remaining told.1.gave;
-        ended = told.1.ended;
-      },
+      lent_gave_all (λ lent. lent.now) _ told.1,
       told.2,
       record {
         config = c.in-Ok.asked.0;

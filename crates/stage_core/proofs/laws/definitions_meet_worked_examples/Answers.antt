@@ -22,6 +22,11 @@ returns c = record {
   second_flush = refl;
   messages_flush = refl;
   backs_flush = refl;
+  from_d_through = refl;
+  from_i_fetch = refl;
+  second_fetch = refl;
   messages_none = refl;
   put_in = refl;
+  one_behind_one = refl;
+  all_behind_two = refl;
 }
