@@ -89,10 +89,7 @@ fn run<T: Threads + Sync, R: ByteReader + Send, W: Write + Drop>(
 }
 
 /// Writes the help, if there was memory for its text.
-fn write_help<W: ByteWriter>(
-    help: Result<String, NoMemory>,
-    output: &mut W,
-) -> Result<bool, Fault>
+fn write_help<W: ByteWriter>(help: Result<String, NoMemory>, output: &mut W) -> Result<bool, Fault>
     ensures well { IfOk result (λ some_refused. some_refused ≡ false) }
     ensures text { IfOk help (λ text. Writes W.contents W.failures output.old output.new result
         (string_bytes text)) }

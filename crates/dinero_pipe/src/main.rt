@@ -126,10 +126,7 @@ fn run<H: Threads + Wait + Sync, R: ByteReader, W: Write + Drop>(
 }
 
 /// Writes the help, if there was memory for its text.
-fn write_help<W: ByteWriter>(
-    help: Result<String, NoMemory>,
-    output: &mut W,
-) -> Result<(), Fault>
+fn write_help<W: ByteWriter>(help: Result<String, NoMemory>, output: &mut W) -> Result<(), Fault>
     ensures text { IfOk help (λ text. Writes W.contents W.failures output.old output.new result
         (string_bytes text)) }
     ensures fault { OnOk help (IfErr result (λ why. why ≡ Fault.Run RunFault.Write)) }

@@ -46,7 +46,7 @@ flush_trace = at_label label.Write 8 ∷ at_label label.Write 0 ∷ at_label lab
 
 -- the same caches, but for a data cache that writes through
 abbrev through : Hierarchy
-through = record { i = lru 4 4 1; d = record (lru 4 2 2) { wback = false; }; u = lru 8 2 2 }
+through = record { i = lru 4 4 1; d = record (lru 4 2 2) { wback = false }; u = lru 8 2 2 }
 
 -- two writes to one block
 abbrev through_trace : List DinRecord
