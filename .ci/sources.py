@@ -54,13 +54,19 @@ def check_words(top, paths):
             yield from check_items(path, lines_of(top, path))
 
 
-# Imports for clauses
+# Imports
+
+# How a line of imports begins, and a comment.
+IMPORTS = {
+    ".rt": (re.compile(r"\s*ghost use ([^;]*)"), "//"),
+    ".antt": (re.compile(r"use (.*)"), "--"),
+}
 
 
-def imported(lines):
-    """Each name that a `ghost use` brings, as it is called in the file, with its line."""
+def imported(lines, begins):
+    """Each name that such lines bring, as it is called in the file, with its line."""
     for number, line in enumerate(lines, 1):
-        found = re.match(r"\s*ghost use ([^;]*)", line)
+        found = begins.match(line)
         if not found:
             continue
         path = found[1].strip()
@@ -75,20 +81,20 @@ def is_used(name, text):
     parts = [part for part in name.split("◌") if part]
     whole = r"(?<![\w-]){}(?![\w-])"
     patterns = [
-        whole.format(part) if re.match(r"\w", part) else re.escape(part) for part in parts
+        whole.format(re.escape(part)) if re.match(r"\w", part) else re.escape(part)
+        for part in parts
     ]
     return all(re.search(pattern, text) for pattern in patterns)
 
 
 def check_imports(top, paths):
     for path in paths:
-        if path.suffix != ".rt":
+        if path.suffix not in IMPORTS:
             continue
+        begins, comment = IMPORTS[path.suffix]
         lines = lines_of(top, path)
-        text = "\n".join(
-            re.sub(r"//.*", "", line) for line in lines if not line.lstrip().startswith("ghost use")
-        )
-        for name, number in imported(lines):
+        text = "\n".join(line.partition(comment)[0] for line in lines if not begins.match(line))
+        for name, number in imported(lines, begins):
             if not is_used(name, text):
                 yield path, number, f"nothing uses {name}"
 

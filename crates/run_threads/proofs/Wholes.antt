@@ -11,7 +11,7 @@ use Rattle.stage_core.specs.Events.{history}
 use Rattle.stage_core.specs.SecondLevel.{Hierarchy, Parts, parts_of, parts_in, rules_at}
 use Rattle.stage_core.specs.SecondLevel.{second_level_requests, second_history}
 use Rattle.stage_core.specs.Streams as streams
-use Rattle.stage_core.specs.Streams.{answered, replies, taken_in, to_side, from_side, messages_to}
+use Rattle.stage_core.specs.Streams.{answered, replies, taken_in, to_side, from_side}
 use Rattle.stage_core.specs.Merging.{merged, all_used, AtEnd, Merged}
 use Rattle.stage_core.specs.Laws.{MergeTakesTheRequests, StagesAnswerTheirStreams}
 use Rattle.stage_core.specs.Standing.{StageStandsFor, L2StandsFor, cache_of, side_of}

@@ -118,7 +118,7 @@ on_from_i r = record { sent = ring.sent r.i.to_merge; received = ring.received r
 abbrev pub on_from_d : Rings → Carried FromStage
 on_from_d r = record { sent = ring.sent r.d.to_merge; received = ring.received r.merge.from_d }
 
--- both values are the same rings, and these have carried the same messages
+-- both values are the same rings: two ends of each, which have carried the same messages
 pub record SameRings (was now : Rings) : Type 0 where
   pub splitter : SameSplitterEnds was.splitter now.splitter
   pub i : SameStageEnds was.i now.i

@@ -1,5 +1,7 @@
 -- Which faults a run may answer.
-use Rattle.std.specs.Prelude.{◌≡◌, ◌≢◌, ℕ, ⊤, Option, Some}
+use Rattle.std.specs.Prelude.{◌≡◌, ◌≢◌, ℕ, ⊤, true, false, Option, Some}
+use Rattle.cache_core.specs.declared.cache.Cache.{Cache}
+use Rattle.cache_core.specs.Standing.{has_failed}
 use Rattle.din_trace.specs.declared.fault.TraceFault.{TraceFault}
 use Rattle.din_trace.specs.declared.fault.TraceFault.TheVariants as trace
 use Rattle.run_threads.specs.declared.fault.Stop.{Stop}
@@ -20,6 +22,12 @@ abbrev pub fault_of_stop : Stop → RunFault
 fault_of_stop stop.Memory = Memory
 fault_of_stop stop.Cut = Cut
 
+-- the reason why a thread stopped fits its cache: this has failed if memory was wanting, and works
+-- if the thread was cut off
+abbrev pub StopFits : Cache → Stop → Type 0
+StopFits cache stop.Memory = has_failed cache ≡ true
+StopFits cache stop.Cut = has_failed cache ≡ false
+
 -- of several faults, the one of lowest rank is answered: a fault of the trace, a failed allocation,
 -- a thread that could not be started, a lost peer, a failed writer
 abbrev pub rank : RunFault → ℕ
@@ -39,9 +47,9 @@ MayAnswer left Write = ⊤
 
 -- the faults that the threads of a run may have: no failed write, and `Memory` for a failed
 -- allocation of the source
-abbrev pub IsMet : RunFault → Type 0
-IsMet (Trace why) = why ≢ trace.Memory
-IsMet Memory = ⊤
-IsMet Threads = ⊤
-IsMet Cut = ⊤
-IsMet Write = ⊥
+abbrev pub IsFaultOfThreads : RunFault → Type 0
+IsFaultOfThreads (Trace why) = why ≢ trace.Memory
+IsFaultOfThreads Memory = ⊤
+IsFaultOfThreads Threads = ⊤
+IsFaultOfThreads Cut = ⊤
+IsFaultOfThreads Write = ⊥

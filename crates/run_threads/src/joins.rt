@@ -1,6 +1,6 @@
 //! Joins the threads of a run, and collects their results.
 
-ghost use Rattle.std.specs.Prelude.{◌≡◌, ◌⊎◌, None, IsNone, IfSome, IfOk, IfErr, IsOk, Ok, Err};
+ghost use Rattle.std.specs.Prelude.{◌≡◌, ◌⊎◌, None, IsNone, IfOk, IfErr, IsOk, Ok, Err};
 ghost use Rattle.run_threads.specs.Threads.{StageCounted, MergeCounted};
 ghost use Rattle.run_threads.specs.declared.fault.Stop.TheVariants as Stop;
 ghost use Rattle.run_threads.specs.declared.fault.RunFault.TheVariants as RunFault;
@@ -12,13 +12,12 @@ use crate::stage_thread::StageHandle;
 use cache_core::Counts;
 use std::thread::{Promise, PromisedHandle, Threads};
 
-/// Joins a thread. Answers why it stopped, if it stopped before its end. Either way, its result
-/// keeps the thread's promise.
+/// Joins a thread. Answers why it stopped, if it stopped before its end. If not, its result keeps
+/// the thread's promise, which says nothing of a thread that stopped.
 pub fn why_stopped<H: Threads, T: Drop, P: Promise<Result<T, Stop>>>(
     rt: &H,
     handle: PromisedHandle<Result<T, Stop>, P>,
 ) -> Option<Stop>
-    ensures stopped { IfSome result (λ stop. P.kept_by handle.promise (Err stop)) }
     ensures ended { IsNone result → (answer : T) × P.kept_by handle.promise (Ok answer) }
 {
     handle.join(rt).err()

@@ -1,8 +1,8 @@
 //! The thread of the merge and the second level.
 
-ghost use Rattle.std.specs.Prelude.{◌≡◌, ◌≤◌, ◌⊎◌, [], ◌∷◌, ◌++◌, List, IfOk, OnOk, IfErr};
+ghost use Rattle.std.specs.Prelude.{◌≡◌, ◌≤◌, ◌⊎◌, [], ◌∷◌, ◌++◌, List, IfOk, OnOk, IfErr, false};
 ghost use Rattle.pipe_rings.specs.Rings.{received, SameRx};
-ghost use Rattle.cache_core.specs.Standing.{rules_of, served_of};
+ghost use Rattle.cache_core.specs.Standing.{has_failed, rules_of, served_of};
 ghost use Rattle.stage_core.specs.Merging.{AtEnd, wanted, want_of, after_message, what_in};
 ghost use Rattle.stage_core.specs.Standing.{L2StandsFor, l2_cache};
 ghost use Rattle.stage_core.specs.declared.message.Want.TheVariants as want;
@@ -10,6 +10,7 @@ ghost use Rattle.stage_core.specs.declared.message.What.{What};
 ghost use Rattle.stage_core.specs.declared.message.FromStage.{FromStage};
 ghost use Rattle.run_threads.specs.declared.fault.Stop.{Stop};
 ghost use Rattle.run_threads.specs.Ends.{UnusedMerge};
+ghost use Rattle.run_threads.specs.Faults.{StopFits};
 ghost use Rattle.run_threads.specs.Threads.{MergeServed};
 ghost use Rattle.run_threads.specs.Waits.{MergeUsed, OnlyFrom, end_from};
 
@@ -50,6 +51,8 @@ fn take_and_serve(merge: &mut Merge, u: &mut L2Stage, message: FromStage) -> Res
     ensures rules { rules_of (l2_cache u.new) ≡ rules_of (l2_cache u.old) }
     ensures cut { IfErr result (λ why. why ≡ Stop.Cut
         → MAX_EVENTS ≤ served_of (l2_cache u.old)) }
+    ensures stopped { has_failed (l2_cache u.old) ≡ false
+        → IfErr result (StopFits (l2_cache u.new)) }
 {
     let Some(what) = merge.take(message) else {
         return Ok(());
@@ -74,6 +77,7 @@ fn next_turn<H: Wait>(
         ≡ received ends.old.order ++ turn ∷ []) }
     ensures from_i { ends.new.from_i ≡ ends.old.from_i }
     ensures from_d { ends.new.from_d ≡ ends.old.from_d }
+    ensures cut { IfErr result (λ why. why ≡ Stop.Cut) }
 {
     match ends.order.try_recv() {
         Some(turn) => Ok(turn),
@@ -94,6 +98,7 @@ fn next_from<H: Wait>(
     ensures ring { OnlyFrom side ends.old ends.new }
     ensures received { IfOk result (λ message. received (end_from ends.new side)
         ≡ received (end_from ends.old side) ++ message ∷ []) }
+    ensures cut { IfErr result (λ why. why ≡ Stop.Cut) }
 {
     match side {
         Side::I => match ends.from_i.try_recv() {
@@ -123,6 +128,8 @@ fn take_from<H: Wait, G: Gate>(
     ensures served { OnOk result ((began : L2Stage) (start : MergeEnds)
         → MergeServed merge.old began start u.old ends.old
         → MergeServed merge.new began start u.new ends.new) }
+    ensures stopped { has_failed (l2_cache u.old) ≡ false
+        → IfErr result (StopFits (l2_cache u.new)) }
 {
     let message = next_from(rt, side, merge, ends)?;
     let count = pass_merge(rt, gate, ends, count)?;
@@ -139,7 +146,8 @@ fn merge_all<H: Wait, G: Gate>(
 ) -> Result<(), Stop>
     requires new { L2StandsFor u.old [] }
     requires unused { UnusedMerge ends.old }
-    ensures { OnOk result (MergeServed AtEnd u.old ends.old u.new ends.new) }
+    ensures served { OnOk result (MergeServed AtEnd u.old ends.old u.new ends.new) }
+    ensures stopped { IfErr result (StopFits (l2_cache u.new)) }
 {
     let mut merge = Merge::new();
     let mut received = 0;

@@ -11,7 +11,7 @@ ghost use Rattle.din_trace.specs.declared.record.DinRecord.{DinRecord};
 ghost use Rattle.stage_core.specs.Config.{hierarchy_of, ring_of};
 ghost use Rattle.stage_core.specs.Events.{IsBounded};
 ghost use Rattle.stage_core.specs.Waiting.{HasPosted};
-ghost use Rattle.run_threads.specs.Faults.{IsMet, MayAnswer, rank};
+ghost use Rattle.run_threads.specs.Faults.{IsFaultOfThreads, MayAnswer, rank};
 ghost use Rattle.run_threads.specs.Ends.{AllReceived, ArePaired, AreUnused, HaveCapacity};
 ghost use Rattle.run_threads.specs.Ends.{HaveOutboxes, SameRings};
 ghost use Rattle.run_threads.specs.Machines.{AreNew, hierarchy_in, machines_at, rings_at};
@@ -171,13 +171,13 @@ fn finish<H: Threads>(
     fed: Result<(), RunFault>,
 ) -> Result<Settled, RunFault>
     requires paired { ArePaired (rings_at started) }
-    requires met { IfErr fed IsMet }
+    requires met { IfErr fed IsFaultOfThreads }
     ensures fed { OnOk result (IsOk fed) }
     ensures whole { IfOk result (λ settled. (ring : ℕ) → HaveCapacity ring (rings_at started)
         → (es : List DinRecord) → AreNew (machines_at started)
         → HasPosted (splitter_at es true started.splitter)
         → HasRun ring (hierarchy_in (machines_at started)) es settled) }
-    ensures met { IfErr result IsMet }
+    ensures met { IfErr result IsFaultOfThreads }
     ensures answers { IfErr result (λ why. (left : Option TraceFault)
         → IfErr fed (MayAnswer left) → MayAnswer left why) }
     ensures threads { result ≡ Err RunFault.Threads → fed ≡ Err RunFault.Threads }
@@ -231,7 +231,7 @@ pub fn run_in<'s, E, T: Threads, H: Wait + Sync, R: ByteReader + Drop, G: Gate>(
     requires new { AreNew machines }
     requires paired { ArePaired rings }
     requires unused { AreUnused rings }
-    ensures met { IfErr result.1 IsMet }
+    ensures met { IfErr result.1 IsFaultOfThreads }
     ensures unread { result.1 ≡ Err RunFault.Threads → result.0 ≡ source }
     ensures reads { (given : List ℕ) × (fate : Fate)
         × Takes R.remaining R.failures source result.0 given fate
@@ -262,7 +262,7 @@ pub fn run_pipeline<H: Threads + Wait + Sync, R: ByteReader + Drop, G: Gate>(
 ) -> (Source<R>, Result<Settled, RunFault>)
     requires bounded { IsBounded selection.now }
     // `Trace` never holds `TraceFault::Memory`, and `Write` is never answered.
-    ensures met { IfErr result.1 IsMet }
+    ensures met { IfErr result.1 IsFaultOfThreads }
     ensures unread { result.1 ≡ Err RunFault.Threads → result.0 ≡ source }
     // Whatever the reader did, `Ok` means that the source ended without a fault, and that all its
     // selected events were simulated. After an error, the last of the records before are left.
@@ -286,7 +286,7 @@ pub fn run_pipeline<H: Threads + Wait + Sync, R: ByteReader + Drop, G: Gate>(
             requires new { AreNew machines }
             requires paired { ArePaired rings }
             requires unused { AreUnused rings }
-            ensures met { IfErr result.1 IsMet }
+            ensures met { IfErr result.1 IsFaultOfThreads }
             ensures unread { result.1 ≡ Err RunFault.Threads → result.0 ≡ source }
             ensures reads { (given : List ℕ) × (fate : Fate)
                 × Takes R.remaining R.failures source result.0 given fate

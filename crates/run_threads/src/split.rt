@@ -10,7 +10,7 @@ ghost use Rattle.din_trace.specs.Source.{HasLeft, IsSettled, Takes, reader_of, r
 ghost use Rattle.din_trace.specs.declared.record.DinRecord.{DinRecord};
 ghost use Rattle.stage_core.specs.Events.{IsBounded, picked_events};
 ghost use Rattle.stage_core.specs.Waiting.{HasPosted};
-ghost use Rattle.run_threads.specs.Faults.{IsMet};
+ghost use Rattle.run_threads.specs.Faults.{IsFaultOfThreads};
 ghost use Rattle.run_threads.specs.declared.fault.Stop.{Stop};
 ghost use Rattle.run_threads.specs.declared.fault.RunFault.{RunFault};
 ghost use Rattle.run_threads.specs.Ends.{SameSplitterEnds, SentSame, HaveRoom, UnusedSplitter};
@@ -198,7 +198,7 @@ pub fn split<H: Wait, R: ByteReader, G: Gate>(
     // A splitter that has ended holds no message back, and has none left to announce.
     ensures rests { OnOk result (SplitterHasEnded ends.new) }
     ensures announced { OnOk result (AllAnnounced ends.new) }
-    ensures met { IfErr result IsMet }
+    ensures met { IfErr result IsFaultOfThreads }
     ensures threads { IfErr result (λ why. why ≢ RunFault.Threads) }
     // Whatever the reader did, all selected events were sent, or the splitter stopped with a fault.
     ensures reads { (given : List ℕ) × (fate : Fate)

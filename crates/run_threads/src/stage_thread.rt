@@ -10,14 +10,14 @@ ghost use Rattle.stage_core.specs.Standing.{StageStandsFor, IsReady, cache_of, s
 ghost use Rattle.stage_core.specs.Standing.{outbox_of, took_finish};
 ghost use Rattle.run_threads.specs.declared.fault.Stop.{Stop};
 ghost use Rattle.run_threads.specs.Ends.{UnusedStage};
+ghost use Rattle.run_threads.specs.Faults.{StopFits};
 ghost use Rattle.run_threads.specs.Threads.{StageServedAll};
 ghost use Rattle.run_threads.specs.Waits.{AnswersPublished, OfStage, StageHasEnded};
-ghost use Rattle.run_threads.specs.declared.waits.Until.TheVariants as Until;
 
 use crate::ends::{BETWEEN_OFFERS, StageEnds};
 use crate::fault::{NoThread, Stop};
 use crate::gate::{Gate, Who};
-use crate::waits::{BodyRuntime, Until, await_message, await_room, pass_stage};
+use crate::waits::{BodyRuntime, await_message, await_room, pass_stage};
 use cache_core::MAX_EVENTS;
 use stage_core::{L1Stage, ToStage};
 use std::snapshot::Snapshot;
@@ -41,19 +41,14 @@ impl Promise<StageResult> for StagePromise {
 /// A stage's thread, which is still to be joined.
 pub type StageHandle = PromisedHandle<StageResult, StagePromise>;
 
-/// Publishes posted messages, until all are published or there is room for another one.
-fn publish<H: Wait>(
-    rt: &BodyRuntime<H>,
-    stage: &L1Stage,
-    ends: &mut StageEnds,
-    until: Until,
-) -> Result<(), Stop>
+/// Publishes all posted messages. Then there is room for others.
+fn publish<H: Wait>(rt: &BodyRuntime<H>, stage: &L1Stage, ends: &mut StageEnds) -> Result<(), Stop>
     requires answered { OfStage HasAnswered stage.now ends.old }
     ensures from_splitter { ends.new.from_splitter ≡ ends.old.from_splitter }
     ensures ring { SameTx ends.old.to_merge ends.new.to_merge }
     ensures sent { sent ends.new.to_merge ≡ sent ends.old.to_merge }
     ensures room { OnOk result (HasRoom ends.new.to_merge) }
-    ensures published { until ≡ Until.Published → OnOk result (AnswersPublished ends.new) }
+    ensures published { OnOk result (AnswersPublished ends.new) }
     ensures cut { IfErr result (λ why. why ≡ Stop.Cut) }
 {
     for _ in rt.forever() {
@@ -62,9 +57,6 @@ fn publish<H: Wait>(
         }
         let moved = ends.to_merge.publish();
         if ends.to_merge.posted() == 0 {
-            return Ok(());
-        }
-        if until == Until::Room && ends.to_merge.has_room() {
             return Ok(());
         }
         if moved == 0 {
@@ -90,6 +82,7 @@ fn receive<H: Wait>(
         ≡ received ends.old.from_splitter ++ message ∷ []) }
     ensures sent { sent ends.new.to_merge ≡ sent ends.old.to_merge }
     ensures published { AnswersPublished ends.old → OnOk result (AnswersPublished ends.new) }
+    ensures cut { IfErr result (λ why. why ≡ Stop.Cut) }
 {
     match ends.from_splitter.try_recv() {
         Some(message) => Ok(message),
@@ -113,8 +106,9 @@ fn publish_and_receive<H: Wait>(
         ≡ received ends.old.from_splitter ++ message ∷ []) }
     ensures sent { sent ends.new.to_merge ≡ sent ends.old.to_merge }
     ensures published { OnOk result (AnswersPublished ends.new) }
+    ensures cut { IfErr result (λ why. why ≡ Stop.Cut) }
 {
-    publish(rt, stage, ends, Until::Published)?;
+    publish(rt, stage, ends)?;
     match ends.from_splitter.try_recv() {
         Some(message) => Ok(message),
         None => await_message(rt, stage, ends),
@@ -141,7 +135,7 @@ fn send_outbox<H: Wait>(
     ensures published { IsTrue urgent → OnOk result (AnswersPublished ends.new) }
 {
     if !ends.to_merge.has_room() {
-        publish(rt, stage, ends, Until::Room)?;
+        publish(rt, stage, ends)?;
     }
     while let Some(message) = stage.outbox_next() {
         ends.to_merge.post(message);
@@ -149,11 +143,11 @@ fn send_outbox<H: Wait>(
             ends.to_merge.offer();
         }
         if !ends.to_merge.has_room() {
-            publish(rt, stage, ends, Until::Room)?;
+            publish(rt, stage, ends)?;
         }
     }
     if urgent {
-        return publish(rt, stage, ends, Until::Published);
+        return publish(rt, stage, ends);
     }
     Ok(())
 }
@@ -172,6 +166,7 @@ fn serve_all<H: Wait, G: Gate>(
     ensures ended { OnOk result (StageServedAll stage.old ends.old stage.new ends.new) }
     ensures rests { OnOk result (StageHasEnded stage.new ends.new) }
     ensures announced { OnOk result (IsAnnounced ends.new.to_merge) }
+    ensures stopped { IfErr result (StopFits (cache_of stage.new)) }
 {
     let mut count = 0;
     for _ in rt.forever() {
@@ -185,7 +180,7 @@ fn serve_all<H: Wait, G: Gate>(
         };
         send_outbox(rt, stage, ends, !gate.is_open())?;
         if stage.finished() {
-            publish(rt, stage, ends, Until::Published)?;
+            publish(rt, stage, ends)?;
             return Ok(());
         }
     }

@@ -222,6 +222,7 @@ pub fn await_message<H: Wait>(
     ensures to_merge { SameTx ends.old.to_merge ends.new.to_merge }
     ensures sent { sent ends.new.to_merge ≡ sent ends.old.to_merge }
     ensures published { AnswersPublished ends.new }
+    ensures cut { IfErr result (λ why. why ≡ Stop.Cut) }
 {
     for _ in rt.forever() {
         if ends.to_merge.is_cut() {
@@ -254,6 +255,7 @@ pub fn await_turn<H: Wait>(
         ≡ received ends.old.order ++ turn ∷ []) }
     ensures from_i { ends.new.from_i ≡ ends.old.from_i }
     ensures from_d { ends.new.from_d ≡ ends.old.from_d }
+    ensures cut { IfErr result (λ why. why ≡ Stop.Cut) }
 {
     await_item(rt, &mut ends.order)
 }
@@ -272,6 +274,7 @@ pub fn await_from<H: Wait>(
     ensures ring { OnlyFrom side ends.old ends.new }
     ensures received { IfOk result (λ message. received (end_from ends.new side)
         ≡ received (end_from ends.old side) ++ message ∷ []) }
+    ensures cut { IfErr result (λ why. why ≡ Stop.Cut) }
 {
     match side {
         Side::I => await_item(rt, &mut ends.from_i),

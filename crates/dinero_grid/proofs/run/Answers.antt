@@ -1,4 +1,4 @@
-use Rattle.std.proofs.Common.{rules, ◌≡◌, ◌∙◌, Err, subst}
+use Rattle.std.proofs.Common.{rules, ◌≡◌, Err}
 use Rattle.din_trace.proofs.Lent.{lent_fault, lent_gave_all}
 use Rattle.grid_run.specs.declared.fault.GridFault.TheVariants.{Trace}
 use Rattle.dinero_grid.proofs.run.Goals as goal

@@ -1,4 +1,4 @@
-use Rattle.std.proofs.Common.{rules, ◌≡◌, ◌∙◌, Err, map, string_bytes, subst}
+use Rattle.std.proofs.Common.{rules, ◌≡◌, Err, map, string_bytes, subst}
 use Rattle.din_trace.proofs.Lent.{lent_fault, lent_gave_all}
 use Rattle.run_threads.specs.declared.fault.RunFault.TheVariants.{Trace}
 use Rattle.dinero_options.specs.Answer.{AnswersWords}

@@ -2,7 +2,7 @@ use Rattle.std.proofs.Common.{rules, ap, ◌∙◌, sym, subst, refl}
 use Rattle.std.proofs.lemmas.Result.{IfOk-weaker, IfErr-weaker}
 use Rattle.stage_core.specs.declared.totals.Totals.{Totals}
 use Rattle.run_threads.specs.declared.pipeline.Settled.{Settled}
-use Rattle.run_threads.specs.Faults.{IsMet, MayAnswer}
+use Rattle.run_threads.specs.Faults.{IsFaultOfThreads, MayAnswer}
 use Rattle.run_threads.specs.Machines.{machines_at, rings_at}
 use Rattle.run_threads.proofs.Endings.{of-gravest}
 use Rattle.run_threads.proofs.Wholes.{whole-run}
@@ -10,7 +10,7 @@ use Rattle.run_threads.proofs.pipeline.finish.Goals as goal
 
 pub returns-in-Err-clause-met : goal.returns-in-Err-clause-met
 returns-in-Err-clause-met g c =
-    of-gravest IsMet tt tt c.gravest.result c.in-Err.fault c.why_stopped-i.result
+    of-gravest IsFaultOfThreads tt tt c.gravest.result c.in-Err.fault c.why_stopped-i.result
     c.why_stopped-d.result c.why_stopped-merge.result (rw c.in-Err.is at c.requires.met)
     c.gravest.ensures.one
 
@@ -25,7 +25,8 @@ returns-clause-fed g c =
 
 pub returns-clause-met : goal.returns-clause-met
 returns-clause-met g c =
-    IfErr-weaker c.settle.result _ _ (λ why is. subst IsMet (sym is) tt) c.settle.ensures.cut
+    IfErr-weaker c.settle.result _ _ (λ why is. subst IsFaultOfThreads (sym is) tt)
+    c.settle.ensures.cut
 
 pub returns-clause-answers : goal.returns-clause-answers
 returns-clause-answers g c =

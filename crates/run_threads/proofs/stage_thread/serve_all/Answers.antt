@@ -91,7 +91,7 @@ returns-then-finished-clause-rests g c =
     record {
       answered = now.answered;
       posted = now.empty;
-      published = nil_from_length _ (c.in_ok-publish.ensures.published refl).held;
+      published = nil_from_length _ c.in_ok-publish.ensures.published.held;
       finish = sym now.stands.finish ∙ done;
     }
 
