@@ -32,7 +32,7 @@ subjects=(checks names help building building_sweep building_others record recor
     record_functions record_output record_signals sweep sweep_tasks sweep_names sweep_words
     sweep_grids sweep_full sweep_resume sweep_restart sweep_disk sweep_parts sweep_machines settings
     slurm plot plot_points plot_caches plot_labels plot_words plot_intervals plot_titles plot_names
-    handout install hostile formats)
+    handout install install_places hostile formats)
 diff <(printf '%s.sh\n' "${subjects[@]}" | sort) \
     <(cd "$top/examples/tools" && printf '%s\n' *.sh | sort) || exit
 for subject in "${subjects[@]}"; do

@@ -24,7 +24,7 @@ run "$install" usr
 files_of usr >"$work/files"
 [ "$status" -eq 0 ] && [ ! -s "$err" ] &&
     [ "$(grep -v '^644 lib/dinero_pipe/' "$work/files")" = "$(wanted)" ] &&
-    [ "$(<"$out")" = "$(sed "s,^[0-9]* ,$PWD/usr/,; /installed\$/d" "$work/files")" ]
+    [ "$(LC_ALL=C sort "$out")" = "$(sed "s,^[0-9]* ,$PWD/usr/," "$work/files")" ]
 verdict 'install' $?
 
 # shows_version PAGE: its first line names the product with its version.
@@ -188,14 +188,8 @@ run "$install" --remove usr/share/new/prefix
 [ "$status" -eq 0 ] && [ "$(ls usr/share)" = man ]
 verdict 'install --remove of a prefix that was made, and of what was made above it' $?
 rm -r usr
-mkdir -p usr/bin usr/share/man/man1
-touch "$program" "$page"
-run "$install" --remove usr
-[ "$status" -eq 0 ] && [ "$(<"$out")" = "$PWD/$program"$'\n'"$PWD/$page" ] && [ -z "$(find usr -type f)" ]
-verdict 'install --remove of an installation without a list' $?
-mkdir -p usr/lib/dinero_pipe
+mkdir -p usr/bin/x usr/lib/dinero_pipe
 touch "$program"
-mkdir usr/bin/x
 for line in 'file ../kinds.din' 'file bin/x/../../../kinds.din' 'file bin/x /' 'folder bin/x'; do
     printf '%s\n' 'file bin/dinero_pipe' "$line" >usr/lib/dinero_pipe/installed
     ends "install --remove with a damaged list: $line" 4 \
