@@ -10,6 +10,8 @@ early=
 witness=
 # The signals that all got and that this command has still to catch, a bit for each.
 seen=0
+# Those that this command has caught, each between blanks.
+got=' '
 
 # forward_signals: from here on, instead of ending this command.
 forward_signals() {
@@ -38,9 +40,21 @@ end_witness() {
     wait "$witness" || true
 }
 
+# read_number: sets `number` to the next one that the shell of the program tells, and `said` where
+# it says something before.
+read_number() {
+    said=
+    while read -r number; do
+        [[ ! $number =~ ^[0-9]+$ ]] || return 0
+        said=yes
+    done <&"$told"
+    return 1
+}
+
 # forward SIGNAL
 # shellcheck disable=SC2317  # the traps call it
 forward() {
+    got+="$1 "
     if [ -z "$started" ]; then
         early=$1
     elif ! is_started || ! was_for_all "$1" || ! has_stayed; then

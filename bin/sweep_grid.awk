@@ -26,6 +26,7 @@ part == "" {
     if ($1 == "counts") {
         heads = substr($0, 8)
         head_count = NF - 1
+        for (i = 2; i < NF; i++) count_form[i - 1] = form_of($i)
     } else if ($1 == "option") {
         option[++options] = $2
         column_of[$2] = options + 2
@@ -96,18 +97,32 @@ function is_alone(d) {
     return varied[d] in is_lead || varied[d] == "skipcount" || varied[d] == "maxcount"
 }
 
+# form_of(NAME): what a field of this column is like: a rate, or a count.
+function form_of(name) {
+    if (name ~ /-miss-rate$/) return "^[01][.][0-9][0-9][0-9][0-9][0-9][0-9]$"
+    return "^(0|[1-9][0-9]*)$"
+}
+
 # is_whole(): the row that was read has all fields. The last one tells no fault, and the counts are
 # numbers, or it tells one, and they are hyphens.
-function is_whole(   i, form) {
-    if (NF != 2 + options + head_count || $NF == "") return 0
-    form = $NF == "-" ? "^[0-9]+([.][0-9]+)?$" : "^-$"
-    for (i = 3 + options; i < NF; i++) if ($i !~ form) return 0
+function is_whole(   i, before) {
+    before = 2 + options
+    if (NF != before + head_count || $NF == "") return 0
+    if ($NF == "-") {
+        for (i = 1; i < head_count; i++) if ($(before + i) !~ count_form[i]) return 0
+    } else
+        for (i = 1; i < head_count; i++) if ($(before + i) != "-") return 0
     return 1
 }
 
 # number_of_row(): of the row that was read, its number in the grid, or 0 if it is not of it.
-function number_of_row(   i, name, n) {
-    if (!is_whole() || !($1 in trace_at) || $2 "" != sum_of[$1] "") return 0
+function number_of_row() {
+    return is_whole() ? number_of_whole() : 0
+}
+
+# number_of_whole(): the same of a whole row.
+function number_of_whole(   i, name, n) {
+    if (!($1 in trace_at) || $2 "" != sum_of[$1] "") return 0
     for (i = 1; i <= options; i++) {
         name = option[i]
         if (name in dimension_of) continue

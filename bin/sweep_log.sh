@@ -48,7 +48,7 @@ end_last_line() {
 # sweep_log.awk has found.
 judge_log() {
     {
-        of_grid log "$@" part=log - < "$log" &&
+        of_grid 'counts log' "$@" part=log - < "$log" &&
             { IFS= read -r what && IFS=$'\t' read -ra counted; } < "$work/verdict.$call"
     } 2>/dev/null
 }
@@ -56,24 +56,30 @@ judge_log() {
 # find_kept: sets `kept` to how many configurations of the grid are in the log, and what that is
 # good for, if it can still be found out.
 find_kept() {
-    local what counted
+    local what counted verb=are
     { end_last_line && judge_log; } 2>/dev/null || return 0
     kept="none of the ${counted[1]} configurations is in $log"
     [ "${counted[0]}" -gt 0 ] || return 0
-    kept="${counted[0]} of ${counted[1]} configurations are in $log"
+    [ "${counted[0]}" -ne 1 ] || verb=is
+    kept="${counted[0]} of ${counted[1]} configurations $verb in $log"
     kept+='; the same call goes on from there'
 }
 
 # read_log: its rows are those of this simulator, and of the traces as they stand.
 read_log() {
-    local what counted
+    local what counted said
     has_names || say_other_names
     judge_log || no_room
+    said=${what#*$'\t'}
     case $what in
     good) ;;
-    damaged*) die 2 "$log: line ${what#*$'\t'} is damaged; --restart forgets it" ;;
+    damaged*) die 2 "$log: line $said is damaged; --restart forgets it" ;;
+    differ*)
+        die 2 "$log: lines ${said/$'\t'/ and } are of one configuration, and differ; \
+--restart forgets both"
+        ;;
     *)
-        die 2 "${what#*$'\t'} has changed since $log was begun, or is another file; \
+        die 2 "$said has changed since $log was begun, or is another file; \
 --restart forgets its rows"
         ;;
     esac
@@ -91,7 +97,7 @@ restart_log() {
         gone=$(($(wc -l < "$log") - 1))
         : > "$log"
     fi
-    complain "$log: $left rows are kept, and $gone are forgotten"
+    complain "$log: rows kept: $left, forgotten: $gone"
 }
 
 # replace_log FILE: puts it into the place of the log, which is whole at any time. No other call

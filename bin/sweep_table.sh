@@ -74,15 +74,15 @@ take_in() {
     put_lines
 }
 
-# tell_faults WHAT FIRST: how many of all configurations have one, if any has, and the first.
+# tell_faults WHAT ALL FIRST: how many of all configurations have one, if any has, and the first.
 tell_faults() {
     [ "$faults" -gt 0 ] || return 0
-    complain "$faults of $1 have a fault, the first$2"
+    complain "$1 with a fault: $faults of $2, the first$3"
     exit 1
 }
 
 tell_faults_of_table() {
-    tell_faults "$last configurations" " in line ${first_fault%%$'\t'*} of the table: \
+    tell_faults configurations "$last" " in line ${first_fault%%$'\t'*} of the table: \
 ${first_fault#*$'\t'} (column fault)"
 }
 
@@ -94,7 +94,7 @@ tell_faults_of_task() {
         faults=$((faults + 1))
         [ -n "$first_fault" ] || first_fault=${row##*$'\t'}
     done
-    tell_faults "${#rows[@]} configurations of task $task" ": $first_fault"
+    tell_faults "configurations of task $task" "${#rows[@]}" ": $first_fault"
 }
 
 gather_table() {

@@ -82,7 +82,7 @@ test_record() {
     verdict 'record gives the program its input' $?
     # shellcheck disable=SC2016  # the inner shell's word
     run "$record" --split 64 sh -c 'kill -TERM $$'
-    [ "$status" -eq 143 ] && [ ! -s "$err" ]
+    [ "$status" -eq 143 ] && [ "$(<"$err")" = 'record: sh was ended by signal 15' ]
     verdict 'record of a program that a signal ends' $?
     fails 'record of a program that is not there' 127 \
         $'valgrind: nowhere: command not found\nrecord: nowhere was not run: valgrind made no reference' \
@@ -99,7 +99,8 @@ test_record() {
         until_true lines_at_least "$out" 1000
         if [ $signal = INT ]; then kill -INT -- "-$started"; else kill -$signal "$started"; fi
         wait_for_started
-        [ "$status" -eq $((128 + $(kill -l $signal))) ] && [ -z "$(tail -c 1 "$out")" ]
+        [ "$status" -eq $((128 + $(kill -l $signal))) ] && [ -z "$(tail -c 1 "$out")" ] &&
+            ! grep -q 'ended by' "$err"
         verdict "record that is sent $signal" $?
     done
 }

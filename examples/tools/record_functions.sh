@@ -89,7 +89,8 @@ record: ./walk.s was not run: valgrind made no reference' "$record" ./walk.s
     verdict 'record of one process, whatever valgrind is told elsewhere' $?
     # shellcheck disable=SC2016  # the inner shell's word
     run "$record" --split 64 sh -c 'exec sh -c "kill -TERM \$\$"'
-    [ "$status" -eq 143 ] && [ ! -s "$err" ] && [[ $(tail -n 1 "$out") != record:* ]]
+    [ "$status" -eq 143 ] && [ "$(<"$err")" = 'record: sh was ended by signal 15' ] &&
+        [[ $(tail -n 1 "$out") != record:* ]]
     verdict 'record of a program that becomes one that a signal ends' $?
 }
 

@@ -138,8 +138,31 @@ END
     rm "$MARK" "$work/valgrind/tail"
 }
 
+# A signal of the program's own is told. Another status of the same number is none.
+test_crashes() {
+    local signal
+    for signal in SEGV ABRT FPE KILL; do
+        # shellcheck disable=SC2016  # the inner shell's word
+        run "$record" --split 64 sh -c 'kill -s "$1" $$' sh "$signal"
+        [ "$status" -eq $((128 + $(kill -l $signal))) ] && [ -z "$(tail -c 1 "$out")" ] &&
+            [ "$(<"$err")" = "record: sh was ended by signal $(kill -l $signal)" ]
+        verdict "record of a program that ends by $signal" $?
+        ends_quietly "exit $((128 + $(kill -l $signal)))"
+    done
+    # shellcheck disable=SC2016  # the inner shell's word
+    ends_quietly 'kill -PIPE $$'
+}
+
+# ends_quietly WORDS: of a shell. The command says nothing, and its trace is whole.
+ends_quietly() {
+    run "$record" --split 64 sh -c "$1"
+    [ "$status" -gt 128 ] && [ ! -s "$err" ] && [ -s "$out" ] && [ -z "$(tail -c 1 "$out")" ]
+    verdict "record of a program that does: $1" $?
+}
+
 test_slow_end
 if has valgrind; then
+    test_crashes
     test_group
     test_alone
     test_after_group

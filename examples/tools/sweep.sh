@@ -74,7 +74,7 @@ rm first.din
 run "$sweep" --vary --l1-dsize 16,24,32 --vary --l1-dassoc 4,8 "${rest[@]}" -- kinds.din
 first='line 3 of the table: l1-dcache: associativity is too large'
 [ "$status" -eq 1 ] && whole_lines "$out" $fields &&
-    [ "$(<"$err")" = "sweep: 3 of 6 configurations have a fault, the first in $first (column fault)" ] &&
+    [ "$(<"$err")" = "sweep: configurations with a fault: 3 of 6, the first in $first (column fault)" ] &&
     [ "$(rows_of 2,3,37)" = \
     '16 4 -,16 8 l1-dcache: associativity is too large,24 4 l1-dcache: size is not a power of two,24 8 l1-dcache: size is not a power of two,32 4 -,32 8 -,' ]
 verdict 'sweep goes on behind a refused configuration' $?
@@ -83,7 +83,7 @@ printf '2 0\n9 0\n' >faulty.din
 run "$sweep" --vary --l1-dsize 8 "${rest[@]}" -- faulty.din kinds.din
 [ "$status" -eq 1 ] && [ "$(rows_of 1,36)" = 'faulty.din line 2: label,kinds.din -,' ] &&
     [ "$(<"$err")" = "sweep: faulty.din: line 2: label
-sweep: 1 of 2 configurations have a fault, the first in line 2 of the table: \
+sweep: configurations with a fault: 1 of 2, the first in line 2 of the table: \
 line 2: label (column fault)" ]
 verdict 'sweep of a faulty trace' $?
 

@@ -114,7 +114,7 @@ test_full_log() {
     verdict 'it, too, is left as it was' $?
     run "$sweep" --full --resume plain.log --restart "${grid[@]}" -- kinds.din fifo.din
     [ "$status" -eq 0 ] && [ "$(<"$err")" = \
-        'sweep: plain.log: 0 rows are kept, and 8 are forgotten' ] && cmp -s "$out" full.tsv &&
+        'sweep: plain.log: rows kept: 0, forgotten: 8' ] && cmp -s "$out" full.tsv &&
         [ "$(wc -l <plain.log)" -eq 9 ]
     verdict 'and is begun anew with --restart' $?
     sed '1s/l1-dsize/l1-csize/' full.log >plain.log

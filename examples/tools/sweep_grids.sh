@@ -79,7 +79,7 @@ verdict 'and so does the other one' $?
 run "$sweep" --vary --skipcount 0,1 --vary --l1-dsize 24,16 "${rest[@]}" -- kinds.din
 first="line 2 of the table: $power"
 [ "$status" -eq 1 ] &&
-    [ "$(<"$err")" = "sweep: 2 of 4 configurations have a fault, the first in $first (column fault)" ] &&
+    [ "$(<"$err")" = "sweep: configurations with a fault: 2 of 4, the first in $first (column fault)" ] &&
     [ "$(rows_of 2,3,37)" = "0 24 $power,0 16 -,1 24 $power,1 16 -," ]
 verdict 'and its first configuration may be refused' $?
 # Each run has every second row of a trace, and waits with them for the other.
@@ -96,7 +96,7 @@ noted --jobs 1 --vary --flushcount "$many" --vary --l1-dassoc "$others" --l1-dsi
     "${rest[@]}" -- kinds.din
 [ "$status" -eq 1 ] && [ "$(wc -l <"$out")" -eq 4161 ] && [ "$(wc -l <"$work/calls")" -eq 2 ] &&
     [ "$(calls_of --l1-dassoc)" = "$others $others " ] &&
-    [ "$(<"$err")" = "sweep: 4160 of 4160 configurations have a fault, the first in line 2 of the table: \
+    [ "$(<"$err")" = "sweep: configurations with a fault: 4160 of 4160, the first in line 2 of the table: \
 l1-dcache: associativity is not a power of two (column fault)" ]
 verdict 'a grid that is too large for one call' $?
 
@@ -113,7 +113,8 @@ fails_with() {
     [ "$status" -eq 1 ] && [ "$(rows_of 37 | tr -s ,)" = "$(printf "$2,%.0s" {1..8})" ] &&
         [ "$(<"$err")" = "sweep: kinds.din: $2
 sweep: fifo.din: $2
-sweep: 8 of 8 configurations have a fault, the first in line 2 of the table: $2 (column fault)" ] &&
+sweep: configurations with a fault: 8 of 8, the first in line 2 of the table: \
+$2 (column fault)" ] &&
         [ "$(wc -l <failed.log)" -eq 1 ] || return
     run "$sweep" --resume failed.log "${grid[@]}" -- kinds.din fifo.din
     is_table_of_rows

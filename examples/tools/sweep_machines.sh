@@ -75,7 +75,7 @@ rm -f packed.log
 run env PATH="$work/cut-off:$PATH" "$sweep" --resume packed.log "${grid[@]}" -- kinds.din.gz
 reason='zcat ended with status 137'
 [ "$status" -eq 1 ] && [ "$(<"$err")" = "sweep: kinds.din.gz: $reason
-sweep: 4 of 4 configurations have a fault, the first in line 2 of the table: \
+sweep: configurations with a fault: 4 of 4, the first in line 2 of the table: \
 $reason (column fault)" ] &&
     [ "$(rows_of 4,37 | tr , '\n' | sort -u)" = "- $reason" ] &&
     [ "$(wc -l <packed.log)" -eq 1 ]
@@ -126,7 +126,7 @@ noted --jobs 1 "${grid[@]}" -- kinds.din fifo.din
 export -n MARKS
 simulator=$good
 [ "$status" -eq 1 ] && [ -d "$work/killed" ] && [ "$(<"$err")" = "sweep: kinds.din: not simulated
-sweep: 4 of 8 configurations have a fault, the first in line 2 of the table: \
+sweep: configurations with a fault: 4 of 8, the first in line 2 of the table: \
 not simulated (column fault)" ] &&
     [ "$(rows_of 37)" = 'not simulated,not simulated,not simulated,not simulated,-,-,-,-,' ] &&
     shared "$out" | tail -n 4 | cmp -s - <(tail -n 4 "$work/rows")

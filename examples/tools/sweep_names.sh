@@ -106,7 +106,7 @@ for bytes in 10 3 2 1; do
     [ "$status" -eq 1 ] && [ "$(sed -n 2p "$out" | cut -f 4,37)" = $'-\tnot simulated' ] &&
         shared "$out" | tail -n 3 | cmp -s - <(sed -n 2,4p "$work/rows") && [ "$(<"$err")" = \
         "sweep: of the tasks 1-4, these have not left all of their rows: 1
-sweep: 1 of 4 configurations have a fault, the first in line 2 of the table: \
+sweep: configurations with a fault: 1 of 4, the first in line 2 of the table: \
 not simulated (column fault)" ]
     verdict "gathering a report that lacks its last bytes: $bytes" $?
 done

@@ -5,7 +5,7 @@
 # restarted KEPT FORGOTTEN: the sweep says how many rows of the log `many` there were.
 restarted() {
     [ "$status" -eq 0 ] && [ "$(<"$err")" = \
-        "sweep: many: $1 rows are kept, and $2 are forgotten" ] && cmp -s "$out" whole
+        "sweep: many: rows kept: $1, forgotten: $2" ] && cmp -s "$out" whole
 }
 
 # A log of three traces with four rows each, one of which changes.
@@ -112,7 +112,7 @@ END
     status=$?
     kill -INT -- "-$started"
     wait "$started" 2>/dev/null
-    [ "$status" -eq 0 ] && [ "$(<"$err")" = "sweep: known: 0 rows are kept, and 4 are forgotten
+    [ "$status" -eq 0 ] && [ "$(<"$err")" = "sweep: known: rows kept: 0, forgotten: 4
 sweep: interrupted: none of the 4 configurations is in known" ]
     verdict 'a log from which rows were forgotten, in use' $?
     with_log

@@ -38,7 +38,7 @@ test_known_traces() {
     is_refused 'a trace of the same size and time' "$changed"
     with_log --restart
     [ "$status" -eq 0 ] && cmp -s "$out" whole && [ "$(wc -l <known)" -eq 5 ] &&
-        [ "$(<"$err")" = 'sweep: known: 0 rows are kept, and 4 are forgotten' ]
+        [ "$(<"$err")" = 'sweep: known: rows kept: 0, forgotten: 4' ]
     verdict 'sweep begins anew with the trace of now' $?
     echo '0 0' >>known.din
     is_refused 'a trace that has grown' "$changed"

@@ -11,14 +11,14 @@ rm tasks/3
 run "$sweep" --gather tasks
 [ "$status" -eq 1 ] && [ "$(rows_of 37)" = '-,-,not simulated,-,' ] && [ "$(<"$err")" = \
     "sweep: of the tasks 1-4, these have not left all of their rows: 3
-sweep: 1 of 4 configurations have a fault, the first in line 4 of the table: \
+sweep: configurations with a fault: 1 of 4, the first in line 4 of the table: \
 not simulated (column fault)" ]
 verdict 'gathering where a report is missing' $?
 mkdir empty
 cp tasks/grid empty
 run "$sweep" --gather empty
 [ "$status" -eq 1 ] && [ "$(rows_of 37)" = "$(printf 'not simulated,%.0s' 1 2 3 4)" ] &&
-    [ "$(<"$err")" = 'sweep: 4 of 4 configurations have a fault, the first in line 2 of the table: '\
+    [ "$(<"$err")" = 'sweep: configurations with a fault: 4 of 4, the first in line 2 of the table: '\
 'not simulated (column fault)' ]
 verdict 'gathering where no task has left rows' $?
 rm -r empty
@@ -44,9 +44,9 @@ ends 'of a full table' 2 'sweep: tasks was begun without --full' \
 "$sweep" --task 1 --into faulty --vary --l1-dsize 8 "${rest[@]}" -- faulty.din >"$out" 2>"$err"
 status=$?
 [ "$status" -eq 1 ] && [ ! -s "$out" ] && [ "$(<"$err")" = 'sweep: faulty.din: line 2: label
-sweep: 1 of 1 configurations of task 1 have a fault, the first: line 2: label' ]
+sweep: configurations of task 1 with a fault: 1 of 1, the first: line 2: label' ]
 verdict 'a task of a faulty trace' $?
-ends 'a task with refused configurations' 1 "sweep: 2 of 3 configurations of task 1 have a fault, \
+ends 'a task with refused configurations' 1 "sweep: configurations of task 1 with a fault: 2 of 3, \
 the first: l1-dcache: size is not a power of two" \
     "$sweep" --task 1/2 --into odd --vary --l1-dsize 8,24,40,16,32,64 "${rest[@]}" -- kinds.din
 ends 'and one without' 0 '' \
@@ -54,7 +54,7 @@ ends 'and one without' 0 '' \
 run "$sweep" --gather odd
 first='line 3 of the table: l1-dcache: size is not a power of two'
 [ "$status" -eq 1 ] && [ "$(rows_of 2,36)" = "8 -,24 ${first#*: },40 ${first#*: },16 -,32 -,64 -," ] &&
-    [ "$(<"$err")" = "sweep: 2 of 6 configurations have a fault, the first in $first (column fault)" ]
+    [ "$(<"$err")" = "sweep: configurations with a fault: 2 of 6, the first in $first (column fault)" ]
 verdict 'their rows are kept' $?
 rm -r odd
 cp kinds.din changing.din
@@ -83,7 +83,7 @@ test_missing() {
     done >"$out" 2>"$err"
     run "$sweep" --gather six
     [ "$status" -eq 1 ] && [ "$(<"$err")" = "$tell 3,5-6
-sweep: 6 of 12 configurations have a fault, the first in line 6 of the table: \
+sweep: configurations with a fault: 6 of 12, the first in line 6 of the table: \
 not simulated (column fault)" ]
     verdict 'the tasks that are missing, as sbatch takes them' $?
     head -n 1 six/1-6 >"$work/cut" && cp "$work/cut" six/1-6

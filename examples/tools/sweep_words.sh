@@ -151,7 +151,7 @@ cp faulty.din also-faulty.din
 run "$sweep" --jobs 1 --vary --l1-dsize 8 "${rest[@]}" -- also-faulty.din faulty.din
 [ "$status" -eq 1 ] && [ "$(<"$err")" = "sweep: also-faulty.din: line 2: label
 sweep: faulty.din: line 2: label
-sweep: 2 of 2 configurations have a fault, the first in line 2 of the table: \
+sweep: configurations with a fault: 2 of 2, the first in line 2 of the table: \
 line 2: label (column fault)" ]
 verdict 'the faults of traces of which one ends in the name of the other' $?
 
