@@ -99,7 +99,7 @@ tell_faults_of_task() {
 
 gather_table() {
     local file
-    [ -z "$log$restarts$full$hosts$jobs$task$into${fixed[*]}${varied[*]}${tied[*]}${traces[*]}" ] ||
+    [ -z "$log$restarts$full$hosts$jobs$task$into${fixed[*]}${varied[*]}${tied[*]}${lacking[*]}${traces[*]}" ] ||
         refuse '--gather takes no other words'
     choose_folder "$gather"
     described=$store/grid
@@ -114,8 +114,7 @@ gather_table() {
     done
     find_missing
     put_last_lines
-    [ -z "$missing" ] ||
-        complain "of the tasks 1-${of/all/$last}, these have not left all of their rows: $missing"
+    [ -z "$missing" ] || tell_missing
     tell_faults_of_table
 }
 
@@ -135,12 +134,23 @@ note_tasks() {
 }
 
 # find_missing: sets `missing` to the numbers of the tasks that have not left all of their rows, as
-# the option --array of sbatch takes them, if it is known how many there are.
+# the option --array of sbatch takes them; or of the configurations without a row, if it is not
+# known how many tasks there are.
 missing=
 find_missing() {
-    [[ $of =~ ^(all|[1-9][0-9]*)$ ]] || return 0
-    { of_grid 'plan parts commands' "of=$of" part=rows "$work/pending" &&
+    [[ $of =~ ^(all|[1-9][0-9]*)?$ ]] || return 0
+    { of_grid 'plan parts commands' "of=${of:-all}" part=rows "$work/pending" &&
         read -r missing < "$work/missing.$call"; } 2>/dev/null || no_room
+}
+
+# tell_missing: these, and what they are numbers of.
+tell_missing() {
+    if [ -n "$of" ]; then
+        complain "of the tasks 1-${of/all/$last}, these have not left all of their rows: $missing"
+    else
+        complain "tasks of several cuts have left rows in $gather; \
+of the configurations 1-$last, these have none: $missing"
+    fi
 }
 
 # writing_fault FILE: why it can't grow, such as a full disk, if it can't.

@@ -7,8 +7,9 @@ varied=()
 values=()
 tied=()
 leads=()
+# The options that no value stands behind. They may be none of the simulator's.
+lacking=()
 traces=()
-unpackers=()
 jobs=
 log=
 restarts=
@@ -78,8 +79,9 @@ set_word() {
     esac
 }
 
-# need_value OPTION WORD..: a value stands behind it. A word with two hyphens in front is no value
-# but the next option, unless an option is wanted, or it is joined to this one by an equals sign.
+# need_value OPTION WORD..: a value stands behind it, or it may be one of the simulator's. A word
+# with two hyphens in front is no value but the next option, unless an option is wanted, or it is
+# joined to this one by an equals sign.
 need_value() {
     local next=${2-"--"} last=${3-"--"}
     case $1 in
@@ -88,7 +90,10 @@ need_value() {
             refuse '--vary has no values'
         ;;
     --with) [ "$next" != -- ] || refuse "$1 has no value" ;;
-    *) [ -n "$is_joined" ] || [[ $next != --* ]] || refuse "$1 has no value" ;;
+    --jobs | --resume | --hosts | --task | --into | --gather)
+        [ -n "$is_joined" ] || [[ $next != --* ]] || refuse "$1 has no value"
+        ;;
+    *) [ -n "$is_joined" ] || [[ $next != --* ]] ;;
     esac
 }
 
@@ -101,6 +106,8 @@ parse() {
             traces=("${@:2}")
             return
             ;;
+        --version) refuse '--version has to be the first word' ;;
+        --restart=* | --full=*) refuse "${1%%=*} takes no value" ;;
         --restart) once "$1" && restarts=yes && shift && continue ;;
         --full) once "$1" && full=--full && shift && continue ;;
         --*=*)
@@ -108,7 +115,7 @@ parse() {
             is_joined=yes
             continue
             ;;
-        --*) need_value "$@" ;;
+        --*) need_value "$@" || { lacking+=("$1") && shift && continue; } ;;
         *) refuse "unknown word: $1 (traces stand behind --)" ;;
         esac
         is_joined=
@@ -152,36 +159,49 @@ find_options() {
 
 check_words() {
     local i
+    find_options
+    check_options
     [ -z "$jobs" ] || is_number "$jobs" || refuse "--jobs: not a number of runs: '$jobs'"
     [ "${task:+task}" = "${into:+task}" ] || refuse '--task and --into go together'
     [ -z "$restarts" ] || [ -n "$log" ] || refuse '--restart goes with --resume'
-    [ -z "$task" ] || [ -z "$log$hosts$jobs" ] || refuse '--task runs here and alone'
-    [ ${#varied[@]} -gt 0 ] || refuse 'no option is varied'
+    [ -z "$task" ] || check_alone
+    [ ${#varied[@]} -gt 0 ] || refuse 'no option is varied (one value behind --vary is enough)'
     [ ${#traces[@]} -gt 0 ] || refuse 'no trace is given'
     for i in "${!tied[@]}"; do
         [[ " ${varied[*]} " == *" ${leads[i]} "* ]] ||
             refuse "--with: ${leads[i]} is not varied"
     done
-    check_options
+    check_required
     [ -z "$task" ] || check_task
 }
 
-# check_options: the simulator has each that is given, and each that it requires is given.
+# check_alone: a task runs here, and has no log.
+check_alone() {
+    [ -z "$jobs" ] || refuse '--jobs does not go with --task'
+    [ -z "$hosts" ] || refuse '--hosts does not go with --task'
+    [ -z "$log" ] || refuse '--resume does not go with --task'
+}
+
+# check_options: the simulator has each that is given, and each has a value.
 check_options() {
-    local option value given=' ' known=' '
-    find_options
-    while read -r option value; do
+    local option known=' '
+    while read -r option _; do
         known+="--$option "
     done <<<"$options"
-    for option in "${fixed[@]}" "${varied[@]}" "${tied[@]}"; do
+    for option in "${fixed[@]}" "${varied[@]}" "${tied[@]}" "${lacking[@]}"; do
         [[ $option == --* ]] || continue
         [ "$option" != --ring ] ||
             refuse '--ring is an option of dinero_pipe, and changes no count'
         [ "$option" != --threads ] ||
             refuse '--threads: each run has one thread, and --jobs says how many run at once'
         [[ $known == *" $option "* ]] || refuse "unknown option: $option"
-        given+="$option "
     done
+    [ ${#lacking[@]} -eq 0 ] || refuse "${lacking[0]} has no value"
+}
+
+# check_required: each option that the simulator requires is given.
+check_required() {
+    local option value given=" ${fixed[*]} ${varied[*]} ${tied[*]} "
     while read -r option value; do
         [ -n "$value" ] || [[ $given == *" --$option "* ]] || refuse "--$option is required"
     done <<<"$options"
@@ -203,86 +223,4 @@ check_task() {
     [ "$task" -le "$tasks" ] || [ "$tasks" -ne "$cells" ] ||
         refuse "--task: the grid has $cells configurations, and no $task"
     [ "$task" -le "$tasks" ] || refuse "--task: there is no part $task of $tasks"
-}
-
-# find_packer TRACE: sets `packer` to the command that unpacks it, if its first bytes are those of a
-# packed file. They are read up to a zero byte, as the sixth of xz is, unless the file ends before.
-find_packer() {
-    local bytes ends=
-    IFS= read -r -d '' -n 6 bytes < "$1" || ends=yes
-    case $bytes$ends in
-    $'\x1f\x8b'*) packer='zcat' ;;
-    $'\xfd7zXZ') packer=xzcat ;;
-    $'\x28\xb5\x2f\xfd'*) packer=zstdcat ;;
-    BZh*) packer=bzcat ;;
-    *) packer= ;;
-    esac
-}
-
-# no_trace TRACE: it can't be read, and why.
-no_trace() {
-    local fault
-    [ "$1" != - ] || die 4 '- is no file, and a sweep takes files: bin/dinero_grid reads a pipe'
-    if [ -d "$1" ]; then
-        fault='Is a directory'
-    elif [ -e "$1" ] && [ ! -f "$1" ]; then
-        fault='Not a regular file'
-    else
-        fault=$({ : < "$1"; } 2>&1) || true
-    fi
-    die 4 "no trace to read: $1${fault:+: ${fault##*: }}"
-}
-
-# check_trace TRACE: sets `unpacker` to the command that unpacks it, by the ending of its name, or
-# to a hyphen.
-check_trace() {
-    local packer package
-    [ ! -p "$1" ] || die 4 "$1 is a pipe, and a sweep takes files: bin/dinero_grid reads a pipe"
-    case $1 in
-    /dev/stdin | /dev/fd/* | /proc/*/fd/*)
-        die 4 "$1 is another file for each run of a sweep: give the name of the file itself"
-        ;;
-    esac
-    if [ ! -f "$1" ] || [ ! -r "$1" ]; then
-        no_trace "$1"
-    fi
-    find_packer "$1"
-    case $1 in
-    *.gz) unpacker='zcat' package=gzip ;;
-    *.xz) unpacker=xzcat package=xz-utils ;;
-    *.zst) unpacker=zstdcat package=zstd ;;
-    *) unpacker=- package= ;;
-    esac
-    [ -z "$package" ] || need "$unpacker" "$package"
-    [ "${packer:--}" != "$unpacker" ] || return 0
-    [ -n "$packer" ] || die 4 "$1 is not packed, though its name says so"
-    die 4 "$1 is compressed: pipe it through $packer into a file, and take that"
-}
-
-# check_once: no trace is given twice. Of several that are, the first in the order of bytes is
-# named.
-check_once() {
-    local trace twice=
-    local -A given=()
-    for trace in "${traces[@]}"; do
-        if [ -n "${given[$trace]-}" ] && [[ -z $twice || $trace < $twice ]]; then
-            twice=$trace
-        fi
-        given[$trace]=yes
-    done
-    [ -z "$twice" ] || refuse "the trace $twice is given twice"
-}
-
-check_files() {
-    local trace unpacker
-    for trace in "${traces[@]}"; do
-        [[ $trace != *[$'\t\n']* ]] || refuse 'the name of a trace has a tab or a line feed'
-        [ ! -f /dev/stdout ] || [ ! "$trace" -ef /dev/stdout ] ||
-            refuse "$trace is where the table goes"
-        check_trace "$trace"
-        unpackers+=("$unpacker")
-    done
-    check_once
-    [ -z "$hosts" ] || { [ -r "$hosts" ] && [ ! -d "$hosts" ]; } ||
-        die 4 "no list of machines to read: $hosts"
 }

@@ -12,6 +12,16 @@ fails() {
     verdict "$1" $?
 }
 fails 'record without a program' 2 'record: no program is given; try --help' "$record"
+fails 'record without a program, whose name was taken for a function' 2 \
+    'record: no program is given (main was taken as the value of --from); try --help' \
+    "$record" --split 4 --from main
+fails 'record without a program, whose name was taken for a file' 2 \
+    'record: no program is given (none was taken as the value of --output); try --help' \
+    "$record" --output=none
+[ ! -e none ]
+verdict 'and no such file is made' $?
+fails 'record without a number of bytes' 2 \
+    "record: --split: not a power of two from 1 to 4096: 'true'; try --help" "$record" --split true
 fails 'record with an empty program' 2 'record: the name of the program is empty; try --help' \
     "$record" ''
 fails 'record with an unknown option' 2 'record: unknown option: --all; try --help' "$record" --all ls

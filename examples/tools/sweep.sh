@@ -91,7 +91,7 @@ verdict 'sweep of a faulty trace' $?
 refused() {
     ends "sweep: $1" 2 "sweep: $1; try --help" "$sweep" "${@:2}"
 }
-refused 'no option is varied' "${rest[@]}" -- kinds.din
+refused 'no option is varied (one value behind --vary is enough)' "${rest[@]}" -- kinds.din
 refused 'no trace is given' "${grid[@]}"
 refused 'unknown word: kinds.din (traces stand behind --)' "${grid[@]}" kinds.din
 refused 'unknown option: --l3-usize' --l3-usize 4 "${grid[@]}" -- kinds.din
@@ -209,7 +209,8 @@ test_parallel() {
     echo : >machines
     run "$sweep" --hosts machines "${grid[@]}" -- kinds.din fifo.din
     check "sweep over parallel's own host" is_table_of_rows
-    ends 'sweep over machines of no list' 4 'sweep: no list of machines to read: nowhere' \
+    ends 'sweep over machines of no list' 4 \
+        'sweep: no list of machines to read: nowhere: No such file or directory' \
         "$sweep" --hosts nowhere "${grid[@]}" -- kinds.din
     nothing=$(without parallel)
     run env PATH="$nothing" "$sweep" "${grid[@]}" -- kinds.din fifo.din

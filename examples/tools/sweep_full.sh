@@ -158,4 +158,4 @@ if has parallel; then
     run env PATH="$work/without-parallel" "$sweep" --full "${grid[@]}" -- kinds.din fifo.din
     check 'a full table without parallel' is_full
 fi
-refused 'unknown word: yes (traces stand behind --)' --full=yes "${grid[@]}" -- kinds.din
+refused '--full takes no value' --full=yes "${grid[@]}" -- kinds.din

@@ -243,7 +243,8 @@ packed() {
         "$sweep" "${grid[@]}" -- "not.$1"
     cp "long.din.$1" no-ending
     ends "a trace for $2 without its ending" 4 \
-        "sweep: no-ending is compressed: pipe it through $2 into a file, and take that" \
+        "sweep: no-ending is compressed: give it a name that ends in .$1, \
+or pipe it through $2 into a file, and take that" \
         "$sweep" "${grid[@]}" -- no-ending
     rm "long.din.$1" "half.din.$1" "faulty.din.$1" "not.$1" no-ending
 }

@@ -96,10 +96,20 @@ not simulated (column fault)" ]
     run "$sweep" --gather six
     [ "$status" -eq 0 ] && [ ! -s "$err" ]
     verdict 'once these are made, no row is missing' $?
+    # The second task of six has the second size, which is configurations 3 and 4.
     rm six/2-6 && cp six/1-6 six/1-3
     run "$sweep" --gather six
-    [ "$status" -eq 1 ] && [ "$(wc -l <"$err")" -eq 1 ]
-    verdict 'none is named where it is not known how many there are' $?
+    [ "$status" -eq 1 ] && [ "$(<"$err")" = 'sweep: tasks of several cuts have left rows in six; '\
+"of the configurations 1-12, these have none: 3-4
+sweep: configurations with a fault: 2 of 12, the first in line 4 of the table: \
+not simulated (column fault)" ]
+    verdict 'the configurations that are missing from tasks of several cuts' $?
+    for number in 3 4; do
+        "$sweep" --task $number --into six "${six[@]}" -- kinds.din
+    done >"$out" 2>"$err"
+    run "$sweep" --gather six
+    [ "$status" -eq 0 ] && [ ! -s "$err" ]
+    verdict 'and no line tells of several cuts once these are made' $?
     rm -r six
 }
 

@@ -46,8 +46,24 @@ refused 'unknown option: --quick' --vary quick=1 "${rest[@]}" -- kinds.din
 refused "--jobs: not a number of runs: '0'" --jobs 0 "${grid[@]}" -- kinds.din
 for words in '--jobs 2' '--resume 1' '--hosts 1'; do
     # shellcheck disable=SC2086  # several words
-    refused '--task runs here and alone' --task 1 --into 1 $words "${grid[@]}" -- kinds.din
+    refused "${words% *} does not go with --task" --task 1 --into 1 $words "${grid[@]}" -- kinds.din
 done
+refused '--restart takes no value' --restart=1 --resume 1 "${grid[@]}" -- kinds.din
+refused '--version has to be the first word' "${grid[@]}" --version
+# What the simulator does not have is told before what is left out.
+refused 'unknown option: --quick' --quick --full "${grid[@]}" -- kinds.din
+refused 'unknown option: --quick' "${rest[@]}" --quick
+refused 'unknown option: --quick' --quick 2 "${rest[@]}" -- kinds.din
+refused '--ring is an option of dinero_pipe, and changes no count' --ring 2 "${rest[@]}" -- kinds.din
+refused '--threads: each run has one thread, and --jobs says how many run at once' \
+    --threads 2 "${rest[@]}" -- kinds.din
+refused '--gather takes no other words' --gather 1 --l1-dsize
+[ ! -e 1 ]
+verdict 'no log and no folder is made' $?
+run "$sweep" --vary l1-dsize 8 "${rest[@]}" -- kinds.din fifo.din
+[ "$status" -eq 0 ] && [ ! -s "$err" ] && [ "$(rows_of 1,2)" = 'kinds.din 8,fifo.din 8,' ]
+verdict 'sweep of one configuration' $?
+refused 'the name of a trace is empty' "${grid[@]}" -- kinds.din ''
 ends 'sweep of a trace whose name has a tab' 2 \
     'sweep: the name of a trace has a tab or a line feed; try --help' \
     "$sweep" "${grid[@]}" -- $'x\ty.din'
@@ -105,7 +121,8 @@ test_lists() {
     check 'sweep over a list with comments and empty lines' is_table_of_rows
     run env PATH="$here_alone" "$sweep" --hosts <(cat machines) "${grid[@]}" -- kinds.din fifo.din
     check 'sweep over a list that is a pipe' is_table_of_rows
-    ends 'a list of machines that is a folder' 4 "sweep: no list of machines to read: $work" \
+    ends 'a list of machines that is a folder' 4 \
+        "sweep: no list of machines to read: $work: Is a directory" \
         "$sweep" --hosts "$work" "${grid[@]}" -- kinds.din
     printf '# none\n\n' >machines
     ends 'a list of machines that names none' 4 'sweep: no machine stands in machines' \
