@@ -33,9 +33,18 @@ need() {
     command -v "$1" >/dev/null || die 69 "$1 is missing: install the package $2"
 }
 
+# end_unwritten STATUS WHAT: ends the command if it could not print that, and without a word if the
+# reader of a pipe has gone.
+end_unwritten() {
+    [ "$1" -ne 141 ] || exit 141
+    [ "$1" -eq 0 ] || die 4 "$2 could not be written"
+}
+
 # show_help: prints what the command's own function `usage` says, and ends the command.
 show_help() {
-    usage 2>/dev/null || die 4 'the help text could not be written'
+    local status=0
+    usage 2>/dev/null || status=$?
+    end_unwritten "$status" 'the help text'
     exit 0
 }
 
@@ -69,9 +78,10 @@ read_version() {
 
 # show_version: of the product, in the name of the command, and ends the command.
 show_version() {
-    local version
+    local version status=0
     version=$(read_version) || die 4 'the file VERSION is missing or damaged'
-    (echo "$self $version") 2>/dev/null || die 4 'the version could not be written'
+    (echo "$self $version") 2>/dev/null || status=$?
+    end_unwritten "$status" 'the version'
     exit 0
 }
 [ "${1-}" != --version ] || show_version

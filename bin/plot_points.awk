@@ -50,7 +50,8 @@ function choose_lines(   i, split_at, column) {
     for (i = 1; i <= conditions; i++) {
         split_at = index(only[i], "=")
         column = column_of(substr(only[i], 1, split_at - 1))
-        need_column(column)
+        if (column == "fault") need_column(column)
+        else need_option(column)
         if (!(column in is_chosen)) choice[++choices] = column
         is_chosen[column]
         wanted[column, plain(column, substr(only[i], split_at + 1))] = only[i]
@@ -150,7 +151,8 @@ function varies(column,   i, first, value) {
 function varied_cache(   i, sizes, some, several, one, caches) {
     for (i = 1; i <= columns; i++)
         if (name[i] ~ /^l[12]-[idu]size$/) { sizes++; one = cache_of(name[i]) }
-    if (!sizes) fail("the table has no size varied: choose by --cache")
+    if (!sizes)
+        fail("no size is varied: choose " (over == "" ? "the axis by --over" : "by --cache"))
     if (sizes == 1) return one
     for (i = 1; i <= columns; i++)
         if (name[i] ~ /^l[12]-[idu]size$/ && varies(name[i])) {

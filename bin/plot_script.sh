@@ -19,7 +19,7 @@ run_gnuplot() (
 
 # finish_svg: the picture on standard input gets its title as the name that a browser shows, or no
 # name. gnuplot names it Gnuplot, takes no other name but of letters, and leaves a `]]>` in a text,
-# where XML has none.
+# where XML has none. In the names of the bars, it writes the end of a line in the key as `\n`.
 finish_svg() {
     local name=${title//'&'/'&amp;'}
     name=${name//'<'/'&lt;'}
@@ -28,6 +28,9 @@ finish_svg() {
         $0 == "<title>Gnuplot</title>" && !named++ {
             if (ENVIRON["NAME"] != "") print "<title>" ENVIRON["NAME"] "</title>"
             next
+        }
+        /<title>(each miss\\nby its own kind|by subtraction\\nof whole counts)<\/title>$/ {
+            sub(/\\n/, " ")
         }
         { gsub(/\]\]>/, "]]\\&gt;") }
         { print }'

@@ -16,7 +16,7 @@ parse() {
     local taken=
     while [ $# -gt 0 ]; do
         case $1 in
-        -h | --help) show_help ;;
+        -h | --help) foreseen=yes && show_help ;;
         --split=* | --from=* | --until=* | --output=*) set -- "${1%%=*}" "${1#*=}" "${@:2}" ;;
         --split | --from | --until | --output) [ $# -ge 2 ] || refuse "$1 has no value" ;;
         --)

@@ -140,6 +140,7 @@ plan() {
 # claim FOLDER: the folder of the rows is of this grid, from now on or since an earlier call.
 claim() {
     local fault
+    need cmp diffutils
     choose_folder "$1"
     if ! [ -f "$store/grid" ]; then
         make_store 2> "$work/told" || {

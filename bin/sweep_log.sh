@@ -19,6 +19,7 @@ log_names() {
 open_log() {
     local begins fault
     need flock util-linux
+    need cmp diffutils
     [ ! "$log" -ef /dev/stdout ] || refuse "--resume: $log is where the table goes"
     # A pipe would have to be waited for.
     [ ! -e "$log" ] || [ -d "$log" ] || [ -f "$log" ] ||

@@ -5,6 +5,7 @@ set -u
 top=$(CDPATH='' cd -P -- "$(dirname -- "$0")/.." && pwd)
 program=${1:-$top/bin/dinero_pipe}
 . "$(dirname "$0")/calls.sh"
+need_program "$program"
 
 caches=(--l1-isize 16 --l1-ibsize 4 --l1-dsize 16 --l1-dbsize 4 --l1-dassoc 2
     --l2-usize 32 --l2-ubsize 8 --l2-uassoc 2 --ring 2)

@@ -6,6 +6,7 @@ set -u
 top=$(CDPATH='' cd -P -- "$(dirname -- "$0")/.." && pwd)
 program=${1:-$top/bin/dinero_grid}
 . "$(dirname "$0")/calls.sh"
+need_program "$program"
 
 # The caches but for the size of the data cache.
 caches=(--l1-isize 16 --l1-ibsize 4 --l1-dbsize 4 --l2-usize 32 --l2-ubsize 8 --l2-uassoc 2)

@@ -7,6 +7,7 @@ set -euo pipefail
 folder=$(CDPATH='' cd -P -- "$(dirname -- "$0")" && pwd)
 program=${1:-$folder/../bin/dinero_pipe}
 . "$folder/tally.sh"
+need_program "$program"
 for list in "$folder"/*/*.words; do
     run=${list%.words}
     [ ! -f "$run.tsv" ] || continue

@@ -21,6 +21,13 @@ skip() {
     echo "skipped: $1, without $2"
 }
 
+# need_program PROGRAM: ends the script if that is none.
+need_program() {
+    type -P -- "$1" >/dev/null && return
+    echo "${0##*/}: $1 is no program, and the argument is the one to try" >&2
+    exit 2
+}
+
 # tell: the counts in one line, with a status by them. With NO_SKIPS=yes no test may be skipped.
 tell() {
     local line="$passed passed, $failed failed"

@@ -1,6 +1,18 @@
 # Tests the help of the commands. Read by tools.sh.
 # shellcheck shell=bash disable=SC2154  # names that tools.sh and its other files set
 
+# unread NAME COMMAND..: its output is a pipe whose reader has gone.
+unread() {
+    local gone
+    exec {gone}> >(:)
+    wait $!
+    status=0
+    "${@:2}" >&"$gone" 2>"$err" </dev/null || status=$?
+    exec {gone}>&-
+    [ "$status" -eq 141 ] && [ ! -s "$err" ]
+    verdict "$1 where nobody reads it" $?
+}
+
 for command in record sweep plot install prove release; do
     run "$bin/$command" --help
     [ "$status" -eq 0 ] && [ ! -s "$err" ] && grep -q '^Usage: bin/'"$command" "$out" &&
@@ -8,6 +20,7 @@ for command in record sweep plot install prove release; do
     verdict "$command --help" $?
     to_full "$command --help to a full disk" "$command: the help text could not be written" \
         "$bin/$command" --help
+    unread "$command --help" "$bin/$command" --help
 done
 
 for command in dinero_pipe dinero_grid record sweep plot install; do
@@ -16,6 +29,9 @@ for command in dinero_pipe dinero_grid record sweep plot install; do
     verdict "$command --version" $?
     to_full "$command --version to a full disk" "$command: the version could not be written" \
         "$bin/$command" --version
+done
+for command in record sweep plot install; do
+    unread "$command --version" "$bin/$command" --version
 done
 
 # helps_with_options COMMAND: each option that the command looks for is in its help.

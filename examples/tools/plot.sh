@@ -71,6 +71,9 @@ test_plot() {
             'misses (% of accesses)' 'each miss' 'by its own kind' \
             compulsory capacity conflict '1 way' '2 ways' 8 16
     verdict 'a picture of the kinds of miss' $?
+    [ "$(grep -c '<title>each miss by its own kind</title>$' kinds.svg)" -eq 3 ] &&
+        ! grep -F '\n' kinds.svg >"$err"
+    verdict 'the names of its bars stand in one line' $?
     # Four configurations have compulsory misses, so four bars are begun, and one stands in the key.
     [ "$(bars kinds.svg ' *8, *48, *107')" -eq 5 ]
     verdict 'it has a bar for each configuration' $?

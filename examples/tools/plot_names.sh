@@ -30,10 +30,10 @@ draws_words() {
         >named.tsv
     for format in svg png pdf; do
         run "$plot" rates named.tsv "named.$format" --by trace --cache l1-dcache \
-            --over "${1//$'\n'/ }" --title "$1"
+            --over "${1//$'\n'/ }" --title "$word"
         [ "$status" -eq 0 ] && [ ! -s "$err" ] || return
         run "$plot" kinds named.tsv "bars.$format" --by trace --cache l1-dcache \
-            --over "${1//$'\n'/ }" --title "$1"
+            --over "${1//$'\n'/ }" --title "$word"
         [ "$status" -eq 0 ] && [ ! -s "$err" ] || return
     done
     shows named.svg "$word" && shows bars.svg "$word" &&

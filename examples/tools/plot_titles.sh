@@ -75,9 +75,9 @@ is_named() {
 # names_picture NAME: the title of a picture is its name too, and a text of it.
 names_picture() {
     run "$plot" rates chosen.tsv named.svg --cache l1-dcache "${chosen[@]}" --only flushcount 0 \
-        --title "$1"
-    [ "$status" -eq 0 ] && [ ! -s "$err" ] && is_named named.svg "${1//$'\n'/?}" &&
-        shows named.svg "${1//$'\n'/?}"
+        --title "${1//$'\n'/ }"
+    [ "$status" -eq 0 ] && [ ! -s "$err" ] && is_named named.svg "${1//$'\n'/ }" &&
+        shows named.svg "${1//$'\n'/ }"
 }
 
 # What could end the element of a name, or be taken for another one.

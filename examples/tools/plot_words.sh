@@ -24,6 +24,9 @@ refuses '--linear takes no value' --linear=2
 refuses '--whole-counts is of kinds' --whole-counts
 refuses '--over has no value' --over=
 refuses 'unknown cache: l3-cache' --cache l3-cache
+for title in $'two\nlines' $'a\ttab' $'\e[1m' $'\x7f'; do
+    refuses '--title: it has a line feed, a tab or another control character' --title "$title"
+done
 refuses 'unknown cache: ' --cache=
 refuses "--size: not WxH: '336'" --size 336
 refuses "--size: not from 200x150 to 10000x10000: '199x150'" --size 199x150
@@ -35,12 +38,14 @@ ends 'plot --linear of kinds' 2 'plot: --linear is of rates; try --help' \
     "$plot" kinds points.tsv none.svg --linear
 
 lacks 'the column l1-dcache-misses is no option' '' rates --over l1-dcache-misses
+lacks 'the column l1-dcache-misses is no option' '' rates --only l1-dcache-misses 10
 lacks 'the table has no column l1-isize: choose the axis by --over' '' rates --cache l1-icache
 lacks 'the table has no column l1-isize' '' rates --over l1-isize
 lacks "l1-dsize can't be both the axis and the groups" '' rates --by l1-dsize
 lacks 'line 2: trace is no number: a/x.din' '' rates --over trace
 lacks 'the table has two columns trace' '1s/l1-drepl/trace/' rates
-lacks 'the table has no size varied: choose by --cache' '1s/l1-dsize/ring/' rates
+lacks 'no size is varied: choose the axis by --over' '1s/l1-dsize/ring/' rates
+lacks 'no size is varied: choose by --cache' '1s/l1-dsize/ring/' rates --over ring
 lacks 'the table varies several sizes: choose by --cache one of l1-dcache l2-ucache' \
     '1s/l1-drepl/l2-usize/; 2s/l$/8k/; 4s/l$/16k/' kinds
 lacks 'line 3: l1-dcache-fetches is no number: 2e2' '3s/200/2e2/' rates

@@ -239,3 +239,10 @@ ends 'sweep without awk' 69 'sweep: awk is missing: install the package mawk' \
     env PATH="$(without awk)" "$sweep" "${grid[@]}" -- kinds.din
 ends 'sweep with a log, without flock' 69 'sweep: flock is missing: install the package util-linux' \
     env PATH="$(without flock)" "$sweep" --resume no-lock "${grid[@]}" -- kinds.din
+for words in '--resume no-log-begun' '--task 1 --into no-folder'; do
+    # shellcheck disable=SC2086  # several words
+    ends "sweep $words, without cmp" 69 'sweep: cmp is missing: install the package diffutils' \
+        env PATH="$(without cmp)" "$sweep" $words "${grid[@]}" -- kinds.din
+done
+[ ! -e no-lock ] && [ ! -e no-log-begun ] && [ ! -e no-folder ]
+verdict 'and no log and no folder is made' $?
