@@ -92,12 +92,23 @@ $1 \\- ${first,}
 .nf
 END
     sed -e 's/\\/\\e/g' -e 's/-/\\-/g' -e "s/'/\\\\(aq/g" -e 's/`/\\(ga/g' -e 's/^\./\\\&./'
-    cat <<'END'
-.fi
-.SH "SEE ALSO"
-.BR dinero_pipe (1),
-.BR dinero_grid (1)
-END
+    printf '.fi\n.SH "SEE ALSO"\n'
+    see_also "$1"
+}
+
+# see_also NAME: the pages of the others, and of what the command calls.
+see_also() {
+    local name names=("${programs[@]}")
+    for name in "${commands[@]}"; do
+        [ "dinero_$name" = "$1" ] || names+=("dinero_$name")
+    done
+    case $1 in
+    dinero_record) names+=(valgrind) ;;
+    dinero_sweep) names+=(parallel) ;;
+    dinero_plot) names+=(gnuplot) ;;
+    esac
+    printf '.BR %s (1),\n' "${names[@]::${#names[@]} - 1}"
+    printf '.BR %s (1)\n' "${names[@]: -1}"
 }
 
 # print_files TREE: one a line.

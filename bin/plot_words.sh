@@ -37,11 +37,11 @@ list_looks() {
   --linear              rates on a linear axis; without it, the axis of
                         sizes and of ways is logarithmic, with base 2,
                         and that of flushcount and maxcount with base 10
-  --title TEXT          [default: the trace, the cache, its size, ways,
-                        blocks and policies, as far as the table has them
-                        and they are the same in all that is drawn, and
-                        each other option of which --only chose one
-                        value]
+  --title TEXT          of one line [default: the trace, the cache, its
+                        size, ways, blocks and policies, as far as the
+                        table has them and they are the same in all that
+                        is drawn, and each other option of which --only
+                        chose one value]
   --size WxH            pixels, 96 of them to the inch in a PDF, from
                         200x150 to 10000x10000 [default: 720x460, or more
                         if there is much to draw]

@@ -47,6 +47,9 @@ names_itself() {
 for name in plot record sweep; do
     check "the man page of $name says in a line what it does" names_itself "$name"
 done
+[ "$(sed '1,/^\.SH "SEE ALSO"$/d' "$pages/dinero_plot.1" | tr '\n' ' ')" = '.BR dinero_pipe (1), '\
+'.BR dinero_grid (1), .BR dinero_record (1), .BR dinero_sweep (1), .BR gnuplot (1) ' ]
+verdict 'the man page of plot leads to the others' $?
 for name in grid pipe; do
     sed "1s/ $version//" "$pages/dinero_$name.1" | cmp -s - "$top/docs/dinero_$name.1"
     verdict "the man page of $name is as it was written but for that" $?

@@ -241,6 +241,10 @@ packed() {
     cp kinds.din "not.$1"
     ends "a trace whose name says $1" 4 "sweep: not.$1 is not packed, though its name says so" \
         "$sweep" "${grid[@]}" -- "not.$1"
+    : >"not.$1"
+    ends "an empty trace whose name says $1" 4 \
+        "sweep: not.$1 is empty, though its name says that it is packed" \
+        "$sweep" "${grid[@]}" -- "not.$1"
     cp "long.din.$1" no-ending
     ends "a trace for $2 without its ending" 4 \
         "sweep: no-ending is compressed: give it a name that ends in .$1, \
