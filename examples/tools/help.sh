@@ -7,7 +7,7 @@ unread() {
     exec {gone}> >(:)
     wait $!
     status=0
-    "${@:2}" >&"$gone" 2>"$err" </dev/null || status=$?
+    { "${@:2}" 2>"$err" </dev/null || status=$?; } >&"$gone"
     exec {gone}>&-
     [ "$status" -eq 141 ] && [ ! -s "$err" ]
     verdict "$1 where nobody reads it" $?
