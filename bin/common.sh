@@ -130,6 +130,14 @@ interrupt() {
     die "$1" interrupted
 }
 
+# unreadable WHAT FILE: ends the command, since the file can't be read, and says why, if that is
+# known.
+unreadable() {
+    local fault
+    fault=$({ cat < "$2" > /dev/null; } 2>&1) || true
+    die 4 "no $1 to read: $2${fault:+: ${fault##*: }}"
+}
+
 # place MODE FILE TARGET: puts a whole copy of the file in the target's place, or nothing.
 place() {
     local part=$3.part$$ fault

@@ -17,6 +17,10 @@ run_gnuplot() (
     { cd -- "$work" && gnuplot -d -c script "$text" 2> complaint; } || exit
 ) 2>/dev/null
 
+# What stands above the key of kinds, in two lines: of misses by their kinds, or of whole counts.
+own_heading='each miss\nby its own kind'
+whole_heading='by subtraction\nof whole counts'
+
 # finish_svg: the picture on standard input gets its title as the name that a browser shows, or no
 # name. gnuplot names it Gnuplot, takes no other name but of letters, and leaves a `]]>` in a text,
 # where XML has none. In the names of the bars, it writes the end of a line in the key as `\n`.
@@ -24,14 +28,17 @@ finish_svg() {
     local name=${title//'&'/'&amp;'}
     name=${name//'<'/'&lt;'}
     name=${name//'>'/'&gt;'}
-    NAME=$name awk '
+    NAME=$name OWN=$own_heading WHOLE=$whole_heading awk '
+        # ends_with(NAME): the line does, and it is the name of bars.
+        function ends_with(name) {
+            name = "<title>" name "</title>"
+            return substr($0, length($0) - length(name) + 1) == name
+        }
         $0 == "<title>Gnuplot</title>" && !named++ {
             if (ENVIRON["NAME"] != "") print "<title>" ENVIRON["NAME"] "</title>"
             next
         }
-        /<title>(each miss\\nby its own kind|by subtraction\\nof whole counts)<\/title>$/ {
-            sub(/\\n/, " ")
-        }
+        ends_with(ENVIRON["OWN"]) || ends_with(ENVIRON["WHOLE"]) { sub(/\\n/, " ") }
         { gsub(/\]\]>/, "]]\\&gt;") }
         { print }'
 }
@@ -104,8 +111,8 @@ print_key() {
     echo "set key reverse Left samplen 2 spacing $spacing"
     [ "$kind" = kinds ] || return 0
     echo 'set key samplen 1'
-    heading='each miss\nby its own kind'
-    [ -z "$whole" ] || heading='by subtraction\nof whole counts'
+    heading=$own_heading
+    [ -z "$whole" ] || heading=$whole_heading
     [ "$key_place" = right ] || heading=${heading/'\n'/ }
     [ "$key_place" = top ] || echo 'set key invert'
     echo "set key title \"$heading\""

@@ -161,7 +161,8 @@ check_words() {
     esac
     [ "$kind" = kinds ] || ! is_given --whole-counts || refuse '--whole-counts is of kinds'
     [ "$kind" = rates ] || ! is_given --linear || refuse '--linear is of rates'
-    [[ $title != *[[:cntrl:]]* ]] || refuse '--title: it has a line feed, a tab or another control character'
+    [[ $title != *[[:cntrl:]]* ]] ||
+        refuse '--title: it has a line feed, a tab or another control character'
     ! is_given --over || [ -n "$over" ] || refuse '--over has no value'
     ! is_given --by || [ -n "$by" ] || refuse '--by has no value'
     ! is_given --size || check_size

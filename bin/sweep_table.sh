@@ -99,7 +99,8 @@ tell_faults_of_task() {
 
 gather_table() {
     local file
-    [ -z "$log$restarts$full$hosts$jobs$task$into${fixed[*]}${varied[*]}${tied[*]}${lacking[*]}${traces[*]}" ] ||
+    { [ -z "$log$restarts$full$hosts$jobs$task$into" ] &&
+        [ -z "${fixed[*]}${varied[*]}${tied[*]}${lacking[*]}${traces[*]}" ]; } ||
         refuse '--gather takes no other words'
     choose_folder "$gather"
     described=$store/grid

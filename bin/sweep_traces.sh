@@ -19,16 +19,9 @@ find_packer() {
 
 # no_trace TRACE: it can't be read, and why.
 no_trace() {
-    local fault
     [ "$1" != - ] || die 4 '- is no file, and a sweep takes files: bin/dinero_grid reads a pipe'
-    if [ -d "$1" ]; then
-        fault='Is a directory'
-    elif [ -e "$1" ] && [ ! -f "$1" ]; then
-        fault='Not a regular file'
-    else
-        fault=$({ : < "$1"; } 2>&1) || true
-    fi
-    die 4 "no trace to read: $1${fault:+: ${fault##*: }}"
+    [ ! -e "$1" ] || [ -f "$1" ] || [ -d "$1" ] || die 4 "no trace to read: $1: Not a regular file"
+    unreadable trace "$1"
 }
 
 # check_trace TRACE: sets `unpacker` to the command that unpacks it, by the ending of its name, or
@@ -97,12 +90,6 @@ check_files() {
         unpackers+=("$unpacker")
     done
     check_once
-    [ -z "$hosts" ] || { [ -r "$hosts" ] && [ ! -d "$hosts" ]; } || no_list
-}
-
-# no_list: that of the machines can't be read, and why.
-no_list() {
-    local fault='Is a directory'
-    [ -d "$hosts" ] || fault=$({ : < "$hosts"; } 2>&1) || true
-    die 4 "no list of machines to read: $hosts${fault:+: ${fault##*: }}"
+    [ -z "$hosts" ] || { [ -r "$hosts" ] && [ ! -d "$hosts" ]; } ||
+        unreadable 'list of machines' "$hosts"
 }
