@@ -33,8 +33,10 @@ function find_head(   i) {
 
 function take_line(text,   field) {
     if (text ~ /^unpacked [0-9]+$/) unpacked = substr(text, 10) + 0
-    else if (text ~ /^ended [0-9]+$/) ended = substr(text, 7)
-    else if (!in_table && text == head heads) in_table = 1
+    else if (text ~ /^ended [0-9]+$/) {
+        ended = substr(text, 7)
+        in_table = 0
+    } else if (!in_table && text == head heads) in_table = 1
     else if (in_table) {
         line_of_table[++lines] = text
         if (split(text, field, "\t") != labels + head_count) is_cut = 1

@@ -157,6 +157,14 @@ printf '2 0\n9 9\n' | gzip -c >bad.din.gz
 run env GZIP=-9 "$sweep" --vary --l1-dsize 8,16 "${rest[@]}" -- bad.din.gz
 [ "$status" -eq 1 ] && [ "$(rows_of 36)" = 'line 2: label,line 2: label,' ]
 verdict 'the fault of a trace whose unpacker warns' $?
+mkdir late
+printf '%s\n' '#!/bin/sh' 'gzip -dc' 'echo late >&2' >late/zcat
+chmod +x late/zcat
+gzip -c kinds.din >late.din.gz
+run env PATH="$PWD/late:$PATH" "$sweep" --vary --l1-dsize 8,16 "${rest[@]}" -- late.din.gz
+[ "$status" -eq 0 ] && [ ! -s "$err" ] && [ "$(rows_of 36)" = '-,-,' ]
+verdict 'a trace whose unpacker says something at its end' $?
+rm -r late late.din.gz
 gzip -c long.din | head -c 1000 >bad.din.gz
 run env GZIP=-9 "$sweep" --vary --l1-dsize 8,16 "${rest[@]}" -- bad.din.gz
 reason='zcat ended with status 1: unexpected end of file'
