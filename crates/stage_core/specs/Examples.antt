@@ -1,5 +1,5 @@
 -- Examples of the definitions: the streams and counts of small traces, worked out by hand.
-use Rattle.std.specs.Prelude.{◌≡◌, ℕ, true, false, List, [], ◌∷◌}
+use Rattle.std.specs.Prelude.{◌≡◌, ℕ, ◌*◌, true, false, List, [], ◌∷◌}
 use Rattle.cache_core.specs.declared.access.Class.TheVariants as class
 use Rattle.cache_core.specs.History.{Rules, flush}
 use Rattle.din_trace.specs.declared.record.DinRecord.{DinRecord}
@@ -22,7 +22,7 @@ lru bsize sets assoc = record {
   bsize = bsize;
   sets = sets;
   assoc = assoc;
-  blocks = 4;
+  blocks = sets * assoc;
   fifo = false;
   wback = true;
   walloc = true;
