@@ -1,6 +1,7 @@
 -- What a source still has to answer, from the bytes that it holds and what its reader will do.
 use Rattle.std.specs.Prelude.{◌≡◌, ℕ, ◌+◌, ◌-◌, ◌<◌, List, [], ◌++◌, length, take, drop, Option}
 use Rattle.std.specs.Prelude.{Some, None, IsSome, Result, IfOk, Bool, false}
+use Rattle.std.specs.Result.{result_err}
 use Rattle.din_trace.specs.declared.record.DinRecord.{DinRecord}
 use Rattle.din_trace.specs.declared.fault.TraceFault.{TraceFault}
 use Rattle.din_trace.specs.declared.backlog.Backlog.{Backlog}
@@ -12,7 +13,7 @@ use Rattle.din_trace.specs.Line.{ADDRESS_MAX}
 use Rattle.din_trace.specs.Text.{open_line, Remaining, text_left}
 use Rattle.din_trace.specs.Standing.{Stands}
 use Rattle.din_trace.specs.Remaining.{Script, first_answer, after_first}
-use Rattle.din_trace.specs.State.{is_reading}
+use Rattle.din_trace.specs.State.{is_reading, fault_met}
 
 -- the bytes that came from the reader and are not judged yet
 abbrev pub held : Backlog → List ℕ
@@ -73,3 +74,4 @@ pub record EndsWith (fails : Bool) (answer : Result (Option DinRecord) TraceFaul
   pub limit_same : new.limit ≡ old.limit
   pub no_room : room new ≡ 0
   pub closed : is_reading new.state ≡ false
+  pub told : fault_met new.state ≡ result_err answer

@@ -7,7 +7,7 @@ use Rattle.din_trace.specs.declared.source.Source.{Source}
 use Rattle.din_trace.specs.declared.backlog.State.TheVariants as state
 use Rattle.din_trace.specs.Text.{Remaining}
 use Rattle.din_trace.specs.Remaining.{Script, Fate, FateIs}
-use Rattle.din_trace.specs.State.{is_reading, Closes}
+use Rattle.din_trace.specs.State.{is_reading, fault_met, Closes}
 use Rattle.din_trace.specs.Backlog as backlog
 
 -- the reader of a source
@@ -33,6 +33,10 @@ HasLeft source script l = backlog.HasLeft source.backlog script l
 -- it has ended or failed, and asks its reader no more
 unfoldable pub IsSettled : {R : Type 0} → Source R → Type 0
 IsSettled source = is_reading source.backlog.state ≡ false
+
+-- the fault that it has met, if it has met one: it answers this fault from then on
+unfoldable pub fault_in : {R : Type 0} → Source R → Option TraceFault
+fault_in source = fault_met source.backlog.state
 
 -- after an answer that is no record, it is settled
 abbrev pub SettlesAt : {R : Type 0} → Result (Option DinRecord) TraceFault → Source R → Type 0

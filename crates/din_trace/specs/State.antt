@@ -1,6 +1,6 @@
 -- Whether a source is reading, or has ended or failed.
-use Rattle.std.specs.Prelude.{◌≡◌, Bool, true, false, Option, is_none, ⊤, Result, MatchResult}
-use Rattle.std.specs.Prelude.{IfNone}
+use Rattle.std.specs.Prelude.{◌≡◌, Bool, true, false, Option, None, Some, is_none, ⊤, Result}
+use Rattle.std.specs.Prelude.{IfNone, MatchResult}
 use Rattle.din_trace.specs.declared.record.DinRecord.{DinRecord}
 use Rattle.din_trace.specs.declared.fault.TraceFault.{TraceFault}
 use Rattle.din_trace.specs.declared.fault.Why.{Why}
@@ -19,6 +19,12 @@ abbrev pub is_reading : State → Bool
 is_reading state.Reading = true
 is_reading state.Ended = false
 is_reading (state.Failed f) = false
+
+-- the fault that a source has met, if it has met one
+abbrev pub fault_met : State → Option TraceFault
+fault_met state.Reading = None
+fault_met state.Ended = None
+fault_met (state.Failed f) = Some f
 
 -- after its reader has ended or failed, a source is no longer reading
 abbrev pub Closes : Fate → State → Type 0

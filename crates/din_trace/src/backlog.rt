@@ -3,11 +3,12 @@
 ghost use Rattle.std.specs.Prelude.{◌≡◌, ℕ, ◌+◌, ◌-◌, ◌<◌, ◌≤◌, ◌^◌, List, [], ◌++◌, true};
 ghost use Rattle.std.specs.Prelude.{false, length, IfSome, IfNone, IfOk, OnOk, OnErr};
 ghost use Rattle.std.specs.Prelude.{IsSome, Ok, Err, None, Some};
+ghost use Rattle.std.specs.Result.{result_err};
 ghost use Rattle.std.specs.Io.KnownBytes.{Consumes, Keeps, IsAtEnd};
 ghost use Rattle.din_trace.specs.Device.{once_more};
 ghost use Rattle.din_trace.specs.declared.buffer.TheConstants.{ROOM};
 ghost use Rattle.din_trace.specs.Line.{ADDRESS_MAX};
-ghost use Rattle.din_trace.specs.State.{is_sound, is_reading, ClosesAt};
+ghost use Rattle.din_trace.specs.State.{is_sound, is_reading, fault_met, ClosesAt};
 ghost use Rattle.din_trace.specs.Text.{Remaining, text_left};
 ghost use Rattle.din_trace.specs.Remaining.{Script};
 
@@ -63,6 +64,7 @@ impl Backlog {
         ensures taken { taken result ≡ 0 }
         ensures limit { result.limit ≡ limit }
         ensures room { room result ≡ limit }
+        ensures faultless { fault_met result.state ≡ None }
     {
         Backlog {
             limit,
@@ -86,6 +88,7 @@ impl Backlog {
         ensures taken { taken self.new ≡ taken self.old }
         ensures limit { self.new.limit ≡ self.old.limit }
         ensures closes { IfSome result (λ answer. ClosesAt answer self.new.state) }
+        ensures told { IfSome result (λ answer. fault_met self.new.state ≡ result_err answer) }
         ensures records { IfSome result (λ answer. TakesRoom answer self.old self.new) }
         ensures room { room self.new ≤ room self.old }
     {
@@ -122,6 +125,7 @@ impl Backlog {
         ensures taken { taken self.new ≡ taken self.old }
         ensures limit { self.new.limit ≡ self.old.limit }
         ensures closes { IfSome result (λ answer. ClosesAt answer self.new.state) }
+        ensures told { IfSome result (λ answer. fault_met self.new.state ≡ result_err answer) }
         ensures records { IfSome result (λ answer. TakesRoom answer self.old self.new) }
         ensures room { room self.new ≤ room self.old }
     {
@@ -141,6 +145,7 @@ impl Backlog {
         requires reading { self.old.state ≡ State.Reading }
         ensures answer { IfSome result (λ found. AnswersFirst (Ok (Some found)) self.old self.new) }
         ensures same { IfNone result (self.new ≡ self.old) }
+        ensures state { self.new.state ≡ self.old.state }
         ensures taken { taken self.new ≡ taken self.old }
         ensures limit { self.new.limit ≡ self.old.limit }
         ensures records { IfSome result (λ _. room self.new < room self.old) }
@@ -171,6 +176,7 @@ impl Backlog {
         ensures taken { taken self.new ≡ taken self.old }
         ensures limit { self.new.limit ≡ self.old.limit }
         ensures closes { IfSome result (λ answer. ClosesAt answer self.new.state) }
+        ensures told { IfSome result (λ answer. fault_met self.new.state ≡ result_err answer) }
         ensures records { IfSome result (λ answer. TakesRoom answer self.old self.new) }
         ensures room { room self.new ≤ room self.old }
     {
@@ -251,6 +257,7 @@ impl Backlog {
         ensures left { (script : Script)
             → HasLeft self.new script (record { records = []; fault = Some TraceFault.Memory }) }
         ensures closed { is_reading self.new.state ≡ false }
+        ensures told { fault_met self.new.state ≡ Some TraceFault.Memory }
         ensures taken { taken self.new ≡ taken self.old }
         ensures limit { self.new.limit ≡ self.old.limit }
     {

@@ -3,11 +3,12 @@
 ghost use Rattle.std.specs.Prelude.{◌≡◌, ◌≢◌, ◌⊎◌, ℕ, true, None, Some, ◌+◌, ◌<◌, ◌≤◌, List};
 ghost use Rattle.std.specs.Prelude.{[], MatchResult, MatchOption, IfOk, IfSome, IfNone, IsSome};
 ghost use Rattle.std.specs.Prelude.{vec_len};
+ghost use Rattle.std.specs.Result.{result_err};
 ghost use Rattle.din_trace.specs.Line.{ADDRESS_MAX};
 ghost use Rattle.din_trace.specs.Text.{Remaining, text_left};
 ghost use Rattle.din_trace.specs.Remaining.{Script, Fate, Open, Follows, first_answer, after_first};
 ghost use Rattle.din_trace.specs.Source.{reader_of, limit_of, taken_by, room_of, HasLeft};
-ghost use Rattle.din_trace.specs.Source.{IsSettled, MustAsk, SettlesAt, Takes};
+ghost use Rattle.din_trace.specs.Source.{IsSettled, MustAsk, SettlesAt, Takes, fault_in};
 
 use crate::backlog::Backlog;
 use crate::device::ByteReader;
@@ -24,7 +25,7 @@ pub struct Source<R> {
     backlog: Backlog,
 }
 
-#[tactic(auto, unfolding(crate::specs::Source::reader_of, crate::specs::Source::limit_of, crate::specs::Source::taken_by, crate::specs::Source::room_of, crate::specs::Source::HasLeft, crate::specs::Source::IsSettled, crate::specs::Source::MustAsk, crate::specs::Source::Settles))]
+#[tactic(auto, unfolding(crate::specs::Source::reader_of, crate::specs::Source::limit_of, crate::specs::Source::taken_by, crate::specs::Source::room_of, crate::specs::Source::HasLeft, crate::specs::Source::IsSettled, crate::specs::Source::fault_in, crate::specs::Source::MustAsk, crate::specs::Source::Settles))]
 impl<R: ByteReader> Source<R> {
     /// A source of the trace that this reader gives. A trace of more than `limit` bytes is faulty.
     pub fn new(reader: R, limit: u64) -> Source<R>
@@ -35,6 +36,7 @@ impl<R: ByteReader> Source<R> {
             → HasLeft result script (text_left ADDRESS_MAX 1 script.given limit script.fails) }
         ensures taken { taken_by result ≡ 0 }
         ensures room { room_of result ≡ limit }
+        ensures faultless { fault_in result ≡ None }
     {
         Source {
             reader,
@@ -60,6 +62,9 @@ impl<R: ByteReader> Source<R> {
             → l ≡ record { records = []; fault = Some TraceFault.Read }) }
         ensures settled { IsSettled self.old → IsSome result × (self.new ≡ self.old) }
         ensures ends { IfSome result (λ answer. SettlesAt answer self.new) }
+        // The source has met a fault only if that is the answer.
+        ensures told { MatchOption result (fault_in self.new ≡ None)
+            (λ answer. fault_in self.new ≡ result_err answer) }
         ensures taken { taken_by self.new ≡ taken_by self.old }
         ensures limit { limit_of self.new ≡ limit_of self.old }
         ensures bound { taken_by self.new ≤ limit_of self.new + 1 }
@@ -92,6 +97,7 @@ impl<R: ByteReader> Source<R> {
         // After the end or a fault the reader is asked no more.
         ensures settled { IsSettled self.old → self.new ≡ self.old }
         ensures ends { SettlesAt result self.new }
+        ensures told { fault_in self.new ≡ result_err result }
         ensures limit { limit_of self.new ≡ limit_of self.old }
         ensures bound { taken_by self.new ≤ limit_of self.new + 1 }
         // So at most `limit` records are answered, whatever the reader does.
@@ -122,6 +128,7 @@ impl<R: ByteReader> Source<R> {
         ensures failed { (R.failures (reader_of self.new) ≡ R.failures (reader_of self.old))
             ⊎ (result ≡ Err TraceFault.Read) }
         ensures ends { SettlesAt result self.new }
+        ensures told { fault_in self.new ≡ result_err result }
         ensures limit { limit_of self.new ≡ limit_of self.old }
         ensures bound { taken_by self.new ≤ limit_of self.new + 1 }
         ensures records { IfOk result (λ found. IsSome found
@@ -162,6 +169,7 @@ impl<R: ByteReader> Source<R> {
             ⊎ (result ≡ Err TraceFault.Read) }
         ensures settled { IsSettled self.old → self.new ≡ self.old }
         ensures ends { IsSettled self.new }
+        ensures told { fault_in self.new ≡ result_err result }
         ensures bound { taken_by self.new ≤ limit_of self.new + 1 }
         ensures limit { limit_of self.new ≡ limit_of self.old }
         ensures at_most { IfOk result (λ records. vec_len records ≤ room_of self.old) }
