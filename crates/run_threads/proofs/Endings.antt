@@ -2,7 +2,7 @@
 use Rattle.std.proofs.Common.{◌≡◌, List, [], None, Option, Result, Ok, Err, refl, sym}
 use Rattle.std.proofs.Common.{true, ℕ, ◌⊎◌, inl, inr, Some, subst, append-nil}
 use Rattle.std.specs.Prelude.{OnOk, IfOk, IfErr, IsOk, option_map}
-use Rattle.din_trace.specs.Text.{records, fault, Remaining}
+use Rattle.din_trace.specs.Text.{fault, Remaining}
 use Rattle.din_trace.specs.declared.record.DinRecord.{DinRecord}
 use Rattle.din_trace.specs.declared.fault.TraceFault.{TraceFault}
 use Rattle.stage_core.specs.Events.{events}

@@ -8,7 +8,7 @@ use Rattle.pipe_rings.specs.Rings.{sent}
 use Rattle.pipe_rings.proofs.Ends.{tx_stays}
 use Rattle.din_trace.specs.Text.{Remaining}
 use Rattle.din_trace.specs.Remaining.{Script, Fate, Follows, first_answer, after_first}
-use Rattle.din_trace.specs.Source.{HasLeft, Takes, room_of}
+use Rattle.din_trace.specs.Source.{HasLeft, Takes, fault_in, room_of}
 use Rattle.din_trace.specs.declared.record.DinRecord.{DinRecord}
 use Rattle.din_trace.specs.declared.fault.TraceFault.{TraceFault}
 use Rattle.din_trace.specs.declared.source.Source.{Source}
@@ -116,6 +116,7 @@ pub record Splits {R : Type 0} (remaining : R → Option (List ℕ)) (failures :
   -- the splitter has counted as many events as it has sent turns
   pub counted : place ≡ length (sent ends.order)
   pub posted : HasPosted (splitter_at (events selection past) false ends)
+  pub faultless : fault_in start ≡ None → fault_in now ≡ None
 
 module _ {R : Type 0} {remaining : R → Option (List ℕ)} {failures : R → ℕ} {selection : Selection}
     {start : Source R} {began : SplitterEnds} {offers : Offers} {place : ℕ} {now : Source R}

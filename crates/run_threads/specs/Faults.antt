@@ -1,5 +1,5 @@
 -- Which faults a run may answer.
-use Rattle.std.specs.Prelude.{◌≡◌, ◌≢◌, ℕ, ⊤, true, false, Option, Some}
+use Rattle.std.specs.Prelude.{◌≡◌, ◌≢◌, ℕ, ⊤, true, false, Option, Some, None, Result, Err}
 use Rattle.cache_core.specs.declared.cache.Cache.{Cache}
 use Rattle.cache_core.specs.Standing.{has_failed}
 use Rattle.din_trace.specs.declared.fault.TraceFault.{TraceFault}
@@ -44,6 +44,12 @@ MayAnswer left Memory = ⊤
 MayAnswer left Threads = ⊤
 MayAnswer left Cut = ⊤
 MayAnswer left Write = ⊤
+
+-- if a source had met no fault before a run, and has met one now, this is what the run answers
+abbrev pub IsTold : {T : Type 0} → Option TraceFault → Option TraceFault → Result T RunFault
+    → Type 0
+IsTold before now result =
+    before ≡ None → (f : TraceFault) → now ≡ Some f → result ≡ Err (source_fault f)
 
 -- the faults that the threads of a run may have: no failed write, and `Memory` for a failed
 -- allocation of the source

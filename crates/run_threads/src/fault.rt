@@ -2,6 +2,7 @@
 
 ghost use Rattle.std.specs.Prelude.{◌≡◌, ◌⊎◌, ◌≤◌, Some, IfSome, option_map};
 ghost use Rattle.run_threads.specs.Faults.{source_fault, fault_of_stop, rank};
+ghost use Rattle.din_trace.specs.declared.fault.TraceFault.{TraceFault};
 
 use din_trace::TraceFault;
 
@@ -71,6 +72,7 @@ fn rank(fault: RunFault) -> u8
 fn graver(fault: RunFault, end: Option<Stop>) -> RunFault
     ensures one { (result ≡ fault) ⊎ (option_map fault_of_stop end ≡ Some result) }
     ensures fault { rank result ≤ rank fault }
+    ensures source { (f : TraceFault) → fault ≡ source_fault f → result ≡ fault }
     ensures end { IfSome end (λ stop. rank result ≤ rank (fault_of_stop stop)) }
 {
     let Some(stop) = end else {
@@ -96,6 +98,8 @@ pub fn gravest(
         ⊎ ((option_map fault_of_stop d ≡ Some result)
         ⊎ (option_map fault_of_stop merge ≡ Some result))) }
     ensures splitter { rank result ≤ rank splitter }
+    // A fault of the source goes before all others, or is the same.
+    ensures source { (f : TraceFault) → splitter ≡ source_fault f → result ≡ splitter }
     ensures i { IfSome i (λ stop. rank result ≤ rank (fault_of_stop stop)) }
     ensures d { IfSome d (λ stop. rank result ≤ rank (fault_of_stop stop)) }
     ensures merge { IfSome merge (λ stop. rank result ≤ rank (fault_of_stop stop)) }

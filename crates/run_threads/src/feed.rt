@@ -1,9 +1,11 @@
 //! The source of a run, as the splitter has it.
 
-ghost use Rattle.std.specs.Prelude.{◌≡◌, ◌<◌, ◌≤◌, ℕ, List, [], IfOk, IfSome, IsSome, MatchOption};
+ghost use Rattle.std.specs.Prelude.{◌≡◌, ◌<◌, ◌≤◌, ℕ, List, [], None, IfOk, IfSome, IsSome};
+ghost use Rattle.std.specs.Prelude.{MatchOption};
+ghost use Rattle.std.specs.Result.{result_err};
 ghost use Rattle.din_trace.specs.Text.{Remaining};
 ghost use Rattle.din_trace.specs.Remaining.{Script, Fate, Open, Follows, first_answer, after_first};
-ghost use Rattle.din_trace.specs.Source.{HasLeft, IsSettled, Takes, reader_of, room_of};
+ghost use Rattle.din_trace.specs.Source.{HasLeft, IsSettled, Takes, fault_in, reader_of, room_of};
 ghost use Rattle.run_threads.specs.Waits.{AllPublished};
 
 use crate::ends::SplitterEnds;
@@ -41,6 +43,8 @@ impl<R: ByteReader> Feed<R> {
             (λ answer. (answer ≡ first_answer l) × HasLeft self.new script (after_first l))) }
         ensures reader { reader_of self.new ≡ reader_of self.old }
         ensures settled { IsSettled self.old → IsSome result × (self.new ≡ self.old) }
+        ensures told { MatchOption result (fault_in self.new ≡ None)
+            (λ answer. fault_in self.new ≡ result_err answer) }
         ensures records { IfSome result (λ answer. IfOk answer (λ found. IsSome found
             → room_of self.new < room_of self.old)) }
         ensures room { room_of self.old ≤ MAX_LIMIT }
@@ -59,6 +63,7 @@ impl<R: ByteReader> Feed<R> {
             → Follows fate given before later → HasLeft self.old before l
             → (result ≡ first_answer l) × HasLeft self.new later (after_first l)) }
         ensures settled { IsSettled self.old → self.new ≡ self.old }
+        ensures told { fault_in self.new ≡ result_err result }
         ensures records { IfOk result (λ found. IsSome found
             → room_of self.new < room_of self.old) }
         ensures room { room_of self.old ≤ MAX_LIMIT }

@@ -5,13 +5,13 @@ ghost use Rattle.std.specs.Prelude.{OnOk, Ok, Err, true};
 ghost use Rattle.pipe_rings.specs.Rings.{outbox_for};
 ghost use Rattle.din_trace.specs.Text.{Remaining};
 ghost use Rattle.din_trace.specs.Remaining.{Script, Fate, Follows};
-ghost use Rattle.din_trace.specs.Source.{HasLeft, Takes};
+ghost use Rattle.din_trace.specs.Source.{HasLeft, Takes, fault_in};
 ghost use Rattle.din_trace.specs.declared.fault.TraceFault.{TraceFault};
 ghost use Rattle.din_trace.specs.declared.record.DinRecord.{DinRecord};
 ghost use Rattle.stage_core.specs.Config.{hierarchy_of, ring_of};
 ghost use Rattle.stage_core.specs.Events.{IsBounded};
 ghost use Rattle.stage_core.specs.Waiting.{HasPosted};
-ghost use Rattle.run_threads.specs.Faults.{IsFaultOfThreads, MayAnswer, rank};
+ghost use Rattle.run_threads.specs.Faults.{IsFaultOfThreads, IsTold, MayAnswer, rank, source_fault};
 ghost use Rattle.run_threads.specs.Ends.{AllReceived, ArePaired, AreUnused, HaveCapacity};
 ghost use Rattle.run_threads.specs.Ends.{HaveOutboxes, SameRings};
 ghost use Rattle.run_threads.specs.Machines.{AreNew, hierarchy_in, machines_at, rings_at};
@@ -181,6 +181,7 @@ fn finish<H: Threads>(
     ensures answers { IfErr result (λ why. (left : Option TraceFault)
         → IfErr fed (MayAnswer left) → MayAnswer left why) }
     ensures threads { result ≡ Err RunFault.Threads → fed ≡ Err RunFault.Threads }
+    ensures source { (f : TraceFault) → fed ≡ Err (source_fault f) → result ≡ Err (source_fault f) }
     ensures gravest { IfErr fed (λ fault. IfErr result (λ why. rank why ≤ rank fault)) }
 {
     merge_takes_the_requests();
@@ -233,6 +234,7 @@ pub fn run_in<'s, E, T: Threads, H: Wait + Sync, R: ByteReader + Drop, G: Gate>(
     requires unused { AreUnused rings }
     ensures met { IfErr result.1 IsFaultOfThreads }
     ensures unread { result.1 ≡ Err RunFault.Threads → result.0 ≡ source }
+    ensures told { IsTold (fault_in source) (fault_in result.0) result.1 }
     ensures reads { (given : List ℕ) × (fate : Fate)
         × Takes R.remaining R.failures source result.0 given fate
         × ((ring : ℕ) (before later : Script) (l : Remaining) → HaveCapacity ring rings
@@ -264,6 +266,9 @@ pub fn run_pipeline<H: Threads + Wait + Sync, R: ByteReader + Drop, G: Gate>(
     // `Trace` never holds `TraceFault::Memory`, and `Write` is never answered.
     ensures met { IfErr result.1 IsFaultOfThreads }
     ensures unread { result.1 ≡ Err RunFault.Threads → result.0 ≡ source }
+    // A fault that the source has met in the run is what the run answers: it is told neither as
+    // want of memory nor as a cut.
+    ensures told { IsTold (fault_in source) (fault_in result.0) result.1 }
     // Whatever the reader did, `Ok` means that the source ended without a fault, and that all its
     // selected events were simulated. After an error, the last of the records before are left.
     ensures reads { (given : List ℕ) × (fate : Fate)
@@ -288,6 +293,7 @@ pub fn run_pipeline<H: Threads + Wait + Sync, R: ByteReader + Drop, G: Gate>(
             requires unused { AreUnused rings }
             ensures met { IfErr result.1 IsFaultOfThreads }
             ensures unread { result.1 ≡ Err RunFault.Threads → result.0 ≡ source }
+            ensures told { IsTold (fault_in source) (fault_in result.0) result.1 }
             ensures reads { (given : List ℕ) × (fate : Fate)
                 × Takes R.remaining R.failures source result.0 given fate
                 × ((ring : ℕ) (before later : Script) (l : Remaining) → HaveCapacity ring rings

@@ -1,32 +1,42 @@
 //! The splitter, which runs in the caller's thread: it reads the source and feeds the rings.
 
 ghost use Rattle.std.specs.Prelude.{◌≡◌, ◌<◌, ◌≤◌, ◌+◌, ◌*◌, ◌++◌, List, ℕ, OnOk};
-ghost use Rattle.std.specs.Prelude.{◌≢◌, ◌⊎◌, IfOk, IfErr, IsSome, true, false, MatchResult};
+ghost use Rattle.std.specs.Prelude.{◌≢◌, ◌⊎◌, IfOk, IfErr, IsSome, None, true, false, MatchResult};
+ghost use Rattle.std.specs.Result.{result_err};
 ghost use Rattle.std.specs.Prelude.{option_to_list, length};
 ghost use Rattle.pipe_rings.specs.Rings.{sent};
 ghost use Rattle.din_trace.specs.Text.{Remaining};
 ghost use Rattle.din_trace.specs.Remaining.{Script, Fate, Follows, first_answer, after_first};
-ghost use Rattle.din_trace.specs.Source.{HasLeft, IsSettled, Takes, reader_of, room_of};
+ghost use Rattle.din_trace.specs.Source.{HasLeft, IsSettled, Takes, fault_in, reader_of, room_of};
 ghost use Rattle.din_trace.specs.declared.record.DinRecord.{DinRecord};
 ghost use Rattle.stage_core.specs.Events.{IsBounded, picked_events};
 ghost use Rattle.stage_core.specs.Waiting.{HasPosted};
-ghost use Rattle.run_threads.specs.Faults.{IsFaultOfThreads};
+ghost use Rattle.run_threads.specs.Faults.{IsFaultOfThreads, IsTold};
 ghost use Rattle.run_threads.specs.declared.fault.Stop.{Stop};
 ghost use Rattle.run_threads.specs.declared.fault.RunFault.{RunFault};
 ghost use Rattle.run_threads.specs.Ends.{SameSplitterEnds, SentSame, HaveRoom, UnusedSplitter};
 ghost use Rattle.run_threads.specs.Threads.{IsEnd, Sends, SplitUp};
 ghost use Rattle.run_threads.specs.Waits.{AllAnnounced, AllPublished, PostedWhole};
 ghost use Rattle.run_threads.specs.Waits.{SplitterHasEnded, splitter_at};
-ghost use Rattle.run_threads.specs.declared.waits.Until.TheVariants as Until;
+ghost use Rattle.run_threads.specs.declared.split.Until.TheVariants as Until;
 
 use crate::ends::{BETWEEN_OFFERS, SplitterEnds};
 use crate::fault::{RunFault, Stop, fault_of_source};
 use crate::feed::Feed;
 use crate::gate::Gate;
-use crate::waits::{BodyRuntime, Until, await_rooms, pass_splitter};
+use crate::waits::{BodyRuntime, await_rooms, pass_splitter};
 use din_trace::{ByteReader, DinRecord, MAX_LIMIT, TraceFault};
 use stage_core::{Picked, Routed, Selection, Selector, Splitter};
 use std::sync::Wait;
+
+/// How far to publish posted messages.
+#[derive(Clone, Copy, PartialEq, Eq)]
+enum Until {
+    /// Until another message can be posted.
+    Room,
+    /// Until all are published.
+    Published,
+}
 
 /// Publishes posted messages, until all are published or there is room for another event. Each
 /// round publishes as many as fit into each of the three rings, so that no ring waits for another
@@ -79,6 +89,9 @@ fn next_record<H: Wait, R: ByteReader, G: Gate>(
         (λ answer. (answer ≡ first_answer l) × HasLeft source.new later (after_first l))
         (λ _. HasLeft source.new later l)) }
     ensures settled { IsSettled source.old → source.new ≡ source.old }
+    // The source has met a fault only if that is the answer.
+    ensures told { MatchResult result (λ answer. fault_in source.new ≡ result_err answer)
+        (λ _. fault_in source.old ≡ None → fault_in source.new ≡ None) }
     ensures records { IfOk result (λ answer. IfOk answer (λ found. IsSome found
         → room_of source.new < room_of source.old)) }
     ensures room { OnOk result (room_of source.old ≤ MAX_LIMIT) }
@@ -200,6 +213,8 @@ pub fn split<H: Wait, R: ByteReader, G: Gate>(
     ensures announced { OnOk result (AllAnnounced ends.new) }
     ensures met { IfErr result IsFaultOfThreads }
     ensures threads { IfErr result (λ why. why ≢ RunFault.Threads) }
+    // A fault of the source that it has met is its answer.
+    ensures told { IsTold (fault_in source.old) (fault_in source.new) result }
     // Whatever the reader did, all selected events were sent, or the splitter stopped with a fault.
     ensures reads { (given : List ℕ) × (fate : Fate)
         × Takes R.remaining R.failures source.old source.new given fate

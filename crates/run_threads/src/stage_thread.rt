@@ -180,8 +180,7 @@ fn serve_all<H: Wait, G: Gate>(
         };
         send_outbox(rt, stage, ends, !gate.is_open())?;
         if stage.finished() {
-            publish(rt, stage, ends)?;
-            return Ok(());
+            return publish(rt, stage, ends);
         }
     }
     unreachable!()

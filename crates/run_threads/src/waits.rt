@@ -116,15 +116,6 @@ pub fn pass_merge<H: Wait, G: Gate>(
     pass(rt, gate, Who::Merge, received)
 }
 
-/// How far to publish posted messages.
-#[derive(Clone, Copy, PartialEq, Eq)]
-pub enum Until {
-    /// Until another message can be posted.
-    Room,
-    /// Until all are published.
-    Published,
-}
-
 /// The splitter waits until at least one of its posted messages is published.
 #[cold]
 pub fn await_rooms<H: Wait>(rt: &BodyRuntime<H>, ends: &mut SplitterEnds) -> Result<(), Stop>

@@ -42,3 +42,8 @@ returns-clause-reads g c =
           c.finish.ensures.whole)
           c.finish.ensures.answers,
     )
+
+pub returns-clause-told : goal.returns-clause-told
+returns-clause-told g c =
+    let told = rw (c.of-feed.ensures, sym c.into_source.ensures) at c.split-fed.ensures.told in
+    λ none f met. c.finish.ensures.source f (told none f met)

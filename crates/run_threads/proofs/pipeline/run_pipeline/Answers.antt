@@ -35,7 +35,7 @@ scoped-requires g c = record {
 
 pub returns-clause-reads : goal.returns-clause-reads
 returns-clause-reads g c =
-    let reads = c.scoped.ensures.1.1.1 in (
+    let reads = c.scoped.ensures.1.1.1.1 in (
       reads.0,
       reads.1,
       reads.2,

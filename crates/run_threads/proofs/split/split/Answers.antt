@@ -71,6 +71,7 @@ loop-init g c = record {
     order = c.requires.unused.order;
     to = each_side _ c.requires.unused.to_i c.requires.unused.to_d;
   };
+  faultless = λ none. none;
 }
 
 pub loop-preserved : goal.loop-preserved
@@ -116,6 +117,7 @@ loop-preserved g c =
           HasPosted (splitter_at l false c.send_picked.new.ends)) longer
           (posts es (posted-same es false c.loop.ends c.next_record.new.ends
           c.next_record.ensures.sent going.posted));
+      faultless = λ none. rw answered at c.in-Ok.ensures.told;
     }
 
 pub returns-in_default-clause-reads : goal.returns-in_default-clause-reads

@@ -1,6 +1,7 @@
 use Rattle.std.proofs.Common.{rules, ◌≡◌, true, ap, sym, refl, ◌∙◌, subst, inl, inr}
 use Rattle.std.proofs.lemmas.Bool.{cases_Bool}
 use Rattle.std.proofs.lemmas.List.{nil_from_length}
+use Rattle.std.proofs.lemmas.Result.{IfOk-weaker}
 use Rattle.pipe_rings.specs.Rings.{received, SameRx}
 use Rattle.pipe_rings.proofs.Ends.{tx_stays}
 use Rattle.cache_core.specs.Standing.{rules_of}
@@ -9,7 +10,8 @@ use Rattle.stage_core.specs.Standing.{took_finish}
 use Rattle.stage_core.specs.Streams.{is_finish}
 use Rattle.stage_core.specs.declared.message.ToStage.TheVariants as to_stage
 use Rattle.stage_core.proofs.Stands.{same_stands}
-use Rattle.run_threads.specs.Threads.{StageServed}
+use Rattle.run_threads.specs.Threads.{StageServed, StageServedAll}
+use Rattle.run_threads.specs.Waits.{AnswersPublished, StageHasEnded}
 use Rattle.run_threads.proofs.Serving.{grows, Serves, answers-more, serves-more, serves-finish}
 use Rattle.run_threads.proofs.Serving.{served-publishes, unused-published}
 use Rattle.run_threads.proofs.stage_thread.serve_all.Goals as goal
@@ -76,11 +78,14 @@ returns-then-finished-clause-ended g c =
     c.in_ok-message.message c.send_outbox.new.stage c.send_outbox.new.ends c.loop.invariant.0
     c.loop.invariant.1.goes_on (served g c₁)
     (sym c.in-Ok.ensures.finish ∙ sym c.send_outbox.ensures.finish ∙ done) in
-    record {
+    IfOk-weaker c.publish.result (λ _. AnswersPublished c.publish.new.ends)
+    (λ _. StageServedAll c.args.stage.now c.args.ends.now c.send_outbox.new.stage
+    c.publish.new.ends)
+    (λ _ published. record {
       served = served-published g c₂ (served-all g c₁);
       finish = subst (EndOnce is_finish to_stage.Finish)
           (sym (ap received c.publish.ensures.from_splitter)) ended.finish;
-    }
+    }) c.publish.ensures.published
 
 pub returns-then-finished-clause-rests : goal.returns-then-finished-clause-rests
 returns-then-finished-clause-rests g c =
@@ -88,12 +93,13 @@ returns-then-finished-clause-rests g c =
     let c₂ = (goal.at.returns-then-finished-clause-rests g c).After-publish in
     let done : took_finish c.send_outbox.new.stage ≡ true = search rules in
     let now = served-published g c₂ (served-all g c₁) in
-    record {
+    IfOk-weaker c.publish.result (λ _. AnswersPublished c.publish.new.ends)
+    (λ _. StageHasEnded c.send_outbox.new.stage c.publish.new.ends) (λ _ published. record {
       answered = now.answered;
       posted = now.empty;
-      published = nil_from_length _ c.in_ok-publish.ensures.published.held;
+      published = nil_from_length _ published.held;
       finish = sym now.stands.finish ∙ done;
-    }
+    }) c.publish.ensures.published
 
 pub loop-init : goal.loop-init
 loop-init g c = (
