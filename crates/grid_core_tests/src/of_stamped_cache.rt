@@ -180,12 +180,12 @@ fn serve_next(
     numbers: &mut BlockNumbers,
     state: &mut u64,
 ) {
-    let access = access_of(state, 96);
+    let access = access_of(state, 256);
     let number = numbers.number(access.addr / BLOCK).expect(rt, "memory");
     assert!(rt; beside.cache.served() < MAX_EVENTS);
     beside.cache.access(access, number).expect(rt, "memory");
     access_all(rt, &mut beside.others, access);
-    if next_random(state) % 64 == 0 {
+    if next_random(state) % 256 == 0 {
         flush(rt, &mut beside.cache);
         flush_all(rt, alloc, &mut beside.others);
     }
@@ -210,7 +210,7 @@ fn are_alike(rt: &impl Abort, alloc: Global, pair: (Shape, Shape), wback: bool, 
     let mut one = beside_of(rt, alloc, pair.0, wback);
     let mut other = beside_of(rt, alloc, pair.1, wback);
     let mut state = seed;
-    for _ in 0..600 {
+    for _ in 0..2_000 {
         if next_random(&mut state) % 2 == 0 {
             serve_next(rt, alloc, &mut one, &mut numbers, &mut state);
         } else {

@@ -176,11 +176,12 @@ fn expect_counts(rt: &impl Abort, engine: &Engine, caches: &Vec<Cache>, shadows:
     }
 }
 
-/// A pseudo-random history: how many accesses, to how many blocks.
+/// A pseudo-random history: how many accesses, to how many blocks, and how many before each flush.
 #[derive(Clone, Copy)]
 struct Long {
     turns: u64,
     blocks: u64,
+    period: u64,
 }
 
 /// An engine of all these caches does on a pseudo-random history what each alone does. Of its
@@ -207,11 +208,13 @@ fn is_alike(
         let access = access_of(&mut state, long.blocks);
         access_alike(rt, &mut engine, &mut caches, access);
         access_all(rt, &mut shadows, access);
-        if turn % 194 == 96 {
+        let place = turn.checked_rem(long.period.wrapping_mul(2)).unwrap_or(0);
+        let served = place.wrapping_add(1);
+        if served == long.period {
             flush_alike(rt, alloc, &mut engine, &mut caches);
             flush_all(rt, alloc, &mut shadows);
         }
-        if turn % 194 == 193 {
+        if served == long.period.wrapping_mul(2) {
             flush_unlisted(rt, alloc, &mut engine, &mut caches);
             flush_all(rt, alloc, &mut shadows);
         }
@@ -247,6 +250,7 @@ fn six_cells_are_single_caches(rt: HostRuntime) -> Result<(), Fail> {
     let long = Long {
         turns: 600,
         blocks: 256,
+        period: 97,
     };
     are_alike(&rt, rt.alloc(), &geometries, Repl::Lru, true, long);
     are_alike(&rt, rt.alloc(), &geometries, Repl::Lru, false, long);
@@ -265,8 +269,9 @@ fn many_geometries(rt: &impl Abort, alloc: Global) -> Vec<Geometry> {
 fn many_lru_cells_are_single_caches(rt: HostRuntime) -> Result<(), Fail> {
     let geometries = many_geometries(&rt, rt.alloc());
     let long = Long {
-        turns: 400,
-        blocks: 256,
+        turns: 1_000,
+        blocks: 2_048,
+        period: 490,
     };
     are_alike(&rt, rt.alloc(), &geometries, Repl::Lru, true, long);
     are_alike(&rt, rt.alloc(), &geometries, Repl::Lru, false, long);
@@ -277,8 +282,9 @@ fn many_lru_cells_are_single_caches(rt: HostRuntime) -> Result<(), Fail> {
 fn many_fifo_cells_are_single_caches(rt: HostRuntime) -> Result<(), Fail> {
     let geometries = many_geometries(&rt, rt.alloc());
     let long = Long {
-        turns: 400,
-        blocks: 256,
+        turns: 1_000,
+        blocks: 2_048,
+        period: 490,
     };
     are_alike(&rt, rt.alloc(), &geometries, Repl::Fifo, true, long);
     are_alike(&rt, rt.alloc(), &geometries, Repl::Fifo, false, long);
@@ -291,8 +297,9 @@ fn sixty_cells_are_single_caches(rt: HostRuntime) -> Result<(), Fail> {
     let geometries = geometries_of(&rt, rt.alloc(), &blocks, &[1, 2, 4, 8, 16, 32]);
     assert_eq!(&rt; geometries.len(), 60);
     let long = Long {
-        turns: 1_000,
-        blocks: 2_048,
+        turns: 1_600,
+        blocks: 6_144,
+        period: 800,
     };
     are_alike(&rt, rt.alloc(), &geometries, Repl::Lru, true, long);
     Ok(())

@@ -40,22 +40,37 @@ fn flushes_alike(rt: &impl Abort, alloc: Global, cache: &mut Cache, slow: &mut S
     expect_flush(rt, alloc, cache, &wanted);
 }
 
+/// A pseudo-random history: to how many blocks of four bytes, how many accesses, and after how many
+/// of them, on average, a flush comes.
+#[derive(Clone, Copy)]
+struct Long {
+    blocks: u64,
+    turns: u64,
+    period: u64,
+}
+
 /// Serves the same accesses on both caches, with a flush now and then.
-fn serve_alike(rt: &impl Abort, alloc: Global, cache: &mut Cache, slow: &mut Slow, blocks: u64) {
-    let mut random = blocks;
-    for k in 0..300u64 {
-        let access = access_of(&mut random, blocks);
+fn serve_alike(rt: &impl Abort, alloc: Global, cache: &mut Cache, slow: &mut Slow, long: Long) {
+    let mut random = long.blocks;
+    for k in 0..long.turns {
+        let access = access_of(&mut random, long.blocks);
         serves_alike(rt, cache, slow, access, k);
-        if next_random(&mut random) % 100 == 0 {
+        if next_random(&mut random).checked_rem(long.period) == Some(0) {
             flushes_alike(rt, alloc, cache, slow);
         }
     }
     flushes_alike(rt, alloc, cache, slow);
-    same(rt, &cache.counts(), &slow.counts(), "the counts", blocks);
+    same(
+        rt,
+        &cache.counts(),
+        &slow.counts(),
+        "the counts",
+        long.blocks,
+    );
 }
 
 /// Compares caches of this shape, with each policy.
-fn is_alike(rt: &impl Abort, alloc: Global, shape: Shape, blocks: u64) {
+fn is_alike(rt: &impl Abort, alloc: Global, shape: Shape, long: Long) {
     for (wback, walloc) in [(true, true), (true, false), (false, true), (false, false)] {
         for repl in [Repl::Lru, Repl::Fifo] {
             let policy = Policy {
@@ -65,7 +80,7 @@ fn is_alike(rt: &impl Abort, alloc: Global, shape: Shape, blocks: u64) {
             };
             let mut cache = cache_of(rt, alloc, shape, policy);
             let mut slow = Slow::new(alloc, shape, policy);
-            serve_alike(rt, alloc, &mut cache, &mut slow, blocks);
+            serve_alike(rt, alloc, &mut cache, &mut slow, long);
         }
     }
 }
@@ -78,13 +93,30 @@ fn rows_answer_as_the_slow_cache(rt: HostRuntime) {
         ((64, 8, 2), 24),
         ((256, 16, 16), 100),
     ] {
-        is_alike(&rt, rt.alloc(), shape, blocks);
+        let long = Long {
+            blocks,
+            turns: 300,
+            period: 100,
+        };
+        is_alike(&rt, rt.alloc(), shape, long);
+    }
+}
+
+/// A history in which maps of 128 ways replace blocks: long, with few flushes.
+fn long_history(blocks: u64) -> Long {
+    Long {
+        blocks,
+        turns: 400,
+        period: 1_000,
     }
 }
 
 #[test]
-fn maps_answer_as_the_slow_cache(rt: HostRuntime) {
-    for (shape, blocks) in [((512, 4, 128), 180), ((2_048, 8, 128), 600)] {
-        is_alike(&rt, rt.alloc(), shape, blocks);
-    }
+fn a_map_answers_as_the_slow_cache(rt: HostRuntime) {
+    is_alike(&rt, rt.alloc(), (512, 4, 128), long_history(180));
+}
+
+#[test]
+fn two_maps_answer_as_the_slow_cache(rt: HostRuntime) {
+    is_alike(&rt, rt.alloc(), (2_048, 8, 128), long_history(1_200));
 }

@@ -13,6 +13,7 @@ fn caches_of_one_block_are_single_caches(rt: HostRuntime) -> Result<(), Fail> {
     let long = Long {
         turns: 500,
         blocks: 64,
+        period: 97,
     };
     are_alike(&rt, rt.alloc(), &geometries, Repl::Lru, true, long);
     are_alike(&rt, rt.alloc(), &geometries, Repl::Fifo, false, long);
@@ -28,6 +29,7 @@ fn fewer_sets_may_have_fewer_ways(rt: HostRuntime) -> Result<(), Fail> {
     let long = Long {
         turns: 600,
         blocks: 64,
+        period: 97,
     };
     are_alike(&rt, rt.alloc(), &geometries, Repl::Lru, true, long);
     Ok(())
@@ -48,8 +50,9 @@ fn extremes_of(rt: &impl Abort, alloc: Global, blocks: &[u64]) -> Vec<Geometry> 
 fn one_way_and_all_ways_are_single_caches(rt: HostRuntime) -> Result<(), Fail> {
     let geometries = extremes_of(&rt, rt.alloc(), &[1, 2, 4, 8, 16, 32, 64, 128]);
     let long = Long {
-        turns: 800,
-        blocks: 256,
+        turns: 1_000,
+        blocks: 1_024,
+        period: 490,
     };
     are_alike(&rt, rt.alloc(), &geometries, Repl::Lru, true, long);
     Ok(())
@@ -62,6 +65,7 @@ fn few_sets_of_small_blocks_may_have_many_ways(rt: HostRuntime) -> Result<(), Fa
     let long = Long {
         turns: 600,
         blocks: 24,
+        period: 97,
     };
     for bsize in [4, 8] {
         let geometries = geometries_with(
