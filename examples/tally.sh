@@ -28,10 +28,11 @@ need_program() {
     exit 2
 }
 
-# tell: the counts in one line, with a status by them. With NO_SKIPS=yes no test may be skipped.
+# tell: the counts in one line, with a status by them: some test has to have passed, and none to
+# have failed. With NO_SKIPS=yes none may be skipped.
 tell() {
     local line="$passed passed, $failed failed"
     [ "$skipped" -eq 0 ] || line+=", $skipped skipped"
     echo "$line"
-    [ "$failed" -eq 0 ] && [[ $skipped -eq 0 || ${NO_SKIPS-} != yes ]]
+    [ "$passed" -gt 0 ] && [ "$failed" -eq 0 ] && [[ $skipped -eq 0 || ${NO_SKIPS-} != yes ]]
 }

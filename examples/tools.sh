@@ -28,7 +28,7 @@ for program in pipe grid; do
 done
 
 # In this order: a later file uses the tables and traces of those before it. No file is left out.
-subjects=(checks names help building building_sweep building_others record record_filter
+subjects=(checks names help lessons building building_sweep building_others record record_filter
     record_functions record_output record_signals sweep sweep_tasks sweep_names sweep_words
     sweep_grids sweep_full sweep_resume sweep_restart sweep_counts sweep_disk sweep_parts
     sweep_machines settings slurm plot plot_points plot_caches plot_labels plot_words plot_intervals
