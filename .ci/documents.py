@@ -26,7 +26,7 @@ def anchor_of(heading):
 
 
 def anchors(top, path):
-    headings = (re.match(r"#+ (.*)", line) for line in lines_of(top, path))
+    headings = (re.match(r"#+ (.*)", line) for _, line in prose_of(top, path))
     return {anchor_of(found[1]) for found in headings if found}
 
 
@@ -128,7 +128,8 @@ def check_uses(top, paths):
             if line == "```rust":
                 block, start = [], number
             elif line == "```" and block is not None:
-                found = {it for it, text in texts.items() if "\n".join(block) in text}
+                use = "\n".join(block)
+                found = {it for it, text in texts.items() if use.strip() and use in text}
                 if not found:
                     yield path, start, "the use does not stand in crates/uses/src"
                 unseen -= found
