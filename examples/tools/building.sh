@@ -175,6 +175,19 @@ run "$fresh/.ci/kept_programs"
 [ "$status" -eq 1 ] && grep -q 'is not the one that was built' "$err"
 verdict 'the gate refuses another program with its sum' $?
 new_checkout
+launch
+echo >>"$fresh/crates/sim_run/src/lib.rt"
+run "$fresh/.ci/kept_programs"
+[ "$status" -eq 1 ] && [ "$(tail -n 1 "$err")" = 'kept_programs: release/dinero_pipe.sums is of other sources' ]
+verdict 'the gate refuses the kept program of other sources' $?
+new_checkout
+launch
+mkdir -p "$fresh/crates/dinero_grid/out"
+echo >"$fresh/crates/dinero_grid/out/dinero_grid"
+run "$fresh/.ci/kept_programs"
+[ "$status" -eq 1 ] && [ "$(<"$err")" = 'kept_programs: the kept program dinero_grid is not the one that was built' ]
+verdict 'the gate looks at each program' $?
+new_checkout
 echo 'exit 1' | gzip -9n >"$fresh/release/dinero_pipe.gz"
 sed -i "s/^program .*/program $(echo 'exit 1' | sha256sum | cut -d ' ' -f 1)/" "$fresh/release/dinero_pipe.sums"
 launch
