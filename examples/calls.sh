@@ -1,6 +1,6 @@
 # Calls of a program as a user makes them. Read by the scripts that try command lines: $program is
-# what is called, $trace a good trace and $nothing an empty file. It makes $work, a folder for what
-# is printed, which goes at the end. tally.sh counts.
+# what is called, $trace a good trace, $nothing an empty file, and $refused the line where words are
+# refused. It makes $work, a folder for what is printed, which goes at the end. tally.sh counts.
 # shellcheck shell=bash disable=SC2154
 
 work=$(mktemp -d)
@@ -69,4 +69,14 @@ help_names() {
         grep -q -e " --$option <" "$work/help" || echo "--$option is missing" >>"$work/out"
     done
     judge 'help' 0 "$nothing" ''
+}
+
+# help_anywhere LINE: help, as `help_names` has it, is printed unless a word before it is refused as
+# such, here with this line, or any word is no text.
+help_anywhere() {
+    call 'help by one letter' 0 "$work/help" '' "$nothing" -h
+    call 'help before an unknown option' 0 "$work/help" '' "$nothing" --help --l3-usize 64
+    call 'help behind a bad value' 0 "$work/help" '' "$nothing" --maxcount two -h
+    call 'help behind an unknown option' 2 "$nothing" "$1" "$nothing" --l3-usize 64 --help
+    call 'help before a word that is no text' 2 "$nothing" "$refused" "$nothing" --help $'\xff'
 }

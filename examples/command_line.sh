@@ -138,6 +138,8 @@ call 'a required option is missing' 2 "$nothing" "$refused" "$trace" "${caches[@
 call 'no words at all' 2 "$nothing" "$refused" "$trace"
 call 'an option twice' 2 "$nothing" "$refused" "$trace" "${caches[@]}" --ring 3
 call 'an unknown option' 2 "$nothing" "$refused" "$trace" "${caches[@]}" --l3-usize 64
+call 'an option without a value' 2 "$nothing" "$refused" "$trace" "${caches[@]}" --maxcount
+call 'a value with a hyphen in front' 2 "$nothing" "$refused" "$trace" "${caches[@]}" --maxcount -1
 call 'words that are no text' 2 "$nothing" "$refused" "$trace" "${caches[@]}" $'\xff'
 call 'a part of a trace' 0 "$work/part" '' "$work/part.din" "${caches[@]}" --skipcount 2 --maxcount 4
 call 'a long trace' 0 "$work/long" '' "$work/long.din" "${caches[@]}"
@@ -167,5 +169,6 @@ status=$?
 judge 'a line that can not be printed' 2 "$nothing" ''
 
 help_names ring skipcount maxcount flushcount
+help_anywhere "$refused"
 
 tell

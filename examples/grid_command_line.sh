@@ -249,6 +249,8 @@ fi
 fail_to_print 'dinero_grid: table write failed
 ' "${caches[@]}" --l1-dsize 8,16
 help_names skipcount maxcount flushcount threads
+help_anywhere "dinero_grid: unexpected argument '--l3-usize' found
+$refused"
 "$program" --help >"$work/help"
 if grep -q -e ' --full ' "$work/help"; then pass 'help on full'; else fail 'help on full'; fi
 statuses='Exit status: 0 table or help written, 1 faulty trace, 2 command line refused, 3 no memory,
