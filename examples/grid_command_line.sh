@@ -225,10 +225,11 @@ for threads in {0..8}; do
         --threads "$threads"
 done
 
-# starts THREADS: prints how many threads the program starts, where it may work on so many.
+# starts THREADS [COMMAND..]: prints how many threads the program starts, called by a command, where
+# it may work on so many.
 starts() {
-    strace -f -e trace=clone,clone3 -o "$work/calls" "$program" "${several[@]}" --threads "$1" \
-        <"$work/long.din" >"$work/out" 2>"$work/err"
+    "${@:2}" strace -f -e trace=clone,clone3 -o "$work/calls" \
+        "$program" "${several[@]}" --threads "$1" <"$work/long.din" >"$work/out" 2>"$work/err"
     if cmp -s "$work/out" "$work/several"; then
         grep -c CLONE_THREAD "$work/calls"
     else
@@ -242,8 +243,20 @@ if strace true 2>/dev/null; then
     else
         fail 'one thread starts no other'
     fi
+    # Of the cores that this script may use, one.
+    core=$(taskset -cp $$ | sed 's/.*: *//; s/[-,].*//')
+    if [ "$(starts 0 taskset -c "$core")" = 0 ]; then
+        pass 'one core has one thread'
+    else
+        fail 'one core has one thread'
+    fi
+    if [ "$(nproc)" = 1 ] || [[ $(starts 0) =~ ^[1-9] ]]; then
+        pass 'several cores have several threads'
+    else
+        fail 'several cores have several threads'
+    fi
 else
-    skip 'one thread starts no other' 'strace'
+    skip 'how many threads are started' 'strace'
 fi
 
 fail_to_print 'dinero_grid: table write failed
