@@ -8,8 +8,8 @@ cp "$top"/examples/{reports,tally}.sh "$lessons"
 cp "$top"/examples/1-kinds/* "$lessons/lesson"
 report=$lessons/lesson/kinds.report
 
-# tells NAME STATUS LINE [PROGRAM]: the script ends so, and prints this line among others.
-tells() {
+# ends_by NAME STATUS LINE [PROGRAM]: the script ends so, and prints this line among others.
+ends_by() {
     run "$lessons/reports.sh" "${4-$bin/dinero_pipe}"
     [ "$status" -eq "$2" ] && grep -qxF -- "$3" "$out"
     verdict "$1" $?
@@ -26,7 +26,7 @@ counts_up() {
         { print }' "$top/examples/1-kinds/kinds.report" >"$report"
 }
 
-tells 'a lesson as it is' 0 'passed: lesson/kinds'
+ends_by 'a lesson as it is' 0 'passed: lesson/kinds'
 for number in {1..30}; do
     counts_up "$number"
     run "$lessons/reports.sh" "$bin/dinero_pipe"
@@ -37,12 +37,12 @@ verdict "a lesson with another count in line $number of its report" $?
 cp "$top/examples/1-kinds/kinds.report" "$report"
 printf '#!/bin/sh\n%q "$@"\nexit 3\n' "$bin/dinero_pipe" >"$work/fails_late"
 chmod +x "$work/fails_late"
-tells 'a report behind which the program fails' 1 'failed: lesson/kinds' "$work/fails_late"
+ends_by 'a report behind which the program fails' 1 'failed: lesson/kinds' "$work/fails_late"
 rm "$lessons/lesson/kinds.words"
 cp "$top"/examples/9-whole-counts/* "$lessons/lesson"
-tells 'a report without words' 1 'failed: lesson/kinds.report has no words'
+ends_by 'a report without words' 1 'failed: lesson/kinds.report has no words'
 rm "$report"
-tells 'lessons without a report' 1 '0 passed, 1 failed'
+ends_by 'lessons without a report' 1 '0 passed, 1 failed'
 run bash -c '. "$1" && tell' tell "$top/examples/tally.sh"
 [ "$status" -eq 1 ] && [ "$(<"$out")" = '0 passed, 0 failed' ]
 verdict 'a script that tried nothing' $?
