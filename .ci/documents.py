@@ -16,6 +16,26 @@ def prose_of(top, path):
             yield number, line
 
 
+def paragraphs_of(top, path):
+    """What stands between empty lines and blocks of code, with the number of its first line."""
+    first, lines = 0, []
+    for number, line in [*prose_of(top, path), (0, "")]:
+        if lines and (number != first + len(lines) or not line.strip() or "```" in line):
+            yield first, "\n".join(lines)
+            lines = []
+        if line.strip() and "```" not in line:
+            first = first if lines else number
+            lines.append(line)
+
+
+def spans_of(top, path):
+    """The texts between backticks, each with the number of the line where it begins. One may go on
+    in the next line."""
+    for first, text in paragraphs_of(top, path):
+        for found in re.finditer(r"`([^`]+)`", text):
+            yield first + text.count("\n", 0, found.start()), found[1].replace("\n", " ")
+
+
 # Links
 
 
@@ -43,12 +63,13 @@ def check_links(top, paths):
     for path in paths:
         if path.suffix != ".md":
             continue
-        for number, line in prose_of(top, path):
-            bare = re.sub(r"`[^`]*`", "", line)
-            targets = re.findall(r"\]\(([^)\s]+)\)", bare) + re.findall(r'src="([^"]+)"', bare)
-            for target in targets:
-                if not re.match(r"[a-z]+:", target):
-                    yield from check_link(top, path, number, target)
+        for first, text in paragraphs_of(top, path):
+            bare = re.sub(r"`[^`]*`", lambda it: "\n" * it[0].count("\n"), text)
+            for number, line in enumerate(bare.split("\n"), first):
+                targets = re.findall(r"\]\(([^)\s]+)\)", line) + re.findall(r'src="([^"]+)"', line)
+                for target in targets:
+                    if not re.match(r"[a-z]+:", target):
+                        yield from check_link(top, path, number, target)
 
 
 # Names
@@ -101,13 +122,12 @@ def check_names(top, paths):
     for path in paths:
         if path.suffix != ".md" or path.name == "CHANGELOG.md":
             continue
-        for number, line in prose_of(top, path):
-            for span in re.findall(r"`([^`]+)`", line):
-                for name in names_in(span):
-                    if name not in known:
-                        yield path, number, f"nothing has the name {name}"
-                if PLACE.fullmatch(span) and span not in places:
-                    yield path, number, f"there is no {span}"
+        for number, span in spans_of(top, path):
+            for name in names_in(span):
+                if name not in known:
+                    yield path, number, f"nothing has the name {name}"
+            if PLACE.fullmatch(span) and span not in places:
+                yield path, number, f"there is no {span}"
 
 
 # Uses
