@@ -98,7 +98,7 @@ tell_faults_of_task() {
 }
 
 gather_table() {
-    local file
+    local file added files=() ends=(0)
     { [ -z "$log$restarts$full$hosts$jobs$task$into" ] &&
         [ -z "${fixed[*]}${varied[*]}${tied[*]}${lacking[*]}${traces[*]}" ]; } ||
         refuse '--gather takes no other words'
@@ -112,18 +112,34 @@ gather_table() {
         [[ ${file##*/} =~ ^[0-9]+(-([0-9]+))?$ ]] || continue
         note_tasks "${BASH_REMATCH[2]:-all}"
         add_rows "$file" "$work/pending"
+        files+=("$file") ends+=($((ends[-1] + added)))
     done
+    check_gathered
     find_missing
     put_last_lines
     [ -z "$missing" ] || tell_missing
     tell_faults_of_table
 }
 
-# add_rows FILE TARGET: its whole lines. What stands behind the last line feed is a part of a row,
-# as a copy may have it that was cut off.
+# add_rows FILE TARGET: its whole lines, and sets `added` to how many these are. What stands behind
+# the last line feed is a part of a row, as a copy may have it that was cut off.
 add_rows() {
     { [ -f "$1" ] && [ -r "$1" ]; } || die 4 "$1 can't be read"
-    { head -n "$(wc -l < "$1")" -- "$1" >> "$2"; } 2>/dev/null || no_room
+    { added=$(wc -l < "$1") && head -n "$added" -- "$1" >> "$2"; } 2>/dev/null || no_room
+}
+
+# check_gathered: ends the command where the counts of a row do not agree with one another. The
+# lines of each of the files end at that number of all lines.
+check_gathered() {
+    local odd i=0
+    { of_grid 'counts gather' part=gathered "$work/pending" && read -r odd < "$work/verdict.$call"; } \
+        2>/dev/null || no_room
+    [ "$odd" -gt 0 ] || return 0
+    while [ "$odd" -gt "${ends[i + 1]}" ]; do
+        i=$((i + 1))
+    done
+    die 4 "${files[i]}: line $((odd - ends[i])) is damaged: its counts do not agree; \
+make its task again"
 }
 
 # note_tasks SOME: sets `of` to how many tasks the grid is cut into, or to nothing if the names of

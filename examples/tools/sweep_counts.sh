@@ -1,5 +1,6 @@
 # Tests that a log is refused whose counts do not agree with one another, or which has two rows of
-# one configuration that differ. Read by tools.sh, behind sweep_restart.sh.
+# one configuration that differ, and a folder of rows with such counts. Read by tools.sh, behind
+# sweep_restart.sh.
 # shellcheck shell=bash disable=SC2054,SC2154  # names that tools.sh and its other files set
 
 # The data cache of lesson 1 has 10 fetches and 9 misses: 5 compulsory, 2 capacity, 2 conflict.
@@ -114,13 +115,46 @@ test_differing() {
     verdict 'both are forgotten, and simulated again' $?
 }
 
+# is_not_gathered NAME=VALUE..: the last row of two tasks of two rows has these values.
+is_not_gathered() {
+    cat names kept >good
+    changed "$@"
+    { head -n 1 kept_rows; tail -n 1 counts; } >gathered/2-2
+    ends "rows with ${*#l1-}" 4 "sweep: $PWD/gathered/2-2: line 2 is damaged: \
+its counts do not agree; make its task again" "$sweep" --gather gathered
+}
+
+# test_gathered WORD..: the rows of two tasks. The last one is of the cache of lesson 1.
+test_gathered() {
+    local number change task=("$@" --into gathered --vary l1-dsize=8,32,64,16 "${rest[@]}" -- kinds.din)
+    for number in 1 2; do
+        "$sweep" --task $number/2 "${task[@]}"
+    done >"$out" 2>"$err"
+    run "$sweep" --gather gathered
+    [ "$status" -eq 0 ] && [ ! -s "$err" ]
+    verdict "rows whose counts agree${1:+ $1}" $?
+    cp "$out" whole && cp gathered/2-2 kept_rows && tail -n 1 kept_rows >kept && head -n 1 good >names
+    for change in ${1:+fetches-write=1 misses-read=0} fetches=11 misses=10 miss-rate=0.899999 \
+        compulsory=6; do
+        is_not_gathered "l1-dcache-$change"
+    done
+    is_not_gathered l1-dcache-fetches=8 l1-dcache-miss-rate=1.125000
+    "$sweep" --task 2/2 "${task[@]}" >"$out" 2>"$err"
+    run "$sweep" --gather gathered
+    [ "$status" -eq 0 ] && [ ! -s "$err" ] && cmp -s "$out" whole
+    verdict 'and once the task is made again' $?
+    rm -r gathered kept kept_rows names
+}
+
 test_all_counts() {
     rm -f counts
     with_counts
     cp counts good
     test_counts
     test_large_counts
+    test_gathered
     test_full_counts
+    test_gathered --full
     test_differing
     rm -f counts good mine twice
 }

@@ -129,7 +129,6 @@ has_rows() {
 }
 
 # A task that is made again, as Slurm does where a node was lost, may be cut off or fail.
-test_missing
 test_again() {
     local earlier again head
     gzip -k fifo.din
