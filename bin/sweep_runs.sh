@@ -37,8 +37,32 @@ run_with_parallel() {
         done
 }
 
-# A line of a list that names no machine: it is empty or a comment.
-no_machine='^[[:space:]]*(#|$)'
+# A line of a list of machines: how many runs one makes at once, if that is said; and `:`, which is
+# this machine, or the name of another one, with the user before it and the port behind it, if these
+# are said. parallel puts them into a line of shell as they stand.
+machine_name='[A-Za-z0-9_][A-Za-z0-9._-]*'
+machine_form="^(([1-9][0-9]{0,3})/)?(:|($machine_name@)?$machine_name(:[1-9][0-9]{0,4})?)\$"
+
+# read_machines: sets `machines` to the lines of the list that are neither empty nor comments. It is
+# read once, since it may be a pipe.
+machines=()
+read_machines() {
+    local line name number=0
+    local -A named=()
+    while IFS= read -r line || [ -n "$line" ]; do
+        number=$((number + 1))
+        line=${line#"${line%%[![:space:]]*}"}
+        line=${line%"${line##*[![:space:]]}"}
+        [[ -n $line && $line != '#'* ]] || continue
+        [[ $line =~ $machine_form ]] ||
+            refuse "--hosts: line $number of $hosts names no machine: '${line//[[:cntrl:]]/?}'"
+        name=${BASH_REMATCH[3]}
+        [ -z "${named[$name]-}" ] || refuse "--hosts: $name stands twice in $hosts"
+        named[$name]=yes
+        machines+=("$line")
+    done < <(tr '\0' '?' < "$hosts")
+    [ ${#machines[@]} -gt 0 ] || die 4 "no machine stands in $hosts"
+}
 
 # On each machine the runs are made in a folder of one name: here it has links, elsewhere copies. It
 # is not the folder that is copied, since a list may name this machine by its address too.
@@ -50,16 +74,15 @@ choose_hosts() {
         TMPDIR=/tmp make_temporary
         site=$temporary
     fi
-    # The list is read once, since it may be a pipe.
     { mkdir "$site/host" && furnish "$site/host" && ln -s "$work/commands" "$site/host/commands" &&
-        cat < "$hosts" > "$work/hosts"; } 2>/dev/null || no_room
+        printf '%s\n' "${machines[@]}" > "$work/hosts"; } 2>/dev/null || no_room
     host_words=(--sshloginfile hosts --workdir "$site/host")
-    grep -qvE "^([0-9]+/)?:\$|$no_machine" "$work/hosts" || return 0
+    grep -qvE '^([0-9]+/)?:$' "$work/hosts" || return 0
     need ssh openssh-client
     need rsync rsync
     # What can't be reached has its runs made by another machine: no run fails for another reason.
     # Each machine may be tried.
-    host_words+=(--retries "$(($(grep -cvE "$no_machine" "$work/hosts") + 1))")
+    host_words+=(--retries $((${#machines[@]} + 1)))
     host_words+=(--basefile dinero_grid --basefile commands --cleanup --rsync-opts -rLDzR)
     for name in "${!traces[@]}"; do
         host_words+=(--basefile "$name.din")
@@ -73,19 +96,18 @@ count_cores() {
 # find_slots: sets `slots` to how many runs can be made at once. A machine of the list that does not
 # say how many has as many cores as this one.
 find_slots() {
-    local line each
+    local machine each
     slots=$jobs
     [ -n "$jobs" ] || { finish cores && read -r slots < "$work/cores"; } 2>/dev/null || no_room
     [ -n "$hosts" ] || return 0
     each=$slots slots=0
-    while IFS= read -r line; do
-        if [ -z "$jobs" ] && [[ $line =~ ^([1-9][0-9]{0,3})/ ]]; then
-            slots=$((slots + BASH_REMATCH[1]))
-        elif [[ ! $line =~ $no_machine ]]; then
+    for machine in "${machines[@]}"; do
+        if [ -z "$jobs" ] && [[ $machine == */* ]]; then
+            slots=$((slots + ${machine%%/*}))
+        else
             slots=$((slots + each))
         fi
-    done < "$work/hosts"
-    [ "$slots" -gt 0 ] || die 4 "no machine stands in $hosts"
+    done
 }
 
 has_parallel() {

@@ -250,9 +250,15 @@ SetEnv HOME=$folder
 END
     env -u TMPDIR "$(command -v sshd)" -D -e -f "$folder/conf" 2>"$folder/log" &
     daemons+=($!)
-    echo "2/ssh -p $port -i $folder/user -o BatchMode=yes -o StrictHostKeyChecking=no -o UserKnownHostsFile=$folder/known -o LogLevel=ERROR 127.0.0.1" >machines
-    # shellcheck disable=SC2046  # the words of a line of the list
-    until_true $(cut -d / -f 2- machines) true 2>/dev/null
+    cat >"$folder/client" <<END
+IdentityFile $folder/user
+BatchMode yes
+StrictHostKeyChecking no
+UserKnownHostsFile $folder/known
+LogLevel ERROR
+END
+    echo "2/127.0.0.1:$port" >machines
+    until_true ssh -F "$folder/client" -p $port 127.0.0.1 true 2>/dev/null
 }
 
 test_ssh() {
@@ -262,7 +268,8 @@ test_ssh() {
         return
     fi
     before=$(grep -c '^Accepted publickey' "$work/ssh/log")
-    run "$sweep" --hosts machines --resume hosts.log "${grid[@]}" -- kinds.din fifo.din
+    run env PARALLEL_SSH="ssh -F $work/ssh/client" \
+        "$sweep" --hosts machines --resume hosts.log "${grid[@]}" -- kinds.din fifo.din
     check 'sweep over ssh' is_table_of_rows
     [ "$(grep -c '^Accepted publickey' "$work/ssh/log")" -gt "$before" ]
     verdict 'its runs were made there' $?

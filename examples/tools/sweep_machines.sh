@@ -17,8 +17,9 @@ chmod +x "$work/elsewhere"
 
 # on_another_machine WORD..: a sweep whose runs are made there.
 on_another_machine() {
-    echo "2/$work/elsewhere another" >machines
-    run env THERE="$work/there" HERE="$PWD" "$sweep" --hosts machines "$@"
+    echo 2/another >machines
+    run env PARALLEL_SSH="$work/elsewhere" THERE="$work/there" HERE="$PWD" \
+        "$sweep" --hosts machines "$@"
 }
 
 test_another_machine() {
@@ -49,8 +50,9 @@ fi
 if has parallel && has rsync && has ssh; then
     printf '#!/bin/sh\nexit 255\n' >"$work/unreachable"
     chmod +x "$work/unreachable"
-    printf '1/:\n1/%s another\n1/%s a third\n' "$work/unreachable" "$work/unreachable" >machines
-    run "$sweep" --hosts machines "${grid[@]}" -- kinds.din fifo.din
+    printf '1/:\n1/another\n1/third\n' >machines
+    run env PARALLEL_SSH="$work/unreachable" \
+        "$sweep" --hosts machines "${grid[@]}" -- kinds.din fifo.din
     check "sweep of which two machines can't be reached" is_table_of_rows
 else
     skip "sweep of which two machines can't be reached" 'parallel, ssh and rsync'

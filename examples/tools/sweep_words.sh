@@ -127,6 +127,39 @@ test_lists() {
     printf '# none\n\n' >machines
     ends 'a list of machines that names none' 4 'sweep: no machine stands in machines' \
         "$sweep" --hosts machines "${grid[@]}" -- kinds.din
+    printf ' 2/:\t\r' >machines
+    run env PATH="$here_alone" "$sweep" --hosts machines "${grid[@]}" -- kinds.din fifo.din
+    check 'sweep over a list whose line has blanks around it and no end' is_table_of_rows
+}
+
+# names_none LINE [SHOWN]: no machine can have that name, and none of it is run.
+names_none() {
+    printf ': \n%b\nnode1\n' "$1" >machines
+    refused "--hosts: line 2 of machines names no machine: '${2-$1}'" \
+        --hosts machines --resume unbegun "${grid[@]}" -- kinds.din
+}
+
+# What ssh, parallel or a shell would take for something else than a machine.
+test_no_machines() {
+    local line
+    # shellcheck disable=SC2016  # nothing of these is to be expanded
+    for line in -v -oProxyCommand=pwned 2/-v -lroot@node2 'node1,node2' ',' 2/ 0/node2 12345/node2 \
+        two/node2 2/2/node2 'ssh node2' '/bin/sh node2' './ssh node2' @node2 me@ me:word@node2 \
+        me@you@node2 node2: node2:ssh node2:123456 node2:-1 ::1 '[::1]' 'node2;pwned' '$(pwned)' \
+        '$(pwned)@node2' '`pwned`' 'node2|pwned' 'node2&' "node'2" .. - '*' '~' node2#2 \
+        @all/node2; do
+        names_none "$line"
+    done
+    names_none 'no\tde2' 'no?de2'
+    names_none 'no\x1bde2' 'no?de2'
+    names_none 'no\0de2' 'no?de2'
+    for line in node2 : me@node2 node2:22; do
+        printf '# two\n2/%s\n\n%s\n' "$line" "$line" >machines
+        refused "--hosts: $line stands twice in machines" \
+            --hosts machines --resume unbegun "${grid[@]}" -- kinds.din
+    done
+    [ ! -e unbegun ]
+    verdict 'no log is begun' $?
 }
 
 # A terminal that stops who writes to it from behind.
@@ -143,6 +176,7 @@ test_bar() {
 
 if has parallel; then
     test_lists
+    test_no_machines
     if has script; then
         HOME=$work/no-home SWEEP=$sweep GRID=${grid[*]} test_bar
     else
