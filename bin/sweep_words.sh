@@ -20,6 +20,10 @@ tasks=
 into=
 gather=
 
+# The options of sweep itself that have one value, each with the variable that gets it.
+declare -A own=([--jobs]=jobs [--resume]=log [--hosts]=hosts [--task]=task [--into]=into
+    [--gather]=gather)
+
 # once OPTION: it was not given before.
 declare -A once_given=()
 once() {
@@ -66,17 +70,16 @@ set_once() {
 
 # set_word OPTION VALUE
 set_word() {
-    case $1 in
-    --with) tie "$2" ;;
-    --resume) set_once log "$@" ;;
-    --jobs | --hosts | --task | --into | --gather) set_once "${1#--}" "$@" ;;
-    *)
+    if [ "$1" = --with ]; then
+        tie "$2"
+    elif [ -n "${own[$1]-}" ]; then
+        set_once "${own[$1]}" "$@"
+    else
         take "$1" "$2"
         [[ $2 != *,* ]] || refuse "$1 has several values, but no --vary before it"
         fixed+=("$1" "$2")
         fixed_values[$1]=$2
-        ;;
-    esac
+    fi
 }
 
 # need_value OPTION WORD..: a value stands behind it, or it may be one of the simulator's. A word
@@ -90,10 +93,11 @@ need_value() {
             refuse '--vary has no values'
         ;;
     --with) [ "$next" != -- ] || refuse "$1 has no value" ;;
-    --jobs | --resume | --hosts | --task | --into | --gather)
-        [ -n "$is_joined" ] || [[ $next != --* ]] || refuse "$1 has no value"
+    *)
+        [ -z "$is_joined" ] && [[ $next == --* ]] || return 0
+        [ -z "${own[$1]-}" ] || refuse "$1 has no value"
+        return 1
         ;;
-    *) [ -n "$is_joined" ] || [[ $next != --* ]] ;;
     esac
 }
 
