@@ -50,12 +50,27 @@ refuse_value() {
     fault=$(sed 's/^dinero_grid: //; q' "$work/told$1")
     find_words "$@"
     for ((i = 0; i < ${#words[@]}; i += 2)); do
-        [ "${words[i]}" != "${fault%%:*}" ] || fault+=": '${words[i + 1]}'"
+        [ "${words[i]}" = "${fault%%:*}" ] || continue
+        [ "$fault" != "${words[i]}: not a number" ] || explain "${words[i]}" "${words[i + 1]}"
+        fault+=": '${words[i + 1]}'"
     done
     for i in "${!tied[@]}"; do
         [ "${tied[i]}" != "${fault%%:*}" ] || fault+=" (from ${leads[i]})"
     done
     refuse "$fault"
+}
+
+# explain OPTION VALUE: puts into `fault` why this is no number, where its form tells it.
+explain() {
+    local unit=
+    [[ ! $2 =~ ^[0-9]+([A-Za-z]+)$ ]] || unit=${BASH_REMATCH[1]}
+    if [ -n "$unit" ] && ! is_size "$1"; then
+        fault="$1: a count has no unit"
+    elif [ -n "$unit" ] && [[ $unit != [kKmM] ]]; then
+        fault="$1: a unit is k or m, and not $unit"
+    elif [[ $2 =~ ^[0-9]{13} ]]; then
+        fault="$1: more than 12 digits"
+    fi
 }
 
 # try OPTION VALUES: the same, and refuses what the simulator does.

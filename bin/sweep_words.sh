@@ -39,13 +39,34 @@ take() {
     [[ $2 =~ ^$value(,$value)*$ ]] || refuse "$1: no such value: '$2'"
 }
 
+# is_size OPTION: its values are numbers of bytes, which may have a unit.
+is_size() {
+    [[ $1 == *size ]]
+}
+
+# find_number OPTION VALUE: sets `number` to what the simulator reads, or to the value itself where
+# that is no number.
+find_number() {
+    local unit
+    number=$2
+    [[ $2 =~ ^([0-9]{1,12})([kKmM]?)$ ]] || return 0
+    unit=${BASH_REMATCH[2]}
+    [ -z "$unit" ] || is_size "$1" || return 0
+    number=$((10#${BASH_REMATCH[1]}))
+    [[ $unit != [kK] ]] || number=$((number * 1024))
+    [[ $unit != [mM] ]] || number=$((number * 1048576))
+}
+
 # vary OPTION VALUES
 vary() {
-    local value seen=,
+    local value number
+    local -A seen=()
     take "$1" "$2"
     for value in ${2//,/ }; do
-        [[ $seen != *",$value,"* ]] || refuse "$1: $value stands there twice"
-        seen+=$value,
+        find_number "$1" "$value"
+        [ "${seen[$number]-}" != "$value" ] || refuse "$1: $value stands there twice"
+        [ -z "${seen[$number]-}" ] || refuse "$1: ${seen[$number]} and $value are one value"
+        seen[$number]=$value
     done
     varied+=("$1")
     values+=("$2")

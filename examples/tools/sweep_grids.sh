@@ -158,13 +158,13 @@ refused 'unknown option: --l1-csize' --with --l1-csize=--l1-dsize --l1-isize 8 "
     -- kinds.din
 refused "--l1-irepl: not a lawful letter: '8' (from --l1-dsize)" --with --l1-irepl=--l1-dsize \
     --l1-isize 8 "${step[@]}" -- kinds.din
-refused "--l2-uassoc: not a number: '1k' (from --l1-dsize)" --with --l2-uassoc=--l1-dsize \
+refused "--l2-uassoc: a count has no unit: '1k' (from --l1-dsize)" --with --l2-uassoc=--l1-dsize \
     --vary --l1-dsize 8,1k --l1-isize 8 "${step[@]:6}" -- kinds.din
 refused "--flushcount: not a number: 'l' (from --l1-drepl)" --with flushcount=l1-drepl \
     --vary l1-drepl=l,f --l1-isize 8 "${step[@]}" -- kinds.din
 refused "--l2-usize: not a number: 'a'" --vary l2-usize=1k,a --l1-isize 8 "${step[@]:0:10}" \
     --l2-ubsize 8 -- kinds.din
-refused "--skipcount: not a number: '1k'" --skipcount 1k --l1-isize 8 "${step[@]}" -- kinds.din
+refused "--skipcount: a count has no unit: '1k'" --skipcount 1k --l1-isize 8 "${step[@]}" -- kinds.din
 
 # A grid that has grown by values, by an option and by a trace, from a log that has the old one.
 grown=(--vary --l1-dsize 8,16,32 --vary --l1-dassoc 1,2 --vary --l1-drepl l,f "${rest[@]}")

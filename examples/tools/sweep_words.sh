@@ -43,6 +43,30 @@ refused '--vary has no values' --vary l1-dsize
 refused "--l1-dsize: no such value: ''" --vary l1-dsize= "${rest[@]}" -- kinds.din
 refused 'unknown option: --quick' --vary quick=1 "${rest[@]}" -- kinds.din
 
+# Values that are no numbers, and why. The simulator's help has the rules.
+for words in 'not a number:x' 'not a number:0x40' 'not a number:1.5k' 'not a number:8k8' \
+    'more than 12 digits:1234567890123' 'more than 12 digits:0000000000008m' \
+    'a unit is k or m, and not kb:8kb' 'a unit is k or m, and not g:1234567890123g'; do
+    refused "--l1-dsize: ${words%:*}: '${words#*:}'" --vary "l1-dsize=8,${words#*:}" "${rest[@]}" \
+        -- kinds.din
+    refused "--l1-dsize: ${words%:*}: '${words#*:}'" --vary l2-uassoc=1 --l1-dsize "${words#*:}" \
+        "${rest[@]::10}" -- kinds.din
+done
+refused "--l1-dassoc: a count has no unit: '2k'" --vary l1-dassoc=1,2k --l1-dsize 8 "${rest[@]}" \
+    -- kinds.din
+# In one list, each of these pairs is one number. 1024 bytes are 1k, and 1048576 are 1m.
+for words in dsize=1k,1024 dsize=1K,1024 dsize=1m,1024k dsize=1048576,1M dsize=64,064 \
+    dassoc=08,8; do
+    one=${words#*=}
+    refused "--l1-${words%=*}: ${one%,*} and ${one#*,} are one value" \
+        --vary "l1-$words" "${rest[@]}" -- kinds.din
+done
+refused '--l1-dsize: 1k and 1024 are one value' --vary l1-dsize=8,1k,64,1024 "${rest[@]}" \
+    -- kinds.din
+run "$sweep" --vary l1-dsize=64,1k,64k,0000001m "${rest[@]}" -- kinds.din
+[ "$status" -eq 0 ] && [ "$(rows_of 2)" = 64,1k,64k,0000001m, ]
+verdict 'sweep of values that are four numbers' $?
+
 refused "--jobs: not a number of runs: '0'" --jobs 0 "${grid[@]}" -- kinds.din
 for words in '--jobs 2' '--resume 1' '--hosts 1'; do
     # shellcheck disable=SC2086  # several words
