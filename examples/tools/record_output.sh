@@ -122,6 +122,29 @@ test_real_output() {
     verdict 'record --output of gzip' $?
 }
 
+# closing COMMAND..: it has nothing open but its input, its output and standard error.
+closing() (
+    local file
+    for file in "/proc/$BASHPID/fd"/*; do
+        [ "${file##*/}" -le 2 ] || eval "exec ${file##*/}>&-"
+    done
+    exec "$@"
+)
+
+# A program that writes what would be a store to each number that record could have open, at each
+# limit of open files: one that can be raised, and one that can't.
+test_odd_descriptors() {
+    local limit
+    for limit in -Sn -n; do
+        # shellcheck disable=SC2016  # the inner program's words
+        run closing bash -c 'ulimit "$1" 200 && exec "${@:2}"' odd $limit "$record" perl -e '
+            for (3 .. 255) { open($file[$_], ">&=", $_) && syswrite($file[$_], " S deadbeef,4\n") }
+            no warnings; exec("true")'
+        [ "$status" -eq 0 ] && lines_at_least "$out" 10000 && ! grep -q deadbeef "$out"
+        verdict "record of a program that writes to odd descriptors, with ulimit $limit" $?
+    done
+}
+
 cp "$top/examples/1-kinds/kinds.din" kinds.din
 test_output
 test_no_output
@@ -130,6 +153,11 @@ if has script; then
     test_terminal
 else
     skip 'record with the trace and standard error on a terminal' script
+fi
+if has valgrind; then
+    test_odd_descriptors
+else
+    skip 'record of a program that writes to odd descriptors' valgrind
 fi
 if has valgrind && has gzip; then
     test_real_output
