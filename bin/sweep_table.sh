@@ -128,18 +128,34 @@ add_rows() {
     { added=$(wc -l < "$1") && head -n "$added" -- "$1" >> "$2"; } 2>/dev/null || no_room
 }
 
-# check_gathered: ends the command where the counts of a row do not agree with one another. The
-# lines of each of the files end at that number of all lines.
+# check_gathered: ends the command where the counts of a row do not agree with one another, or two
+# rows of one configuration differ.
 check_gathered() {
-    local odd i=0
-    { of_grid 'counts gather' part=gathered "$work/pending" && read -r odd < "$work/verdict.$call"; } \
-        2>/dev/null || no_room
-    [ "$odd" -gt 0 ] || return 0
-    while [ "$odd" -gt "${ends[i + 1]}" ]; do
+    local what some at first
+    { of_grid 'counts gather' part=gathered "$work/pending" &&
+        IFS=$'\t' read -r what some < "$work/verdict.$call"; } 2>/dev/null || no_room
+    case $what in
+    damaged)
+        find_line "$some"
+        die 4 "$at is damaged: its counts do not agree; make its task again"
+        ;;
+    differ)
+        find_line "${some%$'\t'*}"
+        first=$at
+        find_line "${some#*$'\t'}"
+        die 4 "$first and $at are of one configuration, and differ; make their tasks again"
+        ;;
+    esac
+}
+
+# find_line NUMBER: of all lines that were gathered. Sets `at` to its file, and to its number there:
+# `ends` has the number of the last line before each file.
+find_line() {
+    local i=0
+    while [ "$1" -gt "${ends[i + 1]}" ]; do
         i=$((i + 1))
     done
-    die 4 "${files[i]}: line $((odd - ends[i])) is damaged: its counts do not agree; \
-make its task again"
+    at="${files[i]}: line $(($1 - ends[i]))"
 }
 
 # note_tasks SOME: sets `of` to how many tasks the grid is cut into, or to nothing if the names of

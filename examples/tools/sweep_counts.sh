@@ -117,7 +117,6 @@ test_differing() {
 
 # is_not_gathered NAME=VALUE..: the last row of two tasks of two rows has these values.
 is_not_gathered() {
-    cat names kept >good
     changed "$@"
     { head -n 1 kept_rows; tail -n 1 counts; } >gathered/2-2
     ends "rows with ${*#l1-}" 4 "sweep: $PWD/gathered/2-2: line 2 is damaged: \
@@ -133,17 +132,25 @@ test_gathered() {
     run "$sweep" --gather gathered
     [ "$status" -eq 0 ] && [ ! -s "$err" ]
     verdict "rows whose counts agree${1:+ $1}" $?
-    cp "$out" whole && cp gathered/2-2 kept_rows && tail -n 1 kept_rows >kept && head -n 1 good >names
+    cp "$out" whole && cp gathered/2-2 kept_rows && { head -n 1 good; tail -n 1 kept_rows; } >named
+    mv named good
     for change in ${1:+fetches-write=1 misses-read=0} fetches=11 misses=10 miss-rate=0.899999 \
         compulsory=6; do
         is_not_gathered "l1-dcache-$change"
     done
     is_not_gathered l1-dcache-fetches=8 l1-dcache-miss-rate=1.125000
+    cp kept_rows gathered/2-2
+    changed l1-dcache-blocks-fetched=7
+    tail -n 1 counts >gathered/1-1
+    ends 'rows of two cuts that differ' 4 "sweep: $PWD/gathered/1-1: line 1 and \
+$PWD/gathered/2-2: line 2 are of one configuration, and differ; make their tasks again" \
+        "$sweep" --gather gathered
+    rm gathered/1-1
     "$sweep" --task 2/2 "${task[@]}" >"$out" 2>"$err"
     run "$sweep" --gather gathered
     [ "$status" -eq 0 ] && [ ! -s "$err" ] && cmp -s "$out" whole
     verdict 'and once the task is made again' $?
-    rm -r gathered kept kept_rows names
+    rm -r gathered kept_rows
 }
 
 test_all_counts() {
