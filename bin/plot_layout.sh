@@ -96,7 +96,7 @@ place_key() {
 
 # check_labels LABEL..: no two of them are the same.
 check_labels() {
-    [ "$(printf '%s\0' "$@" | LC_ALL=C sort -zu | tr -dc '\0' | wc -c)" -eq $# ] ||
+    [ "$(printf '%s\0' "$@" | LC_ALL=C sort -zu | tr -dc '\0' | wc -c)" = $# ] ||
         no_room_in_picture
 }
 

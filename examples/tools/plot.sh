@@ -199,3 +199,7 @@ fi
 ! has gnuplot || stopped 'plot' gnuplot "$plot" kinds kinds.tsv stopped.svg
 stopped_in 'plot and Ctrl-C while its folder is made' INT "$(slow_folders)" \
     "$plot" kinds kinds.tsv stopped.svg
+# What is left of a number then is none.
+signalled INT "$(standing_still tr)" "$plot" kinds kinds.tsv stopped.svg &&
+    [ "$(<"$err")" = 'plot: interrupted' ]
+verdict 'plot and Ctrl-C while it compares labels' $?
