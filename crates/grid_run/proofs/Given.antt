@@ -19,7 +19,7 @@ use Rattle.grid_run.specs.Fronts.{front_rules}
 use Rattle.grid_run.specs.Numbering.{what_of}
 use Rattle.grid_run.specs.Picking.{picked_by}
 use Rattle.grid_run.specs.Seats.{SeatRules, rules_of_seat}
-use Rattle.grid_run.specs.Lanes.{HasGiven, HasTaken}
+use Rattle.grid_run.specs.Lanes.{FirstLevelsHaveServed, HasGiven}
 use Rattle.grid_run.specs.declared.bank.Bank.{Bank}
 use Rattle.grid_run.specs.declared.first_levels.FirstLevels.{FirstLevels}
 use Rattle.grid_run.specs.declared.lane.Lane.{Lane}
@@ -49,7 +49,7 @@ few-sent sees makes t records few = record {
 -- for few records second levels were asked for few requests, also while they are lent
 pub few-asked : SecondLevelSeesAtMostTwo → SelectionsMakeAtMostTwo → (l : Lane) (lent : List Bank)
     (records : List DinRecord) → lent ≡ l.banks.items → length records ≤ 2 ^ 40
-    → HasTaken records l
+    → FirstLevelsHaveServed records l
     → (blocks : List ℕ) × (all : RequestsFor) × All (WasAsked blocks all) lent × AreFew all
 few-asked sees makes l lent records are few taken =
     let sent = sent_by (first_task l.first) taken.past in (
@@ -95,14 +95,14 @@ emptied f qs records before seats none given =
 
 -- a lane whose second levels were given all has taken the records
 pub taken-all : {l : Lane} {records : List DinRecord} → HasGiven records records l
-    → HasTaken records l
+    → FirstLevelsHaveServed records l
 taken-all {records = records} given =
     record { past = records; some = omega (arith); lane = given }
 
 -- a lane has taken more where its first levels were given more
-pub taken-more : {l m : Lane} {records more : List DinRecord} → HasTaken records l
+pub taken-more : {l m : Lane} {records more : List DinRecord} → FirstLevelsHaveServed records l
     → ((past : List DinRecord) (rs : List DinRecord) → HasGiven past rs l
-    → HasGiven past (rs ++ more) m) → HasTaken (records ++ more) m
+    → HasGiven past (rs ++ more) m) → FirstLevelsHaveServed (records ++ more) m
 taken-more {records = records} {more = more} taken given = record {
   past = taken.past;
   some = omega (arith, taken.some, length-append records more);

@@ -76,8 +76,8 @@ pub record WasGiven (given : RequestsFor) (records : List DinRecord) (f : FirstL
   pub picked : HasPicked records f.picker
   pub served : HasServed given (events (picked_by f.picker) records) f
 
--- caches were given these records behind all that they had been given
-pub record HaveTaken (records : List DinRecord) (old new : FirstLevels) : Type 0 where
+-- behind all that the caches had been given, they were given these records
+pub record WereGivenNext (records : List DinRecord) (old new : FirstLevels) : Type 0 where
   pub given : (given : RequestsFor) (past : List DinRecord) → WasGiven given past old
       → WasGiven given (past ++ records) new
   pub numbers : StaysNumberedIn old new

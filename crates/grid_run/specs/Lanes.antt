@@ -55,9 +55,9 @@ pub record HasGiven (past records : List DinRecord) (l : Lane) : Type 0 where
   pub asked : All (WasAsked (numbered_by l.first) (sent_by (first_task l.first) past)) l.banks.items
   pub matched : AreMatched l
 
--- a lane has taken these records: its first levels have served what is selected of them, and its
--- second levels were given what these sent for `past`, which are no more
-pub record HasTaken (records : List DinRecord) (l : Lane) : Type 0 where
+-- the first levels of a lane have served what is selected of these records; its second levels were
+-- given what these sent for `past`, which are no more
+pub record FirstLevelsHaveServed (records : List DinRecord) (l : Lane) : Type 0 where
   pub past : List DinRecord
   pub some : length past ≤ length records
   pub lane : HasGiven past records l
@@ -67,6 +67,6 @@ abbrev pub AreIdle : Lane → Type 0
 AreIdle l = All NothingWaitsIn l.banks.items
 
 -- all caches of a lane have served what is selected of these records
-pub record HasSettled (records : List DinRecord) (l : Lane) : Type 0 where
+pub record AllLevelsHaveServed (records : List DinRecord) (l : Lane) : Type 0 where
   pub lane : HasGiven records records l
   pub idle : AreIdle l

@@ -11,7 +11,7 @@ use Rattle.grid_run.specs.Backs.{BackTask}
 use Rattle.grid_run.specs.Faults.{MayAnswer}
 use Rattle.grid_run.specs.Lanes.{IsPlaced, LaneTask, task_of_plan}
 use Rattle.grid_run.specs.Seats.{IsCellOf, IsSeatOf}
-use Rattle.grid_run.specs.Workers.{Took}
+use Rattle.grid_run.specs.Workers.{WorkerHasServed}
 use Rattle.grid_run.specs.declared.fault.GridFault.{GridFault}
 use Rattle.grid_run.specs.declared.grid.Row.{Row}
 use Rattle.grid_run.specs.declared.grid.Setup.{Setup}
@@ -58,8 +58,8 @@ pub record IsSound (p : LanePlan) : Type 0 where
   pub bounded : IsBounded p.selection
   pub placed : IsPlaced (task_of_plan p)
 
--- the result of a run over a source that had this left: all workers have taken its records, or the
--- fault is one that a run may answer
+-- the result of a run over a source that had this left: all workers have served what is selected of
+-- its records, or the fault is one that a run may answer
 abbrev pub ServedAll : Remaining → List Worker → Result (Unit {0}) GridFault → Type 0
-ServedAll l workers (Ok done) = (l.fault ≡ None) × All (Took l.records) workers
+ServedAll l workers (Ok done) = (l.fault ≡ None) × All (WorkerHasServed l.records) workers
 ServedAll l workers (Err why) = MayAnswer l.fault why

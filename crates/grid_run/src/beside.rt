@@ -5,7 +5,7 @@ ghost use Rattle.std.specs.List.{All};
 ghost use Rattle.din_trace.specs.declared.record.DinRecord.{DinRecord};
 ghost use Rattle.grid_run.specs.Backs.{AreFew, RequestsFor};
 ghost use Rattle.grid_run.specs.Banks.{HaveServed, WasAsked, bank_task};
-ghost use Rattle.grid_run.specs.FirstLevels.{HaveTaken, WasGiven, first_task};
+ghost use Rattle.grid_run.specs.FirstLevels.{WasGiven, WereGivenNext, first_task};
 
 use crate::bank::Bank;
 use crate::banks::{settle_all, settle_on, waiting_for};
@@ -42,7 +42,7 @@ fn settle_and_take(
         × WasGiven served past first.old × (length past + length part.now ≤ MAX_LIMIT) }
     ensures served { OnOk result (HaveServed banks.old banks.new) }
     ensures tasks { map bank_task banks.new ≡ map bank_task banks.old }
-    ensures taken { OnOk result (HaveTaken part.now first.old first.new) }
+    ensures taken { OnOk result (WereGivenNext part.now first.old first.new) }
     ensures task { first_task first.new ≡ first_task first.old }
 {
     settle_all(banks)?;
@@ -70,7 +70,7 @@ fn take_beside<T: Threads + Sync>(
     ensures near { OnOk result (HaveServed near.old near.new) }
     ensures tasks { (map bank_task far.new ≡ map bank_task far.old)
         × (map bank_task near.new ≡ map bank_task near.old) }
-    ensures taken { OnOk result (HaveTaken part.now first.old first.new) }
+    ensures taken { OnOk result (WereGivenNext part.now first.old first.new) }
     ensures task { first_task first.new ≡ first_task first.old }
 {
     let others = threads - 1;
@@ -106,7 +106,7 @@ pub(crate) fn take_on<T: Threads + Sync>(
         × WasGiven served past first.old × (length past + length part.now ≤ MAX_LIMIT) }
     ensures served { OnOk result (HaveServed banks.old banks.new) }
     ensures tasks { map bank_task banks.new ≡ map bank_task banks.old }
-    ensures taken { OnOk result (HaveTaken part.now first.old first.new) }
+    ensures taken { OnOk result (WereGivenNext part.now first.old first.new) }
     ensures task { first_task first.new ≡ first_task first.old }
 {
     if threads < 2 {

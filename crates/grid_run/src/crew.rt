@@ -6,7 +6,8 @@ ghost use Rattle.std.specs.List.{All};
 ghost use Rattle.din_trace.specs.declared.record.DinRecord.{DinRecord};
 ghost use Rattle.grid_run.specs.Lanes.{task_of_plan};
 ghost use Rattle.grid_run.specs.Rows.{IsSound};
-ghost use Rattle.grid_run.specs.Workers.{MayHaveSettled, MayHaveTaken, Took, worker_task};
+ghost use Rattle.grid_run.specs.Workers.{HasSettledUnlessFailed, HasTakenUnlessFailed};
+ghost use Rattle.grid_run.specs.Workers.{WorkerHasServed, worker_task};
 
 use crate::lists::made_for_each;
 use crate::plan::LanePlan;
@@ -41,7 +42,7 @@ fn workers_for(alloc: Global, plans: &[LanePlan], share: usize) -> Result<Vec<Wo
     requires { All IsSound plans.now }
     ensures tasks { IfOk result (λ workers.
         map worker_task workers.items ≡ map task_of_plan plans.now) }
-    ensures taken { IfOk result (λ workers. All (MayHaveTaken []) workers.items) }
+    ensures taken { IfOk result (λ workers. All (HasTakenUnlessFailed []) workers.items) }
 {
     made_for_each!(alloc, plans, Worker::new, share)
 }
@@ -55,10 +56,10 @@ fn take_batch<T: Threads + Sync>(
     batch: &[DinRecord],
 )
     requires threads { 0 < threads }
-    requires room { (past : List DinRecord) × All (MayHaveTaken past) workers.old
+    requires room { (past : List DinRecord) × All (HasTakenUnlessFailed past) workers.old
         × (length past + length batch.now ≤ MAX_LIMIT) }
-    ensures taken { (past : List DinRecord) → All (MayHaveTaken past) workers.old →
-        All (MayHaveTaken (past ++ batch.now)) workers.new }
+    ensures taken { (past : List DinRecord) → All (HasTakenUnlessFailed past) workers.old →
+        All (HasTakenUnlessFailed (past ++ batch.now)) workers.new }
     ensures tasks { map worker_task workers.new ≡ map worker_task workers.old }
 {
     thread::for_each_mut(
@@ -66,7 +67,7 @@ fn take_batch<T: Threads + Sync>(
         workers,
         threads,
         &|_, worker: &mut Worker|
-            requires { (past : List DinRecord) × MayHaveTaken past worker.now
+            requires { (past : List DinRecord) × HasTakenUnlessFailed past worker.now
                 × (length past + length batch.now ≤ MAX_LIMIT) }
         { worker.take(rt, share, batch) },
     );
@@ -81,10 +82,10 @@ fn take_in<T: Threads + Sync>(
     batch: &[DinRecord],
 )
     requires threads { 0 < threads }
-    requires room { (past : List DinRecord) × All (MayHaveTaken past) workers.old.items
+    requires room { (past : List DinRecord) × All (HasTakenUnlessFailed past) workers.old.items
         × (length past + length batch.now ≤ MAX_LIMIT) }
-    ensures taken { (past : List DinRecord) → All (MayHaveTaken past) workers.old.items →
-        All (MayHaveTaken (past ++ batch.now)) workers.new.items }
+    ensures taken { (past : List DinRecord) → All (HasTakenUnlessFailed past) workers.old.items →
+        All (HasTakenUnlessFailed (past ++ batch.now)) workers.new.items }
     ensures tasks { map worker_task workers.new.items ≡ map worker_task workers.old.items }
 {
     take_batch(rt, workers, threads, share, batch);
@@ -93,10 +94,10 @@ fn take_in<T: Threads + Sync>(
 /// Each worker serves what waits for its second levels.
 fn settle_each<T: Threads + Sync>(rt: &T, workers: &mut [Worker], threads: usize, share: usize)
     requires threads { 0 < threads }
-    requires room { (past : List DinRecord) × All (MayHaveTaken past) workers.old
+    requires room { (past : List DinRecord) × All (HasTakenUnlessFailed past) workers.old
         × (length past ≤ MAX_LIMIT) }
-    ensures settled { (past : List DinRecord) → All (MayHaveTaken past) workers.old →
-        All (MayHaveSettled past) workers.new }
+    ensures settled { (past : List DinRecord) → All (HasTakenUnlessFailed past) workers.old →
+        All (HasSettledUnlessFailed past) workers.new }
     ensures tasks { map worker_task workers.new ≡ map worker_task workers.old }
 {
     thread::for_each_mut(
@@ -104,7 +105,7 @@ fn settle_each<T: Threads + Sync>(rt: &T, workers: &mut [Worker], threads: usize
         workers,
         threads,
         &|_, worker: &mut Worker|
-            requires { (past : List DinRecord) × MayHaveTaken past worker.now
+            requires { (past : List DinRecord) × HasTakenUnlessFailed past worker.now
                 × (length past ≤ MAX_LIMIT) }
         { worker.settle(rt, share) },
     );
@@ -113,10 +114,10 @@ fn settle_each<T: Threads + Sync>(rt: &T, workers: &mut [Worker], threads: usize
 /// The same for the workers of a vector.
 fn settle_in<T: Threads + Sync>(rt: &T, workers: &mut Vec<Worker>, threads: usize, share: usize)
     requires threads { 0 < threads }
-    requires room { (past : List DinRecord) × All (MayHaveTaken past) workers.old.items
+    requires room { (past : List DinRecord) × All (HasTakenUnlessFailed past) workers.old.items
         × (length past ≤ MAX_LIMIT) }
-    ensures settled { (past : List DinRecord) → All (MayHaveTaken past) workers.old.items →
-        All (MayHaveSettled past) workers.new.items }
+    ensures settled { (past : List DinRecord) → All (HasTakenUnlessFailed past) workers.old.items →
+        All (HasSettledUnlessFailed past) workers.new.items }
     ensures tasks { map worker_task workers.new.items ≡ map worker_task workers.old.items }
 {
     settle_each(rt, workers, threads, share);
@@ -124,8 +125,8 @@ fn settle_in<T: Threads + Sync>(rt: &T, workers: &mut Vec<Worker>, threads: usiz
 
 /// Answers `NoMemory` if some worker was refused memory.
 fn tell_failure(workers: &[Worker]) -> Result<(), NoMemory>
-    ensures { OnOk result ((past : List DinRecord) → All (MayHaveSettled past) workers.now
-        → All (Took past) workers.now) }
+    ensures { OnOk result ((past : List DinRecord) → All (HasSettledUnlessFailed past) workers.now
+        → All (WorkerHasServed past) workers.now) }
 {
     for worker in workers {
         if worker.has_failed() {
@@ -141,7 +142,7 @@ impl Crew {
         requires { All IsSound plans.now }
         ensures tasks { IfOk result (λ crew.
             map worker_task crew.workers.items ≡ map task_of_plan plans.now) }
-        ensures taken { IfOk result (λ crew. All (MayHaveTaken []) crew.workers.items) }
+        ensures taken { IfOk result (λ crew. All (HasTakenUnlessFailed []) crew.workers.items) }
     {
         let share = (threads / plans.len().max(1)).max(1);
         Ok(Crew {
@@ -157,11 +158,12 @@ impl Crew {
         rt: &T,
         batch: &Vec<DinRecord>,
     ) -> Result<(), NoMemory>
-        requires room { (past : List DinRecord) × All (MayHaveTaken past) self.old.workers.items
+        requires room { (past : List DinRecord)
+            × All (HasTakenUnlessFailed past) self.old.workers.items
             × (length past + length batch.now.items ≤ MAX_LIMIT) }
         ensures taken { OnOk result ((past : List DinRecord) →
-            All (MayHaveTaken past) self.old.workers.items →
-            All (MayHaveTaken (past ++ batch.now.items)) self.new.workers.items) }
+            All (HasTakenUnlessFailed past) self.old.workers.items →
+            All (HasTakenUnlessFailed (past ++ batch.now.items)) self.new.workers.items) }
         ensures tasks { map worker_task self.new.workers.items
             ≡ map worker_task self.old.workers.items }
     {
@@ -172,11 +174,12 @@ impl Crew {
     /// All workers serve what waits for their second levels: with a thread each, that is what the
     /// batches since the last long one left.
     pub fn settle<T: Threads + Sync>(&mut self, rt: &T) -> Result<(), NoMemory>
-        requires room { (past : List DinRecord) × All (MayHaveTaken past) self.old.workers.items
+        requires room { (past : List DinRecord)
+            × All (HasTakenUnlessFailed past) self.old.workers.items
             × (length past ≤ MAX_LIMIT) }
         ensures settled { OnOk result ((past : List DinRecord) →
-            All (MayHaveTaken past) self.old.workers.items →
-            All (Took past) self.new.workers.items) }
+            All (HasTakenUnlessFailed past) self.old.workers.items →
+            All (WorkerHasServed past) self.new.workers.items) }
         ensures tasks { map worker_task self.new.workers.items
             ≡ map worker_task self.old.workers.items }
     {

@@ -28,15 +28,15 @@ impl Lane {
     ghost use Rattle.stage_core.specs.SecondLevel.{Hierarchy};
     ghost use Rattle.stage_core.specs.declared.selection.Selection.{Selection};
     ghost use Rattle.grid_run.specs.Grids.{figures_of};
-    ghost use Rattle.grid_run.specs.Lanes.{AreIdle, HasGiven, HasSettled, HasTaken, IsPlaced};
-    ghost use Rattle.grid_run.specs.Lanes.{lane_task, task_of_plan};
+    ghost use Rattle.grid_run.specs.Lanes.{AllLevelsHaveServed, AreIdle, FirstLevelsHaveServed};
+    ghost use Rattle.grid_run.specs.Lanes.{HasGiven, IsPlaced, lane_task, task_of_plan};
     ghost use Rattle.grid_run.specs.Rows.{IsPlaceIn};
 
     /// The empty caches of a plan, for so many threads.
     pub fn new(alloc: Global, plan: &LanePlan, threads: usize) -> Result<Lane, NoMemory>
         requires bounded { IsBounded plan.now.selection }
         requires placed { IsPlaced (task_of_plan plan.now) }
-        ensures taken { IfOk result (HasTaken []) }
+        ensures taken { IfOk result (FirstLevelsHaveServed []) }
         ensures task { IfOk result (λ lane. lane_task lane ≡ task_of_plan plan.now) }
     {
         Ok(Lane {
@@ -52,7 +52,7 @@ impl Lane {
         threads: usize,
         part: &[DinRecord],
     ) -> Result<(), NoMemory>
-        requires room { (records : List DinRecord) × HasTaken records self.old
+        requires room { (records : List DinRecord) × FirstLevelsHaveServed records self.old
             × (length records + length part.now ≤ MAX_LIMIT) }
         ensures given { OnOk result ((past records : List DinRecord) →
             HasGiven past records self.old → HasGiven past (records ++ part.now) self.new) }
@@ -66,7 +66,7 @@ impl Lane {
 
     /// The second levels serve what they were given.
     fn serve<T: Threads + Sync>(&mut self, rt: &T, threads: usize) -> Result<(), NoMemory>
-        requires room { (records : List DinRecord) × HasTaken records self.old
+        requires room { (records : List DinRecord) × FirstLevelsHaveServed records self.old
             × (length records ≤ MAX_LIMIT) }
         ensures given { OnOk result ((past records : List DinRecord) →
             HasGiven past records self.old → HasGiven past records self.new) }
@@ -81,7 +81,7 @@ impl Lane {
     /// The second levels, which are idle, are given all that waits in the queues. The queues get
     /// their empty lists.
     fn pass_on(&mut self)
-        requires taken { (records : List DinRecord) × HasTaken records self.old }
+        requires taken { (records : List DinRecord) × FirstLevelsHaveServed records self.old }
         requires idle { AreIdle self.old }
         ensures given { (past records : List DinRecord) → HasGiven past records self.old
             → HasGiven records records self.new }
@@ -92,10 +92,11 @@ impl Lane {
 
     /// Serves all that waits for the second levels.
     pub fn settle<T: Threads + Sync>(&mut self, rt: &T, threads: usize) -> Result<(), NoMemory>
-        requires room { (records : List DinRecord) × HasTaken records self.old
+        requires room { (records : List DinRecord) × FirstLevelsHaveServed records self.old
             × (length records ≤ MAX_LIMIT) }
-        ensures settled { OnOk result ((records : List DinRecord) → HasTaken records self.old
-            → HasSettled records self.new) }
+        ensures settled { OnOk result ((records : List DinRecord)
+            → FirstLevelsHaveServed records self.old
+            → AllLevelsHaveServed records self.new) }
         ensures task { lane_task self.new ≡ lane_task self.old }
     {
         self.serve(rt, threads)?;
@@ -106,9 +107,10 @@ impl Lane {
     /// Serves all that waits for the second levels, and gives the lists back to the queues, so that
     /// each queue does with one list.
     pub fn catch_up<T: Threads + Sync>(&mut self, rt: &T, threads: usize) -> Result<(), NoMemory>
-        requires room { (records : List DinRecord) × HasTaken records self.old
+        requires room { (records : List DinRecord) × FirstLevelsHaveServed records self.old
             × (length records ≤ MAX_LIMIT) }
-        ensures given { OnOk result ((records : List DinRecord) → HasTaken records self.old
+        ensures given { OnOk result ((records : List DinRecord)
+            → FirstLevelsHaveServed records self.old
             → HasGiven records records self.new) }
         ensures task { lane_task self.new ≡ lane_task self.old }
     {
@@ -125,10 +127,11 @@ impl Lane {
         threads: usize,
         part: &[DinRecord],
     ) -> Result<(), NoMemory>
-        requires room { (records : List DinRecord) × HasTaken records self.old
+        requires room { (records : List DinRecord) × FirstLevelsHaveServed records self.old
             × (length records + length part.now ≤ MAX_LIMIT) }
-        ensures taken { OnOk result ((records : List DinRecord) → HasTaken records self.old
-            → HasTaken (records ++ part.now) self.new) }
+        ensures taken { OnOk result ((records : List DinRecord)
+            → FirstLevelsHaveServed records self.old
+            → FirstLevelsHaveServed (records ++ part.now) self.new) }
         ensures task { lane_task self.new ≡ lane_task self.old }
     {
         self.work(rt, threads, part)?;
@@ -147,7 +150,7 @@ impl Lane {
         requires { (c : Hierarchy) × (s : Selection)
             × IsPlaceIn (lane_task self.now) c s place.now }
         ensures { (c : Hierarchy) (s : Selection) (past : List DinRecord) →
-            IsPlaceIn (lane_task self.now) c s place.now → HasSettled past self.now →
+            IsPlaceIn (lane_task self.now) c s place.now → AllLevelsHaveServed past self.now →
             result ≡ figures_of c (events s past) }
     {
         let i = &self.first.i[place.i.family].family;

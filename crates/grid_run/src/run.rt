@@ -9,7 +9,7 @@ ghost use Rattle.din_trace.specs.Source.{HasLeft, Takes};
 ghost use Rattle.din_trace.specs.declared.record.DinRecord.{DinRecord};
 ghost use Rattle.grid_run.specs.Readings.{HasReadBatch};
 ghost use Rattle.grid_run.specs.Rows.{ServedAll};
-ghost use Rattle.grid_run.specs.Workers.{MayHaveTaken, worker_task};
+ghost use Rattle.grid_run.specs.Workers.{HasTakenUnlessFailed, worker_task};
 
 use crate::crew::Crew;
 use crate::fault::{GridFault, fault_of_source};
@@ -58,11 +58,11 @@ fn take_and_read<R: ByteReader + Send, T: Threads + Sync>(
     next: &mut Vec<DinRecord>,
     size: usize,
 ) -> Result<bool, GridFault>
-    requires room { (past : List DinRecord) × All (MayHaveTaken past) crew.old.workers.items
+    requires room { (past : List DinRecord) × All (HasTakenUnlessFailed past) crew.old.workers.items
         × (length past + length batch.now.items ≤ MAX_LIMIT) }
     ensures taken { OnOk result ((past : List DinRecord) →
-        All (MayHaveTaken past) crew.old.workers.items →
-        All (MayHaveTaken (past ++ batch.now.items)) crew.new.workers.items) }
+        All (HasTakenUnlessFailed past) crew.old.workers.items →
+        All (HasTakenUnlessFailed (past ++ batch.now.items)) crew.new.workers.items) }
     ensures tasks { map worker_task crew.new.workers.items
         ≡ map worker_task crew.old.workers.items }
     ensures read { HasReadBatch R.remaining R.failures source.old source.new next.new.items
@@ -80,7 +80,8 @@ fn take_and_read<R: ByteReader + Send, T: Threads + Sync>(
         rt,
         &mut || read_batch(source, next, size),
         &mut ||
-            requires { (past : List DinRecord) × All (MayHaveTaken past) crew.now.workers.items
+            requires { (past : List DinRecord)
+                × All (HasTakenUnlessFailed past) crew.now.workers.items
                 × (length past + length batch.now.items ≤ MAX_LIMIT) }
         { crew.take(rt, batch) },
     );
@@ -98,7 +99,7 @@ pub(crate) fn serve_trace<R: ByteReader + Send, T: Threads + Sync>(
     source: &mut Source<R>,
     crew: &mut Crew,
 ) -> Result<(), GridFault>
-    requires fresh { All (MayHaveTaken []) crew.old.workers.items }
+    requires fresh { All (HasTakenUnlessFailed []) crew.old.workers.items }
     ensures tasks { map worker_task crew.new.workers.items
         ≡ map worker_task crew.old.workers.items }
     ensures unwritten { IfErr result (λ why. why ≢ GridFault.Write) }

@@ -11,7 +11,7 @@ ghost use Rattle.din_trace.specs.Faults.{GaveAll, IsFaultOf};
 ghost use Rattle.din_trace.specs.declared.record.DinRecord.{DinRecord};
 ghost use Rattle.grid_run.specs.Grids.{HasBoundedRows, row_line, table, table_of};
 ghost use Rattle.grid_run.specs.Rows.{HasPlace, HavePlaces};
-ghost use Rattle.grid_run.specs.Workers.{Took, worker_task};
+ghost use Rattle.grid_run.specs.Workers.{WorkerHasServed, worker_task};
 
 use crate::crew::Crew;
 use crate::fault::GridFault;
@@ -33,7 +33,7 @@ fn write_row<W: ByteWriter>(
     writer: &mut W,
 ) -> Result<(), DeviceFailed>
     requires { HasPlace (map worker_task workers.now) row.now.setup place.now }
-    ensures line { (rs : List DinRecord) → All (Took rs) workers.now → OnOk result
+    ensures line { (rs : List DinRecord) → All (WorkerHasServed rs) workers.now → OnOk result
         (Appends (W.contents writer.old) (W.contents writer.new) (row_line columns rs row.now)) }
     ensures sound { OnOk result (W.failures writer.new ≡ W.failures writer.old) }
     ensures failed { OnErr result (W.failures writer.new ≡ once_more (W.failures writer.old)) }
@@ -59,7 +59,7 @@ fn write_rows<W: ByteWriter>(
     writer: &mut W,
 ) -> Result<(), DeviceFailed>
     requires { HavePlaces (map worker_task workers.now) rows.now places.now }
-    ensures lines { (rs : List DinRecord) → All (Took rs) workers.now → OnOk result
+    ensures lines { (rs : List DinRecord) → All (WorkerHasServed rs) workers.now → OnOk result
         (Appends (W.contents writer.old) (W.contents writer.new)
         (flat_map (row_line columns rs) rows.now)) }
     ensures sound { OnOk result (W.failures writer.new ≡ W.failures writer.old) }
@@ -80,7 +80,7 @@ fn write_lines<W: ByteWriter>(
 ) -> Result<(), DeviceFailed>
     requires { HavePlaces (map worker_task workers.now.items) grid.now.rows.items
         places.now.items }
-    ensures table { (rs : List DinRecord) → All (Took rs) workers.now.items → OnOk result
+    ensures table { (rs : List DinRecord) → All (WorkerHasServed rs) workers.now.items → OnOk result
         (Appends (W.contents writer.old) (W.contents writer.new) (table grid.now rs)) }
     ensures sound { OnOk result (W.failures writer.new ≡ W.failures writer.old) }
     ensures failed { OnErr result (W.failures writer.new ≡ once_more (W.failures writer.old)) }
@@ -99,7 +99,7 @@ fn write_table<W: ByteWriter>(
 ) -> Result<(), GridFault>
     requires { HavePlaces (map worker_task workers.now.items) grid.now.rows.items
         places.now.items }
-    ensures table { (rs : List DinRecord) → All (Took rs) workers.now.items → OnOk result
+    ensures table { (rs : List DinRecord) → All (WorkerHasServed rs) workers.now.items → OnOk result
         (Appends (W.contents writer.old) (W.contents writer.new) (table grid.now rs)) }
     ensures sound { OnOk result (W.failures writer.new ≡ W.failures writer.old) }
     ensures failed { OnErr result (W.failures writer.new ≡ once_more (W.failures writer.old)) }

@@ -30,12 +30,13 @@ impl Worker {
     ghost use Rattle.grid_run.specs.Grids.{figures_of};
     ghost use Rattle.grid_run.specs.Lanes.{task_of_plan};
     ghost use Rattle.grid_run.specs.Rows.{IsPlaceIn, IsSound};
-    ghost use Rattle.grid_run.specs.Workers.{MayHaveSettled, MayHaveTaken, Took, worker_task};
+    ghost use Rattle.grid_run.specs.Workers.{HasSettledUnlessFailed, HasTakenUnlessFailed};
+    ghost use Rattle.grid_run.specs.Workers.{WorkerHasServed, worker_task};
 
     /// The empty lane of a plan, for so many threads.
     pub fn new(alloc: Global, plan: &LanePlan, threads: usize) -> Result<Worker, NoMemory>
         requires { IsSound plan.now }
-        ensures taken { IfOk result (MayHaveTaken []) }
+        ensures taken { IfOk result (HasTakenUnlessFailed []) }
         ensures task { IfOk result (λ worker. worker_task worker ≡ task_of_plan plan.now) }
     {
         Ok(Worker {
@@ -46,10 +47,10 @@ impl Worker {
 
     /// Takes some records in their order.
     fn take_part<T: Threads + Sync>(&mut self, rt: &T, threads: usize, part: &[DinRecord])
-        requires room { (past : List DinRecord) × MayHaveTaken past self.old
+        requires room { (past : List DinRecord) × HasTakenUnlessFailed past self.old
             × (length past + length part.now ≤ MAX_LIMIT) }
-        ensures taken { (past : List DinRecord) → MayHaveTaken past self.old
-            → MayHaveTaken (past ++ part.now) self.new }
+        ensures taken { (past : List DinRecord) → HasTakenUnlessFailed past self.old
+            → HasTakenUnlessFailed (past ++ part.now) self.new }
         ensures task { worker_task self.new ≡ worker_task self.old }
     {
         if !self.failed {
@@ -59,10 +60,10 @@ impl Worker {
 
     /// Takes records in their order, part by part.
     fn take_parts<T: Threads + Sync>(&mut self, rt: &T, threads: usize, batch: &[DinRecord])
-        requires room { (past : List DinRecord) × MayHaveTaken past self.old
+        requires room { (past : List DinRecord) × HasTakenUnlessFailed past self.old
             × (length past + length batch.now ≤ MAX_LIMIT) }
-        ensures taken { (past : List DinRecord) → MayHaveTaken past self.old
-            → MayHaveTaken (past ++ batch.now) self.new }
+        ensures taken { (past : List DinRecord) → HasTakenUnlessFailed past self.old
+            → HasTakenUnlessFailed (past ++ batch.now) self.new }
         ensures task { worker_task self.new ≡ worker_task self.old }
     {
         let mut taken = 0;
@@ -77,10 +78,10 @@ impl Worker {
     /// the slowest one. So a worker with one thread lets nothing wait for the next batch, which
     /// would make them uneven.
     pub fn take<T: Threads + Sync>(&mut self, rt: &T, threads: usize, batch: &[DinRecord])
-        requires room { (past : List DinRecord) × MayHaveTaken past self.old
+        requires room { (past : List DinRecord) × HasTakenUnlessFailed past self.old
             × (length past + length batch.now ≤ MAX_LIMIT) }
-        ensures taken { (past : List DinRecord) → MayHaveTaken past self.old
-            → MayHaveTaken (past ++ batch.now) self.new }
+        ensures taken { (past : List DinRecord) → HasTakenUnlessFailed past self.old
+            → HasTakenUnlessFailed (past ++ batch.now) self.new }
         ensures task { worker_task self.new ≡ worker_task self.old }
     {
         self.take_parts(rt, threads, batch);
@@ -91,10 +92,10 @@ impl Worker {
 
     /// Serves what waits for the second levels.
     pub fn settle<T: Threads + Sync>(&mut self, rt: &T, threads: usize)
-        requires room { (past : List DinRecord) × MayHaveTaken past self.old
+        requires room { (past : List DinRecord) × HasTakenUnlessFailed past self.old
             × (length past ≤ MAX_LIMIT) }
-        ensures settled { (past : List DinRecord) → MayHaveTaken past self.old
-            → MayHaveSettled past self.new }
+        ensures settled { (past : List DinRecord) → HasTakenUnlessFailed past self.old
+            → HasSettledUnlessFailed past self.new }
         ensures task { worker_task self.new ≡ worker_task self.old }
     {
         if !self.failed {
@@ -114,7 +115,7 @@ impl Worker {
         requires { (c : Hierarchy) × (s : Selection)
             × IsPlaceIn (worker_task self.now) c s place.now }
         ensures { (c : Hierarchy) (s : Selection) (past : List DinRecord) →
-            IsPlaceIn (worker_task self.now) c s place.now → Took past self.now →
+            IsPlaceIn (worker_task self.now) c s place.now → WorkerHasServed past self.now →
             result ≡ figures_of c (events s past) }
     {
         self.lane.figures(place)

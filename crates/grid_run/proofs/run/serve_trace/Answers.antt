@@ -3,7 +3,7 @@ use Rattle.std.proofs.Common.{refl, length-append}
 use Rattle.std.specs.List.{All}
 use Rattle.din_trace.specs.declared.record.DinRecord.{DinRecord}
 use Rattle.grid_run.specs.Rows.{ServedAll}
-use Rattle.grid_run.specs.Workers.{Took}
+use Rattle.grid_run.specs.Workers.{WorkerHasServed}
 use Rattle.grid_run.proofs.Readings.{read-nothing, when-ok}
 use Rattle.grid_run.proofs.run.serve_trace.Goals as goal
 
@@ -80,7 +80,8 @@ returns-clause-reads g c =
       λ first last l is left.
           let all = ended.all first last l is left in (
             all.0,
-            subst (λ (rs : List DinRecord). All (Took rs) c.settle.new.self.workers.items)
+            subst (λ (rs : List DinRecord). All (WorkerHasServed rs)
+                c.settle.new.self.workers.items)
                 (sym all.1) took,
           ),
     )

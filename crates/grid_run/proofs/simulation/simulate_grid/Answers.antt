@@ -8,7 +8,7 @@ use Rattle.din_trace.specs.declared.record.DinRecord.{DinRecord}
 use Rattle.din_trace.proofs.Told.{MayBeLeft, of-text-given, script_of_told}
 use Rattle.grid_run.specs.Grids.{table, table_of}
 use Rattle.grid_run.specs.Rows.{ServedAll}
-use Rattle.grid_run.specs.Workers.{Took}
+use Rattle.grid_run.specs.Workers.{WorkerHasServed}
 use Rattle.grid_run.specs.declared.fault.GridFault.TheVariants.{Trace}
 use Rattle.grid_run.proofs.simulation.simulate_grid.Goals as goal
 use Rattle.grid_run.proofs.simulation.simulate_grid.Goals.{After-serve_trace}
@@ -62,7 +62,7 @@ returns-clause-whole g c =
     let same : reader_of c.new-source.result ≡ c.args.reader = c.new-source.ensures.reader in
     let some = of-text-given g.R.ByteReader.remaining g.R.ByteReader.failures c.args.reader
     (reader_of c.serve_trace.new.source) c.args.limit
-    (λ rs. All (Took rs) c.serve_trace.new.crew.workers.items) reads.1 reads.0
+    (λ rs. All (WorkerHasServed rs) c.serve_trace.new.crew.workers.items) reads.1 reads.0
     (rw same at reads.2.reader)
     (λ before later is. subst (ServedAll _ c.serve_trace.new.crew.workers.items)
     c.in_ok-serve_trace.was (reads.3 before later _ is (c.new-source.ensures.left before))) in

@@ -6,7 +6,7 @@ use Rattle.std.proofs.lemmas.Result.{on_ok_weaker}
 use Rattle.din_trace.proofs.WritesLemmas.{appends_twice}
 use Rattle.grid_run.specs.Grids.{row_line, table}
 use Rattle.grid_run.specs.Table.{head_line}
-use Rattle.grid_run.specs.Workers.{Took}
+use Rattle.grid_run.specs.Workers.{WorkerHasServed}
 use Rattle.grid_run.specs.declared.worker.Worker.{Worker}
 use Rattle.grid_run.proofs.simulation.write_lines.Goals as goal
 
@@ -23,7 +23,7 @@ returns-clause-table g c = λ past all.
     ∙ ap (λ rs. head_line columns (map string_bytes names) ++ flat_map (row_line columns past) rs)
     c.deref-2.ensures.value in
     let written = c.in_ok-write_rows.ensures.lines past
-    (subst (λ (ts : List Worker). All (Took past) ts) (sym c.deref-4.ensures.value)
+    (subst (λ (ts : List Worker). All (WorkerHasServed past) ts) (sym c.deref-4.ensures.value)
     all) in
     on_ok_weaker c.flush.result (λ nothing.
     subst (Appends (g.W.ByteWriter.contents c.args.writer.now)

@@ -10,7 +10,7 @@ use Rattle.stage_core.specs.declared.selection.Selection.{Selection}
 use Rattle.grid_run.specs.Grids.{setup_line}
 use Rattle.grid_run.specs.Lanes.{LaneTask}
 use Rattle.grid_run.specs.Rows.{HasPlace, IsPlaceIn, IsPlaceOf}
-use Rattle.grid_run.specs.Workers.{Took, worker_task}
+use Rattle.grid_run.specs.Workers.{WorkerHasServed, worker_task}
 use Rattle.grid_run.specs.Table.{counted_line}
 use Rattle.grid_run.specs.declared.grid.Setup.{Setup}
 use Rattle.grid_run.specs.declared.grid.Setup.TheVariants.{Simulated}
@@ -66,7 +66,8 @@ returns-in-Some-clause-line g c = λ past served.
     c.in-Simulated.is c.in-Some.is c.requires in
     let inside = lane-inside c.args.workers.now f s p place in
     let there = lane-there c.args.workers.now f s p l c.index-workers-place.is place in
-    let taken = subst (Took past) (sym c.index-workers-place.is) (served p.lane l inside) in
+    let taken = subst (WorkerHasServed past) (sym c.index-workers-place.is)
+        (served p.lane l inside) in
     let counted = c.figures-figures.ensures (hierarchy_of f) s past there taken in
     let line = ap (λ ws. counted_line c.args.columns (map string_bytes ws) c.figures-figures.result)
     c.deref-in-Some.ensures.value

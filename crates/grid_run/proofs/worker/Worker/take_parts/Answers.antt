@@ -2,7 +2,7 @@ use Rattle.std.proofs.Common.{◌≡◌, ◌++◌, ◌+◌, ◌-◌, ℕ, List, 
 use Rattle.std.proofs.Common.{append_assoc, arith}
 use Rattle.std.proofs.Math.Seq.{take-add}
 use Rattle.din_trace.specs.declared.record.DinRecord.{DinRecord}
-use Rattle.grid_run.specs.Workers.{MayHaveTaken}
+use Rattle.grid_run.specs.Workers.{HasTakenUnlessFailed}
 use Rattle.grid_run.proofs.worker.Worker.take_parts.Goals as goal
 
 pub parts-smaller : goal.parts-smaller
@@ -18,7 +18,7 @@ parts-preserved g c =
     let lt = c.parts-test.true in
     record {
       taken = λ past was.
-          subst (λ (l : List DinRecord). MayHaveTaken l c.take_part.new.self)
+          subst (λ (l : List DinRecord). HasTakenUnlessFailed l c.take_part.new.self)
           (append_assoc past (take k xs) _ ∙ ap (λ l. past ++ l)
           (ap (λ n. take k xs ++ take n (drop k xs)) (add-sub k) ∙ sym (take-add k 49152 xs)))
           (c.take_part.ensures.taken (past ++ take k xs) (c.parts.invariant.taken past was));
