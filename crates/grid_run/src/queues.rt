@@ -13,7 +13,7 @@ ghost use Rattle.grid_run.specs.declared.plan.BackShelf.{BackShelf};
 ghost use Rattle.grid_run.specs.declared.requests.Request.{Request};
 
 use crate::front::Front;
-use crate::lists::made_for_each;
+use crate::lists::add_to;
 use crate::plan::BackShelf;
 use crate::queue::Queue;
 use cache_core::NoMemory;
@@ -30,12 +30,11 @@ const MUCH_EACH: usize = 65_536;
 const MUCH: usize = 2_097_152;
 
 /// An empty queue for the second levels of a shelf.
-fn queue_for(alloc: Global, shelf: &BackShelf) -> Result<Queue, NoMemory>
-    ensures seats { IfOk result (λ queue.
-        queue_seats queue ≡ seats_of_task (task_of_shelf shelf.now)) }
-    ensures none { IfOk result HasNone }
+fn queue_for(alloc: Global, shelf: &BackShelf) -> Queue
+    ensures seats { queue_seats result ≡ seats_of_task (task_of_shelf shelf.now) }
+    ensures none { HasNone result }
 {
-    Ok(Queue::new(alloc, shelf.seats()))
+    Queue::new(alloc, shelf.seats())
 }
 
 /// An empty queue for the second levels of each of these shelves.
@@ -44,7 +43,12 @@ pub(crate) fn queues_for(alloc: Global, shelves: &[BackShelf]) -> Result<Vec<Que
         ≡ map (λ (shelf : BackShelf). seats_of_task (task_of_shelf shelf)) shelves.now) }
     ensures none { IfOk result (λ queues. All HasNone queues.items) }
 {
-    made_for_each!(alloc, shelves, queue_for)
+    let mut queues = Vec::new(alloc);
+    for shelf in shelves {
+        let queue = queue_for(alloc, shelf);
+        add_to(&mut queues, queue)?;
+    }
+    Ok(queues)
 }
 
 /// All queues take what the first-level caches of a side sent for the last request.

@@ -1,7 +1,8 @@
 use Rattle.grid_run.proofs.Each.{made_more}
 use Rattle.grid_run.proofs.queues.queues_for.Goals as goal
 
-pub loop-plan-preserved : goal.loop-plan-preserved
-loop-plan-preserved c =
-    made_more c.in_ok-one.one c.loop-plan.invariant c.in_ok-add_to.ensures.joined
-    c.loop-plan-test.true c.plan-item.is c.in_ok-one.ensures.seats c.in_ok-one.ensures.none
+pub loop-shelf-preserved : goal.loop-shelf-preserved
+loop-shelf-preserved c =
+    made_more c.queue_for-queue.result c.loop-shelf.invariant c.in_ok-add_to.ensures.joined
+    c.loop-shelf-test.true c.shelf-item.is c.queue_for-queue.ensures.seats
+    c.queue_for-queue.ensures.none

@@ -4,7 +4,7 @@ use Rattle.grid_run.proofs.Each.{AreMade}
 use Rattle.grid_run.proofs.queues.queues_for.Given as goal
 
 -- there is an empty queue for each shelf that was passed
-abbrev pub invariant-loop-plan : goal.invariant-loop-plan
-invariant-loop-plan l =
+abbrev pub invariant-loop-shelf : goal.invariant-loop-shelf
+invariant-loop-shelf l =
     AreMade queue_seats (λ (shelf : BackShelf). seats_of_task (task_of_shelf shelf)) HasNone
-    l.shelves l.plan-index l.made.items
+    l.shelves l.shelf-index l.queues.items
