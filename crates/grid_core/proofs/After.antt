@@ -23,7 +23,7 @@ use Rattle.grid_core.specs.declared.stack.Stack.{Stack}
 use Rattle.grid_core.specs.FullyAssociative.{shadow_misses}
 use Rattle.grid_core.specs.Ways.{IsStacked}
 use Rattle.grid_core.specs.Histograms.{level_at}
-use Rattle.grid_core.specs.Standing.{IsCountedIn, IsEmptyStack, StandsFor}
+use Rattle.grid_core.specs.Standing.{IsCountedIn, IsEmptyStack, StackStandsFor}
 use Rattle.grid_core.specs.Recent.{IsRecent, after_use, none_recent}
 use Rattle.grid_core.specs.Shadows.{AreNumbered, HoldsOrder, far_in, is_known, levels_in}
 use Rattle.grid_core.specs.Shadows.{recent_in, shadow_sizes}
@@ -111,7 +111,7 @@ module _ (g : Geometry) (h : History) (x : Access) where
   pub after-access : (blocks : List ℕ) (stacks stacks' : List Stack) (shadows shadows' : Shadows)
       (shapes : List Shape) (p : PriorLevel) → IsAfter blocks g stacks shadows shapes h
       → All (λ s. KnowsPrior s h x p) shapes
-      → All (λ s. StandsFor s (access x ∷ h)) stacks'
+      → All (λ s. StackStandsFor s (access x ∷ h)) stacks'
       → All (IsCountedIn (shadow_sizes shadows) (access x ∷ h)) stacks'
       → ((zs : List ℕ) → HoldsOrder blocks shadows zs
       → HoldsOrder blocks shadows' (brought_front b zs))
@@ -153,7 +153,7 @@ referenced-flush r h b = refl
 module _ (g : Geometry) (h : History) where
   pub after-flush : (blocks : List ℕ) (stacks stacks' : List Stack) (shadows shadows' : Shadows)
       (shapes : List Shape) → IsAfter blocks g stacks shadows shapes h
-      → All (λ s. StandsFor s (flush ∷ h)) stacks'
+      → All (λ s. StackStandsFor s (flush ∷ h)) stacks'
       → All (IsCountedIn (shadow_sizes shadows) (flush ∷ h)) stacks'
       → HoldsOrder blocks shadows' []
       → ((c : ℕ) → is_known blocks shadows' c ≡ is_known blocks shadows c)

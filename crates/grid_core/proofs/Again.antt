@@ -27,7 +27,7 @@ use Rattle.grid_core.specs.Recent.{IsAgain, used_last, written_last}
 use Rattle.grid_core.specs.Shadows.{HoldsOrder, recent_in, shadow_sizes}
 use Rattle.grid_core.specs.Shapes.{HaveBsize}
 use Rattle.grid_core.specs.Slots.{next_slots}
-use Rattle.grid_core.specs.Standing.{StandsFor, StaysFirst, rules_of, row_slots}
+use Rattle.grid_core.specs.Standing.{StackStandsFor, StaysFirst, row_slots, rules_of_rows}
 use Rattle.grid_core.specs.State.{IsAfter, IsRanked, base_rules}
 use Rattle.grid_core.specs.Ways.{IsStacked}
 use Rattle.grid_core.specs.Written.{no_rules}
@@ -66,8 +66,8 @@ known-again n b r (access y ∷ h) same e c =
 
 -- the block size of the rows at an index
 pub size-at : (n : ℕ) (stacks : List Stack) → HaveBsize n stacks
-    → All (λ s. (rules_of s).bsize ≡ n) stacks
-size-at n stacks = told-at rules_of (λ r. r.bsize ≡ n) stacks
+    → All (λ s. (rules_of_rows s).bsize ≡ n) stacks
+size-at n stacks = told-at rules_of_rows (λ r. r.bsize ≡ n) stacks
 
 module _ (n : ℕ) (h : History) (x : Access) (last : used_last n (x.addr / n) h ≡ true) where
   -- in the words of the rules of a cache of the block size
@@ -99,14 +99,14 @@ module _ (n : ℕ) (h : History) (x : Access) (last : used_last n (x.addr / n) h
 
   -- the block stays first in its row
   module _ (written : is_write x ≡ true → written_last n (x.addr / n) h ≡ true) (s : Stack)
-      (same : (rules_of s).bsize ≡ n) where
-    written-in : is_write x ≡ true → written_last (rules_of s).bsize (block_of (rules_of s) x) h
-        ≡ true
+      (same : (rules_of_rows s).bsize ≡ n) where
+    written-in : is_write x ≡ true
+        → written_last (rules_of_rows s).bsize (block_of (rules_of_rows s) x) h ≡ true
     written-in w = subst (λ m. written_last m (x.addr / m) h ≡ true) (sym same) (written w)
 
-    pub stays-first : StaysFirst (rules_of s) h x
+    pub stays-first : StaysFirst (rules_of_rows s) h x
     stays-first =
-        let r = rules_of s in
+        let r = rules_of_rows s in
         let b = block_of r x in
         record {
           first = distance-last r (stacked s) b (some-ways s) h (last-in r same);
@@ -114,9 +114,9 @@ module _ (n : ℕ) (h : History) (x : Access) (last : used_last n (x.addr / n) h
         }
 
     -- rows stay as they are
-    pub stands-again : StandsFor s h → StandsFor s (access x ∷ h)
+    pub stands-again : StackStandsFor s h → StackStandsFor s (access x ∷ h)
     stands-again st =
-        let r = rules_of s in
+        let r = rules_of_rows s in
         let b = block_of r x in
         let xs = row_slots s in
         let inside : b % r.sets < r.sets = mod-lt b (some-sets s) in
@@ -132,11 +132,11 @@ module _ (n : ℕ) (h : History) (x : Access) (last : used_last n (x.addr / n) h
 -- each cache hits
 pub all-again : (g : Geometry) (h : History) (x : Access) (sizes : List ℕ) (stacks : List Stack)
     (shapes : List Shape) → used_last (bsize_of g) (x.addr / bsize_of g) h ≡ true
-    → All (λ s. IsPlacedAmong (map rules_of stacks) s) shapes
+    → All (λ s. IsPlacedAmong (map rules_of_rows stacks) s) shapes
     → All (IsRanked sizes g) shapes → All (HitsIn h x) shapes
 all-again g h x sizes stacks shapes last placed ranked k d lt =
     let s = get_or shapes k d in
-    let rs = map rules_of stacks in
+    let rs = map rules_of_rows stacks in
     hits-again (bsize_of g) h x last (get_or rs s.stack no_rules) s
     ((placed k d lt).placed no_rules) (ranked k d lt).same
 
@@ -200,7 +200,7 @@ after-again blocks g h x sizes stacks shadows shapes same ranked again st =
       known = λ c. st.known c ∙ known-again n b r h refl last c ∙ referenced-next g h x c;
       counted = λ k d lt.
           let s = get_or stacks k d in
-          counted-first (rules_of s) (shadow_sizes shadows) h x s.histogram
+          counted-first (rules_of_rows s) (shadow_sizes shadows) h x s.histogram
           (stays-first n h x last written s (size-at n stacks same k d lt)) (st.counted k d lt);
       far = λ k d lt.
           let s = get_or shapes k d in

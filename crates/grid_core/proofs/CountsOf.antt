@@ -18,7 +18,7 @@ use Rattle.grid_core.specs.declared.cells.Shape.{Shape}
 use Rattle.grid_core.specs.declared.stack.Stack.{Stack}
 use Rattle.grid_core.specs.Cells.{IsPlacedOn, shape_rules}
 use Rattle.grid_core.specs.Histograms.{level_at, misses_past, past_in}
-use Rattle.grid_core.specs.Standing.{IsCountedIn, StandsFor, rules_of, written_at}
+use Rattle.grid_core.specs.Standing.{IsCountedIn, StackStandsFor, rules_of_rows, written_at}
 use Rattle.grid_core.specs.State.{IsAlike, IsRanked, backs_at, base_rules, counts_at, past_at}
 use Rattle.grid_core.specs.State.{whole_counts}
 use Rattle.grid_core.specs.Ways.{stack_distance}
@@ -40,10 +40,10 @@ and-true true = refl
 and-true false = refl
 
 module _ (g : Geometry) (sizes : List ℕ) (rising : IsStrictlyIncreasing sizes) (t : Stack)
-    (s : Shape) (ranked : IsRanked sizes g s) (on : IsPlacedOn (rules_of t) s) (h : History)
+    (s : Shape) (ranked : IsRanked sizes g s) (on : IsPlacedOn (rules_of_rows t) s) (h : History)
     (counted : IsCountedIn sizes h t) where
   abbrev r : Rules
-  r = rules_of t
+  r = rules_of_rows t
 
   hit-at : (e : History) (x : Access) → ltb (stack_distance r e (block_of r x)) s.ways
       ≡ hit (shape_rules s) e x
@@ -82,7 +82,7 @@ module _ (g : Geometry) (sizes : List ℕ) (rising : IsStrictlyIncreasing sizes)
       ∙ double (ltb s.rank (level_at r sizes e x)) (near (shape_rules s) e x) (near-at e x))) h
 
   -- the counts that the rows give are those of the cache
-  pub counts-are : StandsFor t h → (a : Alike) → IsAlike g h a
+  pub counts-are : StackStandsFor t h → (a : Alike) → IsAlike g h a
       → whole_counts a (past_in t.histogram s.ways 0) (past_in t.histogram s.ways (s.rank + 1))
       (written_at t s.ways) s.wback ≡ counts_of (shape_rules s) h
   counts-are stands a alike = whole-is g h a alike s ranked.same (past_in t.histogram s.ways 0)

@@ -22,7 +22,7 @@ use Rattle.grid_core.specs.declared.stack.Stack.{Stack}
 use Rattle.grid_core.specs.Ways.{with_ways, IsStacked}
 use Rattle.grid_core.specs.Levels.{dirty_level}
 use Rattle.grid_core.specs.Slots.{dirty_bytes, dirty_in_rows}
-use Rattle.grid_core.specs.Standing.{slot_at, slots_of, rules_of, StandsFor, row_slots}
+use Rattle.grid_core.specs.Standing.{StackStandsFor, row_slots, rules_of_rows, slot_at, slots_of}
 use Rattle.grid_core.proofs.Distances.{resident-take}
 use Rattle.grid_core.proofs.Levels.{written-level}
 use Rattle.grid_core.proofs.Onces.{once-length}
@@ -175,11 +175,12 @@ module _ (r : Rules) (st : IsStacked r) (n : ℕ) (pos : 0 < n) (le : n ≤ r.as
           omega arith
 
 -- as many slots of a stack are dirty in n ways as a cache of n ways has dirty blocks
-pub dirty-slots : (s : Stack) (h : History) → StandsFor s h → (n : ℕ) → 0 < n
-    → n ≤ (rules_of s).assoc → (bsize : ℕ)
-    → length (dirty_in_rows bsize (rules_of s).wback n (row_slots s)
-    (rules_of s).sets) ≡ length (dirty_blocks (with_ways n (rules_of s)) h)
+pub dirty-slots : (s : Stack) (h : History) → StackStandsFor s h → (n : ℕ) → 0 < n
+    → n ≤ (rules_of_rows s).assoc → (bsize : ℕ)
+    → length (dirty_in_rows bsize (rules_of_rows s).wback n (row_slots s)
+    (rules_of_rows s).sets) ≡ length (dirty_blocks (with_ways n (rules_of_rows s)) h)
 dirty-slots s h stands n pos le bsize =
-    count-rows (rules_of s) (stacked s) n pos le h bsize (row_slots s) stands.rows (rules_of s).sets
+    count-rows (rules_of_rows s) (stacked s) n pos le h bsize (row_slots s) stands.rows
+    (rules_of_rows s).sets
     (omega arith)
-    ∙ all-sets (rules_of s) (stacked s) n pos le h (some-sets s)
+    ∙ all-sets (rules_of_rows s) (stacked s) n pos le h (some-sets s)

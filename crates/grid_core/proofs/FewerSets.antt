@@ -13,7 +13,7 @@ use Rattle.cache_core.proofs.Members.{length-filter_le}
 use Rattle.cache_core.proofs.Reuse.{has, has-filter, before-filter, has-take}
 use Rattle.grid_core.specs.declared.stack.Stack.{Stack}
 use Rattle.grid_core.specs.declared.stacks.Behind.{Behind}
-use Rattle.grid_core.specs.Standing.{IsBehind, rules_of}
+use Rattle.grid_core.specs.Standing.{IsBehind, rules_of_rows}
 use Rattle.grid_core.specs.Ways.{IsStacked, stack_distance}
 use Rattle.grid_core.proofs.Distances.{renewals-size}
 use Rattle.grid_core.proofs.Distances.{distance-place, place_in}
@@ -66,12 +66,14 @@ module _ (r q : Rules) (st : IsStacked r) (wide : IsStacked q) (same : q.bsize �
 
 -- in rows of no more sets the block of an access is not among as many
 pub behind-fewer : (s t : Stack) (h : History) (x : Access)
-    → (rules_of t).bsize ≡ (rules_of s).bsize → (rules_of t).sets ≤ (rules_of s).sets
-    → IsBehind (stack_distance (rules_of s) h (block_of (rules_of s) x)) h x (rules_of t)
-unfolding rules_of
+    → (rules_of_rows t).bsize ≡ (rules_of_rows s).bsize
+    → (rules_of_rows t).sets ≤ (rules_of_rows s).sets
+    → IsBehind (stack_distance (rules_of_rows s) h (block_of (rules_of_rows s) x)) h x
+    (rules_of_rows t)
+unfolding rules_of_rows
 behind-fewer s t h x same le =
-    let r = rules_of t in
-    let q = rules_of s in
+    let r = rules_of_rows t in
+    let q = rules_of_rows s in
     let part = sets-divide t.geometry s.geometry le in
     let block : block_of q x ≡ block_of r x = ap (λ n. x.addr / n) (sym same) in
     subst (λ c. min (stack_distance q h c) r.assoc ≤ stack_distance r h (block_of r x)) (sym block)
@@ -79,11 +81,11 @@ behind-fewer s t h x same le =
 
 -- so it is not among those that a search leaves out
 pub behind-searched : (v : Behind) (s : Stack) (h : History) (x : Access) (last : ℕ)
-    → last + 1 ≡ (rules_of s).sets
-    → ((rules_of s).sets ≤ v.last_set + 1 → IsBehind v.places h x (rules_of s))
-    → IsBehind (if ltb v.last_set last then 0 else v.places) h x (rules_of s)
+    → last + 1 ≡ (rules_of_rows s).sets
+    → ((rules_of_rows s).sets ≤ v.last_set + 1 → IsBehind v.places h x (rules_of_rows s))
+    → IsBehind (if ltb v.last_set last then 0 else v.places) h x (rules_of_rows s)
 behind-searched v s h x last is before = (elim (ltb v.last_set last) as (λ t.
-    ltb v.last_set last ≡ t → IsBehind (if t then 0 else v.places) h x (rules_of s)) [
+    ltb v.last_set last ≡ t → IsBehind (if t then 0 else v.places) h x (rules_of_rows s)) [
       | true ↦ λ e. omega arith
       | false ↦ λ e. let ge = ltb-false v.last_set last e in before (omega arith)
     ]) refl

@@ -21,7 +21,7 @@ use Rattle.grid_core.specs.declared.stack.Stack.{Stack}
 use Rattle.grid_core.specs.Levels.{dirty_level}
 use Rattle.grid_core.specs.Recent.{used_last}
 use Rattle.grid_core.specs.Slots.{level_after}
-use Rattle.grid_core.specs.Standing.{StaysFirst, rules_of}
+use Rattle.grid_core.specs.Standing.{StaysFirst, rules_of_rows}
 use Rattle.grid_core.specs.Ways.{IsStacked, stack_distance}
 use Rattle.grid_core.proofs.Distances.{distance-place, place_in, renews-all}
 use Rattle.grid_core.proofs.Fronts.{low-level}
@@ -158,12 +158,13 @@ module _ (r q : Rules) (st : IsStacked r) (wide : IsStacked q) (some : 0 < r.ass
 
 -- a block that stays first in its row stays so in rows of more sets
 pub stays-more : (s t : Stack) (h : History) (x : Access)
-    → (rules_of t).bsize ≡ (rules_of s).bsize → (rules_of s).sets ≤ (rules_of t).sets
-    → StaysFirst (rules_of s) h x → StaysFirst (rules_of t) h x
-unfolding rules_of
+    → (rules_of_rows t).bsize ≡ (rules_of_rows s).bsize
+    → (rules_of_rows s).sets ≤ (rules_of_rows t).sets
+    → StaysFirst (rules_of_rows s) h x → StaysFirst (rules_of_rows t) h x
+unfolding rules_of_rows
 stays-more s t h x same le first =
-    let r = rules_of s in
-    let q = rules_of t in
+    let r = rules_of_rows s in
+    let q = rules_of_rows t in
     let b = block_of r x in
     let part = sets-divide s.geometry t.geometry le in
     let block : b ≡ block_of q x = ap (λ n. x.addr / n) (sym same) in

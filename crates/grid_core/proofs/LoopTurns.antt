@@ -14,8 +14,8 @@ use Rattle.grid_core.specs.Shades.{ShadeHasCounted, ShadeHasHit, ShadeReached, S
 use Rattle.grid_core.specs.Shading.{StackedFollowed}
 use Rattle.grid_core.specs.Singles.{HasSettled, IsPending, SingleHasAnswered, SingleReached}
 use Rattle.grid_core.specs.Singles.{SingleStandsFor, single_rules}
-use Rattle.grid_core.specs.Standing.{HasMoved, IsCountedIn, IsWithinStack, StandsFor}
-use Rattle.grid_core.specs.Standing.{StayFirstFrom, rules_of}
+use Rattle.grid_core.specs.Standing.{HasMoved, IsCountedIn, IsWithinStack, StackStandsFor}
+use Rattle.grid_core.specs.Standing.{StayFirstFrom, rules_of_rows}
 use Rattle.grid_core.specs.Written.{written_by}
 
 -- a shadow has served the access
@@ -58,19 +58,21 @@ pub record SingleClears (lists : List (Vec ℕ)) (all : List Single) (old new : 
 -- rows have served the access, of this level, and stay as they are if they are of more sets than
 -- the last row that is the least
 pub record RowServes (x : Access) (level least : ℕ) (old new : Stack) : Type 0 where
-  pub stands : (h : History) → StandsFor old h → StayFirstFrom (rules_of old).bsize least h x
-      → StandsFor new (access x ∷ h)
-  pub moved : (h : History) → StandsFor old h → StayFirstFrom (rules_of old).bsize least h x
+  pub stands : (h : History) → StackStandsFor old h
+      → StayFirstFrom (rules_of_rows old).bsize least h x
+      → StackStandsFor new (access x ∷ h)
+  pub moved : (h : History) → StackStandsFor old h
+      → StayFirstFrom (rules_of_rows old).bsize least h x
       → HasMoved h x new
-  pub counted : (sizes : List ℕ) (h : History) → StandsFor old h
-      → StayFirstFrom (rules_of old).bsize least h x
-      → level ≡ level_at (rules_of old) sizes h x → IsCountedIn sizes h old
+  pub counted : (sizes : List ℕ) (h : History) → StackStandsFor old h
+      → StayFirstFrom (rules_of_rows old).bsize least h x
+      → level ≡ level_at (rules_of_rows old) sizes h x → IsCountedIn sizes h old
       → IsCountedIn sizes (access x ∷ h) new
   pub bounds : (n : ℕ) → IsWithinStack n old → IsWithinStack (n + 1) new
 
 -- they are empty
 pub record RowClears (old new : Stack) : Type 0 where
-  pub stands : (h : History) → StandsFor new (flush ∷ h)
+  pub stands : (h : History) → StackStandsFor new (flush ∷ h)
   pub counted : (sizes : List ℕ) (h : History) → IsCountedIn sizes h old
       → IsCountedIn sizes (flush ∷ h) new
   pub bounds : (n : ℕ) → IsWithinStack n old → IsWithinStack n new

@@ -10,7 +10,7 @@ use Rattle.std.proofs.lemmas.List.Folds.{list_any_at}
 use Rattle.std.proofs.lemmas.List.Quantifiers.{position-Some}
 use Rattle.cache_core.specs.Lists.{IsBeginning}
 use Rattle.grid_core.specs.declared.at_hand.Entry.{Entry}
-use Rattle.grid_core.specs.AtHand.{AreRight}
+use Rattle.grid_core.specs.AtHand.{HaveRightNumbers}
 use Rattle.grid_core.specs.Numbers.{number_at, with_number}
 
 -- the place of b, or the length of the list
@@ -107,7 +107,7 @@ number-low-kept xs ys b n e low =
 
 -- what is kept of the numbers stays right in a list that goes on
 pub right-kept : (xs ys : List ℕ) (es : List Entry) → IsBeginning xs ys
-    → AreRight (number_at xs) es → AreRight (number_at ys) es
+    → HaveRightNumbers (number_at xs) es → HaveRightNumbers (number_at ys) es
 right-kept xs ys es on all k d lt =
     let e = get_or es k d in
     record {

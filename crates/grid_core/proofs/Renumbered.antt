@@ -10,11 +10,11 @@ use Rattle.cache_core.specs.Lists.{IsBeginning}
 use Rattle.marked_list.specs.declared.marked.Marked.{Marked}
 use Rattle.marked_list.specs.Marked.{was_used}
 use Rattle.grid_core.specs.Numbers.{number_at}
-use Rattle.grid_core.specs.Shadows.{is_used, number_by}
+use Rattle.grid_core.specs.Shadows.{number_by, was_number_used}
 use Rattle.grid_core.proofs.Numbers.{number-apart, number-kept, number-low, number-low-kept}
 
 -- a block that was used has a number
-pub used-some : (m : Marked) (o : Option ℕ) → is_used m o ≡ true → o ≡ Some (unwrap_or o 0)
+pub used-some : (m : Marked) (o : Option ℕ) → was_number_used m o ≡ true → o ≡ Some (unwrap_or o 0)
 used-some m None h = absurd (false≢true h)
 used-some m (Some n) h = refl
 
@@ -25,12 +25,12 @@ module _ (m : Marked) (bs cs : List ℕ) (on : IsBeginning bs cs)
   kept b n e = subst (λ l. number_at l b ≡ Some n) (sym on.1) (number-kept bs on.0 b n e)
 
   -- the same blocks are used
-  pub used-same : (b : ℕ) → is_used m (number_at cs b) ≡ is_used m (number_at bs b)
+  pub used-same : (b : ℕ) → was_number_used m (number_at cs b) ≡ was_number_used m (number_at bs b)
   used-same b = (elim (number_at bs b) as (λ o. number_at bs b ≡ o
-      → is_used m (number_at cs b) ≡ is_used m o) [
-        | Some n ↦ λ e. ap (is_used m) (kept b n e)
+      → was_number_used m (number_at cs b) ≡ was_number_used m o) [
+        | Some n ↦ λ e. ap (was_number_used m) (kept b n e)
         | None ↦ λ e. (elim (number_at cs b) as (λ o. number_at cs b ≡ o
-            → is_used m o ≡ false) [
+            → was_number_used m o ≡ false) [
               | None ↦ λ f. refl
               | Some n ↦ λ f. by_cases (was_used m n)
                   (λ t. let w : None ≡ Some n = sym e ∙ number-low-kept bs on.0 b n
@@ -41,7 +41,7 @@ module _ (m : Marked) (bs cs : List ℕ) (on : IsBeginning bs cs)
 
   -- they have the same numbers
   pub order-same : (ys : List ℕ)
-      → ((y : ℕ) → has ys y ≡ true → is_used m (number_at bs y) ≡ true)
+      → ((y : ℕ) → has ys y ≡ true → was_number_used m (number_at bs y) ≡ true)
       → map (number_by bs) ys ≡ map (number_by cs) ys
   order-same [] all = refl
   order-same (y ∷ ys) all =
@@ -63,10 +63,10 @@ module _ (m : Marked) (bs cs : List ℕ) (on : IsBeginning bs cs)
 module _ (m new : Marked) (cs : List ℕ) (b n : ℕ) (is : number_at cs b ≡ Some n)
     (used : (q : ℕ) → was_used new q ≡ (n == q || was_used m q)) where
   -- so it is used, and each block that was
-  pub used-after : (q : ℕ) → is_used new (number_at cs q)
-      ≡ (b == q || is_used m (number_at cs q))
+  pub used-after : (q : ℕ) → was_number_used new (number_at cs q)
+      ≡ (b == q || was_number_used m (number_at cs q))
   used-after q = (elim (number_at cs q) as (λ o. number_at cs q ≡ o
-      → is_used new o ≡ (b == q || is_used m o)) [
+      → was_number_used new o ≡ (b == q || was_number_used m o)) [
         | Some k ↦ λ e. used k ∙ ap (λ t. t || was_used m k) (same k e)
         | None ↦ λ e. sym (ap (λ t. t || false) (ne_eqb b q
             (λ eq. let w : Some n ≡ None = sym is ∙ ap (number_at cs) eq ∙ e in absurd cc)))

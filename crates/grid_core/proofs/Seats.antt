@@ -24,7 +24,7 @@ use Rattle.grid_core.specs.Standing.{stack_rules}
 use Rattle.grid_core.specs.Wholes.{IsWholeOf, IsLruOf}
 use Rattle.grid_core.proofs.Geometries.{make, sets-blocks}
 use Rattle.grid_core.specs.Shading.{IsShaded}
-use Rattle.grid_core.specs.Written.{rules_at, no_rules, written_by}
+use Rattle.grid_core.specs.Written.{no_rules, rules_at_index, written_by}
 
 -- lists that grow
 
@@ -42,8 +42,9 @@ longer : {X : Type 0} (xs ys : List X) → IsBeginning xs ys → length xs ≤ l
 longer xs ys a = let len = ap length a.1 ∙ length-append xs a.0 in omega arith
 
 rules-longer : (rs rs' : List Rules) → IsBeginning rs rs' → (i : ℕ) → i < length rs
-    → rules_at rs' i ≡ rules_at rs i
-rules-longer rs rs' a i lt = ap (λ l. rules_at l i) a.1 ∙ get_or_append_left rs a.0 no_rules i lt
+    → rules_at_index rs' i ≡ rules_at_index rs i
+rules-longer rs rs' a i lt = ap (λ l. rules_at_index l i) a.1
+    ∙ get_or_append_left rs a.0 no_rules i lt
 
 module _ (rs rs' ss ss' : List Rules) (a : IsBeginning rs rs') (b : IsBeginning ss ss') where
   place-longer : (p : Place) → IsPlace (length rs) (length ss) p
@@ -161,14 +162,14 @@ pub last-inside : (rs rs' : List Rules) (r : Rules) (i : ℕ) → rs' ≡ rs ++ 
 last-inside rs rs' r i is at = let len = ap length is ∙ length-append rs (r ∷ []) in omega arith
 
 pub last-is : (rs rs' : List Rules) (r : Rules) (i : ℕ) → rs' ≡ rs ++ r ∷ [] → i ≡ length rs
-    → rules_at rs' i ≡ r
-last-is rs rs' r i is at = ap (λ l. rules_at l i) is ∙ ap (rules_at (rs ++ r ∷ [])) at
+    → rules_at_index rs' i ≡ r
+last-is rs rs' r i is at = ap (λ l. rules_at_index l i) is ∙ ap (rules_at_index (rs ++ r ∷ [])) at
     ∙ get_or-append_seam rs r [] no_rules
 
 -- a geometry of as many blocks gives the shadow of a cache whose writes allocate
 pub shadow-as-large : (gs : List Geometry) (g : Geometry) (p : Policy) (i : ℕ) → IsAsLarge gs g i
     → p.walloc ≡ true
-    → shadow_of (rules_at (planned_rules p.wback gs) i) ≡ shadow_of (rules_from g p)
+    → shadow_of (rules_at_index (planned_rules p.wback gs) i) ≡ shadow_of (rules_from g p)
 shadow-as-large gs g p i large walloc =
     ap shadow_of (get_or-map (λ d. stack_rules d p.wback) gs i g no_rules large.inside)
     ∙ stack-shadow (get_or gs i g) g p (large.same_bsize g) (large.same_blocks g) walloc
@@ -185,7 +186,7 @@ seated-together g p gs gs' ss ts s lru walloc is geometry cell shadow =
     let joined : rs' ≡ rs ++ f g ∷ [] = ap (map f) is ∙ map-append f gs (g ∷ []) in
     let last : length gs ≡ length rs = sym (length-map gs f) in
     let inside = last-inside rs rs' (f g) (length gs) joined last in
-    let at : rules_at rs' (length gs) ≡ rules_from g p =
+    let at : rules_at_index rs' (length gs) ≡ rules_from g p =
     last-is rs rs' (f g) (length gs) joined last ∙ stack-policy g p lru walloc in
     record {
       cell_there = subst (λ q. IsPlace (length rs') (length ss) q) (sym cell) inside;

@@ -11,7 +11,7 @@ use Rattle.grid_core.specs.declared.places.Place.TheVariants.{Together, Apart}
 use Rattle.grid_core.specs.Cells.{HitsIn, shape_rules}
 use Rattle.grid_core.specs.Hits.{hit_made}
 use Rattle.grid_core.specs.Places.{IsPlace, rules_placed}
-use Rattle.grid_core.specs.Written.{rules_at}
+use Rattle.grid_core.specs.Written.{rules_at_index}
 
 -- where all hit, and no write is sent on, nothing is sent
 pub hits-send-nothing : (h : History) (x : Access) (wback through : Bool) (shapes : List Shape)
@@ -26,7 +26,7 @@ hits-send-nothing h x wback through shapes hit policy is none k d lt =
 
 -- what holds of the rules of each holds of those at an index
 pub at-rules : {X : Type 0} (f : X → Rules) (P : Rules → Type 0) (xs : List X)
-    → All (λ x. P (f x)) xs → (i : ℕ) → i < length (map f xs) → P (rules_at (map f xs) i)
+    → All (λ x. P (f x)) xs → (i : ℕ) → i < length (map f xs) → P (rules_at_index (map f xs) i)
 at-rules f P [] all i lt = absurd (omega arith)
 at-rules f P (x ∷ xs) all zero lt = all 0 x (omega arith)
 at-rules f P (x ∷ xs) all (suc i) lt =
@@ -34,7 +34,8 @@ at-rules f P (x ∷ xs) all (suc i) lt =
 
 -- what holds of the rules of both kinds holds at each place
 pub at-place : (P : Rules → Type 0) (rs ss : List Rules)
-    → ((i : ℕ) → i < length rs → P (rules_at rs i)) → ((i : ℕ) → i < length ss → P (rules_at ss i))
+    → ((i : ℕ) → i < length rs → P (rules_at_index rs i))
+    → ((i : ℕ) → i < length ss → P (rules_at_index ss i))
     → (p : Place) → IsPlace (length rs) (length ss) p → P (rules_placed rs ss p)
 at-place P rs ss together apart (Together i) lt = together i lt
 at-place P rs ss together apart (Apart i) lt = apart i lt

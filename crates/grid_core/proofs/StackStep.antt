@@ -27,7 +27,7 @@ use Rattle.grid_core.specs.Slots.{clean_in, level_after, level_in, lost_in, stay
 use Rattle.grid_core.specs.Histograms.{clean_ways}
 use Rattle.grid_core.specs.Levels.{dirty_level}
 use Rattle.grid_core.specs.Pushed.{dirty_in}
-use Rattle.grid_core.specs.Standing.{StandsFor, StaysFirst, row_slots, rules_of, slots_of}
+use Rattle.grid_core.specs.Standing.{StackStandsFor, StaysFirst, row_slots, rules_of_rows, slots_of}
 use Rattle.grid_core.proofs.Distances.{hits-distance}
 use Rattle.grid_core.proofs.Fronts.{low-level, moved-back}
 use Rattle.grid_core.proofs.SlotTurns.{after-le, distance-le, index-slots, level-le, seen-level}
@@ -156,7 +156,7 @@ pub row-room : (v : Stack) (b : ℕ) {s : ℕ} → s ≡ b % sets_of v.geometry
 row-room v b {s} is = row-inside v s (set-below v b is)
 
 -- an access to a stack, by the block and the set that the code works out for it
-module _ (v : Stack) (h : History) (st : StandsFor v h) (x : Access) {block set : ℕ}
+module _ (v : Stack) (h : History) (st : StackStandsFor v h) (x : Access) {block set : ℕ}
     {write : Bool} (block-is : block ≡ x.addr / bsize_of v.geometry)
     (set-is : set ≡ block % sets_of v.geometry)
     (write-is : write ≡ is_write x) where
@@ -183,34 +183,34 @@ module _ (v : Stack) (h : History) (st : StandsFor v h) (x : Access) {block set 
 
   -- where the code finds the block is its distance
   pub distance-turned : {p : ℕ} → p ≡ index_of (holds block) (xs set)
-      → p ≡ stack_distance (rules_of v) h (block_of (rules_of v) x)
-  unfolding rules_of
+      → p ≡ stack_distance (rules_of_rows v) h (block_of (rules_of_rows v) x)
+  unfolding rules_of_rows
   distance-turned {p} is =
-      position-now (rules_of v) (stacked v) h x xs st.rows below p (found-at is)
+      position-now (rules_of_rows v) (stacked v) h x xs st.rows below p (found-at is)
 
   -- and in how many ways it finds it clean, it is so
   pub clean-turned : {q : ℕ} → q ≡ clean_in (level_in block (xs set))
       (index_of (holds block) (xs set)) v.ways
-      → q ≡ clean_ways (rules_of v) h (block_of (rules_of v) x)
-  unfolding rules_of
-  clean-turned {q} is = clean-now (rules_of v) (stacked v) h x xs st.rows below q (is
+      → q ≡ clean_ways (rules_of_rows v) h (block_of (rules_of_rows v) x)
+  unfolding rules_of_rows
+  clean-turned {q} is = clean-now (rules_of_rows v) (stacked v) h x xs st.rows below q (is
       ∙ as-ruled (λ b t. clean_in (level_in b (xs t)) (index_of (holds b) (xs t)) v.ways)
       ∙ ap (clean_in (level_in at (xs (at % sets_of g)))
       (index_of (holds at) (xs (at % sets_of g)))) v.width)
 
   -- a row that the code leaves as it is tells that the block is first
-  pub first-turned : stays_in block write (xs set) ≡ true → StaysFirst (rules_of v) h x
-  unfolding rules_of
-  first-turned e = first-now (rules_of v) (stacked v) h x xs st.rows below
+  pub first-turned : stays_in block write (xs set) ≡ true → StaysFirst (rules_of_rows v) h x
+  unfolding rules_of_rows
+  first-turned e = first-now (rules_of_rows v) (stacked v) h x xs st.rows below
       (sym (ap (λ w. stays_in block w (xs set)) write-is
       ∙ as-ruled (λ b t. stays_in b (is_write x) (xs t))) ∙ e)
 
   -- the rows that the code leaves are those after the access
   pub rows-turned : (ys : ℕ → List Slot) → ys set ≡ next_slots block write (xs set)
-      → ((t : ℕ) → t ≢ set → ys t ≡ xs t) → (t : ℕ) → t < (rules_of v).sets
-      → ys t ≡ slots_of (rules_of v) (access x ∷ h) t
-  unfolding rules_of
-  rows-turned ys now others = rows-next (rules_of v) (stacked v) h x xs st.rows below ys
+      → ((t : ℕ) → t ≢ set → ys t ≡ xs t) → (t : ℕ) → t < (rules_of_rows v).sets
+      → ys t ≡ slots_of (rules_of_rows v) (access x ∷ h) t
+  unfolding rules_of_rows
+  rows-turned ys now others = rows-next (rules_of_rows v) (stacked v) h x xs st.rows below ys
       (sym (as-ruled (λ b t. ys t)) ∙ now
       ∙ ap (λ w. next_slots block w (xs set)) write-is
       ∙ as-ruled (λ b t. next_slots b (is_write x) (xs t)))
@@ -219,19 +219,20 @@ module _ (v : Stack) (h : History) (st : StandsFor v h) (x : Access) {block set 
   -- the slot behind the first n of the row that it leaves tells what n ways write back
   pub back-turned : (now : List Slot) (last : Slot) → now ≡ next_slots block write (xs set)
       → last ≡ lost_in (index_of (holds block) (xs set)) (xs set)
-      → (n : ℕ) → 0 < n → n ≤ (rules_of v).assoc
-      → hits (with_ways n (rules_of v)) (renewals (with_ways n (rules_of v)) h) x ≡ false
-      → (outcome_of (with_ways n (rules_of v)) h x).back
-      ≡ option_map (λ z. z * (rules_of v).bsize) (dirty_in (rules_of v).wback n
+      → (n : ℕ) → 0 < n → n ≤ (rules_of_rows v).assoc
+      → hits (with_ways n (rules_of_rows v)) (renewals (with_ways n (rules_of_rows v)) h) x ≡ false
+      → (outcome_of (with_ways n (rules_of_rows v)) h x).back
+      ≡ option_map (λ z. z * (rules_of_rows v).bsize) (dirty_in (rules_of_rows v).wback n
       (if ltb n v.ways then get_or now n no_slot else last))
-  unfolding rules_of
+  unfolding rules_of_rows
   back-turned now last is lost n some fits miss =
       let p = index_of (holds block) (xs set) in
-      let far : n ≤ p = ltb-false p n (sym (hits-now (rules_of v) (stacked v) h x xs st.rows below p
+      let far : n ≤ p = ltb-false p n
+      (sym (hits-now (rules_of_rows v) (stacked v) h x xs st.rows below p
       (found-at refl) n fits) ∙ miss) in
       let wide = v.width in
       let long = row-whole v set (set-below v block set-is) in
-      back-now (rules_of v) (stacked v) h x xs st.rows below n (n - 1) (suc_pred n some) fits
+      back-now (rules_of_rows v) (stacked v) h x xs st.rows below n (n - 1) (suc_pred n some) fits
       (if ltb n v.ways then get_or now n no_slot else last)
       (behind-is v.ways block write (xs set) now last n (n - 1) (suc_pred n some) (omega arith) long
       far is lost ∙ as-ruled (λ b t. get_or (xs t) (n - 1) no_slot))

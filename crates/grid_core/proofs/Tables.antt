@@ -10,7 +10,7 @@ use Rattle.cache_core.specs.declared.access.Access.{Access}
 use Rattle.cache_core.specs.declared.counts.PerClass.{PerClass}
 use Rattle.cache_core.specs.Counting.{with_one, IsWithin}
 use Rattle.cache_core.specs.Counts.{none_by_class}
-use Rattle.grid_core.specs.Totals.{added, past, table_of, total}
+use Rattle.grid_core.specs.Totals.{added, listed_counts, past, total}
 use Rattle.grid_core.proofs.Hitting.{with-none}
 use Rattle.grid_core.proofs.Totals.{far-in, far-out, none-added, one-first, one-later}
 use Rattle.grid_core.proofs.Totals.{drop-none, same-classes}
@@ -186,13 +186,13 @@ added-on s p q = same-classes (added (added s p) q) (added s (added p q)) (omega
 module _ (vs : List (Vec PerClass)) {p : ℕ} {v : Vec PerClass} {l : List PerClass}
     (lt : p < length vs) (is : v ≡ get_or vs p v) (items : l ≡ v.items) (k : ℕ) where
   abbrev ts : List (List PerClass)
-  ts = map table_of vs
+  ts = map listed_counts vs
 
   at : get_or ts p [] ≡ l
-  at = get_or-map table_of vs p v [] lt ∙ ap table_of (sym is) ∙ sym items
+  at = get_or-map listed_counts vs p v [] lt ∙ ap listed_counts (sym is) ∙ sym items
 
   long : p < length ts
-  long = omega (arith, length-map vs table_of)
+  long = omega (arith, length-map vs listed_counts)
 
   -- it has the level, as all have
   pub level-there : All (λ (counts : List PerClass). k ≤ length counts) ts → k ≤ length l

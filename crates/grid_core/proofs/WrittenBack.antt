@@ -14,8 +14,8 @@ use Rattle.grid_core.specs.declared.stack.Stack.{Stack}
 use Rattle.grid_core.specs.Histograms.{clean_ways, first_in, writes_first}
 use Rattle.grid_core.specs.Levels.{dirty_level}
 use Rattle.grid_core.specs.Slots.{dirty_in_rows, level_after}
-use Rattle.grid_core.specs.Standing.{IsCountedIn, StandsFor, row_slots, dirty_slots, rules_of}
-use Rattle.grid_core.specs.Standing.{written_at}
+use Rattle.grid_core.specs.Standing.{IsCountedIn, StackStandsFor, dirty_slots, row_slots}
+use Rattle.grid_core.specs.Standing.{rules_of_rows, written_at}
 use Rattle.grid_core.specs.Ways.{IsStacked, stack_distance, with_ways}
 use Rattle.grid_core.specs.WriteBacks.{is_first_write}
 use Rattle.grid_core.proofs.DirtySlots.{dirty-slots}
@@ -96,18 +96,19 @@ module _ (r : Rules) (st : IsStacked r) (n : ℕ) (some : 0 < n) (fits : n ≤ r
       twice false b = refl
 
 -- the dirty slots in the words of the rules
-slots-are : (s : Stack) (n : ℕ) → dirty_slots s n ≡ length (dirty_in_rows 1 (rules_of s).wback n
-    (row_slots s) (rules_of s).sets)
-unfolding rules_of
+slots-are : (s : Stack) (n : ℕ)
+    → dirty_slots s n ≡ length (dirty_in_rows 1 (rules_of_rows s).wback n
+    (row_slots s) (rules_of_rows s).sets)
+unfolding rules_of_rows
 slots-are s n = refl
 
 -- what the rows say was written back is what was
-pub written-is : (sizes : List ℕ) (s : Stack) (h : History) → StandsFor s h
-    → IsCountedIn sizes h s → (n : ℕ) → 0 < n → n ≤ (rules_of s).assoc
-    → written_at s n ≡ (counts_of (with_ways n (rules_of s)) h).written_back
-unfolding rules_of
+pub written-is : (sizes : List ℕ) (s : Stack) (h : History) → StackStandsFor s h
+    → IsCountedIn sizes h s → (n : ℕ) → 0 < n → n ≤ (rules_of_rows s).assoc
+    → written_at s n ≡ (counts_of (with_ways n (rules_of_rows s)) h).written_back
+unfolding rules_of_rows
 written-is sizes s h stands counted n some fits =
-    let r = rules_of s in
+    let r = rules_of_rows s in
     let st = stacked s in
     let q = with_ways n r in
     (elim r.wback as (λ w. r.wback ≡ w → cond w ((first_in s.histogram n).write - dirty_slots s n) 0

@@ -30,12 +30,12 @@ abbrev pub shades_rules : Caches → List Rules
 shades_rules c = map shade_rules c.shades.items
 
 -- the caches have this place
-abbrev pub HasPlace : Caches → Place → Type 0
-HasPlace c p = IsPlace (length (together_rules c)) (length (apart_rules c)) p
+abbrev pub HasCacheAt : Caches → Place → Type 0
+HasCacheAt c p = IsPlace (length (together_rules c)) (length (apart_rules c)) p
 
 -- the caches have a shadow at this place
-abbrev pub HasShade : Caches → Place → Type 0
-HasShade c p = IsPlace (length (together_rules c)) (length (shades_rules c)) p
+abbrev pub HasShadowAt : Caches → Place → Type 0
+HasShadowAt c p = IsPlace (length (together_rules c)) (length (shades_rules c)) p
 
 -- the counts at a place
 abbrev pub counts_in : Caches → Place → Counts

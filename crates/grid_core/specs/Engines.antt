@@ -12,20 +12,20 @@ use Rattle.grid_core.specs.Caches.{CachesStandBy, HaveAnswered, counts_in, misse
 use Rattle.grid_core.specs.Numbered.{blocks_in}
 
 -- the rules of the caches
-unfoldable pub rules_in : Engine → List Rules
-rules_in e = map (λ s. rules_from s.geometry e.policy) e.seats.items
+unfoldable pub engine_rules : Engine → List Rules
+engine_rules e = map (λ s. rules_from s.geometry e.policy) e.seats.items
 
 -- how many accesses and flushes were served
-unfoldable pub served_in : Engine → ℕ
-served_in e = e.served
+unfoldable pub engine_served : Engine → ℕ
+engine_served e = e.served
 
 -- what the caches counted, and the misses of their shadows
 unfoldable pub kept_in : Engine → List (Counts × PerClass)
 kept_in e = map (λ s. (counts_in e.caches s.cell, misses_in e.caches s.shadow)) e.seats.items
 
 -- whether an allocation failed
-unfoldable pub has_failed : Engine → Bool
-has_failed e = e.failed
+unfoldable pub engine_has_failed : Engine → Bool
+engine_has_failed e = e.failed
 
 -- how many bytes a block has
 unfoldable pub bsize_in : Engine → ℕ
@@ -38,8 +38,8 @@ numbered_in e = blocks_in e.numbers
 -- the engine stands for the history by the numbers that the places of a list of blocks are: it has
 -- not failed, and its state is what the history gives
 pub record EngineStandsBy (blocks : List ℕ) (e : Engine) (h : History) : Type 0 where
-  pub working : has_failed e ≡ false
-  pub served : served_in e ≡ length h
+  pub working : engine_has_failed e ≡ false
+  pub served : engine_served e ≡ length h
   pub caches : CachesStandBy blocks h e.caches
 
 -- the engine stands for the history by its own numbers
@@ -47,10 +47,10 @@ abbrev pub EngineStandsFor : Engine → History → Type 0
 EngineStandsFor e = EngineStandsBy (numbered_in e) e
 
 -- the last access was x, after the history h
-pub record HasAnswered (e : Engine) (h : History) (x : Access) : Type 0 where
+pub record EngineHasAnswered (e : Engine) (h : History) (x : Access) : Type 0 where
   pub answers : HaveAnswered h x e.caches
 
 -- an engine that stands for a history by some numbers does so by more of them
-abbrev pub MoreNumbersServe : Type 0
-MoreNumbersServe = (blocks more : List ℕ) (e : Engine) (h : History) → IsBeginning blocks more →
-    EngineStandsBy blocks e h → EngineStandsBy more e h
+abbrev pub MoreNumbersServeEngines : Type 0
+MoreNumbersServeEngines = (blocks more : List ℕ) (e : Engine) (h : History) →
+    IsBeginning blocks more → EngineStandsBy blocks e h → EngineStandsBy more e h

@@ -11,12 +11,12 @@ use Rattle.marked_list.specs.Recency.{level_of}
 use Rattle.grid_core.specs.declared.histogram.Histogram.{Histogram}
 use Rattle.grid_core.specs.Levels.{dirty_level}
 use Rattle.grid_core.specs.Slots.{level_after}
-use Rattle.grid_core.specs.Totals.{past, table_of, total}
+use Rattle.grid_core.specs.Totals.{listed_counts, past, total}
 use Rattle.grid_core.specs.Ways.{stack_distance}
 
 -- the accesses of a histogram from distance n and from level k on
 abbrev pub past_in : Histogram → ℕ → ℕ → PerClass
-past_in t n k = past n k (map table_of t.distances.items)
+past_in t n k = past n k (map listed_counts t.distances.items)
 
 -- the writes of a histogram that found their blocks not dirty in n ways
 abbrev pub first_in : Histogram → ℕ → PerClass

@@ -4,7 +4,7 @@ use Rattle.std.specs.Prelude.{if◌then◌else◌, length, position}
 use Rattle.std.specs.List.{list_any}
 use Rattle.cache_core.specs.declared.access.Access.{Access}
 use Rattle.cache_core.specs.History.{Rules}
-use Rattle.grid_core.specs.Written.{rules_at}
+use Rattle.grid_core.specs.Written.{rules_at_index}
 
 -- the number of block b, where those of the list are numbered by their places
 abbrev pub number_at : List ℕ → ℕ → Option ℕ
@@ -24,10 +24,10 @@ IsNumberOf blocks n x number = number_at blocks (x.addr / n) ≡ Some number
 
 -- if there are caches of these rules, their blocks, of one size, have n bytes
 abbrev pub HaveBlocksOf : ℕ → List Rules → Type 0
-HaveBlocksOf n rs = 0 < length rs → (rules_at rs 0).bsize ≡ n
+HaveBlocksOf n rs = 0 < length rs → (rules_at_index rs 0).bsize ≡ n
 
 -- if there are caches of these rules, whose blocks have one size, the block of an access has this
 -- number
 abbrev pub IsNumberIn : List ℕ → List Rules → Access → ℕ → Type 0
 IsNumberIn blocks rs x number =
-    0 < length rs → IsNumberOf blocks (rules_at rs 0).bsize x number
+    0 < length rs → IsNumberOf blocks (rules_at_index rs 0).bsize x number

@@ -9,7 +9,7 @@ use Rattle.grid_core.specs.declared.places.Place.{Place}
 use Rattle.grid_core.specs.declared.places.Place.TheVariants.{Together, Apart}
 use Rattle.grid_core.specs.declared.places.Seat.{Seat}
 use Rattle.grid_core.specs.Standing.{stack_rules}
-use Rattle.grid_core.specs.Written.{rules_at}
+use Rattle.grid_core.specs.Written.{rules_at_index}
 
 -- the index of a place
 abbrev pub place_index : Place → ℕ
@@ -27,14 +27,14 @@ IsPlace m n p = place_index p < place_count m n p
 
 -- the rules at a place
 abbrev pub rules_placed : List Rules → List Rules → Place → Rules
-rules_placed together apart (Together i) = rules_at together i
-rules_placed together apart (Apart i) = rules_at apart i
+rules_placed together apart (Together i) = rules_at_index together i
+rules_placed together apart (Apart i) = rules_at_index apart i
 
 -- the rules of the shadow at a place: that of a cache that is served together with others, or one
 -- of those that are kept for caches of their own
 abbrev pub shadow_placed : List Rules → List Rules → Place → Rules
-shadow_placed together shades (Together i) = shadow_of (rules_at together i)
-shadow_placed together shades (Apart i) = rules_at shades i
+shadow_placed together shades (Together i) = shadow_of (rules_at_index together i)
+shadow_placed together shades (Apart i) = rules_at_index shades i
 
 -- the list at a place
 abbrev pub list_placed : List (List ℕ) → List (List ℕ) → Place → List ℕ

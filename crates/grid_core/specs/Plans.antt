@@ -10,7 +10,7 @@ use Rattle.grid_core.specs.declared.shade.Shade.{Shade}
 use Rattle.grid_core.specs.declared.single.Single.{Single}
 use Rattle.grid_core.specs.Shades.{ShadeStandsFor, ShadeHasCounted}
 use Rattle.grid_core.specs.Singles.{SingleStandsFor, HasSettled}
-use Rattle.grid_core.specs.Written.{rules_at}
+use Rattle.grid_core.specs.Written.{rules_at_index}
 
 -- the geometry at the index has as many blocks, and they are as large
 pub record IsAsLarge (gs : List Geometry) (g : Geometry) (index : ℕ) : Type 0 where
@@ -21,10 +21,10 @@ pub record IsAsLarge (gs : List Geometry) (g : Geometry) (index : ℕ) : Type 0 
 -- the cache at the index is the shadow of a cache of this geometry and policy
 pub record IsShadowAt (rs : List Rules) (g : Geometry) (p : Policy) (index : ℕ) : Type 0 where
   pub inside : index < length rs
-  pub shadow : rules_at rs index ≡ shadow_of (rules_from g p)
+  pub shadow : rules_at_index rs index ≡ shadow_of (rules_from g p)
 
 -- the cache was given nothing
-pub record IsNew (s : Single) : Type 0 where
+pub record IsNewSingle (s : Single) : Type 0 where
   pub stands : SingleStandsFor [] s
   pub settled : HasSettled 0 s
 

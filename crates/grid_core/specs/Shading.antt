@@ -9,7 +9,7 @@ use Rattle.grid_core.specs.declared.stacked.Stacked.{Stacked}
 use Rattle.grid_core.specs.Places.{IsPlace, shadow_placed}
 use Rattle.grid_core.specs.StackedCells.{StackedHasAnswered, StackedStandsBy}
 use Rattle.grid_core.specs.StackedCells.{stacked_rules}
-use Rattle.grid_core.specs.Written.{rules_at}
+use Rattle.grid_core.specs.Written.{rules_at_index}
 
 -- caches that are served together stand for the history by the numbers that the places of a list
 -- of blocks are, if there are any caches
@@ -30,4 +30,4 @@ pub record IsShaded (together shades : List Rules) (s : Place × Rules) : Type 0
   pub there : IsPlace (length together) (length shades) s.0
   pub shadow : shadow_placed together shades s.0 ≡ shadow_of s.1
   pub some : 0 < length together
-  pub same_bsize : (rules_at together 0).bsize ≡ s.1.bsize
+  pub same_bsize : (rules_at_index together 0).bsize ≡ s.1.bsize

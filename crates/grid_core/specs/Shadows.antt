@@ -11,13 +11,13 @@ use Rattle.grid_core.specs.Numbers.{number_at}
 use Rattle.grid_core.specs.Totals.{total}
 
 -- whether the block of this number was used, if there is such a number
-abbrev pub is_used : Marked → Option ℕ → Bool
-is_used m None = false
-is_used m (Some n) = was_used m n
+abbrev pub was_number_used : Marked → Option ℕ → Bool
+was_number_used m None = false
+was_number_used m (Some n) = was_used m n
 
 -- whether a block was accessed, if each block of a list has its place there as its number
 abbrev pub is_known : List ℕ → Shadows → ℕ → Bool
-is_known blocks s b = is_used s.order (number_at blocks b)
+is_known blocks s b = was_number_used s.order (number_at blocks b)
 
 -- each number that was used is that of a block of the list
 abbrev pub AreNumbered : List ℕ → Shadows → Type 0

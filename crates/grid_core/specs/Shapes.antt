@@ -5,7 +5,7 @@ use Rattle.cache_core.specs.declared.geometry.Geometry.{Geometry}
 use Rattle.cache_core.specs.Geometry.{bsize_of, sets_of, assoc_of}
 use Rattle.grid_core.specs.declared.cells.Shape.{Shape}
 use Rattle.grid_core.specs.declared.stack.Stack.{Stack}
-use Rattle.grid_core.specs.Standing.{rules_of, Suits}
+use Rattle.grid_core.specs.Standing.{RowsSuit, rules_of_rows}
 
 -- a geometry with as many sets, and as many ways or more
 pub record IsWider (g wide : Geometry) : Type 0 where
@@ -17,11 +17,11 @@ pub record IsWider (g wide : Geometry) : Type 0 where
 pub record IsSuited (stacks : List Stack) (g : Geometry) (ways : ℕ) (wback : Bool) (index : ℕ)
     : Type 0 where
   pub inside : index < length stacks
-  pub suits : (d : Stack) → Suits (rules_of (get_or stacks index d)) g ways wback
+  pub suits : (d : Stack) → RowsSuit (rules_of_rows (get_or stacks index d)) g ways wback
 
 -- all rows have blocks of n bytes
 abbrev pub HaveBsize : ℕ → List Stack → Type 0
-HaveBsize n stacks = All (λ r. r.bsize ≡ n) (map rules_of stacks)
+HaveBsize n stacks = All (λ r. r.bsize ≡ n) (map rules_of_rows stacks)
 
 -- the size is among the sizes
 abbrev pub has_size : List ℕ → ℕ → Bool

@@ -27,8 +27,8 @@ abbrev pub single_shading : Single → Place × Rules
 single_shading s = (s.shadow, single_rules s)
 
 -- no list has more blocks than the cache at its place has dirty ways
-abbrev pub AreFew : List (Vec ℕ) → List Single → Type 0
-AreFew lists singles = (k : ℕ) → k < length singles →
+abbrev pub FitDirtyWays : List (Vec ℕ) → List Single → Type 0
+FitDirtyWays lists singles = (k : ℕ) → k < length singles →
     get_or (map (λ l. length l.items) lists) k 0 ≤ get_or (map single_dirty singles) k 0
 
 -- it counted n events, and served no other

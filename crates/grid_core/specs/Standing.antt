@@ -28,8 +28,8 @@ abbrev pub stack_rules : Geometry → Bool → Rules
 stack_rules g wback = rules_from g record { repl = Lru; wback = wback; walloc = true }
 
 -- the rules of the widest cache
-unfoldable pub rules_of : Stack → Rules
-rules_of s = stack_rules s.geometry s.wback
+unfoldable pub rules_of_rows : Stack → Rules
+rules_of_rows s = stack_rules s.geometry s.wback
 
 module _ (r : Rules) where
   -- the slot of block b after a history
@@ -46,13 +46,13 @@ abbrev pub row_slots : Stack → ℕ → List Slot
 row_slots s t = slots_in (stride_of s.geometry) (sets_of s.geometry) t (row s.ways t s.slots.items)
 
 -- the stack stands for the history: each row is what the history gives
-pub record StandsFor (s : Stack) (h : History) : Type 0 where
-  pub rows : (t : ℕ) → t < (rules_of s).sets →
-      row_slots s t ≡ slots_of (rules_of s) h t
+pub record StackStandsFor (s : Stack) (h : History) : Type 0 where
+  pub rows : (t : ℕ) → t < (rules_of_rows s).sets →
+      row_slots s t ≡ slots_of (rules_of_rows s) h t
 
 -- there is a history that all these rows stand for
 abbrev pub HaveLived : List Stack → Type 0
-HaveLived ss = ∥ ((h : History) × All (λ s. StandsFor s h) ss) ∥₁
+HaveLived ss = ∥ ((h : History) × All (λ s. StackStandsFor s h) ss) ∥₁
 
 -- where the block of the last access stood before
 unfoldable pub found_in : Stack → ℕ
@@ -71,10 +71,10 @@ back_at s n = option_map (λ b. b * bsize_of s.geometry) (dirty_in s.wback n (be
 -- the last access was x, after the history h: it is known where its block stood, and what each
 -- cache that missed wrote back
 pub record HasMoved (h : History) (x : Access) (s : Stack) : Type 0 where
-  pub found : found_in s ≡ stack_distance (rules_of s) h (block_of (rules_of s) x)
-  pub backs : (n : ℕ) → 0 < n → n ≤ (rules_of s).assoc
-      → hits (with_ways n (rules_of s)) (renewals (with_ways n (rules_of s)) h) x ≡ false
-      → (outcome_of (with_ways n (rules_of s)) h x).back ≡ back_at s n
+  pub found : found_in s ≡ stack_distance (rules_of_rows s) h (block_of (rules_of_rows s) x)
+  pub backs : (n : ℕ) → 0 < n → n ≤ (rules_of_rows s).assoc
+      → hits (with_ways n (rules_of_rows s)) (renewals (with_ways n (rules_of_rows s)) h) x ≡ false
+      → (outcome_of (with_ways n (rules_of_rows s)) h x).back ≡ back_at s n
 
 -- an access leaves the row of its set as it is
 abbrev pub stays_at : Stack → Access → Bool
@@ -90,8 +90,8 @@ pub record StaysFirst (r : Rules) (h : History) (x : Access) : Type 0 where
 
 -- so it is in all rows of more than m sets, where blocks have n bytes
 abbrev pub StayFirstFrom : ℕ → ℕ → History → Access → Type 0
-StayFirstFrom n m h x = (s : Stack) → (rules_of s).bsize ≡ n → m < (rules_of s).sets →
-    StaysFirst (rules_of s) h x
+StayFirstFrom n m h x = (s : Stack) → (rules_of_rows s).bsize ≡ n → m < (rules_of_rows s).sets →
+    StaysFirst (rules_of_rows s) h x
 
 -- after the history h the block of the access x is not among the first d blocks of its set, where d
 -- counts as at most the number of ways
@@ -101,12 +101,12 @@ IsBehind d h x r = min d r.assoc ≤ stack_distance r h (block_of r x)
 -- so it is, with the places of `b`, in all rows of at most `b.last_set + 1` sets, where blocks have
 -- n bytes
 abbrev pub AreBehind : Behind → ℕ → History → Access → Type 0
-AreBehind b n h x = (s : Stack) → (rules_of s).bsize ≡ n → (rules_of s).sets ≤ b.last_set + 1 →
-    IsBehind b.places h x (rules_of s)
+AreBehind b n h x = (s : Stack) → (rules_of_rows s).bsize ≡ n →
+    (rules_of_rows s).sets ≤ b.last_set + 1 → IsBehind b.places h x (rules_of_rows s)
 
 -- rows of the rules r serve a cache of this geometry, so many ways and this write policy: they have
 -- its block size, its number of sets and its write policy, and at least as many ways
-pub record Suits (r : Rules) (g : Geometry) (ways : ℕ) (wback : Bool) : Type 0 where
+pub record RowsSuit (r : Rules) (g : Geometry) (ways : ℕ) (wback : Bool) : Type 0 where
   pub same_bsize : r.bsize ≡ bsize_of g
   pub same_sets : r.sets ≡ sets_of g
   pub same_wback : r.wback ≡ wback
@@ -114,7 +114,7 @@ pub record Suits (r : Rules) (g : Geometry) (ways : ℕ) (wback : Bool) : Type 0
 
 -- the stack has counted the accesses of the history, with levels in the shadows of these sizes
 abbrev pub IsCountedIn : List ℕ → History → Stack → Type 0
-IsCountedIn sizes h s = HasCounted (rules_of s) sizes h s.histogram
+IsCountedIn sizes h s = HasCounted (rules_of_rows s) sizes h s.histogram
 
 -- how many levels in the shadows the stack tells apart
 abbrev pub told_in : Stack → ℕ
@@ -134,7 +134,7 @@ written_at s n = if s.wback then (first_in s.histogram n).write - dirty_slots s 
 
 -- the stack is empty and has counted nothing, and tells so many levels apart
 pub record IsEmptyStack (levels : ℕ) (s : Stack) : Type 0 where
-  pub stands : StandsFor s []
+  pub stands : StackStandsFor s []
   pub counted : (sizes : List ℕ) → IsCountedIn sizes [] s
   pub within : IsWithinStack 0 s
   pub told : told_in s ≡ levels

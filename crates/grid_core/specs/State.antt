@@ -15,7 +15,7 @@ use Rattle.grid_core.specs.declared.cells.Alike.{Alike}
 use Rattle.grid_core.specs.declared.cells.Shape.{Shape}
 use Rattle.grid_core.specs.declared.shadows.Shadows.{Shadows}
 use Rattle.grid_core.specs.declared.stack.Stack.{Stack}
-use Rattle.grid_core.specs.Standing.{IsCountedIn, StandsFor, stack_rules, written_at}
+use Rattle.grid_core.specs.Standing.{IsCountedIn, StackStandsFor, stack_rules, written_at}
 use Rattle.grid_core.specs.Histograms.{past_in}
 use Rattle.grid_core.specs.Recent.{IsRecent}
 use Rattle.grid_core.specs.Shadows.{AreNumbered, HoldsOrder, far_in, is_known}
@@ -33,7 +33,7 @@ base_rules g = stack_rules g true
 -- numbers that the places of a list of blocks are
 pub record IsAfter (blocks : List ℕ) (g : Geometry) (stacks : List Stack) (shadows : Shadows)
     (shapes : List Shape) (h : History) : Type 0 where
-  pub rows : All (λ s. StandsFor s h) stacks
+  pub rows : All (λ s. StackStandsFor s h) stacks
   pub order : HoldsOrder blocks shadows (distinct (renewals (shadow_of (base_rules g)) h))
   pub known : (b : ℕ) → is_known blocks shadows b
       ≡ list_any (λ t. t == b) (referenced_blocks (base_rules g) h)

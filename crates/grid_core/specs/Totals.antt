@@ -28,8 +28,8 @@ total [] = none_by_class
 total (p ∷ ps) = added p (total ps)
 
 -- the counts of a vector
-abbrev pub table_of : Vec PerClass → List PerClass
-table_of v = v.items
+abbrev pub listed_counts : Vec PerClass → List PerClass
+listed_counts v = v.items
 
 -- of counts by distance and then by level: those from distance n and from level k on, added
 abbrev pub past : ℕ → ℕ → List (List PerClass) → PerClass

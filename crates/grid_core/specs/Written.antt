@@ -19,8 +19,8 @@ no_rules = record {
 }
 
 -- the rules at an index
-abbrev pub rules_at : List Rules → ℕ → Rules
-rules_at rs k = get_or rs k no_rules
+abbrev pub rules_at_index : List Rules → ℕ → Rules
+rules_at_index rs k = get_or rs k no_rules
 
 -- the first bytes of the blocks that a flush writes back, in rising order
 abbrev pub written_by : History → Rules → List ℕ

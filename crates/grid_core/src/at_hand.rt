@@ -1,7 +1,7 @@
 //! The numbers of blocks that were looked up recently.
 
 ghost use Rattle.std.specs.Prelude.{◌≡◌, ℕ, Option, Some, IfSome};
-ghost use Rattle.grid_core.specs.AtHand.{AreRight};
+ghost use Rattle.grid_core.specs.AtHand.{HaveRightNumbers};
 
 use std::alloc::AllocError;
 
@@ -23,7 +23,7 @@ fn place_of(block: u64) -> usize {
 
 /// The number of a block, if it is kept.
 pub(crate) fn at_hand(entries: &Vec<Entry>, block: u64) -> Option<usize>
-    ensures { (m : ℕ → Option ℕ) → AreRight m entries.now.items →
+    ensures { (m : ℕ → Option ℕ) → HaveRightNumbers m entries.now.items →
         IfSome result (λ n. m block ≡ Some n) }
 {
     let place = place_of(block);
@@ -39,7 +39,8 @@ pub(crate) fn at_hand(entries: &Vec<Entry>, block: u64) -> Option<usize>
 
 /// Makes the places, where there are none yet. No block is kept in them.
 fn make_places(entries: &mut Vec<Entry>) -> Result<(), AllocError>
-    ensures { (m : ℕ → Option ℕ) → AreRight m entries.old.items → AreRight m entries.new.items }
+    ensures { (m : ℕ → Option ℕ) → HaveRightNumbers m entries.old.items
+        → HaveRightNumbers m entries.new.items }
 {
     if !entries.is_empty() {
         return Ok(());
@@ -53,8 +54,8 @@ fn make_places(entries: &mut Vec<Entry>) -> Result<(), AllocError>
 
 /// Puts the number of a block in its place, in place of another one.
 fn put_in_place(entries: &mut Vec<Entry>, block: u64, number: usize)
-    ensures { (m : ℕ → Option ℕ) → AreRight m entries.old.items → m block ≡ Some number →
-        AreRight m entries.new.items }
+    ensures { (m : ℕ → Option ℕ) → HaveRightNumbers m entries.old.items → m block ≡ Some number →
+        HaveRightNumbers m entries.new.items }
 {
     let place = place_of(block);
     if place < entries.len() {
@@ -68,8 +69,8 @@ pub(crate) fn keep_at_hand(
     block: u64,
     number: usize,
 ) -> Result<(), AllocError>
-    ensures { (m : ℕ → Option ℕ) → AreRight m entries.old.items → m block ≡ Some number →
-        AreRight m entries.new.items }
+    ensures { (m : ℕ → Option ℕ) → HaveRightNumbers m entries.old.items → m block ≡ Some number →
+        HaveRightNumbers m entries.new.items }
 {
     make_places(entries)?;
     put_in_place(entries, block, number);

@@ -2,7 +2,7 @@
 
 ghost use Rattle.std.specs.Prelude.{◌≡◌, Some, IfOk, OnOk, OnErr};
 ghost use Rattle.cache_core.specs.Lists.{IsBeginning};
-ghost use Rattle.grid_core.specs.AtHand.{AreRight};
+ghost use Rattle.grid_core.specs.AtHand.{HaveRightNumbers};
 ghost use Rattle.grid_core.specs.Numbers.{number_at, with_number};
 
 use crate::at_hand::{Entry, at_hand, keep_at_hand};
@@ -18,7 +18,7 @@ pub struct BlockNumbers {
     blocks: IndexSet<u64>,
     /// Some of the numbers, where they are found at once.
     entries: Vec<Entry>,
-    ghost right: { AreRight (number_at blocks.keys) entries.items },
+    ghost right: { HaveRightNumbers (number_at blocks.keys) entries.items },
 }
 
 /// The number of a block. A block that has none gets the next one.

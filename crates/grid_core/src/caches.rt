@@ -86,12 +86,13 @@ impl Caches {
     ghost use Rattle.cache_core.specs.Counts.{counts_of};
     ghost use Rattle.cache_core.specs.Parts.{SendsNothing, outcome_of};
     ghost use Rattle.grid_core.specs.Cells.{items_of};
-    ghost use Rattle.grid_core.specs.Caches.{AreInStep, CachesStandBy, HasPlace, HaveAnswered};
-    ghost use Rattle.grid_core.specs.Caches.{HaveSameRules, HaveSameCounts, counts_in, misses_in};
-    ghost use Rattle.grid_core.specs.Caches.{HasShade, together_rules, apart_rules, shades_rules};
+    ghost use Rattle.grid_core.specs.Caches.{AreInStep, CachesStandBy, HasCacheAt, HasShadowAt};
+    ghost use Rattle.grid_core.specs.Caches.{HaveAnswered, HaveSameCounts, HaveSameRules};
+    ghost use Rattle.grid_core.specs.Caches.{apart_rules, counts_in, misses_in, shades_rules};
+    ghost use Rattle.grid_core.specs.Caches.{together_rules};
     ghost use Rattle.grid_core.specs.Numbers.{IsNumberIn};
     ghost use Rattle.grid_core.specs.Places.{rules_placed, shadow_placed};
-    ghost use Rattle.grid_core.specs.Singles.{AreFew};
+    ghost use Rattle.grid_core.specs.Singles.{FitDirtyWays};
     ghost use Rattle.grid_core.specs.Written.{written_by};
 
     /// Serves an access, whose block has this number, where some caches are of their own. What can
@@ -151,7 +152,7 @@ impl Caches {
         ensures answers { result ≡ true → (blocks : List ℕ) (h : History) →
             CachesStandBy blocks h self.old → HaveAnswered h access self.new }
         ensures silent { result ≡ true → (h : History) (x : Access) → HaveAnswered h x self.new →
-            (place : Place) → HasPlace self.new place → SendsNothing (outcome_of
+            (place : Place) → HasCacheAt self.new place → SendsNothing (outcome_of
             (rules_placed (together_rules self.new) (apart_rules self.new) place) h x) }
         ensures step { result ≡ true → (n : ℕ) → AreInStep n self.old →
             AreInStep (n + 1) self.new }
@@ -167,7 +168,7 @@ impl Caches {
     /// Lets all blocks go, and counts a flush. Those of their own write these lists back.
     fn clear(&mut self, apart: &Vec<Vec<u64>>)
         requires step { (n : ℕ) × AreInStep n self.old × (n < MAX_EVENTS) }
-        requires few { AreFew apart.now.items self.old.singles.items }
+        requires few { FitDirtyWays apart.now.items self.old.singles.items }
         requires len { length apart.now.items ≡ length self.old.singles.items }
         ensures stands { (blocks : List ℕ) (h : History) → CachesStandBy blocks h self.old →
             map items_of apart.now.items ≡ map (written_by h) (apart_rules self.old) →
@@ -184,7 +185,7 @@ impl Caches {
     /// comes first, and only then is it counted.
     pub fn flush(&mut self, alloc: Global, seats: &Vec<Seat>) -> Result<Vec<Vec<u64>>, AllocError>
         requires step { (n : ℕ) × AreInStep n self.old × (n < MAX_EVENTS) }
-        requires seats { All (λ s. HasPlace self.old s.cell) seats.now.items }
+        requires seats { All (λ s. HasCacheAt self.old s.cell) seats.now.items }
         ensures lists { IfOk result (λ lists. (blocks : List ℕ) (h : History) →
             CachesStandBy blocks h self.old →
             map items_of lists.items ≡ map (λ s. written_by h (rules_placed
@@ -221,7 +222,7 @@ impl Caches {
 
     /// The counts at a place.
     pub fn counts(&self, place: Place) -> Counts
-        requires { HasPlace self.now place }
+        requires { HasCacheAt self.now place }
         ensures kept { result ≡ counts_in self.now place }
         ensures counted { (blocks : List ℕ) (h : History) → CachesStandBy blocks h self.now →
             result ≡ counts_of (rules_placed (together_rules self.now) (apart_rules self.now)
@@ -235,7 +236,7 @@ impl Caches {
 
     /// The misses of the shadow at a place.
     pub fn shadow_misses(&self, place: Place) -> PerClass
-        requires { HasShade self.now place }
+        requires { HasShadowAt self.now place }
         ensures kept { result ≡ misses_in self.now place }
         ensures counted { (blocks : List ℕ) (h : History) → CachesStandBy blocks h self.now →
             result ≡ (counts_of (shadow_placed (together_rules self.now) (shades_rules self.now)
@@ -250,7 +251,7 @@ impl Caches {
     /// Whether the last access sent nothing to the next level at any place, as far as is known.
     pub fn sent_nothing(&self) -> bool
         ensures { result ≡ true → (h : History) (x : Access) → HaveAnswered h x self.now →
-            (place : Place) → HasPlace self.now place → SendsNothing (outcome_of
+            (place : Place) → HasCacheAt self.now place → SendsNothing (outcome_of
             (rules_placed (together_rules self.now) (apart_rules self.now) place) h x) }
     {
         if !self.stacked.sent_nothing() {
@@ -261,7 +262,7 @@ impl Caches {
 
     /// What the last access did at a place.
     pub fn answer(&self, place: Place) -> Outcome
-        requires { HasPlace self.now place }
+        requires { HasCacheAt self.now place }
         ensures { (h : History) (x : Access) → HaveAnswered h x self.now →
             result ≡ outcome_of (rules_placed (together_rules self.now) (apart_rules self.now)
             place) h x }

@@ -7,8 +7,8 @@ ghost use Rattle.cache_core.specs.declared.access.Access.{Access as Accessed};
 ghost use Rattle.grid_core.specs.Cells.{IsPlacedOn, IsPlacedAmong, dirty_bytes_of, hit_at};
 ghost use Rattle.grid_core.specs.Cells.{items_of, HitsIn, sent_on_of};
 ghost use Rattle.grid_core.specs.Histograms.{past_in};
-ghost use Rattle.grid_core.specs.Standing.{StandsFor, HasMoved, found_in, rules_of, written_at};
-ghost use Rattle.grid_core.specs.Standing.{IsWithinStack, told_in};
+ghost use Rattle.grid_core.specs.Standing.{HasMoved, IsWithinStack, StackStandsFor, found_in};
+ghost use Rattle.grid_core.specs.Standing.{rules_of_rows, told_in, written_at};
 ghost use Rattle.grid_core.specs.State.{nothing_alike, whole_counts};
 
 use crate::stack::Stack;
@@ -49,7 +49,7 @@ pub(crate) fn none_alike() -> Alike
 
 /// Whether the last access hit in the cache of a shape.
 fn has_hit(shape: Shape, stack: &Stack) -> bool
-    requires { IsPlacedOn (rules_of stack.now) shape }
+    requires { IsPlacedOn (rules_of_rows stack.now) shape }
     ensures is { result ≡ nat_lt (found_in stack.now) shape.ways }
     ensures hits { result ≡ true → (h : History) (x : Accessed) → HasMoved h x stack.now →
         HitsIn h x shape }
@@ -59,7 +59,7 @@ fn has_hit(shape: Shape, stack: &Stack) -> bool
 
 /// Whether the last access hit in the caches of all shapes.
 fn have_hit(shapes: &[Shape], stacks: &[Stack]) -> bool
-    requires { All (λ s. IsPlacedAmong (map rules_of stacks.now) s) shapes.now }
+    requires { All (λ s. IsPlacedAmong (map rules_of_rows stacks.now) s) shapes.now }
     ensures is { result ≡ list_all (hit_at (map found_in stacks.now)) shapes.now }
     ensures hits { result ≡ true → (h : History) (x : Accessed) →
         All (HasMoved h x) stacks.now → All (HitsIn h x) shapes.now }
@@ -74,7 +74,7 @@ fn have_hit(shapes: &[Shape], stacks: &[Stack]) -> bool
 
 /// The same for vectors.
 pub(crate) fn all_have_hit(shapes: &Vec<Shape>, stacks: &Vec<Stack>) -> bool
-    requires { All (λ s. IsPlacedAmong (map rules_of stacks.now.items) s) shapes.now.items }
+    requires { All (λ s. IsPlacedAmong (map rules_of_rows stacks.now.items) s) shapes.now.items }
     ensures is { result ≡ list_all (hit_at (map found_in stacks.now.items)) shapes.now.items }
     ensures hits { result ≡ true → (h : History) (x : Accessed) →
         All (HasMoved h x) stacks.now.items → All (HitsIn h x) shapes.now.items }
@@ -93,7 +93,7 @@ fn sent_of(writes: u64, wback: bool) -> u64
 /// compulsory if its block was never accessed before. Of the others, those that miss in the shadow
 /// too are capacity misses, and the rest conflicts.
 pub(crate) fn shape_counts(shape: Shape, stack: &Stack, alike: Alike) -> Counts
-    requires ways { shape.ways ≤ (rules_of stack.now).assoc }
+    requires ways { shape.ways ≤ (rules_of_rows stack.now).assoc }
     requires some { 0 < shape.ways }
     requires rank { shape.rank + 1 ≤ told_in stack.now }
     requires few { shape.rank < usize.MAX }
@@ -119,8 +119,8 @@ pub(crate) fn shape_counts(shape: Shape, stack: &Stack, alike: Alike) -> Counts
 
 /// The dirty blocks of the cache of a shape, by their first bytes, in rising order.
 fn dirty_list(alloc: Global, stacks: &Vec<Stack>, shape: Shape) -> Result<Vec<u64>, AllocError>
-    requires { IsPlacedAmong (map rules_of stacks.now.items) shape }
-    ensures { IfOk result (λ bytes. (h : History) → All (λ s. StandsFor s h) stacks.now.items →
+    requires { IsPlacedAmong (map rules_of_rows stacks.now.items) shape }
+    ensures { IfOk result (λ bytes. (h : History) → All (λ s. StackStandsFor s h) stacks.now.items →
         bytes.items ≡ dirty_bytes_of h shape) }
 {
     let bytes = stacks[shape.stack].dirty(alloc, shape.ways)?;
@@ -133,9 +133,9 @@ pub(crate) fn dirty_lists(
     stacks: &Vec<Stack>,
     shapes: &Vec<Shape>,
 ) -> Result<Vec<Vec<u64>>, AllocError>
-    requires { All (λ s. IsPlacedAmong (map rules_of stacks.now.items) s) shapes.now.items }
+    requires { All (λ s. IsPlacedAmong (map rules_of_rows stacks.now.items) s) shapes.now.items }
     ensures lists { IfOk result (λ lists. (h : History)
-        → All (λ s. StandsFor s h) stacks.now.items →
+        → All (λ s. StackStandsFor s h) stacks.now.items →
         map items_of lists.items ≡ map (dirty_bytes_of h) shapes.now.items) }
     ensures len { IfOk result (λ lists. length lists.items ≡ length shapes.now.items) }
 {

@@ -40,7 +40,7 @@ pub struct Engine {
     ghost step: { failed ≡ false → AreInStep served caches },
 }
 
-#[tactic(auto, unfolding(crate::specs::Engines::rules_in, crate::specs::Engines::served_in, crate::specs::Engines::kept_in, crate::specs::Engines::has_failed, crate::specs::Engines::bsize_in, crate::specs::Engines::numbered_in))]
+#[tactic(auto, unfolding(crate::specs::Engines::engine_rules, crate::specs::Engines::engine_served, crate::specs::Engines::kept_in, crate::specs::Engines::engine_has_failed, crate::specs::Engines::bsize_in, crate::specs::Engines::numbered_in))]
 impl Engine {
     ghost use Rattle.std.specs.Prelude.{◌≡◌, ◌<◌, ◌+◌, ◌/◌, ◌∷◌, [], List, map, true, false};
     ghost use Rattle.std.specs.Prelude.{OnOk, OnErr, IfOk, IsErr, length, ℕ};
@@ -51,11 +51,11 @@ impl Engine {
     ghost use Rattle.cache_core.specs.Standing.{rules_from};
     ghost use Rattle.cache_core.specs.Lists.{IsBeginning};
     ghost use Rattle.grid_core.specs.Cells.{items_of};
-    ghost use Rattle.grid_core.specs.Engines.{EngineStandsBy, EngineStandsFor, HasAnswered};
-    ghost use Rattle.grid_core.specs.Engines.{bsize_in, has_failed, kept_in, numbered_in};
-    ghost use Rattle.grid_core.specs.Engines.{rules_in, served_in};
+    ghost use Rattle.grid_core.specs.Engines.{EngineHasAnswered, EngineStandsBy, EngineStandsFor};
+    ghost use Rattle.grid_core.specs.Engines.{bsize_in, engine_has_failed, engine_rules};
+    ghost use Rattle.grid_core.specs.Engines.{engine_served, kept_in, numbered_in};
     ghost use Rattle.grid_core.specs.Numbers.{IsNumberOf, MayNumber, with_number};
-    ghost use Rattle.grid_core.specs.Written.{rules_at, written_by};
+    ghost use Rattle.grid_core.specs.Written.{rules_at_index, written_by};
 
     /// Empty caches of these geometries, which have the block size of `first`, and of this policy.
     /// Only the block size of `first` counts, and it need not be among them: there may be none.
@@ -69,9 +69,9 @@ impl Engine {
         ensures stands { IfOk result (λ engine. (blocks : List ℕ) →
             EngineStandsBy blocks engine []) }
         ensures rules { IfOk result (λ engine.
-            rules_in engine ≡ map (λ g. rules_from g policy) geometries.now) }
-        ensures served { IfOk result (λ engine. served_in engine ≡ 0) }
-        ensures works { IfOk result (λ engine. has_failed engine ≡ false) }
+            engine_rules engine ≡ map (λ g. rules_from g policy) geometries.now) }
+        ensures served { IfOk result (λ engine. engine_served engine ≡ 0) }
+        ensures works { IfOk result (λ engine. engine_has_failed engine ≡ false) }
         ensures numbers { IfOk result (λ engine. numbered_in engine ≡ []) }
         ensures bsize { IfOk result (λ engine. bsize_in engine ≡ bsize_of first) }
     {
@@ -99,24 +99,24 @@ impl Engine {
 
     /// Serves one access in all caches.
     pub fn access(&mut self, access: Access) -> Result<(), NoMemory>
-        requires { served_in self.old < MAX_EVENTS }
+        requires { engine_served self.old < MAX_EVENTS }
         ensures stands { OnOk result ((h : History) → EngineStandsFor self.old h →
             EngineStandsFor self.new (accessed access ∷ h)) }
         ensures answers { OnOk result ((h : History) → EngineStandsFor self.old h →
-            HasAnswered self.new h access) }
-        ensures served { OnOk result (served_in self.new ≡ served_in self.old + 1) }
-        ensures works { OnOk result (has_failed self.new ≡ false) }
+            EngineHasAnswered self.new h access) }
+        ensures served { OnOk result (engine_served self.new ≡ engine_served self.old + 1) }
+        ensures works { OnOk result (engine_has_failed self.new ≡ false) }
 
-        ensures fails { OnErr result (has_failed self.new ≡ true) }
+        ensures fails { OnErr result (engine_has_failed self.new ≡ true) }
         ensures keeps { OnErr result ((kept_in self.new ≡ kept_in self.old)
-            × (served_in self.new ≡ served_in self.old)) }
-        ensures failed { has_failed self.old ≡ true → IsErr result }
+            × (engine_served self.new ≡ engine_served self.old)) }
+        ensures failed { engine_has_failed self.old ≡ true → IsErr result }
         ensures numbers { IsBeginning (numbered_in self.old) (numbered_in self.new) }
         ensures only { OnOk result (numbered_in self.new
             ≡ with_number (access.addr / bsize_in self.old) (numbered_in self.old)) }
         ensures refused { OnErr result (MayNumber (access.addr / bsize_in self.old)
             (numbered_in self.old) (numbered_in self.new)) }
-        ensures rules { rules_in self.new ≡ rules_in self.old }
+        ensures rules { engine_rules self.new ≡ engine_rules self.old }
         ensures bsize { bsize_in self.new ≡ bsize_in self.old }
     {
         if self.failed {
@@ -134,22 +134,22 @@ impl Engine {
     /// is told each number stands for its history by the list of blocks whose places these are. So
     /// many engines can do with one such list, which may grow.
     pub fn access_numbered(&mut self, access: Access, number: usize) -> Result<(), NoMemory>
-        requires { served_in self.old < MAX_EVENTS }
+        requires { engine_served self.old < MAX_EVENTS }
         ensures stands { OnOk result ((blocks : List ℕ) (h : History) →
             IsNumberOf blocks (bsize_in self.old) access number → EngineStandsBy blocks self.old h →
             EngineStandsBy blocks self.new (accessed access ∷ h)) }
         ensures answers { OnOk result ((blocks : List ℕ) (h : History) →
             IsNumberOf blocks (bsize_in self.old) access number → EngineStandsBy blocks self.old h →
-            HasAnswered self.new h access) }
-        ensures served { OnOk result (served_in self.new ≡ served_in self.old + 1) }
-        ensures works { OnOk result (has_failed self.new ≡ false) }
+            EngineHasAnswered self.new h access) }
+        ensures served { OnOk result (engine_served self.new ≡ engine_served self.old + 1) }
+        ensures works { OnOk result (engine_has_failed self.new ≡ false) }
 
-        ensures fails { OnErr result (has_failed self.new ≡ true) }
+        ensures fails { OnErr result (engine_has_failed self.new ≡ true) }
         ensures keeps { OnErr result ((kept_in self.new ≡ kept_in self.old)
-            × (served_in self.new ≡ served_in self.old)) }
-        ensures failed { has_failed self.old ≡ true → IsErr result }
+            × (engine_served self.new ≡ engine_served self.old)) }
+        ensures failed { engine_has_failed self.old ≡ true → IsErr result }
         ensures numbers { numbered_in self.new ≡ numbered_in self.old }
-        ensures rules { rules_in self.new ≡ rules_in self.old }
+        ensures rules { engine_rules self.new ≡ engine_rules self.old }
         ensures bsize { bsize_in self.new ≡ bsize_in self.old }
     {
         if self.failed {
@@ -168,21 +168,21 @@ impl Engine {
     /// way; if not, nothing is changed, and `access` serves it.
     #[inline(always)]
     pub fn again(&mut self, access: Access) -> bool
-        requires { served_in self.old < MAX_EVENTS }
+        requires { engine_served self.old < MAX_EVENTS }
         ensures stands { result ≡ true → (blocks : List ℕ) (h : History) →
             EngineStandsBy blocks self.old h →
             EngineStandsBy blocks self.new (accessed access ∷ h) }
         ensures answers { result ≡ true → (blocks : List ℕ) (h : History) →
-            EngineStandsBy blocks self.old h → HasAnswered self.new h access }
-        ensures silent { result ≡ true → (h : History) (x : Access) → HasAnswered self.new h x →
-            (index : ℕ) → index < length (rules_in self.new) →
-            SendsNothing (outcome_of (rules_at (rules_in self.new) index) h x) }
-        ensures served { result ≡ true → served_in self.new ≡ served_in self.old + 1 }
-        ensures works { result ≡ true → has_failed self.new ≡ false }
-        ensures failed { has_failed self.old ≡ true → result ≡ false }
+            EngineStandsBy blocks self.old h → EngineHasAnswered self.new h access }
+        ensures silent { result ≡ true → (h : History) (x : Access) →
+            EngineHasAnswered self.new h x → (index : ℕ) → index < length (engine_rules self.new) →
+            SendsNothing (outcome_of (rules_at_index (engine_rules self.new) index) h x) }
+        ensures served { result ≡ true → engine_served self.new ≡ engine_served self.old + 1 }
+        ensures works { result ≡ true → engine_has_failed self.new ≡ false }
+        ensures failed { engine_has_failed self.old ≡ true → result ≡ false }
         ensures leaves { result ≡ false → self.new ≡ self.old }
         ensures numbers { numbered_in self.new ≡ numbered_in self.old }
-        ensures rules { rules_in self.new ≡ rules_in self.old }
+        ensures rules { engine_rules self.new ≡ engine_rules self.old }
         ensures bsize { bsize_in self.new ≡ bsize_in self.old }
     {
         if self.failed || !self.caches.again(access) {
@@ -195,21 +195,21 @@ impl Engine {
     /// Empties all caches and the shadows, and answers for each cache the first bytes of the blocks
     /// that it writes back, in rising order. Known blocks stay known.
     pub fn flush(&mut self) -> Result<Vec<Vec<u64>>, NoMemory>
-        requires { served_in self.old < MAX_EVENTS }
+        requires { engine_served self.old < MAX_EVENTS }
         ensures lists { IfOk result (λ lists. (blocks : List ℕ) (h : History) →
             EngineStandsBy blocks self.old h →
-            map items_of lists.items ≡ map (written_by h) (rules_in self.old)) }
+            map items_of lists.items ≡ map (written_by h) (engine_rules self.old)) }
         ensures stands { OnOk result ((blocks : List ℕ) (h : History) →
             EngineStandsBy blocks self.old h → EngineStandsBy blocks self.new (flushed ∷ h)) }
-        ensures served { OnOk result (served_in self.new ≡ served_in self.old + 1) }
-        ensures works { OnOk result (has_failed self.new ≡ false) }
+        ensures served { OnOk result (engine_served self.new ≡ engine_served self.old + 1) }
+        ensures works { OnOk result (engine_has_failed self.new ≡ false) }
 
-        ensures fails { OnErr result (has_failed self.new ≡ true) }
+        ensures fails { OnErr result (engine_has_failed self.new ≡ true) }
         ensures keeps { OnErr result ((kept_in self.new ≡ kept_in self.old)
-            × (served_in self.new ≡ served_in self.old)) }
-        ensures failed { has_failed self.old ≡ true → IsErr result }
+            × (engine_served self.new ≡ engine_served self.old)) }
+        ensures failed { engine_has_failed self.old ≡ true → IsErr result }
         ensures numbers { numbered_in self.new ≡ numbered_in self.old }
-        ensures rules { rules_in self.new ≡ rules_in self.old }
+        ensures rules { engine_rules self.new ≡ engine_rules self.old }
         ensures bsize { bsize_in self.new ≡ bsize_in self.old }
     {
         if self.failed() {
@@ -227,18 +227,18 @@ impl Engine {
     /// them, this spares the search of all rows for dirty blocks. Of a cache that no stack order
     /// serves the list is made all the same, for its count, and dropped.
     pub fn flush_unlisted(&mut self) -> Result<(), NoMemory>
-        requires { served_in self.old < MAX_EVENTS }
+        requires { engine_served self.old < MAX_EVENTS }
         ensures stands { OnOk result ((blocks : List ℕ) (h : History) →
             EngineStandsBy blocks self.old h → EngineStandsBy blocks self.new (flushed ∷ h)) }
-        ensures served { OnOk result (served_in self.new ≡ served_in self.old + 1) }
-        ensures works { OnOk result (has_failed self.new ≡ false) }
+        ensures served { OnOk result (engine_served self.new ≡ engine_served self.old + 1) }
+        ensures works { OnOk result (engine_has_failed self.new ≡ false) }
 
-        ensures fails { OnErr result (has_failed self.new ≡ true) }
+        ensures fails { OnErr result (engine_has_failed self.new ≡ true) }
         ensures keeps { OnErr result ((kept_in self.new ≡ kept_in self.old)
-            × (served_in self.new ≡ served_in self.old)) }
-        ensures failed { has_failed self.old ≡ true → IsErr result }
+            × (engine_served self.new ≡ engine_served self.old)) }
+        ensures failed { engine_has_failed self.old ≡ true → IsErr result }
         ensures numbers { numbered_in self.new ≡ numbered_in self.old }
-        ensures rules { rules_in self.new ≡ rules_in self.old }
+        ensures rules { engine_rules self.new ≡ engine_rules self.old }
         ensures bsize { bsize_in self.new ≡ bsize_in self.old }
     {
         if self.failed {
@@ -254,21 +254,21 @@ impl Engine {
 
     /// How many caches there are.
     pub fn cells(&self) -> usize
-        ensures { result ≡ length (rules_in self.now) }
+        ensures { result ≡ length (engine_rules self.now) }
     {
         self.seats.len()
     }
 
     /// How many accesses and flushes succeeded.
     pub fn served(&self) -> u64
-        ensures { result ≡ served_in self.now }
+        ensures { result ≡ engine_served self.now }
     {
         self.served
     }
 
     /// Whether a call was refused memory.
     pub fn failed(&self) -> bool
-        ensures { result ≡ has_failed self.now }
+        ensures { result ≡ engine_has_failed self.now }
     {
         self.failed
     }

@@ -6,7 +6,7 @@ ghost use Rattle.std.specs.List.{All};
 ghost use Rattle.cache_core.specs.Counts.{none_by_class};
 ghost use Rattle.cache_core.specs.Counting.{IsWithin, with_one};
 ghost use Rattle.cache_core.specs.History.{is_write};
-ghost use Rattle.grid_core.specs.Totals.{past, table_of, total};
+ghost use Rattle.grid_core.specs.Totals.{listed_counts, past, total};
 
 use crate::sums::{count_at, plus, sum_from, zeros};
 use cache_core::{Access, MAX_EVENTS, PerClass};
@@ -23,13 +23,13 @@ pub(crate) struct Histogram {
     /// By the number of ways up to which the block was not dirty.
     first_writes: Vec<PerClass>,
     ghost tall: { length distances.items ≡ ways + 1 },
-    ghost wide: { All (λ n. n ≡ levels) (map length (map table_of distances.items)) },
+    ghost wide: { All (λ n. n ≡ levels) (map length (map listed_counts distances.items)) },
     ghost long: { length first_writes.items ≡ ways + 1 },
 }
 
 /// So many tables of so many counts, all zero.
 fn tables(alloc: Global, rows: usize, levels: usize) -> Result<Vec<Vec<PerClass>>, AllocError>
-    ensures { IfOk result (λ v. map table_of v.items
+    ensures { IfOk result (λ v. map listed_counts v.items
         ≡ replicate rows (replicate levels none_by_class)) }
 {
     let mut tables = Vec::new(alloc);
@@ -42,9 +42,9 @@ fn tables(alloc: Global, rows: usize, levels: usize) -> Result<Vec<Vec<PerClass>
 /// The counts of the tables from a distance and from a level on, added.
 fn sum_past(tables: &[Vec<PerClass>], distance: usize, level: usize) -> PerClass
     requires distance { distance ≤ length tables.now }
-    requires level { All (λ counts. level ≤ length counts) (map table_of tables.now) }
-    requires within { IsWithin (past distance level (map table_of tables.now)) MAX_EVENTS }
-    ensures { result ≡ past distance level (map table_of tables.now) }
+    requires level { All (λ counts. level ≤ length counts) (map listed_counts tables.now) }
+    requires within { IsWithin (past distance level (map listed_counts tables.now)) MAX_EVENTS }
+    ensures { result ≡ past distance level (map listed_counts tables.now) }
 {
     let mut sum = PerClass::default();
     for place in distance..tables.len() {
@@ -56,12 +56,13 @@ fn sum_past(tables: &[Vec<PerClass>], distance: usize, level: usize) -> PerClass
 /// Adds one in the table of a distance, at a level, in the class of the access.
 fn count_past(tables: &mut [Vec<PerClass>], distance: usize, level: usize, access: Access)
     requires distance { distance < length tables.old }
-    requires level { All (λ counts. level < length counts) (map table_of tables.old) }
-    requires within { IsWithin (past 0 0 (map table_of tables.old)) MAX_EVENTS }
-    ensures past { (n k : ℕ) → past n k (map table_of tables.new)
+    requires level { All (λ counts. level < length counts) (map listed_counts tables.old) }
+    requires within { IsWithin (past 0 0 (map listed_counts tables.old)) MAX_EVENTS }
+    ensures past { (n k : ℕ) → past n k (map listed_counts tables.new)
         ≡ with_one access (not (nat_lt distance n) && not (nat_lt level k))
-        (past n k (map table_of tables.old)) }
-    ensures wide { map length (map table_of tables.new) ≡ map length (map table_of tables.old) }
+        (past n k (map listed_counts tables.old)) }
+    ensures wide { map length (map listed_counts tables.new)
+        ≡ map length (map listed_counts tables.old) }
 {
     count_at(&mut tables[distance], level, access);
 }
@@ -69,13 +70,13 @@ fn count_past(tables: &mut [Vec<PerClass>], distance: usize, level: usize, acces
 /// The same for a vector.
 fn count_past_in(tables: &mut Vec<Vec<PerClass>>, distance: usize, level: usize, access: Access)
     requires distance { distance < length tables.old.items }
-    requires level { All (λ counts. level < length counts) (map table_of tables.old.items) }
-    requires within { IsWithin (past 0 0 (map table_of tables.old.items)) MAX_EVENTS }
-    ensures past { (n k : ℕ) → past n k (map table_of tables.new.items)
+    requires level { All (λ counts. level < length counts) (map listed_counts tables.old.items) }
+    requires within { IsWithin (past 0 0 (map listed_counts tables.old.items)) MAX_EVENTS }
+    ensures past { (n k : ℕ) → past n k (map listed_counts tables.new.items)
         ≡ with_one access (not (nat_lt distance n) && not (nat_lt level k))
-        (past n k (map table_of tables.old.items)) }
-    ensures wide { map length (map table_of tables.new.items)
-        ≡ map length (map table_of tables.old.items) }
+        (past n k (map listed_counts tables.old.items)) }
+    ensures wide { map length (map listed_counts tables.new.items)
+        ≡ map length (map listed_counts tables.old.items) }
 {
     count_past(tables, distance, level, access);
 }
@@ -83,15 +84,15 @@ fn count_past_in(tables: &mut Vec<Vec<PerClass>>, distance: usize, level: usize,
 /// Counts an access whose block had this stack distance, unless it was first in its row.
 fn count_distance(tables: &mut Vec<Vec<PerClass>>, distance: usize, level: usize, access: Access)
     requires distance { distance < length tables.old.items }
-    requires level { All (λ counts. level < length counts) (map table_of tables.old.items) }
-    requires within { IsWithin (past 0 0 (map table_of tables.old.items)) MAX_EVENTS }
-    ensures past { (n k : ℕ) → 0 < n → past n k (map table_of tables.new.items)
+    requires level { All (λ counts. level < length counts) (map listed_counts tables.old.items) }
+    requires within { IsWithin (past 0 0 (map listed_counts tables.old.items)) MAX_EVENTS }
+    ensures past { (n k : ℕ) → 0 < n → past n k (map listed_counts tables.new.items)
         ≡ with_one access (not (nat_lt distance n) && not (nat_lt level k))
-        (past n k (map table_of tables.old.items)) }
-    ensures bounds { (b : ℕ) → IsWithin (past 0 0 (map table_of tables.old.items)) b →
-        IsWithin (past 0 0 (map table_of tables.new.items)) (b + 1) }
-    ensures wide { map length (map table_of tables.new.items)
-        ≡ map length (map table_of tables.old.items) }
+        (past n k (map listed_counts tables.old.items)) }
+    ensures bounds { (b : ℕ) → IsWithin (past 0 0 (map listed_counts tables.old.items)) b →
+        IsWithin (past 0 0 (map listed_counts tables.new.items)) (b + 1) }
+    ensures wide { map length (map listed_counts tables.new.items)
+        ≡ map length (map listed_counts tables.old.items) }
 {
     if distance > 0 {
         count_past_in(tables, distance, level, access);

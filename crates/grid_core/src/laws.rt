@@ -2,7 +2,7 @@
 
 ghost use Rattle.grid_core.specs.Ways.{WiderWaysHoldMore, StackDistancesAreHits, MoreSetsHoldMore};
 ghost use Rattle.grid_core.specs.Levels.{DirtyLevelsAreDirtyBlocks};
-ghost use Rattle.grid_core.specs.Engines.{MoreNumbersServe};
+ghost use Rattle.grid_core.specs.Engines.{MoreNumbersServeEngines};
 ghost use Rattle.grid_core.specs.WriteBacks.{WriteBacksAreFirstWrites};
 
 /// Inclusion (Mattson and others): of two LRU caches with the same number of sets that both
@@ -38,6 +38,6 @@ pub fn write_backs_are_first_writes()
 {}
 
 /// An engine that was served with some numbers of blocks can go on with more of them.
-pub fn more_numbers_serve()
-    ensures { MoreNumbersServe }
+pub fn more_numbers_serve_engines()
+    ensures { MoreNumbersServeEngines }
 {}

@@ -61,7 +61,7 @@ mod word;
 pub use block_numbers::BlockNumbers;
 pub use engine::Engine;
 pub use laws::{
-    dirty_levels_are_dirty_blocks, more_numbers_serve, more_sets_hold_more,
+    dirty_levels_are_dirty_blocks, more_numbers_serve_engines, more_sets_hold_more,
     stack_distances_are_hits, wider_ways_hold_more, write_backs_are_first_writes,
 };
 pub use shapes::share_block_size;

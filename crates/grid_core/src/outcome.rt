@@ -8,7 +8,7 @@ ghost use Rattle.cache_core.specs.declared.access.Access.{Access};
 ghost use Rattle.cache_core.specs.Kinds.{kind_by};
 ghost use Rattle.cache_core.specs.Parts.{outcome_of};
 ghost use Rattle.grid_core.specs.Ways.{with_ways};
-ghost use Rattle.grid_core.specs.Standing.{HasMoved, rules_of, found_in};
+ghost use Rattle.grid_core.specs.Standing.{HasMoved, found_in, rules_of_rows};
 ghost use Rattle.grid_core.specs.Cells.{IsPlacedAmong, IsPlacedOn, KnowsPrior, shape_rules};
 ghost use Rattle.grid_core.specs.Hits.{hit_made};
 
@@ -43,10 +43,10 @@ fn kind_in(hit: bool, prior: PriorLevel, rank: usize) -> Option<MissKind>
 /// The first byte of the block that the cache of `ways` ways wrote back at the last access, if any.
 fn back_in(stack: &Stack, ways: usize, hit: bool) -> Option<u64>
     requires some { 0 < ways }
-    requires fits { ways ≤ (rules_of stack.now).assoc }
+    requires fits { ways ≤ (rules_of_rows stack.now).assoc }
     ensures { (h : History) (x : Access) → HasMoved h x stack.now →
         hit ≡ nat_lt (found_in stack.now) ways →
-        (outcome_of (with_ways ways (rules_of stack.now)) h x).back ≡ result }
+        (outcome_of (with_ways ways (rules_of_rows stack.now)) h x).back ≡ result }
 {
     if hit {
         return None;
@@ -64,7 +64,7 @@ pub(crate) fn sends_on(write: bool, wback: bool) -> bool
 /// The outcome of the last access in the cache of this shape, by whether it was a write, and what
 /// was known of its block.
 fn outcome_in(stack: &Stack, shape: Shape, write: bool, prior: PriorLevel) -> Outcome
-    requires { IsPlacedOn (rules_of stack.now) shape }
+    requires { IsPlacedOn (rules_of_rows stack.now) shape }
     ensures hit { result.hit ≡ nat_lt (found_in stack.now) shape.ways }
     ensures is { (h : History) (x : Access) → HasMoved h x stack.now → write ≡ is_write x →
         KnowsPrior shape h x prior → result ≡ outcome_of (shape_rules shape) h x }
@@ -87,7 +87,7 @@ pub(crate) fn answer_in(
     write: bool,
     prior: PriorLevel,
 ) -> Outcome
-    requires { IsPlacedAmong (map rules_of stacks.now.items) shape }
+    requires { IsPlacedAmong (map rules_of_rows stacks.now.items) shape }
     ensures { (h : History) (x : Access) → All (HasMoved h x) stacks.now.items →
         KnowsPrior shape h x prior → write ≡ is_write x →
         result ≡ outcome_of (shape_rules shape) h x }

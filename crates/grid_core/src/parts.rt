@@ -5,7 +5,7 @@ ghost use Rattle.std.specs.List.{All};
 ghost use Rattle.std.specs.List.Sorted.{IsPermutation, IsNonDecreasingBy};
 ghost use Rattle.cache_core.specs.Geometry.{bsize_of, blocks_of, sets_of};
 ghost use Rattle.grid_core.specs.Slot.{HasWords};
-ghost use Rattle.grid_core.specs.Standing.{IsEmptyStack, rules_of, stack_rules};
+ghost use Rattle.grid_core.specs.Standing.{IsEmptyStack, rules_of_rows, stack_rules};
 ghost use Rattle.grid_core.specs.declared.cells.Shape.{Shape};
 ghost use Rattle.grid_core.specs.Shapes.{has_size, HaveBsize, IsSuitedShape};
 ghost use Rattle.grid_core.specs.Cells.{IsPlacedAmong, shape_rules};
@@ -106,7 +106,7 @@ pub(crate) fn parts_for(
     ensures ranked { IfOk result (λ parts.
         All (IsRanked sizes.now first) parts.shapes.items) }
     ensures placed { IfOk result (λ parts.
-        All (IsPlacedAmong (map rules_of parts.stacks.items)) parts.shapes.items) }
+        All (IsPlacedAmong (map rules_of_rows parts.stacks.items)) parts.shapes.items) }
     ensures one_size { IfOk result (λ parts. HaveBsize (bsize_of first) parts.stacks.items) }
     ensures one_policy { IfOk result (λ parts. All (λ s. s.wback ≡ wback) parts.shapes.items) }
     ensures empty { IfOk result (λ parts.

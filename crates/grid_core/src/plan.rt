@@ -8,7 +8,7 @@ ghost use Rattle.cache_core.specs.Standing.{rules_from};
 ghost use Rattle.cache_core.specs.Lists.{IsBeginning};
 ghost use Rattle.grid_core.specs.Places.{IsSeated, planned_rules};
 ghost use Rattle.grid_core.specs.declared.places.Place.TheVariants.{Together};
-ghost use Rattle.grid_core.specs.Plans.{IsNew, IsNewShade};
+ghost use Rattle.grid_core.specs.Plans.{IsNewShade, IsNewSingle};
 ghost use Rattle.grid_core.specs.Shades.{shade_rules};
 ghost use Rattle.grid_core.specs.Shading.{IsShaded};
 ghost use Rattle.grid_core.specs.Singles.{single_rules, single_shading};
@@ -66,7 +66,8 @@ fn push_single(
         ≡ map single_rules singles.old.items ++ rules_from geometry policy ∷ []) }
     ensures shading { OnOk result (map single_shading singles.new.items
         ≡ map single_shading singles.old.items ++ (shadow, rules_from geometry policy) ∷ []) }
-    ensures fresh { OnOk result (All IsNew singles.old.items → All IsNew singles.new.items) }
+    ensures fresh { OnOk result (All IsNewSingle singles.old.items →
+        All IsNewSingle singles.new.items) }
 {
     let single = Single::new(alloc, geometry, policy, shadow)?;
     let index = singles.len();
@@ -119,7 +120,8 @@ fn seat_for(
         All (λ g. bsize_of g ≡ b) together.new.items) }
     ensures words { OnOk result (All HasWords together.old.items →
         All HasWords together.new.items) }
-    ensures fresh { OnOk result (All IsNew singles.old.items → All IsNew singles.new.items) }
+    ensures fresh { OnOk result (All IsNewSingle singles.old.items →
+        All IsNewSingle singles.new.items) }
     ensures fresh_shades { OnOk result (All IsNewShade shades.old.items →
         All IsNewShade shades.new.items) }
 {
@@ -155,7 +157,7 @@ pub(crate) fn plan_for(
     ensures same { IfOk result (λ plan.
         All (λ g. bsize_of g ≡ bsize_of first) plan.together.items) }
     ensures words { IfOk result (λ plan. All HasWords plan.together.items) }
-    ensures fresh { IfOk result (λ plan. All IsNew plan.singles.items) }
+    ensures fresh { IfOk result (λ plan. All IsNewSingle plan.singles.items) }
     ensures fresh_shades { IfOk result (λ plan. All IsNewShade plan.shades.items) }
 {
     let mut seats = Vec::new(alloc);

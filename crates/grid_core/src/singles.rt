@@ -10,9 +10,9 @@ ghost use Rattle.grid_core.specs.Cells.{items_of};
 ghost use Rattle.grid_core.specs.Places.{IsPlace, shadow_placed};
 ghost use Rattle.grid_core.specs.Shades.{ShadeHasHit, shade_rules};
 ghost use Rattle.grid_core.specs.Shading.{IsShaded, StackedFollowed, hits_in};
-ghost use Rattle.grid_core.specs.Singles.{SingleStandsFor, SingleReached, SingleHasAnswered};
-ghost use Rattle.grid_core.specs.Singles.{HasSettled, IsPending, single_rules, single_counts};
-ghost use Rattle.grid_core.specs.Singles.{single_shading, AreFew};
+ghost use Rattle.grid_core.specs.Singles.{FitDirtyWays, HasSettled, IsPending, SingleHasAnswered};
+ghost use Rattle.grid_core.specs.Singles.{SingleReached, SingleStandsFor, single_counts};
+ghost use Rattle.grid_core.specs.Singles.{single_rules, single_shading};
 ghost use Rattle.grid_core.specs.StackedCells.{StackedHasAnswered, stacked_rules};
 ghost use Rattle.grid_core.specs.Written.{written_by};
 
@@ -104,7 +104,7 @@ pub(crate) fn lists_all(alloc: Global, singles: &Vec<Single>) -> Result<Vec<Vec<
     ensures lists { IfOk result (λ lists. (h : History) →
         All (SingleStandsFor h) singles.now.items →
         map items_of lists.items ≡ map (written_by h) (map single_rules singles.now.items)) }
-    ensures few { IfOk result (λ lists. AreFew lists.items singles.now.items) }
+    ensures few { IfOk result (λ lists. FitDirtyWays lists.items singles.now.items) }
     ensures len { IfOk result (λ lists. length lists.items ≡ length singles.now.items) }
 {
     let mut lists = Vec::new(alloc);
@@ -118,7 +118,7 @@ pub(crate) fn lists_all(alloc: Global, singles: &Vec<Single>) -> Result<Vec<Vec<
 /// Lets all blocks go, and counts a flush that wrote these lists back.
 pub(crate) fn clear_all(singles: &mut Vec<Single>, lists: &Vec<Vec<u64>>)
     requires step { (n : ℕ) × All (HasSettled n) singles.old.items × (n < MAX_EVENTS) }
-    requires few { AreFew lists.now.items singles.old.items }
+    requires few { FitDirtyWays lists.now.items singles.old.items }
     requires len { length lists.now.items ≡ length singles.old.items }
     ensures stands { (h : History) → All (SingleStandsFor h) singles.old.items →
         map items_of lists.now.items ≡ map (written_by h) (map single_rules singles.old.items) →

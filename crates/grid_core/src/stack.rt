@@ -42,7 +42,7 @@ pub(crate) struct Stack {
     ghost counted: { histogram_ways histogram ≡ ways },
 }
 
-#[tactic(auto, unfolding(crate::specs::Standing::rules_of, crate::specs::Standing::found_in))]
+#[tactic(auto, unfolding(crate::specs::Standing::rules_of_rows, crate::specs::Standing::found_in))]
 impl Stack {
     ghost use Rattle.std.specs.Prelude.{◌≡◌, ◌<◌, ◌≤◌, ◌+◌, ◌*◌, ◌/◌, ◌%◌, ◌∷◌, ℕ, List};
     ghost use Rattle.std.specs.Prelude.{true, []};
@@ -52,11 +52,10 @@ impl Stack {
     ghost use Rattle.cache_core.specs.Dirty.{dirty_blocks};
     ghost use Rattle.grid_core.specs.Slot.{HasWords, slot_of};
     ghost use Rattle.grid_core.specs.Ways.{with_ways};
-    ghost use Rattle.grid_core.specs.Standing.{StandsFor, rules_of, stack_rules};
-    ghost use Rattle.grid_core.specs.Standing.{HasMoved, found_in, behind_in, back_at, Suits};
-    ghost use Rattle.grid_core.specs.Standing.{IsBehind, StaysFirst, IsCountedIn};
-    ghost use Rattle.grid_core.specs.Standing.{IsWithinStack, dirty_slots, stays_at, told_in};
-    ghost use Rattle.grid_core.specs.Standing.{written_at};
+    ghost use Rattle.grid_core.specs.Standing.{HasMoved, IsBehind, IsCountedIn, IsWithinStack};
+    ghost use Rattle.grid_core.specs.Standing.{RowsSuit, StackStandsFor, StaysFirst, back_at};
+    ghost use Rattle.grid_core.specs.Standing.{behind_in, dirty_slots, found_in, rules_of_rows};
+    ghost use Rattle.grid_core.specs.Standing.{stack_rules, stays_at, told_in, written_at};
     ghost use Rattle.grid_core.specs.Histograms.{level_at, past_in};
 
     /// Empty rows, of as many sets as the geometry has, and of its number of ways. So many levels
@@ -68,11 +67,11 @@ impl Stack {
         wback: bool,
     ) -> Result<Stack, AllocError>
         requires { HasWords geometry }
-        ensures stands { IfOk result (λ stack. StandsFor stack []) }
+        ensures stands { IfOk result (λ stack. StackStandsFor stack []) }
         ensures counted { IfOk result (λ stack. (sizes : List ℕ) → IsCountedIn sizes [] stack) }
         ensures within { IfOk result (IsWithinStack 0) }
         ensures levels { IfOk result (λ stack. told_in stack ≡ levels) }
-        ensures rules { IfOk result (λ stack. rules_of stack ≡ stack_rules geometry wback) }
+        ensures rules { IfOk result (λ stack. rules_of_rows stack ≡ stack_rules geometry wback) }
     {
         let ways = geometry.assoc() as usize;
         let sets = geometry.sets();
@@ -113,8 +112,8 @@ impl Stack {
     pub fn stays(&self, access: Access, block: u64) -> bool
         requires { block ≡ access.addr / bsize_of self.now.geometry }
         ensures is { result ≡ stays_at self.now access }
-        ensures first { result ≡ true → (h : History) → StandsFor self.now h →
-            StaysFirst (rules_of self.now) h access }
+        ensures first { result ≡ true → (h : History) → StackStandsFor self.now h →
+            StaysFirst (rules_of_rows self.now) h access }
     {
         let write = access.writes();
         let sought = self.sought(block, access.addr);
@@ -128,17 +127,17 @@ impl Stack {
         requires block { block ≡ access.addr / bsize_of self.old.geometry }
         requires level { level < told_in self.old }
         requires within { (n : ℕ) × IsWithinStack n self.old × (n < MAX_EVENTS) }
-        requires behind { ∥ ((h : History) × StandsFor self.old h
-            × IsBehind from h access (rules_of self.old)) ∥₁ }
-        ensures stands { (h : History) → StandsFor self.old h →
-            StandsFor self.new (accessed access ∷ h) }
-        ensures moved { (h : History) → StandsFor self.old h → HasMoved h access self.new }
-        ensures counted { (sizes : List ℕ) (h : History) → StandsFor self.old h →
-            level ≡ level_at (rules_of self.old) sizes h access → IsCountedIn sizes h self.old →
-            IsCountedIn sizes (accessed access ∷ h) self.new }
+        requires behind { ∥ ((h : History) × StackStandsFor self.old h
+            × IsBehind from h access (rules_of_rows self.old)) ∥₁ }
+        ensures stands { (h : History) → StackStandsFor self.old h →
+            StackStandsFor self.new (accessed access ∷ h) }
+        ensures moved { (h : History) → StackStandsFor self.old h → HasMoved h access self.new }
+        ensures counted { (sizes : List ℕ) (h : History) → StackStandsFor self.old h →
+            level ≡ level_at (rules_of_rows self.old) sizes h access →
+            IsCountedIn sizes h self.old → IsCountedIn sizes (accessed access ∷ h) self.new }
         ensures bounds { (n : ℕ) → IsWithinStack n self.old → IsWithinStack (n + 1) self.new }
         ensures levels { told_in self.new ≡ told_in self.old }
-        ensures rules { rules_of self.new ≡ rules_of self.old }
+        ensures rules { rules_of_rows self.new ≡ rules_of_rows self.old }
     {
         let write = access.writes();
         let sought = self.sought(block, access.addr);
@@ -154,23 +153,23 @@ impl Stack {
 
     /// Passes over an access whose block stays first in its row: the rows are as they were.
     pub fn pass(&mut self)
-        ensures stands { (h : History) (x : Access) → StandsFor self.old h →
-            StaysFirst (rules_of self.old) h x → StandsFor self.new (accessed x ∷ h) }
-        ensures moved { (h : History) (x : Access) → StandsFor self.old h →
-            StaysFirst (rules_of self.old) h x → HasMoved h x self.new }
+        ensures stands { (h : History) (x : Access) → StackStandsFor self.old h →
+            StaysFirst (rules_of_rows self.old) h x → StackStandsFor self.new (accessed x ∷ h) }
+        ensures moved { (h : History) (x : Access) → StackStandsFor self.old h →
+            StaysFirst (rules_of_rows self.old) h x → HasMoved h x self.new }
         ensures counted { (sizes : List ℕ) (h : History) (x : Access) →
-            StaysFirst (rules_of self.old) h x → IsCountedIn sizes h self.old →
+            StaysFirst (rules_of_rows self.old) h x → IsCountedIn sizes h self.old →
             IsCountedIn sizes (accessed x ∷ h) self.new }
         ensures bounds { (n : ℕ) → IsWithinStack n self.old → IsWithinStack n self.new }
         ensures levels { told_in self.new ≡ told_in self.old }
-        ensures rules { rules_of self.new ≡ rules_of self.old }
+        ensures rules { rules_of_rows self.new ≡ rules_of_rows self.old }
     {
         self.found = 0;
     }
 
     /// The number of the last set.
     pub fn last_set(&self) -> u64
-        ensures { result + 1 ≡ (rules_of self.now).sets }
+        ensures { result + 1 ≡ (rules_of_rows self.now).sets }
     {
         self.last_set
     }
@@ -186,8 +185,8 @@ impl Stack {
     /// Whether a cache of this geometry and write policy, of so many ways, is among those of these
     /// rows.
     pub fn suits(&self, geometry: Geometry, ways: usize, wback: bool) -> bool
-        ensures suits { result ≡ true → Suits (rules_of self.now) geometry ways wback }
-        ensures every { Suits (rules_of self.now) geometry ways wback → result ≡ true }
+        ensures suits { result ≡ true → RowsSuit (rules_of_rows self.now) geometry ways wback }
+        ensures every { RowsSuit (rules_of_rows self.now) geometry ways wback → result ≡ true }
     {
         self.geometry.bsize() == geometry.bsize()
             && self.geometry.sets() == geometry.sets()
@@ -197,7 +196,7 @@ impl Stack {
 
     /// Whether the caches write back.
     pub fn wback(&self) -> bool
-        ensures { result ≡ (rules_of self.now).wback }
+        ensures { result ≡ (rules_of_rows self.now).wback }
     {
         self.wback
     }
@@ -228,10 +227,10 @@ impl Stack {
     /// each once.
     pub fn dirty(&self, alloc: Global, ways: usize) -> Result<Vec<u64>, AllocError>
         requires some { 0 < ways }
-        requires fits { ways ≤ (rules_of self.now).assoc }
-        ensures { IfOk result (λ bytes. (h : History) → StandsFor self.now h →
-            bytes.items ≡ map (λ b. b * (rules_of self.now).bsize)
-            (dirty_blocks (with_ways ways (rules_of self.now)) h)) }
+        requires fits { ways ≤ (rules_of_rows self.now).assoc }
+        ensures { IfOk result (λ bytes. (h : History) → StackStandsFor self.now h →
+            bytes.items ≡ map (λ b. b * (rules_of_rows self.now).bsize)
+            (dirty_blocks (with_ways ways (rules_of_rows self.now)) h)) }
     {
         let sets = self.geometry.sets() as usize;
         let bsize = self.geometry.bsize();
@@ -242,7 +241,7 @@ impl Stack {
     /// The accesses that missed in so many ways, of which there is one or more, and in the first
     /// `level` of the shadows.
     pub fn past(&self, ways: usize, level: usize) -> PerClass
-        requires ways { ways ≤ (rules_of self.now).assoc }
+        requires ways { ways ≤ (rules_of_rows self.now).assoc }
         requires level { level ≤ told_in self.now }
         requires within { IsWithinStack MAX_EVENTS self.now }
         ensures { result ≡ past_in self.now.histogram ways level }
@@ -252,7 +251,7 @@ impl Stack {
 
     /// How many blocks the cache of `ways` ways holds dirty.
     fn dirty_count(&self, ways: usize) -> u64
-        requires { ways ≤ (rules_of self.now).assoc }
+        requires { ways ≤ (rules_of_rows self.now).assoc }
         ensures { result ≡ dirty_slots self.now ways }
     {
         let sets = self.geometry.sets() as usize;
@@ -263,7 +262,7 @@ impl Stack {
     /// their block not dirty, but for the blocks that are dirty still.
     pub fn written_back(&self, ways: usize) -> u64
         requires some { 0 < ways }
-        requires ways { ways ≤ (rules_of self.now).assoc }
+        requires ways { ways ≤ (rules_of_rows self.now).assoc }
         requires within { IsWithinStack MAX_EVENTS self.now }
         ensures { result ≡ written_at self.now ways }
     {
@@ -276,12 +275,12 @@ impl Stack {
 
     /// Empties all rows, as a flush does.
     pub fn clear(&mut self)
-        ensures stands { (h : History) → StandsFor self.new (flushed ∷ h) }
+        ensures stands { (h : History) → StackStandsFor self.new (flushed ∷ h) }
         ensures counted { (sizes : List ℕ) (h : History) → IsCountedIn sizes h self.old →
             IsCountedIn sizes (flushed ∷ h) self.new }
         ensures bounds { (n : ℕ) → IsWithinStack n self.old → IsWithinStack n self.new }
         ensures levels { told_in self.new ≡ told_in self.old }
-        ensures rules { rules_of self.new ≡ rules_of self.old }
+        ensures rules { rules_of_rows self.new ≡ rules_of_rows self.old }
     {
         clear_in(&mut self.slots);
     }

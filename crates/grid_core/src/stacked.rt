@@ -8,7 +8,7 @@ ghost use Rattle.grid_core.specs.Shadows.{shadow_sizes, levels_in};
 ghost use Rattle.grid_core.specs.Totals.{total};
 ghost use Rattle.cache_core.specs.Counting.{IsWithin};
 ghost use Rattle.grid_core.specs.Shapes.{HaveBsize};
-ghost use Rattle.grid_core.specs.Standing.{HaveLived, IsWithinStack, rules_of, told_in};
+ghost use Rattle.grid_core.specs.Standing.{HaveLived, IsWithinStack, rules_of_rows, told_in};
 ghost use Rattle.grid_core.specs.Cells.{IsPlacedAmong};
 ghost use Rattle.grid_core.specs.State.{IsRanked, IsWithinAlike};
 
@@ -45,7 +45,7 @@ pub(crate) struct Stacked {
     /// What was known of its block before.
     prior: PriorLevel,
     ghost rises: { rising (shadow_sizes shadows) ≡ shadow_sizes shadows },
-    ghost placed: { All (λ s. IsPlacedAmong (map rules_of stacks.items) s) shapes.items },
+    ghost placed: { All (λ s. IsPlacedAmong (map rules_of_rows stacks.items) s) shapes.items },
     ghost ranked: { All (IsRanked (shadow_sizes shadows) geometry) shapes.items },
     ghost one_size: { HaveBsize (bsize_of geometry) stacks.items },
     ghost one_policy: { All (λ s. s.wback ≡ wback) shapes.items },
@@ -77,7 +77,7 @@ impl Stacked {
     ghost use Rattle.grid_core.specs.Numbers.{IsNumberOf};
     ghost use Rattle.grid_core.specs.StackedCells.{StackedHasAnswered, StackedStandsBy};
     ghost use Rattle.grid_core.specs.StackedCells.{stacked_kept, stacked_rules, stacked_served};
-    ghost use Rattle.grid_core.specs.Written.{rules_at, written_by, none_kept};
+    ghost use Rattle.grid_core.specs.Written.{none_kept, rules_at_index, written_by};
 
     /// Empty caches of these geometries, which have the block size of `first`.
     pub fn new(
@@ -180,7 +180,7 @@ impl Stacked {
         ensures silent { result ≡ true → (h : History) (x : Access) →
             StackedHasAnswered self.new h x →
             (index : ℕ) → index < length (stacked_rules self.new) →
-            SendsNothing (outcome_of (rules_at (stacked_rules self.new) index) h x) }
+            SendsNothing (outcome_of (rules_at_index (stacked_rules self.new) index) h x) }
         ensures served { result ≡ true →
             stacked_served self.new ≡ stacked_served self.old + 1 }
         ensures leaves { result ≡ false → self.new ≡ self.old }
@@ -259,7 +259,7 @@ impl Stacked {
         requires { index < length (stacked_rules self.now) }
         ensures kept { result ≡ (get_or (stacked_kept self.now) index none_kept).0 }
         ensures counted { (blocks : List ℕ) (h : History) → StackedStandsBy blocks self.now h →
-            result ≡ counts_of (rules_at (stacked_rules self.now) index) h }
+            result ≡ counts_of (rules_at_index (stacked_rules self.now) index) h }
     {
         let shape = self.shapes[index];
         shape_counts(shape, &self.stacks[shape.stack], self.alike)
@@ -270,7 +270,7 @@ impl Stacked {
         requires { index < length (stacked_rules self.now) }
         ensures kept { result ≡ (get_or (stacked_kept self.now) index none_kept).1 }
         ensures counted { (blocks : List ℕ) (h : History) → StackedStandsBy blocks self.now h →
-            result ≡ shadow_misses (rules_at (stacked_rules self.now) index) h }
+            result ≡ shadow_misses (rules_at_index (stacked_rules self.now) index) h }
     {
         self.shadows.misses(self.shapes[index].rank)
     }

@@ -6,9 +6,9 @@ ghost use Rattle.std.specs.List.{All};
 ghost use Rattle.cache_core.specs.History.{History, access as accessed, flush as flushed};
 ghost use Rattle.grid_core.specs.Shapes.{HaveBsize};
 ghost use Rattle.grid_core.specs.Histograms.{level_at};
-ghost use Rattle.grid_core.specs.Standing.{StandsFor, HasMoved, StayFirstFrom, rules_of};
-ghost use Rattle.grid_core.specs.Standing.{AreBehind, HaveLived, IsCountedIn, IsWithinStack};
-ghost use Rattle.grid_core.specs.Standing.{told_in};
+ghost use Rattle.grid_core.specs.Standing.{AreBehind, HasMoved, HaveLived, IsCountedIn};
+ghost use Rattle.grid_core.specs.Standing.{IsWithinStack, StackStandsFor, StayFirstFrom};
+ghost use Rattle.grid_core.specs.Standing.{rules_of_rows, told_in};
 
 use crate::stack::Stack;
 use cache_core::{Access, MAX_EVENTS};
@@ -36,7 +36,7 @@ fn places_in(behind: Behind, last_set: u64) -> usize
 fn least_staying(stacks: &[Stack], access: Access, block: u64) -> u64
     requires { (n : ℕ) × HaveBsize n stacks.now × (block ≡ access.addr / n) }
     ensures { (n : ℕ) (h : History) → HaveBsize n stacks.now →
-        All (λ s. StandsFor s h) stacks.now → StayFirstFrom n result h access }
+        All (λ s. StackStandsFor s h) stacks.now → StayFirstFrom n result h access }
 {
     let mut left = stacks.len();
     'rising: while left > 0 {
@@ -60,26 +60,26 @@ fn serve_one(
     least: u64,
     behind: Behind,
 ) -> Behind
-    requires block { block ≡ access.addr / (rules_of stack.old).bsize }
+    requires block { block ≡ access.addr / (rules_of_rows stack.old).bsize }
     requires level { level < told_in stack.old }
     requires within { (n : ℕ) × IsWithinStack n stack.old × (n < MAX_EVENTS) }
-    requires behind { ∥ ((h : History) × StandsFor stack.old h
-        × AreBehind behind (rules_of stack.old).bsize h access) ∥₁ }
-    ensures stands { (h : History) → StandsFor stack.old h →
-        StayFirstFrom (rules_of stack.old).bsize least h access →
-        StandsFor stack.new (accessed access ∷ h) }
-    ensures moved { (h : History) → StandsFor stack.old h →
-        StayFirstFrom (rules_of stack.old).bsize least h access → HasMoved h access stack.new }
-    ensures behind { (h : History) → StandsFor stack.old h →
-        AreBehind behind (rules_of stack.old).bsize h access →
-        AreBehind result (rules_of stack.old).bsize h access }
-    ensures counted { (sizes : List ℕ) (h : History) → StandsFor stack.old h →
-        StayFirstFrom (rules_of stack.old).bsize least h access →
-        level ≡ level_at (rules_of stack.old) sizes h access → IsCountedIn sizes h stack.old →
+    requires behind { ∥ ((h : History) × StackStandsFor stack.old h
+        × AreBehind behind (rules_of_rows stack.old).bsize h access) ∥₁ }
+    ensures stands { (h : History) → StackStandsFor stack.old h →
+        StayFirstFrom (rules_of_rows stack.old).bsize least h access →
+        StackStandsFor stack.new (accessed access ∷ h) }
+    ensures moved { (h : History) → StackStandsFor stack.old h →
+        StayFirstFrom (rules_of_rows stack.old).bsize least h access → HasMoved h access stack.new }
+    ensures behind { (h : History) → StackStandsFor stack.old h →
+        AreBehind behind (rules_of_rows stack.old).bsize h access →
+        AreBehind result (rules_of_rows stack.old).bsize h access }
+    ensures counted { (sizes : List ℕ) (h : History) → StackStandsFor stack.old h →
+        StayFirstFrom (rules_of_rows stack.old).bsize least h access →
+        level ≡ level_at (rules_of_rows stack.old) sizes h access → IsCountedIn sizes h stack.old →
         IsCountedIn sizes (accessed access ∷ h) stack.new }
     ensures bounds { (n : ℕ) → IsWithinStack n stack.old → IsWithinStack (n + 1) stack.new }
     ensures levels { told_in stack.new ≡ told_in stack.old }
-    ensures rules { rules_of stack.new ≡ rules_of stack.old }
+    ensures rules { rules_of_rows stack.new ≡ rules_of_rows stack.old }
 {
     let last_set = stack.last_set();
     if least <= last_set {
@@ -101,19 +101,19 @@ pub(crate) fn serve_rows(stacks: &mut Vec<Stack>, access: Access, block: u64, le
     requires within { (n : ℕ) × All (IsWithinStack n) stacks.old.items × (n < MAX_EVENTS) }
     requires lived { (n : ℕ) × HaveBsize n stacks.old.items × HaveLived stacks.old.items }
     ensures stands { (n : ℕ) (h : History) → HaveBsize n stacks.old.items →
-        All (λ s. StandsFor s h) stacks.old.items →
-        All (λ s. StandsFor s (accessed access ∷ h)) stacks.new.items }
+        All (λ s. StackStandsFor s h) stacks.old.items →
+        All (λ s. StackStandsFor s (accessed access ∷ h)) stacks.new.items }
     ensures moved { (n : ℕ) (h : History) → HaveBsize n stacks.old.items →
-        All (λ s. StandsFor s h) stacks.old.items → All (HasMoved h access) stacks.new.items }
+        All (λ s. StackStandsFor s h) stacks.old.items → All (HasMoved h access) stacks.new.items }
     ensures counted { (n : ℕ) (sizes : List ℕ) (h : History) → HaveBsize n stacks.old.items →
-        All (λ s. StandsFor s h) stacks.old.items →
-        All (λ s. level ≡ level_at (rules_of s) sizes h access) stacks.old.items →
+        All (λ s. StackStandsFor s h) stacks.old.items →
+        All (λ s. level ≡ level_at (rules_of_rows s) sizes h access) stacks.old.items →
         All (IsCountedIn sizes h) stacks.old.items →
         All (IsCountedIn sizes (accessed access ∷ h)) stacks.new.items }
     ensures bounds { (n : ℕ) → All (IsWithinStack n) stacks.old.items →
         All (IsWithinStack (n + 1)) stacks.new.items }
     ensures levels { map told_in stacks.new.items ≡ map told_in stacks.old.items }
-    ensures rules { map rules_of stacks.new.items ≡ map rules_of stacks.old.items }
+    ensures rules { map rules_of_rows stacks.new.items ≡ map rules_of_rows stacks.old.items }
 {
     let least = least_staying(stacks, access, block);
     let mut behind = Behind {
@@ -127,13 +127,13 @@ pub(crate) fn serve_rows(stacks: &mut Vec<Stack>, access: Access, block: u64, le
 
 /// Empties all rows.
 pub(crate) fn clear_rows(stacks: &mut Vec<Stack>)
-    ensures stands { (h : History) → All (λ s. StandsFor s (flushed ∷ h)) stacks.new.items }
+    ensures stands { (h : History) → All (λ s. StackStandsFor s (flushed ∷ h)) stacks.new.items }
     ensures counted { (sizes : List ℕ) (h : History) → All (IsCountedIn sizes h) stacks.old.items →
         All (IsCountedIn sizes (flushed ∷ h)) stacks.new.items }
     ensures bounds { (n : ℕ) → All (IsWithinStack n) stacks.old.items →
         All (IsWithinStack n) stacks.new.items }
     ensures levels { map told_in stacks.new.items ≡ map told_in stacks.old.items }
-    ensures rules { map rules_of stacks.new.items ≡ map rules_of stacks.old.items }
+    ensures rules { map rules_of_rows stacks.new.items ≡ map rules_of_rows stacks.old.items }
 {
     for stack in stacks.iter_mut() {
         stack.clear();

@@ -4,13 +4,13 @@ use Rattle.std.proofs.Common.{◌∙◌, ◌++◌, append-nil, arith}
 use Rattle.std.specs.List.{All}
 use Rattle.std.proofs.lemmas.List.{get_or-map, get_or_default, length-map}
 use Rattle.cache_core.specs.History.{History, Rules}
-use Rattle.grid_core.specs.Written.{rules_at}
+use Rattle.grid_core.specs.Written.{rules_at_index}
 use Rattle.grid_core.proofs.ListLoops.{told-at}
 use Rattle.stage_core.specs.SecondLevel.{parts_of}
 use Rattle.stage_core.specs.declared.message.Side.{Side}
 use Rattle.stage_core.specs.declared.message.What.{What}
-use Rattle.grid_run.specs.Backs.{AreWaiting, IsPlacedOn, IsSeatIn, RequestsFor}
-use Rattle.grid_run.specs.Backs.{followed_by, queue_seats, seat_on, sent_for}
+use Rattle.grid_run.specs.Backs.{AreWaiting, IsSeatIn, IsSeatedOn, RequestsFor, followed_by}
+use Rattle.grid_run.specs.Backs.{queue_seats, seat_on, sent_for}
 use Rattle.grid_run.specs.Fronts.{HasSent, IsSilent, front_rules}
 use Rattle.grid_run.specs.Seats.{SeatRules, rules_of_seat}
 use Rattle.grid_run.specs.Sending.{event_of}
@@ -34,8 +34,9 @@ module _ (fs : List Front) (seat : Seat) (f : Front) (at : f ≡ get_or fs seat.
   cell-inside = subst (λ (rs : List Rules). seat.cell < length rs) rules-there placed.cell
 
   -- it has the rules of the seat
-  pub rules-seated : rules_at (front_rules f) seat.cell ≡ rules_of_seat (map front_rules fs) seat
-  rules-seated = ap (λ (rs : List Rules). rules_at rs seat.cell) (sym rules-there)
+  pub rules-seated : rules_at_index (front_rules f) seat.cell
+      ≡ rules_of_seat (map front_rules fs) seat
+  rules-seated = ap (λ (rs : List Rules). rules_at_index rs seat.cell) (sym rules-there)
 
   -- what holds of all holds of the caches at the seat
   pub at-seat : (P : Front → Type 0) → All P fs → P f
@@ -70,7 +71,7 @@ waiting-same given before after qs same all k q lt =
 
 -- silent caches of a side ask for nothing
 pub nothing-asked : (fs : List Front) (old : SeatRules) → map front_rules fs ≡ old → (s : Side)
-    (qs : List Queue) → All (IsPlacedOn s old) (map queue_seats qs) → All IsSilent fs
+    (qs : List Queue) → All (IsSeatedOn s old) (map queue_seats qs) → All IsSilent fs
     → (h : History) (q : Request) → All (HasSent h q) fs
     → (given before : RequestsFor) → All (AreWaiting given before) qs
     → All (AreWaiting given (followed_by before (sent_for s old h (event_of q)))) qs
@@ -78,10 +79,10 @@ nothing-asked fs old rules s qs placed silent h q sent given before =
     waiting-same given before (followed_by before (sent_for s old h (event_of q))) qs
     (λ k d lt.
     let p = queue_seats (get_or qs k d) in
-    let on = told-at queue_seats (IsPlacedOn s old) qs placed k d lt in
+    let on = told-at queue_seats (IsSeatedOn s old) qs placed k d lt in
     let none : parts_of (rules_of_seat old (seat_on s p)) s h (event_of q) ≡ [] =
     subst (λ (rs : SeatRules). parts_of (rules_of_seat rs (seat_on s p)) s h (event_of q) ≡ [])
     rules
     (silent-at-seat fs (seat_on s p)
-    (subst (λ (rs : SeatRules). IsPlacedOn s rs p) (sym rules) on).seat silent s h q sent) in
+    (subst (λ (rs : SeatRules). IsSeatedOn s rs p) (sym rules) on).seat silent s h q sent) in
     sym (append-nil (before p)) ∙ ap (λ (ws : List What). before p ++ ws) (sym none))

@@ -4,7 +4,7 @@ use Rattle.std.specs.Global.{Vec}
 use Rattle.std.proofs.lemmas.List.{get_or-map, length-map}
 use Rattle.cache_core.specs.History.{History, Rules}
 use Rattle.grid_core.specs.Cells.{items_of}
-use Rattle.grid_core.specs.Written.{no_rules, rules_at, written_by}
+use Rattle.grid_core.specs.Written.{no_rules, rules_at_index, written_by}
 
 module _ (h : History) (rs : List Rules) (xs : List (Vec ℕ))
     (lists : map items_of xs ≡ map (written_by h) rs) where
@@ -15,7 +15,7 @@ module _ (h : History) (rs : List Rules) (xs : List (Vec ℕ))
 
   -- and it is that of the blocks that the cache writes back
   pub list-at : (k : ℕ) (v : Vec ℕ) → k < length rs → v ≡ get_or xs k v
-      → items_of v ≡ written_by h (rules_at rs k)
+      → items_of v ≡ written_by h (rules_at_index rs k)
   list-at k v lt at =
       ap items_of at
       ∙ sym (get_or-map items_of xs k v (items_of v) (list-inside k lt))

@@ -11,7 +11,7 @@ use Rattle.stage_core.specs.Events.{events}
 use Rattle.stage_core.specs.Laws.{SecondLevelSeesAtMostTwo, SelectionsMakeAtMostTwo}
 use Rattle.stage_core.specs.SecondLevel.{second_history}
 use Rattle.stage_core.proofs.Worked.{length-second_history, the_hierarchy}
-use Rattle.grid_run.specs.Backs.{AreFew, AreSeatsIn, HasNone, IsPlacedIn, RequestsFor}
+use Rattle.grid_run.specs.Backs.{AreFewRequests, AreSeatsIn, HasNone, IsPlacedIn, RequestsFor}
 use Rattle.grid_run.specs.Backs.{queue_seats, seats_of_task, sent_behind, task_of_shelf}
 use Rattle.grid_run.specs.Banks.{WasAsked}
 use Rattle.grid_run.specs.FirstLevels.{FirstTask, WasGiven, first_task, numbered_by, sent_by}
@@ -29,7 +29,7 @@ use Rattle.grid_run.specs.declared.seat.BothSeats.{BothSeats}
 
 -- for few records they sent few requests
 pub few-sent : SecondLevelSeesAtMostTwo → SelectionsMakeAtMostTwo → (t : FirstTask)
-    (records : List DinRecord) → length records ≤ 2 ^ 40 → AreFew (sent_by t records)
+    (records : List DinRecord) → length records ≤ 2 ^ 40 → AreFewRequests (sent_by t records)
 few-sent sees makes t records few = record {
   few = λ p.
       let es = events t.selection records in
@@ -50,7 +50,7 @@ few-sent sees makes t records few = record {
 pub few-asked : SecondLevelSeesAtMostTwo → SelectionsMakeAtMostTwo → (l : Lane) (lent : List Bank)
     (records : List DinRecord) → lent ≡ l.banks.items → length records ≤ 2 ^ 40
     → FirstLevelsHaveServed records l
-    → (blocks : List ℕ) × (all : RequestsFor) × All (WasAsked blocks all) lent × AreFew all
+    → (blocks : List ℕ) × (all : RequestsFor) × All (WasAsked blocks all) lent × AreFewRequests all
 few-asked sees makes l lent records are few taken =
     let sent = sent_by (first_task l.first) taken.past in (
       numbered_by l.first,

@@ -6,7 +6,7 @@ use Rattle.std.proofs.lemmas.Bool.{cases_eq}
 use Rattle.std.proofs.lemmas.List.{get_or-set_other, get_or-set_same, get_or_append_left}
 use Rattle.std.proofs.lemmas.List.{get_or_push, length_push, length-set}
 use Rattle.std.proofs.lemmas.List.Elements.{All-push, All-same}
-use Rattle.grid_run.specs.Plans.{IsAt}
+use Rattle.grid_run.specs.Plans.{HasAt}
 
 module _ {X : Type 0} (P : X → Type 0) where
   -- once another joins the list
@@ -40,7 +40,7 @@ module _ {X : Type 0} (P : X → Type 0) where
   at-changed xs i x d lt own = subst P (sym (get_or-set_same xs i x d lt)) own
 
   -- of an element that was found
-  pub at-found : (xs : List X) (k : ℕ) (x : X) → IsAt P xs k → x ≡ get_or xs k x → P x
+  pub at-found : (xs : List X) (k : ℕ) (x : X) → HasAt P xs k → x ≡ get_or xs k x → P x
   at-found xs k x found is = subst P (sym is) (found.has x)
 
 -- of all of a list that has one element, once that has changed
@@ -67,7 +67,7 @@ module _ {X : Type 0} where
 
 -- an element that has joined is at the index that was answered
 pub joined-at : {X E : Type 0} (P : X → Type 0) (xs ys : List X) (x : X) (r : Result ℕ E)
-    → IfOk r (λ k. k ≡ length xs) → OnOk r (ys ≡ xs ++ x ∷ []) → P x → IfOk r (IsAt P ys)
+    → IfOk r (λ k. k ≡ length xs) → OnOk r (ys ≡ xs ++ x ∷ []) → P x → IfOk r (HasAt P ys)
 joined-at P xs ys x (Ok k) last is own = record {
   inside = inside-last xs ys k x is last;
   has = λ d. at-last P xs ys k x d is last own;

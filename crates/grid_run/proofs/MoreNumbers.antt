@@ -10,7 +10,7 @@ use Rattle.grid_run.specs.Backs.{RequestsFor, WereAsked}
 use Rattle.grid_run.specs.Banks.{WasAsked}
 use Rattle.grid_run.specs.Families.{FamilyStandsBy}
 use Rattle.grid_run.specs.Fronts.{FrontAt}
-use Rattle.grid_run.specs.Numbering.{IsNumbered, IsRight}
+use Rattle.grid_run.specs.Numbering.{IsNumbered, KnowsNumber}
 use Rattle.grid_run.specs.SecondCaches.{SecondStandsBy}
 use Rattle.grid_run.specs.declared.back.Back.{Back}
 use Rattle.grid_run.specs.declared.bank.Bank.{Bank}
@@ -35,7 +35,7 @@ module _ (blocks more : List ℕ) (on : IsBeginning blocks more) where
   all-numbered-more n ws all k d lt = numbered-more n _ (all k d lt)
 
   -- a block that is known keeps its number
-  pub right-more : (known : Option Known) → IsRight blocks known → IsRight more known
+  pub right-more : (known : Option Known) → KnowsNumber blocks known → KnowsNumber more known
   right-more known right k is =
       subst (λ (l : List ℕ). number_at l k.block ≡ Some k.number) (sym on.1)
       (number-kept blocks on.0 k.block k.number (right k is))

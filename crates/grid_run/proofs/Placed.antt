@@ -10,10 +10,9 @@ use Rattle.stage_core.specs.SecondLevel.{Hierarchy, parts_in, second_level_reque
 use Rattle.stage_core.specs.declared.selection.Selection.{Selection}
 use Rattle.stage_core.specs.declared.message.Side.TheVariants as side
 use Rattle.stage_core.proofs.Worked.{second_level_requests-more, the_hierarchy}
-use Rattle.grid_run.specs.Backs.{AreSeatsIn, AreWaiting, BackTask, IsPlacedOn}
-use Rattle.grid_run.specs.Backs.{RequestsFor, back_seats, back_task, followed_by, parts_at}
-use Rattle.grid_run.specs.Backs.{queue_seats, seats_of_task, sent_behind, sent_on_side}
-use Rattle.grid_run.specs.Backs.{task_of_shelf}
+use Rattle.grid_run.specs.Backs.{AreSeatsIn, AreWaiting, BackTask, IsSeatedOn, RequestsFor}
+use Rattle.grid_run.specs.Backs.{back_seats, back_task, followed_by, parts_at, queue_seats}
+use Rattle.grid_run.specs.Backs.{seats_of_task, sent_behind, sent_on_side, task_of_shelf}
 use Rattle.grid_run.specs.Banks.{tasks_of_banks}
 use Rattle.grid_run.specs.FirstLevels.{FirstTask, HasServed}
 use Rattle.grid_run.specs.Fronts.{front_rules}
@@ -54,11 +53,11 @@ served-by-same given p f es served =
 
 -- seats of caches of both sides are seats of caches of each
 pub seated-on-i : {i d : SeatRules} (ps : List BothSeats) → All (AreSeatsIn i d) ps
-    → All (IsPlacedOn side.I i) ps
+    → All (IsSeatedOn side.I i) ps
 seated-on-i ps all k p lt = record { seat = (all k p lt).on_i }
 
 pub seated-on-d : {i d : SeatRules} (ps : List BothSeats) → All (AreSeatsIn i d) ps
-    → All (IsPlacedOn side.D d) ps
+    → All (IsSeatedOn side.D d) ps
 seated-on-d ps all k p lt = record { seat = (all k p lt).on_d }
 
 -- what both sides send for one more event comes after all before

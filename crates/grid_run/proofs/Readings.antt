@@ -12,7 +12,7 @@ use Rattle.din_trace.specs.declared.fault.TraceFault.TheVariants.{Bad, TooLong, 
 use Rattle.din_trace.specs.declared.source.Source.{Source}
 use Rattle.din_trace.proofs.Calls.{Answers, Calls, calls, no_calls}
 use Rattle.din_trace.proofs.Scripts.{first_record, first_end, first_fault-is}
-use Rattle.grid_run.specs.Faults.{MayAnswer, source_fault}
+use Rattle.grid_run.specs.Faults.{GridMayAnswer, grid_fault_of}
 use Rattle.grid_run.specs.Readings.{HasEnded, HasRead, HasReadBatch, HasStopped}
 use Rattle.grid_run.specs.declared.fault.GridFault.{GridFault}
 use Rattle.grid_run.specs.declared.fault.GridFault.TheVariants as fault
@@ -82,7 +82,7 @@ module _ {R : Type 0} (remaining : R → Option (List ℕ)) (failures : R → �
 
 -- a grid may answer the fault of its source
 pub answers-fault : (left : Option TraceFault) (f : TraceFault) → left ≡ Some f
-    → MayAnswer left (source_fault f)
+    → GridMayAnswer left (grid_fault_of f)
 answers-fault left (Bad line why) is = is
 answers-fault left TooLong is = is
 answers-fault left Read is = is
@@ -135,7 +135,7 @@ module _ {R : Type 0} (remaining : R → Option (List ℕ)) (failures : R → �
 
   -- a fault was met
   pub fault-read : (f : TraceFault) → result ≡ Err f
-      → HasStopped remaining failures start next (source_fault f)
+      → HasStopped remaining failures start next (grid_fault_of f)
   fault-read f bad = record {
     given = called.given;
     fate = called.fate;

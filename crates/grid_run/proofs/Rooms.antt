@@ -13,7 +13,7 @@ use Rattle.stage_core.proofs.Stands.{second_history-more}
 use Rattle.stage_core.proofs.Worked.{length-second_history}
 use Rattle.grid_run.specs.Numbering.{IsNumbered, what_of}
 use Rattle.grid_run.specs.SecondCaches.{SecondStandsBy, second_bsize}
-use Rattle.grid_run.specs.Sending.{HasRoom, NothingWaitsFor, SecondAsked, SecondServed}
+use Rattle.grid_run.specs.Sending.{NothingWaitsFor, SecondAsked, SecondHasRoom, SecondServed}
 use Rattle.grid_run.specs.declared.numbered.Numbered.{Numbered}
 use Rattle.grid_run.specs.declared.second.Second.{Second}
 use Rattle.grid_run.specs.declared.second_caches.SecondCaches.{SecondCaches}
@@ -27,7 +27,7 @@ pub record SecondCanServe (u : SecondCaches) : Type 0 where
 
 -- there is room for a request, and others after it
 module _ (blocks : List ℕ) (u : SecondCaches) (w : Numbered) (rest : List Numbered)
-    (room : HasRoom blocks u (w ∷ rest)) where
+    (room : SecondHasRoom blocks u (w ∷ rest)) where
   -- it can be served
   pub room-one : SecondCanServe u
   room-one =
@@ -45,7 +45,7 @@ module _ (blocks : List ℕ) (u : SecondCaches) (w : Numbered) (rest : List Numb
 
   -- and once it is served, there is room for the others
   pub room-next : (new : SecondCaches) → second_bsize new ≡ second_bsize u
-      → SecondServed blocks (room.past ++ what_of w ∷ []) new → HasRoom blocks new rest
+      → SecondServed blocks (room.past ++ what_of w ∷ []) new → SecondHasRoom blocks new rest
   room-next new same served =
       let short = room.short in
       record {

@@ -9,7 +9,7 @@ use Rattle.stage_core.specs.SecondLevel.{Hierarchy}
 use Rattle.stage_core.specs.declared.selection.Selection.{Selection}
 use Rattle.grid_run.specs.Lanes.{LaneTask, task_of_plan}
 use Rattle.grid_run.specs.Plans.{KeepsBehind, KeepsPlaces, KeepsPlacesIn}
-use Rattle.grid_run.specs.Rows.{HasPlace, IsPlaceIn, IsPlaceOf}
+use Rattle.grid_run.specs.Rows.{IsPlaceIn, IsPlaceOf, RowHasPlace}
 use Rattle.grid_run.specs.Seats.{Keeps}
 use Rattle.grid_run.specs.declared.grid.Row.{Row}
 use Rattle.grid_run.specs.declared.grid.Setup.{Setup}
@@ -83,7 +83,7 @@ module _ (xs : List LanePlan) (k : ℕ) (x y : LanePlan) (lt : k < length xs) wh
 
 -- what a row has stays
 pub place-stays : (ts us : List LaneTask) → KeepsPlaces ts us → (setup : Setup)
-    (o : Option Place) → HasPlace ts setup o → HasPlace us setup o
+    (o : Option Place) → RowHasPlace ts setup o → RowHasPlace us setup o
 place-stays ts us keeps (Simulated c s) (Some p) has = keeps (hierarchy_of c) s p has
 place-stays ts us keeps (Simulated c s) None has = absurd has
 place-stays ts us keeps (Refused fault) (Some p) has = absurd has
@@ -92,20 +92,20 @@ place-stays ts us keeps (Refused fault) None has = tt
 -- one more row has its place
 pub places-more : (ts us : List LaneTask) (rows : List Row) (xs ys : List (Option Place)) (i : ℕ)
     (row : Row) (o : Option Place) → KeepsPlaces ts us → length xs ≡ i → i < length rows
-    → row ≡ get_or rows i row → ys ≡ xs ++ o ∷ [] → HasPlace us row.setup o
+    → row ≡ get_or rows i row → ys ≡ xs ++ o ∷ [] → RowHasPlace us row.setup o
     → ((k : ℕ) (r : Row) (p : Option Place) → k < i
-    → HasPlace ts (get_or rows k r).setup (get_or xs k p))
+    → RowHasPlace ts (get_or rows k r).setup (get_or xs k p))
     → (k : ℕ) (r : Row) (p : Option Place) → k < i + 1
-    → HasPlace us (get_or rows k r).setup (get_or ys k p)
+    → RowHasPlace us (get_or rows k r).setup (get_or ys k p)
 places-more ts us rows xs ys i row o keeps long inside at is has all k r p lt =
     elim (cases_lt k i) [
-      | inl low ↦ at-push (HasPlace us (get_or rows k r).setup) xs ys k o p is (omega arith)
+      | inl low ↦ at-push (RowHasPlace us (get_or rows k r).setup) xs ys k o p is (omega arith)
           (place-stays ts us keeps (get_or rows k r).setup (get_or xs k p) (all k r p low))
       | inr high ↦
           let same : k ≡ i = omega arith in
           let last : get_or ys i p ≡ o =
           ap (λ l. get_or l i p) is ∙ get_or_push xs o p i long in
-          subst (λ j. HasPlace us (get_or rows j r).setup (get_or ys j p)) (sym same)
-          (subst (HasPlace us (get_or rows i r).setup) (sym last)
-          (subst (λ (q : Row). HasPlace us q.setup o) (get_or_read rows i row inside at r) has))
+          subst (λ j. RowHasPlace us (get_or rows j r).setup (get_or ys j p)) (sym same)
+          (subst (RowHasPlace us (get_or rows i r).setup) (sym last)
+          (subst (λ (q : Row). RowHasPlace us q.setup o) (get_or_read rows i row inside at r) has))
     ]

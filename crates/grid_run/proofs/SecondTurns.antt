@@ -8,7 +8,7 @@ use Rattle.stage_core.specs.SecondLevel.{read_as}
 use Rattle.stage_core.specs.declared.message.What.{What}
 use Rattle.grid_run.specs.Numbering.{IsNumbered, what_of}
 use Rattle.grid_run.specs.SecondCaches.{SecondStandsBy, second_bsize}
-use Rattle.grid_run.specs.Sending.{HasRoom, SecondServed}
+use Rattle.grid_run.specs.Sending.{SecondHasRoom, SecondServed}
 use Rattle.grid_run.specs.declared.numbered.Numbered.{Numbered}
 use Rattle.grid_run.specs.declared.numbered.Sort.TheVariants as sort
 use Rattle.grid_run.specs.declared.second_caches.SecondCaches.{SecondCaches}
@@ -26,12 +26,12 @@ pub record HavePassed (start : SecondCaches) (xs : List Numbered) (i : ℕ) (u :
   pub served : (blocks : List ℕ) (ws : List What) →
       All (IsNumbered blocks (second_bsize start)) xs → SecondServed blocks ws start →
       SecondServed blocks (ws ++ map what_of (take i xs)) u
-  pub room : (blocks : List ℕ) × HasRoom blocks u (drop i xs)
+  pub room : (blocks : List ℕ) × SecondHasRoom blocks u (drop i xs)
   pub bsize : second_bsize u ≡ second_bsize start
 
 -- at first none is
 pub none-passed : (start : SecondCaches) (xs : List Numbered)
-    → ((blocks : List ℕ) × HasRoom blocks start xs) → HavePassed start xs 0 start
+    → ((blocks : List ℕ) × SecondHasRoom blocks start xs) → HavePassed start xs 0 start
 none-passed start xs room = record {
   served = λ blocks ws all st. subst (λ (l : List What). SecondServed blocks l start)
       (sym (append-nil ws)) st;
@@ -42,8 +42,8 @@ none-passed start xs room = record {
 module _ (start : SecondCaches) (xs : List Numbered) (i : ℕ) (u : SecondCaches)
     (now : HavePassed start xs i u) where
   rest-room : i < length xs
-      → HasRoom now.room.0 u (get_or xs i nothing ∷ drop (i + 1) xs)
-  rest-room lt = subst (HasRoom now.room.0 u) (requests-from xs i nothing lt) now.room.1
+      → SecondHasRoom now.room.0 u (get_or xs i nothing ∷ drop (i + 1) xs)
+  rest-room lt = subst (SecondHasRoom now.room.0 u) (requests-from xs i nothing lt) now.room.1
 
   -- the next one can be served
   pub can-serve : i < length xs → SecondCanServe u

@@ -9,14 +9,14 @@ use Rattle.cache_core.specs.declared.access.Access.{Access}
 use Rattle.grid_core.specs.Cells.{items_of}
 use Rattle.cache_core.specs.History.{block_of}
 use Rattle.cache_core.specs.Parts.{SendsNothing, outcome_of}
-use Rattle.grid_core.specs.Written.{rules_at, written_by}
+use Rattle.grid_core.specs.Written.{rules_at_index, written_by}
 use Rattle.stage_core.specs.Places.{list_if}
 use Rattle.stage_core.specs.SecondLevel.{back, fetch_class, parts_of}
 use Rattle.stage_core.specs.declared.message.Side.{Side}
 use Rattle.stage_core.specs.declared.message.What.TheVariants as what
 use Rattle.grid_run.specs.Fronts.{HasSent, HasSentNothing, IsSilent, WasLast}
 use Rattle.grid_run.specs.Fronts.{front_rules}
-use Rattle.grid_run.specs.Families.{HasServedLast, rules_in}
+use Rattle.grid_run.specs.Families.{HasServedLast, family_rules}
 use Rattle.grid_run.specs.Sending.{event_of}
 use Rattle.grid_run.specs.declared.front.Front.{Front}
 use Rattle.grid_run.specs.declared.front.Last.{Last}
@@ -38,7 +38,7 @@ module _ (l : Family) (h : History) (lists : List (Vec ℕ)) (r : Rules) (s : Si
 
   pub sent-flush : (q : Request) → WasLast l h last.Flush lists q
       → (parts_of r s h (event_of q) ≡ parts_of r s h flush)
-      × (map items_of lists ≡ map (written_by h) (rules_in l))
+      × (map items_of lists ≡ map (written_by h) (family_rules l))
   sent-flush (request.Access y) (served, inl is) = absurd cc
   sent-flush (request.Access y) (served, inr silent) = let e = silent.0 in absurd cc
   sent-flush request.Flush was = (refl, was.1)
@@ -58,17 +58,17 @@ silent-parts r s h x none =
 
 -- caches that were silent sent nothing
 sent-silence : (l : Family) (h : History) (lists : List (Vec ℕ)) (cell : ℕ) (s : Side)
-    (q : Request) → cell < length (rules_in l) → WasLast l h last.Silence lists q
-    → parts_of (rules_at (rules_in l) cell) s h (event_of q) ≡ []
+    (q : Request) → cell < length (family_rules l) → WasLast l h last.Silence lists q
+    → parts_of (rules_at_index (family_rules l) cell) s h (event_of q) ≡ []
 sent-silence l h lists cell s (request.Access x) inside (served, inl is) = absurd cc
 sent-silence l h lists cell s (request.Access x) inside (served, inr silent) =
-    silent-parts (rules_at (rules_in l) cell) s h x (silent.1 cell inside)
+    silent-parts (rules_at_index (family_rules l) cell) s h x (silent.1 cell inside)
 sent-silence l h lists cell s request.Flush inside was = let e = was.0 in absurd cc
 
 -- what a silent cache sent
 pub sent-by-silent : (f : Front) (h : History) (cell : ℕ) (s : Side) (q : Request)
     → cell < length (front_rules f) → IsSilent f → HasSent h q f
-    → parts_of (rules_at (front_rules f) cell) s h (event_of q) ≡ []
+    → parts_of (rules_at_index (front_rules f) cell) s h (event_of q) ≡ []
 sent-by-silent f h cell s q inside is sent =
     sent-silence f.family h f.lists.items cell s q inside
     (subst (λ (w : Last). WasLast f.family h w f.lists.items q) is sent.last)

@@ -15,7 +15,7 @@ use Rattle.grid_core.specs.Standing.{stack_rules}
 use Rattle.grid_core.specs.Written.{no_rules}
 use Rattle.grid_core.proofs.Geometries.{ways-are}
 use Rattle.grid_run.specs.Backs.{IsSeatIn}
-use Rattle.grid_run.specs.Plans.{IsSameShape, Suits}
+use Rattle.grid_run.specs.Plans.{IsSameShape, ShelfSuits}
 use Rattle.grid_run.specs.Seats.{IsCellOf, IsSeatOf, Keeps, KeepsCells, SeatRules, rules_of_seat}
 use Rattle.grid_run.specs.Seats.{rules_on}
 use Rattle.grid_run.specs.declared.seat.Seat.{Seat}
@@ -139,7 +139,7 @@ module _ (xs : List Shelf) (i : ℕ) (x y : Shelf) (lt : i < length xs) where
       (cell-of t r s own)))
 
   -- the seat of a cell of the shelf
-  pub seat-on : (g : Geometry) (p : Policy) (cell : ℕ) → Suits g p x
+  pub seat-on : (g : Geometry) (p : Policy) (cell : ℕ) → ShelfSuits g p x
       → IsCellOf (rules_on y) (rules_from g x.policy) cell
       → IsSeatOf (map rules_on (set xs i y)) (rules_from g p) (record { family = i; cell = cell })
   seat-on g p cell suits found =

@@ -4,7 +4,7 @@ use Rattle.std.proofs.Common.{append_assoc, append-nil}
 use Rattle.std.proofs.lemmas.Grind.{flat_map-append}
 use Rattle.std.proofs.lemmas.List.{map-append}
 use Rattle.std.specs.Io.KnownBytes.{Appends}
-use Rattle.grid_run.specs.Table.{line, tabbed, tabbed_words}
+use Rattle.grid_run.specs.Table.{tabbed, tabbed_line, tabbed_words}
 
 -- nothing was written
 pub appends_nothing : (x : Option (List ℕ)) → Appends x x []
@@ -53,7 +53,7 @@ words-then a b y e = ap (λ l. tabbed_words a ++ l) e ∙ sym (tabbed_words-appe
 
 -- a line in three parts: words, other words, and the last word with the end of the line
 pub line-parts : (a b : List (List ℕ)) (last : List ℕ)
-    → tabbed_words a ++ (tabbed_words b ++ (last ++ 10 ∷ [])) ≡ line (a ++ b) last
+    → tabbed_words a ++ (tabbed_words b ++ (last ++ 10 ∷ [])) ≡ tabbed_line (a ++ b) last
 line-parts a b last =
     sym (append_assoc (tabbed_words a) (tabbed_words b) (last ++ 10 ∷ []))
     ∙ ap (λ l. l ++ (last ++ 10 ∷ [])) (sym (tabbed_words-append a b))

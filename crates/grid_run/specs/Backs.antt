@@ -64,7 +64,7 @@ seat_on side.I p = p.i
 seat_on side.D p = p.d
 
 -- the seat on a side is one of those whose rules these are
-pub record IsPlacedOn (s : Side) (fronts : SeatRules) (p : BothSeats) : Type 0 where
+pub record IsSeatedOn (s : Side) (fronts : SeatRules) (p : BothSeats) : Type 0 where
   pub seat : IsSeatIn fronts (seat_on s p)
 
 -- both seats are there
@@ -138,7 +138,7 @@ pub record WereAsked (blocks : List ℕ) (requests : RequestsFor) (b : Back) : T
   pub second : SecondAsked blocks (requests b.seats) b.second
 
 -- for no two seats are there more requests than a second level can serve
-pub record AreFew (requests : RequestsFor) : Type 0 where
+pub record AreFewRequests (requests : RequestsFor) : Type 0 where
   pub few : (p : BothSeats) → length (requests p) ≤ 2 ^ 44
 
 -- no request waits for the second levels

@@ -3,13 +3,12 @@ use Rattle.std.specs.Prelude.{◌<◌, ◌^◌, ℕ, List, length}
 use Rattle.cache_core.specs.History.{History, Rules}
 use Rattle.cache_core.specs.declared.access.Access.{Access}
 use Rattle.cache_core.specs.Geometry.{bsize_of}
-use Rattle.grid_core.specs.Engines.{EngineStandsBy, HasAnswered}
-use Rattle.grid_core.specs.Engines.{rules_in as rules_served}
+use Rattle.grid_core.specs.Engines.{EngineHasAnswered, EngineStandsBy, engine_rules}
 use Rattle.grid_run.specs.declared.family.Family.{Family}
 
 -- the rules of the caches
-unfoldable pub rules_in : Family → List Rules
-rules_in l = rules_served l.engine
+unfoldable pub family_rules : Family → List Rules
+family_rules l = engine_rules l.engine
 
 -- how many bytes their blocks have
 unfoldable pub bsize_on : Family → ℕ
@@ -21,7 +20,7 @@ pub record FamilyStandsBy (blocks : List ℕ) (l : Family) (h : History) : Type 
 
 -- the last access of the caches was x, after the history h
 pub record HasServedLast (l : Family) (h : History) (x : Access) : Type 0 where
-  pub engine : HasAnswered l.engine h x
+  pub engine : EngineHasAnswered l.engine h x
 
 -- the caches have room for one more request
 pub record CanServe (l : Family) : Type 0 where

@@ -6,14 +6,14 @@ use Rattle.grid_run.specs.declared.fault.GridFault.{GridFault}
 use Rattle.grid_run.specs.declared.fault.GridFault.TheVariants.{Trace, Memory, Write}
 
 -- the fault of a grid whose source has this fault
-abbrev pub source_fault : TraceFault → GridFault
-source_fault (trace.Bad line why) = Trace (trace.Bad line why)
-source_fault trace.TooLong = Trace trace.TooLong
-source_fault trace.Read = Trace trace.Read
-source_fault trace.Memory = Memory
+abbrev pub grid_fault_of : TraceFault → GridFault
+grid_fault_of (trace.Bad line why) = Trace (trace.Bad line why)
+grid_fault_of trace.TooLong = Trace trace.TooLong
+grid_fault_of trace.Read = Trace trace.Read
+grid_fault_of trace.Memory = Memory
 
 -- if a grid answers a fault of the trace, it is the fault that is left of the source
-abbrev pub MayAnswer : Option TraceFault → GridFault → Type 0
-MayAnswer left (Trace why) = left ≡ Some why
-MayAnswer left Memory = ⊤
-MayAnswer left Write = ⊤
+abbrev pub GridMayAnswer : Option TraceFault → GridFault → Type 0
+GridMayAnswer left (Trace why) = left ≡ Some why
+GridMayAnswer left Memory = ⊤
+GridMayAnswer left Write = ⊤

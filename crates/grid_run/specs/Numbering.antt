@@ -31,8 +31,8 @@ event_at None a = flush
 event_at (Some c) a = access (record { class = c; addr = a })
 
 -- the block that is known, if there is one, has this number
-abbrev pub IsRight : List ℕ → Option Known → Type 0
-IsRight blocks known = (k : Known) → known ≡ Some k → number_at blocks k.block ≡ Some k.number
+abbrev pub KnowsNumber : List ℕ → Option Known → Type 0
+KnowsNumber blocks known = (k : Known) → known ≡ Some k → number_at blocks k.block ≡ Some k.number
 
 -- where blocks have n bytes, the block of a request has this number, if it asks for one
 abbrev pub IsNumberFor : List ℕ → ℕ → What → ℕ → Type 0

@@ -24,32 +24,32 @@ pub record IsSameShape (gs : List Geometry) (g : Geometry) (index : ℕ) : Type 
   pub sets : (d : Geometry) → sets_of (get_or gs index d) ≡ sets_of g
 
 -- of the list, the element at the index has this
-pub record IsAt {X : Type 0} (P : X → Type 0) (xs : List X) (index : ℕ) : Type 0 where
+pub record HasAt {X : Type 0} (P : X → Type 0) (xs : List X) (index : ℕ) : Type 0 where
   pub inside : index < length xs
   pub has : (d : X) → P (get_or xs index d)
 
 -- the shelf is for caches of this block size and policy
-pub record Suits (g : Geometry) (p : Policy) (s : Shelf) : Type 0 where
+pub record ShelfSuits (g : Geometry) (p : Policy) (s : Shelf) : Type 0 where
   pub bsize : bsize_of g ≡ bsize_of s.first
   pub policy : s.policy ≡ p
 
 -- so is the shelf at the index
 abbrev pub IsShelfFor : Geometry → Policy → List Shelf → ℕ → Type 0
-IsShelfFor g p = IsAt (Suits g p)
+IsShelfFor g p = HasAt (ShelfSuits g p)
 
 -- the second levels are behind these seats, and for caches of this block size and policy
 pub record SuitsBehind (i d : Seat) (g : Geometry) (p : Policy) (b : BackShelf) : Type 0 where
   pub on_i : b.i ≡ i
   pub on_d : b.d ≡ d
-  pub shelf : Suits g p b.shelf
+  pub shelf : ShelfSuits g p b.shelf
 
 -- so are the second levels at the index
 abbrev pub AreBacksFor : Seat → Seat → Geometry → Policy → List BackShelf → ℕ → Type 0
-AreBacksFor i d g p = IsAt (SuitsBehind i d g p)
+AreBacksFor i d g p = HasAt (SuitsBehind i d g p)
 
 -- the lane at the index is one of this selection
 abbrev pub IsLaneFor : Selection → List LanePlan → ℕ → Type 0
-IsLaneFor s = IsAt (λ (lane : LanePlan). lane.selection ≡ s)
+IsLaneFor s = HasAt (λ (lane : LanePlan). lane.selection ≡ s)
 
 -- the second levels are behind these seats, and this cell is one of a cache with these rules
 pub record IsCellBehind (i d : Seat) (r : Rules) (k : ℕ) (b : BackTask) : Type 0 where

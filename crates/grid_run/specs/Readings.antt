@@ -6,7 +6,7 @@ use Rattle.din_trace.specs.Remaining.{Script, Fate, Follows}
 use Rattle.din_trace.specs.Source.{HasLeft, Takes, room_of}
 use Rattle.din_trace.specs.declared.record.DinRecord.{DinRecord}
 use Rattle.din_trace.specs.declared.source.Source.{Source}
-use Rattle.grid_run.specs.Faults.{MayAnswer}
+use Rattle.grid_run.specs.Faults.{GridMayAnswer}
 use Rattle.grid_run.specs.declared.fault.GridFault.{GridFault}
 use Rattle.grid_run.specs.declared.fault.GridFault.TheVariants as fault
 
@@ -36,7 +36,7 @@ pub record HasStopped {R : Type 0} (remaining : R → Option (List ℕ)) (failur
   pub fate : Fate
   pub went : Takes remaining failures start now given fate
   pub may : (first last : Script) (l : Remaining) → Follows fate given first last
-      → HasLeft start first l → MayAnswer l.fault why
+      → HasLeft start first l → GridMayAnswer l.fault why
 
 -- one more batch was read, with this answer: whether there may be more, or a fault
 pub record HasReadBatch {R : Type 0} (remaining : R → Option (List ℕ)) (failures : R → ℕ)

@@ -8,7 +8,7 @@ use Rattle.stage_core.specs.Events.{IsBounded}
 use Rattle.stage_core.specs.SecondLevel.{Hierarchy}
 use Rattle.stage_core.specs.declared.selection.Selection.{Selection}
 use Rattle.grid_run.specs.Backs.{BackTask}
-use Rattle.grid_run.specs.Faults.{MayAnswer}
+use Rattle.grid_run.specs.Faults.{GridMayAnswer}
 use Rattle.grid_run.specs.Lanes.{IsPlaced, LaneTask, task_of_plan}
 use Rattle.grid_run.specs.Seats.{IsCellOf, IsSeatOf}
 use Rattle.grid_run.specs.Workers.{WorkerHasServed}
@@ -40,18 +40,18 @@ pub record IsPlaceOf (ts : List LaneTask) (c : Hierarchy) (s : Selection) (p : P
   pub inside : (other : LaneTask) → IsPlaceIn (get_or ts p.lane other) c s p
 
 -- a row that is simulated has its place, and one that was refused has none
-abbrev pub HasPlace : List LaneTask → Setup → Option Place → Type 0
-HasPlace ts (Simulated c s) (Some p) = IsPlaceOf ts (hierarchy_of c) s p
-HasPlace ts (Simulated c s) None = ⊥
-HasPlace ts (Refused fault) (Some p) = ⊥
-HasPlace ts (Refused fault) None = ⊤
+abbrev pub RowHasPlace : List LaneTask → Setup → Option Place → Type 0
+RowHasPlace ts (Simulated c s) (Some p) = IsPlaceOf ts (hierarchy_of c) s p
+RowHasPlace ts (Simulated c s) None = ⊥
+RowHasPlace ts (Refused fault) (Some p) = ⊥
+RowHasPlace ts (Refused fault) None = ⊤
 
 -- the same for each row
 pub record HavePlaces (ts : List LaneTask) (rows : List Row) (places : List (Option Place))
     : Type 0 where
   pub as_many : length places ≡ length rows
   pub each : (k : ℕ) (r : Row) (p : Option Place) → k < length rows →
-      HasPlace ts (get_or rows k r).setup (get_or places k p)
+      RowHasPlace ts (get_or rows k r).setup (get_or places k p)
 
 -- a plan of a lane has a bounded selection, and its second levels are behind caches of the lane
 pub record IsSound (p : LanePlan) : Type 0 where
@@ -62,4 +62,4 @@ pub record IsSound (p : LanePlan) : Type 0 where
 -- its records, or the fault is one that a run may answer
 abbrev pub ServedAll : Remaining → List Worker → Result (Unit {0}) GridFault → Type 0
 ServedAll l workers (Ok done) = (l.fault ≡ None) × All (WorkerHasServed l.records) workers
-ServedAll l workers (Err why) = MayAnswer l.fault why
+ServedAll l workers (Err why) = GridMayAnswer l.fault why

@@ -2,7 +2,7 @@
 use Rattle.std.specs.Prelude.{◌≡◌, ◌<◌, ℕ, List, [], length, get_or, map}
 use Rattle.cache_core.specs.History.{Rules}
 use Rattle.cache_core.specs.Standing.{rules_from}
-use Rattle.grid_core.specs.Written.{rules_at}
+use Rattle.grid_core.specs.Written.{rules_at_index}
 use Rattle.grid_run.specs.declared.seat.Seat.{Seat}
 use Rattle.grid_run.specs.declared.shelf.Shelf.{Shelf}
 
@@ -16,7 +16,7 @@ rules_on s = map (λ g. rules_from g s.policy) s.geometries.items
 
 -- the rules at a seat
 abbrev pub rules_of_seat : SeatRules → Seat → Rules
-rules_of_seat t s = rules_at (get_or t s.family []) s.cell
+rules_of_seat t s = rules_at_index (get_or t s.family []) s.cell
 
 -- a seat of a cache with these rules
 pub record IsSeatOf (t : SeatRules) (r : Rules) (s : Seat) : Type 0 where
@@ -31,7 +31,7 @@ Keeps old new = (r : Rules) (s : Seat) → IsSeatOf old r s → IsSeatOf new r s
 -- the index of a cell with these rules
 pub record IsCellOf (rs : List Rules) (r : Rules) (cell : ℕ) : Type 0 where
   pub inside : cell < length rs
-  pub rules : rules_at rs cell ≡ r
+  pub rules : rules_at_index rs cell ≡ r
 
 -- each cell stays where it is
 abbrev pub KeepsCells : List Rules → List Rules → Type 0

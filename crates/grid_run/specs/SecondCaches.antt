@@ -1,7 +1,7 @@
 -- The caches of a second level.
 use Rattle.std.specs.Prelude.{ℕ, List, [], ◌∷◌}
 use Rattle.cache_core.specs.History.{History, Rules}
-use Rattle.grid_run.specs.Families.{FamilyStandsBy, bsize_on, rules_in}
+use Rattle.grid_run.specs.Families.{FamilyStandsBy, bsize_on, family_rules}
 use Rattle.grid_run.specs.Lones.{LoneStandsBy, lone_rules}
 use Rattle.grid_run.specs.declared.second_caches.SecondCaches.{SecondCaches}
 use Rattle.grid_run.specs.declared.second_caches.SecondCaches.TheVariants as caches
@@ -9,7 +9,7 @@ use Rattle.grid_run.specs.declared.second_caches.SecondCaches.TheVariants as cac
 -- the rules of the caches
 abbrev pub second_rules : SecondCaches → List Rules
 second_rules (caches.Lone l) = lone_rules l ∷ []
-second_rules (caches.Family l) = rules_in l
+second_rules (caches.Family l) = family_rules l
 
 -- how many bytes their blocks have
 abbrev pub second_bsize : SecondCaches → ℕ

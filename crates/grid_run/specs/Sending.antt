@@ -23,7 +23,7 @@ abbrev pub SecondServed : List ℕ → List What → SecondCaches → Type 0
 SecondServed blocks ws u = SecondStandsBy blocks u (second_history ws)
 
 -- they have served some requests, and have room for these too, which have the same numbers
-pub record HasRoom (blocks : List ℕ) (u : SecondCaches) (ws : List Numbered) : Type 0 where
+pub record SecondHasRoom (blocks : List ℕ) (u : SecondCaches) (ws : List Numbered) : Type 0 where
   pub past : List What
   pub stands : SecondServed blocks past u
   pub numbered : All (IsNumbered blocks (second_bsize u)) ws

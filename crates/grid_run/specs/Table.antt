@@ -20,8 +20,8 @@ unfoldable pub tabbed_words : List (List ℕ) → List ℕ
 tabbed_words words = flat_map tabbed words
 
 -- a line: words with tabs between them, and after the last the end of a line
-abbrev pub line : List (List ℕ) → List ℕ → List ℕ
-line words last = tabbed_words words ++ (last ++ 10 ∷ [])
+abbrev pub tabbed_line : List (List ℕ) → List ℕ → List ℕ
+tabbed_line words last = tabbed_words words ++ (last ++ 10 ∷ [])
 
 -- the classes of accesses, as the head of a column has them
 abbrev pub class_names : List (List ℕ)
@@ -53,7 +53,7 @@ cache_heads columns =
 -- the first line: the names of the options that have columns, the columns of the three caches,
 -- and the fault
 unfoldable pub head_line : Columns → List (List ℕ) → List ℕ
-head_line columns names = line (names ++ cache_heads columns) (codes "fault")
+head_line columns names = tabbed_line (names ++ cache_heads columns) (codes "fault")
 
 -- the miss rate in millionths, rounded down; 0 if there were no fetches
 abbrev pub millionths : ℕ → ℕ → ℕ
@@ -64,12 +64,12 @@ abbrev pub six_digits : ℕ → List ℕ
 six_digits n = replicate (6 - length (decimal n)) 48 ++ decimal n
 
 -- a number of millionths, written with a point and six decimals
-abbrev pub rate_text : ℕ → List ℕ
-rate_text q = decimal (q / 1000000) ++ 46 ∷ six_digits (q % 1000000)
+abbrev pub millionths_text : ℕ → List ℕ
+millionths_text q = decimal (q / 1000000) ++ 46 ∷ six_digits (q % 1000000)
 
 -- the miss rate as it is written
-abbrev pub rate : ℕ → ℕ → List ℕ
-rate misses fetches = rate_text (millionths misses fetches)
+abbrev pub miss_rate : ℕ → ℕ → List ℕ
+miss_rate misses fetches = millionths_text (millionths misses fetches)
 
 -- a count over all classes, and in a full table that of each class
 abbrev pub counted : Columns → PerClass → List (List ℕ)
@@ -81,7 +81,7 @@ counted Full n =
 unfoldable pub columns_of : Columns → Counts → PerClass → List (List ℕ)
 columns_of columns c shadow =
     counted columns c.fetches ++ (counted columns c.misses
-    ++ (rate (total_of c.misses) (total_of c.fetches) ∷ (counted columns c.compulsory
+    ++ (miss_rate (total_of c.misses) (total_of c.fetches) ∷ (counted columns c.compulsory
     ++ (counted columns c.capacity ++ (counted columns c.conflict ++ (counted columns shadow
     ++ (decimal c.loaded ∷ decimal c.written_back ∷ decimal c.sent_on ∷ decimal c.flushes
     ∷ [])))))))
@@ -94,7 +94,8 @@ figure_columns columns f =
 
 -- the line of a configuration that was simulated: its words, its figures, and no fault
 unfoldable pub counted_line : Columns → List (List ℕ) → Figures → List ℕ
-counted_line columns words figures = line (words ++ figure_columns columns figures) (codes "-")
+counted_line columns words figures = tabbed_line (words ++ figure_columns columns figures)
+    (codes "-")
 
 -- a hyphen for each column of a cache
 unfoldable pub no_columns : Columns → List (List ℕ)
@@ -106,4 +107,4 @@ no_figures columns = no_columns columns ++ (no_columns columns ++ no_columns col
 
 -- the line of a configuration that was refused: its words, no figures, and its fault
 unfoldable pub refused_line : Columns → List (List ℕ) → List ℕ → List ℕ
-refused_line columns words fault = line (words ++ no_figures columns) fault
+refused_line columns words fault = tabbed_line (words ++ no_figures columns) fault

@@ -22,9 +22,9 @@ pub(crate) struct Back {
 #[tactic(auto, unfolding(crate::specs::Backs::back_task, crate::specs::Backs::task_of_shelf))]
 impl Back {
     ghost use Rattle.std.specs.Prelude.{◌≡◌, List, ℕ, IfOk, OnOk, length};
-    ghost use Rattle.grid_run.specs.Backs.{AreFew, AreWaiting, HasNone, HasNumbers, NothingWaits};
-    ghost use Rattle.grid_run.specs.Backs.{RequestsFor, WereAsked, back_seats, back_task};
-    ghost use Rattle.grid_run.specs.Backs.{no_requests, queue_seats, task_of_shelf};
+    ghost use Rattle.grid_run.specs.Backs.{AreFewRequests, AreWaiting, HasNone, HasNumbers};
+    ghost use Rattle.grid_run.specs.Backs.{NothingWaits, RequestsFor, WereAsked, back_seats};
+    ghost use Rattle.grid_run.specs.Backs.{back_task, no_requests, queue_seats, task_of_shelf};
 
     /// The empty caches of a shelf.
     pub fn new(alloc: Global, shelf: &BackShelf) -> Result<Back, NoMemory>
@@ -63,7 +63,7 @@ impl Back {
     /// Serves all requests that wait.
     pub fn settle(&mut self) -> Result<(), NoMemory>
         requires room { (blocks : List ℕ) × (all : RequestsFor) × WereAsked blocks all self.old
-            × AreFew all }
+            × AreFewRequests all }
         ensures asked { OnOk result ((blocks : List ℕ) (all : RequestsFor) →
             WereAsked blocks all self.old → WereAsked blocks all self.new) }
         ensures settled { OnOk result (NothingWaits self.new) }

@@ -2,8 +2,8 @@
 
 ghost use Rattle.std.specs.Prelude.{◌≡◌, ℕ, List, IfOk, OnOk, map};
 ghost use Rattle.std.specs.List.{All};
-ghost use Rattle.grid_run.specs.Backs.{AreFew, NothingWaits, RequestsFor, WereAsked, back_task};
-ghost use Rattle.grid_run.specs.Backs.{no_requests, task_of_shelf};
+ghost use Rattle.grid_run.specs.Backs.{AreFewRequests, NothingWaits, RequestsFor, WereAsked};
+ghost use Rattle.grid_run.specs.Backs.{back_task, no_requests, task_of_shelf};
 
 use crate::back::Back;
 use crate::lists::made_for_each;
@@ -32,7 +32,7 @@ fn backs_for(alloc: Global, shelves: &[BackShelf]) -> Result<Vec<Back>, NoMemory
 /// Serves all requests that wait, for one second level after another.
 fn settle_backs(backs: &mut [Back]) -> Result<(), NoMemory>
     requires room { (blocks : List ℕ) × (all : RequestsFor) × All (WereAsked blocks all) backs.old
-        × AreFew all }
+        × AreFewRequests all }
     ensures asked { OnOk result ((blocks : List ℕ) (all : RequestsFor) →
         All (WereAsked blocks all) backs.old → All (WereAsked blocks all) backs.new) }
     ensures settled { OnOk result (All NothingWaits backs.new) }
@@ -48,8 +48,9 @@ fn settle_backs(backs: &mut [Back]) -> Result<(), NoMemory>
 impl Bank {
     ghost use Rattle.std.specs.Prelude.{◌≡◌, ℕ, List, IfOk, OnOk, map};
     ghost use Rattle.std.specs.List.{All};
-    ghost use Rattle.grid_run.specs.Backs.{AreFew, AreWaiting, HasNone, HasNumbers, RequestsFor};
-    ghost use Rattle.grid_run.specs.Backs.{no_requests, queue_seats, seats_of_task, task_of_shelf};
+    ghost use Rattle.grid_run.specs.Backs.{AreFewRequests, AreWaiting, HasNone, HasNumbers};
+    ghost use Rattle.grid_run.specs.Backs.{RequestsFor, no_requests, queue_seats, seats_of_task};
+    ghost use Rattle.grid_run.specs.Backs.{task_of_shelf};
     ghost use Rattle.grid_run.specs.Banks.{NothingWaitsIn, WasAsked, bank_task};
 
     /// The empty second levels of these shelves.
@@ -91,7 +92,7 @@ impl Bank {
     /// Serves all requests that wait.
     pub fn settle(&mut self) -> Result<(), NoMemory>
         requires room { (blocks : List ℕ) × (all : RequestsFor) × WasAsked blocks all self.old
-            × AreFew all }
+            × AreFewRequests all }
         ensures asked { OnOk result ((blocks : List ℕ) (all : RequestsFor) →
             WasAsked blocks all self.old → WasAsked blocks all self.new) }
         ensures settled { OnOk result (NothingWaitsIn self.new) }

@@ -2,7 +2,7 @@
 
 ghost use Rattle.std.specs.Prelude.{◌≡◌, ◌<◌, ℕ, List, IfOk, OnOk, get_or, length, map};
 ghost use Rattle.std.specs.List.{All};
-ghost use Rattle.grid_run.specs.Backs.{AreFew, AreWaiting, BackTask, HasNone, HasNumbers};
+ghost use Rattle.grid_run.specs.Backs.{AreFewRequests, AreWaiting, BackTask, HasNone, HasNumbers};
 ghost use Rattle.grid_run.specs.Backs.{NothingWaits, RequestsFor, WereAsked, back_task};
 ghost use Rattle.grid_run.specs.Backs.{no_requests, queue_seats, seats_of_task, task_of_shelf};
 ghost use Rattle.grid_run.specs.Banks.{HaveServed, NothingWaitsIn, WasAsked, bank_task};
@@ -85,7 +85,7 @@ pub(crate) fn waiting_for(banks: &[Bank]) -> usize {
 /// Serves all requests that wait, for one bank after another.
 pub(crate) fn settle_all(banks: &mut [Bank]) -> Result<(), NoMemory>
     requires room { (blocks : List ℕ) × (all : RequestsFor)
-        × All (WasAsked blocks all) banks.old × AreFew all }
+        × All (WasAsked blocks all) banks.old × AreFewRequests all }
     ensures served { OnOk result (HaveServed banks.old banks.new) }
     ensures tasks { map bank_task banks.new ≡ map bank_task banks.old }
 {
@@ -102,9 +102,9 @@ fn settle_both<T: Threads + Sync>(
     behind: &mut [Bank],
 ) -> Result<(), NoMemory>
     requires front { (blocks : List ℕ) × (all : RequestsFor)
-        × All (WasAsked blocks all) front.old × AreFew all }
+        × All (WasAsked blocks all) front.old × AreFewRequests all }
     requires behind { (blocks : List ℕ) × (all : RequestsFor)
-        × All (WasAsked blocks all) behind.old × AreFew all }
+        × All (WasAsked blocks all) behind.old × AreFewRequests all }
     ensures front { OnOk result (HaveServed front.old front.new) }
     ensures behind { OnOk result (HaveServed behind.old behind.new) }
     ensures tasks { (map bank_task front.new ≡ map bank_task front.old)
@@ -114,11 +114,11 @@ fn settle_both<T: Threads + Sync>(
         rt,
         &mut ||
             requires { (blocks : List ℕ) × (all : RequestsFor)
-                × All (WasAsked blocks all) front.now × AreFew all }
+                × All (WasAsked blocks all) front.now × AreFewRequests all }
         { settle_all(front) },
         &mut ||
             requires { (blocks : List ℕ) × (all : RequestsFor)
-                × All (WasAsked blocks all) behind.now × AreFew all }
+                × All (WasAsked blocks all) behind.now × AreFewRequests all }
         { settle_all(behind) },
     );
     one?;
@@ -133,7 +133,7 @@ pub(crate) fn settle_on<T: Threads + Sync>(
     banks: &mut [Bank],
 ) -> Result<(), NoMemory>
     requires room { (blocks : List ℕ) × (all : RequestsFor)
-        × All (WasAsked blocks all) banks.old × AreFew all }
+        × All (WasAsked blocks all) banks.old × AreFewRequests all }
     ensures served { OnOk result (HaveServed banks.old banks.new) }
     ensures tasks { map bank_task banks.new ≡ map bank_task banks.old }
 {

@@ -3,7 +3,7 @@
 ghost use Rattle.std.specs.Prelude.{◌≡◌, ◌<◌, ◌≤◌, ◌+◌, ℕ, List, OnOk, length, map};
 ghost use Rattle.std.specs.List.{All};
 ghost use Rattle.din_trace.specs.declared.record.DinRecord.{DinRecord};
-ghost use Rattle.grid_run.specs.Backs.{AreFew, RequestsFor};
+ghost use Rattle.grid_run.specs.Backs.{AreFewRequests, RequestsFor};
 ghost use Rattle.grid_run.specs.Banks.{HaveServed, WasAsked, bank_task};
 ghost use Rattle.grid_run.specs.FirstLevels.{WasGiven, WereGivenNext, first_task};
 
@@ -37,7 +37,7 @@ fn settle_and_take(
     banks: &mut [Bank],
 ) -> Result<(), NoMemory>
     requires near { (blocks : List ℕ) × (all : RequestsFor)
-        × All (WasAsked blocks all) banks.old × AreFew all }
+        × All (WasAsked blocks all) banks.old × AreFewRequests all }
     requires room { (served : RequestsFor) × (past : List DinRecord)
         × WasGiven served past first.old × (length past + length part.now ≤ MAX_LIMIT) }
     ensures served { OnOk result (HaveServed banks.old banks.new) }
@@ -61,9 +61,9 @@ fn take_beside<T: Threads + Sync>(
 ) -> Result<(), NoMemory>
     requires two { 1 < threads }
     requires far { (blocks : List ℕ) × (all : RequestsFor)
-        × All (WasAsked blocks all) far.old × AreFew all }
+        × All (WasAsked blocks all) far.old × AreFewRequests all }
     requires near { (blocks : List ℕ) × (all : RequestsFor)
-        × All (WasAsked blocks all) near.old × AreFew all }
+        × All (WasAsked blocks all) near.old × AreFewRequests all }
     requires room { (served : RequestsFor) × (past : List DinRecord)
         × WasGiven served past first.old × (length past + length part.now ≤ MAX_LIMIT) }
     ensures far { OnOk result (HaveServed far.old far.new) }
@@ -78,11 +78,11 @@ fn take_beside<T: Threads + Sync>(
         rt,
         &mut ||
             requires { (blocks : List ℕ) × (all : RequestsFor)
-                × All (WasAsked blocks all) far.now × AreFew all }
+                × All (WasAsked blocks all) far.now × AreFewRequests all }
         { settle_on(rt, others, far) },
         &mut ||
             requires near { (blocks : List ℕ) × (all : RequestsFor)
-                × All (WasAsked blocks all) near.now × AreFew all }
+                × All (WasAsked blocks all) near.now × AreFewRequests all }
             requires room { (served : RequestsFor) × (past : List DinRecord)
                 × WasGiven served past first.now × (length past + length part.now ≤ MAX_LIMIT) }
         { settle_and_take(first, part, near) },
@@ -101,7 +101,7 @@ pub(crate) fn take_on<T: Threads + Sync>(
     part: &[DinRecord],
 ) -> Result<(), NoMemory>
     requires asked { (blocks : List ℕ) × (all : RequestsFor)
-        × All (WasAsked blocks all) banks.old × AreFew all }
+        × All (WasAsked blocks all) banks.old × AreFewRequests all }
     requires room { (served : RequestsFor) × (past : List DinRecord)
         × WasGiven served past first.old × (length past + length part.now ≤ MAX_LIMIT) }
     ensures served { OnOk result (HaveServed banks.old banks.new) }

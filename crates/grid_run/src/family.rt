@@ -4,7 +4,7 @@ ghost use Rattle.std.specs.Prelude.{◌≡◌};
 ghost use Rattle.std.specs.List.{All};
 ghost use Rattle.cache_core.specs.Geometry.{bsize_of};
 ghost use Rattle.cache_core.specs.History.{Rules};
-ghost use Rattle.grid_core.specs.Engines.{bsize_in, rules_in as rules_served};
+ghost use Rattle.grid_core.specs.Engines.{bsize_in, engine_rules};
 
 use crate::numbered::Numbered;
 use crate::shelf::Shelf;
@@ -17,11 +17,11 @@ use std::alloc::Global;
 pub(crate) struct Family {
     first: Geometry,
     engine: Engine,
-    ghost alike: { All (λ (r : Rules). r.bsize ≡ bsize_of first) (rules_served engine) },
+    ghost alike: { All (λ (r : Rules). r.bsize ≡ bsize_of first) (engine_rules engine) },
     ghost sized: { bsize_in engine ≡ bsize_of first },
 }
 
-#[tactic(auto, unfolding(crate::specs::Families::rules_in, crate::specs::Families::bsize_on))]
+#[tactic(auto, unfolding(crate::specs::Families::family_rules, crate::specs::Families::bsize_on))]
 impl Family {
     ghost use Rattle.std.specs.Prelude.{◌≡◌, ◌<◌, ◌*◌, ◌/◌, ◌∷◌, [], List, ℕ, IfOk, OnOk};
     ghost use Rattle.std.specs.Prelude.{length, map, true, false};
@@ -33,10 +33,10 @@ impl Family {
     ghost use Rattle.grid_core.specs.Cells.{items_of};
     ghost use Rattle.grid_core.specs.FullyAssociative.{shadow_misses};
     ghost use Rattle.grid_core.specs.Numbers.{IsNumberOf};
-    ghost use Rattle.grid_core.specs.Written.{rules_at, written_by};
+    ghost use Rattle.grid_core.specs.Written.{rules_at_index, written_by};
     ghost use Rattle.stage_core.specs.SecondLevel.{read_as};
-    ghost use Rattle.grid_run.specs.Families.{CanServe, HasServedLast, FamilyStandsBy};
-    ghost use Rattle.grid_run.specs.Families.{bsize_on, rules_in};
+    ghost use Rattle.grid_run.specs.Families.{CanServe, FamilyStandsBy, HasServedLast, bsize_on};
+    ghost use Rattle.grid_run.specs.Families.{family_rules};
     ghost use Rattle.grid_run.specs.Numbering.{IsNumbered, what_of};
     ghost use Rattle.grid_run.specs.Seats.{rules_on};
 
@@ -45,7 +45,7 @@ impl Family {
         ensures stands { IfOk result (λ family. (blocks : List ℕ) →
             FamilyStandsBy blocks family []) }
         ensures bsize { IfOk result (λ family. bsize_on family ≡ bsize_of shelf.now.first) }
-        ensures rules { IfOk result (λ family. rules_in family ≡ rules_on shelf.now) }
+        ensures rules { IfOk result (λ family. family_rules family ≡ rules_on shelf.now) }
     {
         let first = shelf.first();
         let engine = Engine::new(alloc, shelf.geometries(), first, shelf.policy())?;
@@ -54,9 +54,9 @@ impl Family {
 
     /// The address of the first byte of the block that holds an address.
     pub fn first_byte(&self, addr: u64) -> u64
-        ensures { (cell : ℕ) → cell < length (rules_in self.now) → result
-            ≡ addr / (rules_at (rules_in self.now) cell).bsize
-            * (rules_at (rules_in self.now) cell).bsize }
+        ensures { (cell : ℕ) → cell < length (family_rules self.now) → result
+            ≡ addr / (rules_at_index (family_rules self.now) cell).bsize
+            * (rules_at_index (family_rules self.now) cell).bsize }
     {
         self.first.first_byte(self.first.block(addr))
     }
@@ -79,7 +79,7 @@ impl Family {
             FamilyStandsBy blocks self.old h →
             FamilyStandsBy blocks self.new (accessed access ∷ h)) }
         ensures bsize { bsize_on self.new ≡ bsize_on self.old }
-        ensures rules { rules_in self.new ≡ rules_in self.old }
+        ensures rules { family_rules self.new ≡ family_rules self.old }
     {
         self.engine.access_numbered(access, number)
     }
@@ -92,13 +92,13 @@ impl Family {
         ensures last { result ≡ true → (blocks : List ℕ) (h : History) →
             FamilyStandsBy blocks self.old h → HasServedLast self.new h access }
         ensures silent { result ≡ true → (blocks : List ℕ) (h : History) →
-            FamilyStandsBy blocks self.old h → (cell : ℕ) → cell < length (rules_in self.new) →
-            SendsNothing (outcome_of (rules_at (rules_in self.new) cell) h access) }
+            FamilyStandsBy blocks self.old h → (cell : ℕ) → cell < length (family_rules self.new) →
+            SendsNothing (outcome_of (rules_at_index (family_rules self.new) cell) h access) }
         ensures stands { result ≡ true → (blocks : List ℕ) (h : History) →
             FamilyStandsBy blocks self.old h →
             FamilyStandsBy blocks self.new (accessed access ∷ h) }
         ensures leaves { result ≡ false → self.new ≡ self.old }
-        ensures rules { rules_in self.new ≡ rules_in self.old }
+        ensures rules { family_rules self.new ≡ family_rules self.old }
     {
         self.engine.again(access)
     }
@@ -109,10 +109,10 @@ impl Family {
         requires room { CanServe self.old }
         ensures backs { IfOk result (λ lists. (blocks : List ℕ) (h : History) →
             FamilyStandsBy blocks self.old h →
-            map items_of lists.items ≡ map (written_by h) (rules_in self.old)) }
+            map items_of lists.items ≡ map (written_by h) (family_rules self.old)) }
         ensures stands { OnOk result ((blocks : List ℕ) (h : History) →
             FamilyStandsBy blocks self.old h → FamilyStandsBy blocks self.new (flushed ∷ h)) }
-        ensures rules { rules_in self.new ≡ rules_in self.old }
+        ensures rules { family_rules self.new ≡ family_rules self.old }
     {
         self.engine.flush()
     }
@@ -124,7 +124,7 @@ impl Family {
             IsNumbered blocks (bsize_on self.old) asked → FamilyStandsBy blocks self.old h →
             FamilyStandsBy blocks self.new (read_as (what_of asked) ∷ h)) }
         ensures bsize { bsize_on self.new ≡ bsize_on self.old }
-        ensures rules { rules_in self.new ≡ rules_in self.old }
+        ensures rules { family_rules self.new ≡ family_rules self.old }
     {
         let Some(class) = asked.class() else {
             return self.engine.flush_unlisted();
@@ -136,9 +136,9 @@ impl Family {
 
     /// What the last access did in one cache.
     pub fn outcome(&self, cell: usize) -> Outcome
-        requires { cell < length (rules_in self.now) }
+        requires { cell < length (family_rules self.now) }
         ensures { (h : History) (x : Access) → HasServedLast self.now h x →
-            result ≡ outcome_of (rules_at (rules_in self.now) cell) h x }
+            result ≡ outcome_of (rules_at_index (family_rules self.now) cell) h x }
     {
         self.engine.answer(cell)
     }
@@ -146,26 +146,26 @@ impl Family {
     /// Whether the last access sent nothing in any cache. May be `false` though nothing was sent.
     pub fn sent_nothing(&self) -> bool
         ensures { result ≡ true → (h : History) (x : Access) → HasServedLast self.now h x →
-            (cell : ℕ) → cell < length (rules_in self.now) →
-            SendsNothing (outcome_of (rules_at (rules_in self.now) cell) h x) }
+            (cell : ℕ) → cell < length (family_rules self.now) →
+            SendsNothing (outcome_of (rules_at_index (family_rules self.now) cell) h x) }
     {
         self.engine.sent_nothing()
     }
 
     /// The counts of one cache.
     pub fn counts(&self, cell: usize) -> Counts
-        requires { cell < length (rules_in self.now) }
+        requires { cell < length (family_rules self.now) }
         ensures { (blocks : List ℕ) (h : History) → FamilyStandsBy blocks self.now h →
-            result ≡ counts_of (rules_at (rules_in self.now) cell) h }
+            result ≡ counts_of (rules_at_index (family_rules self.now) cell) h }
     {
         self.engine.counts(cell)
     }
 
     /// How often the shadow of one cache missed.
     pub fn shadow_misses(&self, cell: usize) -> PerClass
-        requires { cell < length (rules_in self.now) }
+        requires { cell < length (family_rules self.now) }
         ensures { (blocks : List ℕ) (h : History) → FamilyStandsBy blocks self.now h →
-            result ≡ shadow_misses (rules_at (rules_in self.now) cell) h }
+            result ≡ shadow_misses (rules_at_index (family_rules self.now) cell) h }
     {
         self.engine.shadow_misses(cell)
     }

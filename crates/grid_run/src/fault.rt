@@ -1,7 +1,7 @@
 //! Why a grid gives no table.
 
 ghost use Rattle.std.specs.Prelude.{◌≡◌};
-ghost use Rattle.grid_run.specs.Faults.{source_fault};
+ghost use Rattle.grid_run.specs.Faults.{grid_fault_of};
 
 use din_trace::TraceFault;
 
@@ -20,7 +20,7 @@ pub enum GridFault {
 /// The fault of a grid whose source has this fault. `TraceFault::Memory` becomes
 /// `GridFault::Memory`.
 pub(crate) fn fault_of_source(fault: TraceFault) -> GridFault
-    ensures { result ≡ source_fault fault }
+    ensures { result ≡ grid_fault_of fault }
 {
     match fault {
         TraceFault::Memory => GridFault::Memory,

@@ -4,7 +4,7 @@ ghost use Rattle.std.specs.Prelude.{◌≡◌, ◌<◌, ◌≤◌, ◌+◌, ◌*
 ghost use Rattle.std.specs.Prelude.{take, true, false};
 ghost use Rattle.std.specs.List.{All};
 ghost use Rattle.din_trace.specs.declared.record.DinRecord.{DinRecord};
-ghost use Rattle.grid_core.specs.Written.{rules_at};
+ghost use Rattle.grid_core.specs.Written.{rules_at_index};
 ghost use Rattle.stage_core.specs.Events.{history};
 ghost use Rattle.stage_core.specs.SecondLevel.{parts_of, sent_up};
 ghost use Rattle.stage_core.specs.declared.message.Side.TheVariants as side;
@@ -28,7 +28,7 @@ fn fetch_once(front: &mut Front, next: DinRecord) -> bool
     ensures silent { result ≡ true → (blocks : List ℕ) (es : List DinRecord) →
         FrontAt blocks (history side.I es) front.old →
         (cell : ℕ) → cell < length (front_rules front.old) →
-        sent_up (parts_of (rules_at (front_rules front.old) cell)) side.I es next ≡ [] }
+        sent_up (parts_of (rules_at_index (front_rules front.old) cell)) side.I es next ≡ [] }
     ensures no_data { result ≡ true → AsksNoData next }
     ensures leaves { result ≡ false → front.new ≡ front.old }
     ensures rules { front_rules front.new ≡ front_rules front.old }
@@ -52,7 +52,7 @@ pub(crate) fn fetch_on(front: &mut Front, part: &[DinRecord]) -> usize
     ensures silent { (blocks : List ℕ) (es : List DinRecord) →
         FrontAt blocks (history side.I es) front.old →
         (cell : ℕ) → cell < length (front_rules front.old) →
-        fetched (rules_at (front_rules front.old) cell) es (take result part.now) ≡ [] }
+        fetched (rules_at_index (front_rules front.old) cell) es (take result part.now) ≡ [] }
     ensures no_data { All AsksNoData (take result part.now) }
     ensures rules { front_rules front.new ≡ front_rules front.old }
 {

@@ -7,10 +7,9 @@ ghost use Rattle.cache_core.specs.History.{History};
 ghost use Rattle.grid_core.specs.Numbered.{blocks_in};
 ghost use Rattle.din_trace.specs.declared.record.DinRecord.{DinRecord};
 ghost use Rattle.stage_core.specs.Events.{IsBounded, history};
-ghost use Rattle.grid_run.specs.Backs.{AreWaiting, HasNone, IsPlacedOn, QueuesStayNumbered};
-ghost use Rattle.grid_run.specs.Backs.{RequestsFor};
-ghost use Rattle.grid_run.specs.Backs.{followed_by, no_requests, queue_seats, sent_for};
-ghost use Rattle.grid_run.specs.Backs.{sent_on_side};
+ghost use Rattle.grid_run.specs.Backs.{AreWaiting, HasNone, IsSeatedOn, QueuesStayNumbered};
+ghost use Rattle.grid_run.specs.Backs.{RequestsFor, followed_by, no_requests, queue_seats};
+ghost use Rattle.grid_run.specs.Backs.{sent_for, sent_on_side};
 ghost use Rattle.grid_run.specs.FirstLevels.{AreSeated, HasServed, StaysNumberedIn, WasGiven};
 ghost use Rattle.grid_run.specs.FirstLevels.{first_of_plan, first_task};
 ghost use Rattle.grid_run.specs.Fronts.{FrontAt, front_rules};
@@ -51,7 +50,7 @@ fn serve_request(
     side: Side,
     request: Request,
 ) -> Result<(), NoMemory>
-    requires placed { All (IsPlacedOn side (map front_rules fronts.old.items))
+    requires placed { All (IsSeatedOn side (map front_rules fronts.old.items))
         (map queue_seats queues.old.items) }
     requires room { (h : History) × All (FrontAt (blocks_in numbers.old) h) fronts.old.items
         × (length h < 2 ^ 44) }
@@ -86,7 +85,7 @@ fn serve_side(
     side: Side,
     event: DinRecord,
 ) -> Result<(), NoMemory>
-    requires placed { All (IsPlacedOn side (map front_rules fronts.old.items))
+    requires placed { All (IsSeatedOn side (map front_rules fronts.old.items))
         (map queue_seats queues.old.items) }
     requires room { (es : List DinRecord)
         × All (FrontAt (blocks_in numbers.old) (history side es)) fronts.old.items

@@ -53,12 +53,12 @@ impl Front {
     ghost use Rattle.cache_core.specs.Lists.{IsBeginning};
     ghost use Rattle.cache_core.specs.History.{History, access as accessed, flush as flushed};
     ghost use Rattle.grid_core.specs.Numbered.{blocks_in};
-    ghost use Rattle.grid_core.specs.Written.{rules_at};
+    ghost use Rattle.grid_core.specs.Written.{rules_at_index};
     ghost use Rattle.stage_core.specs.SecondLevel.{parts_of};
     ghost use Rattle.grid_run.specs.declared.requests.Request.{Request};
     ghost use Rattle.grid_run.specs.declared.requests.Request.TheVariants as asked;
     ghost use Rattle.grid_run.specs.Fronts.{FrontAt, HasSent, IsSilent, front_rules};
-    ghost use Rattle.grid_run.specs.Numbering.{IsRight, StayNumbered, what_of};
+    ghost use Rattle.grid_run.specs.Numbering.{KnowsNumber, StayNumbered, what_of};
     ghost use Rattle.grid_run.specs.Sending.{event_of};
     ghost use Rattle.grid_run.specs.Seats.{rules_on};
 
@@ -165,10 +165,10 @@ impl Front {
     ) -> Result<(), NoMemory>
         requires inside { cell < length (front_rules self.now) }
         requires last { (h : History) × (q : Request) × HasSent h q self.now }
-        requires known { IsRight (blocks_in numbers.old) self.now.known }
+        requires known { KnowsNumber (blocks_in numbers.old) self.now.known }
         ensures sent { OnOk result ((h : History) (q : Request) → HasSent h q self.now →
             map what_of waiting.new.items ≡ map what_of waiting.old.items
-            ++ parts_of (rules_at (front_rules self.now) cell) side h (event_of q)) }
+            ++ parts_of (rules_at_index (front_rules self.now) cell) side h (event_of q)) }
         ensures numbers { OnOk result (StayNumbered (bsize_of first) (blocks_in numbers.old)
             waiting.old.items (blocks_in numbers.new) waiting.new.items) }
     {

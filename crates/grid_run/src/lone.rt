@@ -5,7 +5,7 @@ ghost use Rattle.std.specs.List.{All};
 ghost use Rattle.stage_core.specs.declared.message.What.{What};
 ghost use Rattle.grid_run.specs.Lones.{lone_rules};
 ghost use Rattle.grid_run.specs.Numbering.{IsNumbered, what_of};
-ghost use Rattle.grid_run.specs.Sending.{HasRoom, SecondServed};
+ghost use Rattle.grid_run.specs.Sending.{SecondHasRoom, SecondServed};
 ghost use Rattle.grid_run.specs.declared.second_caches.SecondCaches.TheVariants as caches;
 
 use crate::numbered::Numbered;
@@ -21,7 +21,7 @@ pub(crate) struct Lone {
 
 /// Serves requests in their order.
 pub(crate) fn serve_alone(lone: &mut Lone, requests: &[Numbered]) -> Result<(), NoMemory>
-    requires room { (blocks : List ℕ) × HasRoom blocks (caches.Lone lone.old) requests.now }
+    requires room { (blocks : List ℕ) × SecondHasRoom blocks (caches.Lone lone.old) requests.now }
     ensures served { OnOk result ((blocks : List ℕ) (ws : List What) →
         All (IsNumbered blocks (lone_rules lone.old).bsize) requests.now →
         SecondServed blocks ws (caches.Lone lone.old) →

@@ -5,7 +5,7 @@ ghost use Rattle.cache_core.specs.Geometry.{bsize_of};
 ghost use Rattle.cache_core.specs.Lists.{IsBeginning};
 ghost use Rattle.grid_core.specs.Numbered.{blocks_in};
 ghost use Rattle.grid_core.specs.Numbers.{number_at};
-ghost use Rattle.grid_run.specs.Numbering.{IsNumberFor, IsNumbered, IsRight, what_of};
+ghost use Rattle.grid_run.specs.Numbering.{IsNumberFor, IsNumbered, KnowsNumber, what_of};
 
 use cache_core::{Class, Geometry, NoMemory};
 use grid_core::BlockNumbers;
@@ -74,7 +74,7 @@ fn number_near(
     known: Option<Known>,
     block: u64,
 ) -> Result<u32, NoMemory>
-    requires known { IsRight (blocks_in numbers.old) known }
+    requires known { KnowsNumber (blocks_in numbers.old) known }
     ensures number { IfOk result (λ number.
         number_at (blocks_in numbers.new) block ≡ Some number) }
     ensures grows { IsBeginning (blocks_in numbers.old) (blocks_in numbers.new) }
@@ -95,7 +95,7 @@ fn number_for(
     first: Geometry,
     what: What,
 ) -> Result<u32, NoMemory>
-    requires known { IsRight (blocks_in numbers.old) known }
+    requires known { KnowsNumber (blocks_in numbers.old) known }
     ensures number { IfOk result (IsNumberFor (blocks_in numbers.new) (bsize_of first) what) }
     ensures grows { IsBeginning (blocks_in numbers.old) (blocks_in numbers.new) }
 {
@@ -127,7 +127,7 @@ pub(crate) fn numbered_request(
     first: Geometry,
     what: What,
 ) -> Result<Numbered, NoMemory>
-    requires known { IsRight (blocks_in numbers.old) known }
+    requires known { KnowsNumber (blocks_in numbers.old) known }
     ensures what { IfOk result (λ asked. what_of asked ≡ what) }
     ensures number { IfOk result (IsNumbered (blocks_in numbers.new) (bsize_of first)) }
     ensures grows { IsBeginning (blocks_in numbers.old) (blocks_in numbers.new) }

@@ -4,7 +4,8 @@ ghost use Rattle.std.specs.Prelude.{◌<◌, ◌^◌, decimal};
 ghost use Rattle.din_trace.specs.Device.{Writes};
 ghost use Rattle.cache_core.specs.Counts.{total_of};
 ghost use Rattle.grid_run.specs.declared.grid.Columns.TheVariants.{Full};
-ghost use Rattle.grid_run.specs.Table.{counted, rate, rate_text, six_digits, tabbed, tabbed_words};
+ghost use Rattle.grid_run.specs.Table.{counted, millionths_text, miss_rate, six_digits, tabbed};
+ghost use Rattle.grid_run.specs.Table.{tabbed_words};
 
 use crate::grid::Columns;
 use cache_core::PerClass;
@@ -86,7 +87,8 @@ fn put_six_digits<W: ByteWriter>(writer: &mut W, number: u128) -> Result<(), Dev
 
 /// Writes a rate, which is given in millionths.
 fn put_millionths<W: ByteWriter>(writer: &mut W, rate: u128) -> Result<(), DeviceFailed>
-    ensures { Writes W.contents W.failures writer.old writer.new result (tabbed (rate_text rate)) }
+    ensures { Writes W.contents W.failures writer.old writer.new result
+        (tabbed (millionths_text rate)) }
 {
     let mut digits = Buffer::new();
     writer.put(digits.format(rate / 1_000_000).as_bytes())?;
@@ -98,7 +100,7 @@ fn put_millionths<W: ByteWriter>(writer: &mut W, rate: u128) -> Result<(), Devic
 fn put_rate<W: ByteWriter>(writer: &mut W, misses: u128, fetches: u128) -> Result<(), DeviceFailed>
     requires { misses < 2 ^ 66 }
     ensures { Writes W.contents W.failures writer.old writer.new result
-        (tabbed (rate misses fetches)) }
+        (tabbed (miss_rate misses fetches)) }
 {
     let rate = if fetches == 0 {
         0
@@ -115,7 +117,7 @@ pub(crate) fn put_miss_rate<W: ByteWriter>(
     fetches: &PerClass,
 ) -> Result<(), DeviceFailed>
     ensures { Writes W.contents W.failures writer.old writer.new result
-        (tabbed (rate (total_of misses.now) (total_of fetches.now))) }
+        (tabbed (miss_rate (total_of misses.now) (total_of fetches.now))) }
 {
     put_rate(writer, misses.total(), fetches.total())
 }

@@ -4,7 +4,7 @@ ghost use Rattle.std.specs.Prelude.{◌≡◌, ◌++◌, ◌∷◌, [], OnOk, ma
 ghost use Rattle.cache_core.specs.Geometry.{bsize_of};
 ghost use Rattle.grid_core.specs.Numbered.{blocks_in};
 ghost use Rattle.stage_core.specs.SecondLevel.{back};
-ghost use Rattle.grid_run.specs.Numbering.{IsRight, StayNumbered, what_of};
+ghost use Rattle.grid_run.specs.Numbering.{KnowsNumber, StayNumbered, what_of};
 
 use crate::lists::add_to;
 use crate::numbered::{Known, Numbered, numbered_request};
@@ -21,7 +21,7 @@ fn ask(
     first: Geometry,
     what: What,
 ) -> Result<(), NoMemory>
-    requires known { IsRight (blocks_in numbers.old) known }
+    requires known { KnowsNumber (blocks_in numbers.old) known }
     ensures asked { OnOk result (map what_of waiting.new.items
         ≡ map what_of waiting.old.items ++ what ∷ []) }
     ensures numbers { OnOk result (StayNumbered (bsize_of first) (blocks_in numbers.old)
@@ -40,7 +40,7 @@ fn ask_part(
     first: Geometry,
     part: Option<What>,
 ) -> Result<(), NoMemory>
-    requires known { IsRight (blocks_in numbers.old) known }
+    requires known { KnowsNumber (blocks_in numbers.old) known }
     ensures asked { OnOk result (map what_of waiting.new.items
         ≡ map what_of waiting.old.items ++ option_to_list part) }
     ensures numbers { OnOk result (StayNumbered (bsize_of first) (blocks_in numbers.old)
@@ -62,7 +62,7 @@ pub(crate) fn ask_parts(
     fetch: Option<What>,
     through: Option<What>,
 ) -> Result<(), NoMemory>
-    requires known { IsRight (blocks_in numbers.old) known }
+    requires known { KnowsNumber (blocks_in numbers.old) known }
     ensures asked { OnOk result (map what_of waiting.new.items ≡ map what_of waiting.old.items
         ++ (option_to_list back ++ option_to_list fetch ++ option_to_list through)) }
     ensures numbers { OnOk result (StayNumbered (bsize_of first) (blocks_in numbers.old)
@@ -84,7 +84,7 @@ pub(crate) fn ask_write_backs(
     addrs: &[u64],
     flush: Option<What>,
 ) -> Result<(), NoMemory>
-    requires known { IsRight (blocks_in numbers.old) known }
+    requires known { KnowsNumber (blocks_in numbers.old) known }
     ensures asked { OnOk result (map what_of waiting.new.items ≡ map what_of waiting.old.items
         ++ (map back addrs.now ++ option_to_list flush)) }
     ensures numbers { OnOk result (StayNumbered (bsize_of first) (blocks_in numbers.old)

@@ -10,7 +10,7 @@ ghost use Rattle.grid_run.specs.Grids.{IsBoundedRow, IsBoundedSetup};
 ghost use Rattle.grid_run.specs.Lanes.{task_of_plan};
 ghost use Rattle.grid_run.specs.Plans.{AreBacksFor, IsLaneFor, IsSeatBehind, KeepsBehind};
 ghost use Rattle.grid_run.specs.Plans.{KeepsPlaced, KeepsPlaces, KeepsPlacesIn};
-ghost use Rattle.grid_run.specs.Rows.{HasPlace, HavePlaces, IsPlaceIn, IsSound};
+ghost use Rattle.grid_run.specs.Rows.{HavePlaces, IsPlaceIn, IsSound, RowHasPlace};
 
 use crate::grid::{Row, Setup};
 use crate::lists::add_to;
@@ -211,7 +211,7 @@ fn place_for(
     portion: usize,
 ) -> Result<Option<Place>, NoMemory>
     requires { IsBoundedSetup setup.now }
-    ensures place { IfOk result (HasPlace (map task_of_plan lanes.new.items) setup.now) }
+    ensures place { IfOk result (RowHasPlace (map task_of_plan lanes.new.items) setup.now) }
     ensures keeps { OnOk result
         (KeepsPlaces (map task_of_plan lanes.old.items) (map task_of_plan lanes.new.items)) }
     ensures sound { OnOk result (All IsSound lanes.old.items → All IsSound lanes.new.items) }

@@ -21,8 +21,8 @@ impl Queue {
     ghost use Rattle.std.specs.List.{All};
     ghost use Rattle.cache_core.specs.History.{History};
     ghost use Rattle.grid_core.specs.Numbered.{blocks_in};
-    ghost use Rattle.grid_run.specs.Backs.{AreWaiting, IsPlacedOn, RequestsFor, followed_by};
-    ghost use Rattle.grid_run.specs.Backs.{HasNone, StaysNumbered, seat_on, sent_for};
+    ghost use Rattle.grid_run.specs.Backs.{AreWaiting, HasNone, IsSeatedOn, RequestsFor};
+    ghost use Rattle.grid_run.specs.Backs.{StaysNumbered, followed_by, seat_on, sent_for};
     ghost use Rattle.grid_run.specs.Fronts.{HasSent, KnowsLast, front_rules};
     ghost use Rattle.grid_run.specs.Sending.{event_of};
     ghost use Rattle.grid_run.specs.declared.requests.Request.{Request};
@@ -56,7 +56,7 @@ impl Queue {
         side: Side,
         numbers: &mut BlockNumbers,
     ) -> Result<(), NoMemory>
-        requires placed { IsPlacedOn side (map front_rules fronts.now) self.old.seats }
+        requires placed { IsSeatedOn side (map front_rules fronts.now) self.old.seats }
         requires sent { (h : History) × (q : Request) × All (HasSent h q) fronts.now }
         requires known { All (KnowsLast (blocks_in numbers.old)) fronts.now }
         ensures asked { OnOk result ((served : RequestsFor) (h : History) (q : Request)

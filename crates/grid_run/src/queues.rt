@@ -4,9 +4,9 @@ ghost use Rattle.std.specs.Prelude.{◌≡◌, IfOk, OnOk, map};
 ghost use Rattle.std.specs.List.{All};
 ghost use Rattle.cache_core.specs.History.{History};
 ghost use Rattle.grid_core.specs.Numbered.{blocks_in};
-ghost use Rattle.grid_run.specs.Backs.{AreWaiting, HasNone, IsPlacedOn, RequestsFor, followed_by};
-ghost use Rattle.grid_run.specs.Backs.{QueuesStayNumbered, queue_seats, seats_of_task, sent_for};
-ghost use Rattle.grid_run.specs.Backs.{task_of_shelf};
+ghost use Rattle.grid_run.specs.Backs.{AreWaiting, HasNone, IsSeatedOn, QueuesStayNumbered};
+ghost use Rattle.grid_run.specs.Backs.{RequestsFor, followed_by, queue_seats, seats_of_task};
+ghost use Rattle.grid_run.specs.Backs.{sent_for, task_of_shelf};
 ghost use Rattle.grid_run.specs.Fronts.{HasSent, KnowsLast, front_rules};
 ghost use Rattle.grid_run.specs.Sending.{event_of};
 ghost use Rattle.grid_run.specs.declared.plan.BackShelf.{BackShelf};
@@ -58,7 +58,7 @@ pub(crate) fn ask_queues(
     side: Side,
     numbers: &mut BlockNumbers,
 ) -> Result<(), NoMemory>
-    requires placed { All (IsPlacedOn side (map front_rules fronts.now))
+    requires placed { All (IsSeatedOn side (map front_rules fronts.now))
         (map queue_seats queues.old.items) }
     requires sent { (h : History) × (q : Request) × All (HasSent h q) fronts.now }
     requires known { All (KnowsLast (blocks_in numbers.old)) fronts.now }

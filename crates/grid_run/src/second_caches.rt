@@ -3,9 +3,9 @@
 ghost use Rattle.std.specs.Prelude.{◌≡◌, ◌++◌, List, ℕ, OnOk, map};
 ghost use Rattle.std.specs.List.{All};
 ghost use Rattle.stage_core.specs.declared.message.What.{What};
-ghost use Rattle.grid_run.specs.Families.{bsize_on, rules_in};
+ghost use Rattle.grid_run.specs.Families.{bsize_on, family_rules};
 ghost use Rattle.grid_run.specs.Numbering.{IsNumbered, what_of};
-ghost use Rattle.grid_run.specs.Sending.{HasRoom, SecondServed};
+ghost use Rattle.grid_run.specs.Sending.{SecondHasRoom, SecondServed};
 
 use crate::family::Family;
 use crate::lone::{Lone, serve_alone};
@@ -27,13 +27,13 @@ pub(crate) enum SecondCaches {
 /// Serves requests in their order.
 fn serve_together(family: &mut Family, requests: &[Numbered]) -> Result<(), NoMemory>
     requires room { (blocks : List ℕ)
-        × HasRoom blocks (SecondCaches.Family family.old) requests.now }
+        × SecondHasRoom blocks (SecondCaches.Family family.old) requests.now }
     ensures served { OnOk result ((blocks : List ℕ) (ws : List What) →
         All (IsNumbered blocks (bsize_on family.old)) requests.now →
         SecondServed blocks ws (SecondCaches.Family family.old) →
         SecondServed blocks (ws ++ map what_of requests.now) (SecondCaches.Family family.new)) }
     ensures bsize { bsize_on family.new ≡ bsize_on family.old }
-    ensures rules { rules_in family.new ≡ rules_in family.old }
+    ensures rules { family_rules family.new ≡ family_rules family.old }
 {
     for asked in requests {
         family.serve(*asked)?;
@@ -48,12 +48,12 @@ impl SecondCaches {
     ghost use Rattle.cache_core.specs.Geometry.{bsize_of};
     ghost use Rattle.cache_core.specs.History.{History};
     ghost use Rattle.grid_core.specs.FullyAssociative.{shadow_misses};
-    ghost use Rattle.grid_core.specs.Written.{rules_at};
+    ghost use Rattle.grid_core.specs.Written.{rules_at_index};
     ghost use Rattle.stage_core.specs.declared.message.What.{What};
     ghost use Rattle.grid_run.specs.Numbering.{IsNumbered, what_of};
     ghost use Rattle.grid_run.specs.Seats.{rules_on};
     ghost use Rattle.grid_run.specs.SecondCaches.{SecondStandsBy, second_bsize, second_rules};
-    ghost use Rattle.grid_run.specs.Sending.{HasRoom, SecondServed};
+    ghost use Rattle.grid_run.specs.Sending.{SecondHasRoom, SecondServed};
 
     /// The empty caches of a shelf.
     pub fn new(alloc: Global, shelf: &Shelf) -> Result<SecondCaches, NoMemory>
@@ -72,7 +72,7 @@ impl SecondCaches {
 
     /// Serves requests in their order.
     pub fn serve_each(&mut self, requests: &[Numbered]) -> Result<(), NoMemory>
-        requires room { (blocks : List ℕ) × HasRoom blocks self.old requests.now }
+        requires room { (blocks : List ℕ) × SecondHasRoom blocks self.old requests.now }
         ensures served { OnOk result ((blocks : List ℕ) (ws : List What) →
             All (IsNumbered blocks (second_bsize self.old)) requests.now →
             SecondServed blocks ws self.old →
@@ -90,7 +90,7 @@ impl SecondCaches {
     pub fn counts(&self, cell: usize) -> Counts
         requires { cell < length (second_rules self.now) }
         ensures { (blocks : List ℕ) (h : History) → SecondStandsBy blocks self.now h →
-            result ≡ counts_of (rules_at (second_rules self.now) cell) h }
+            result ≡ counts_of (rules_at_index (second_rules self.now) cell) h }
     {
         match self {
             SecondCaches::Lone(lone) => lone.counts(),
@@ -102,7 +102,7 @@ impl SecondCaches {
     pub fn shadow_misses(&self, cell: usize) -> PerClass
         requires { cell < length (second_rules self.now) }
         ensures { (blocks : List ℕ) (h : History) → SecondStandsBy blocks self.now h →
-            result ≡ shadow_misses (rules_at (second_rules self.now) cell) h }
+            result ≡ shadow_misses (rules_at_index (second_rules self.now) cell) h }
     {
         match self {
             SecondCaches::Lone(lone) => lone.shadow_misses(),

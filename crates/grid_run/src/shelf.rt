@@ -28,12 +28,12 @@ impl Shelf {
     ghost use Rattle.cache_core.specs.Geometry.{bsize_of};
     ghost use Rattle.cache_core.specs.Standing.{rules_from};
     ghost use Rattle.grid_core.specs.Standing.{stack_rules};
-    ghost use Rattle.grid_run.specs.Plans.{IsSameShape, Suits};
+    ghost use Rattle.grid_run.specs.Plans.{IsSameShape, ShelfSuits};
     ghost use Rattle.grid_run.specs.Seats.{IsCellOf, KeepsCells, rules_on};
 
     /// A shelf without caches, for those of this block size and policy.
     pub fn new(alloc: Global, first: Geometry, policy: Policy) -> Shelf
-        ensures suits { Suits first policy result }
+        ensures suits { ShelfSuits first policy result }
         ensures empty { rules_on result ≡ [] }
     {
         Shelf {
@@ -45,7 +45,7 @@ impl Shelf {
 
     /// Whether a cache belongs here.
     pub fn suits(&self, geometry: Geometry, policy: Policy) -> bool
-        ensures { result ≡ true → Suits geometry policy self.now }
+        ensures { result ≡ true → ShelfSuits geometry policy self.now }
     {
         geometry.bsize() == self.first.bsize() && policy == self.policy
     }

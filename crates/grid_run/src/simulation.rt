@@ -10,7 +10,7 @@ ghost use Rattle.din_trace.specs.Text.{fault};
 ghost use Rattle.din_trace.specs.Faults.{GaveAll, IsFaultOf};
 ghost use Rattle.din_trace.specs.declared.record.DinRecord.{DinRecord};
 ghost use Rattle.grid_run.specs.Grids.{HasBoundedRows, row_line, table, table_of};
-ghost use Rattle.grid_run.specs.Rows.{HasPlace, HavePlaces};
+ghost use Rattle.grid_run.specs.Rows.{HavePlaces, RowHasPlace};
 ghost use Rattle.grid_run.specs.Workers.{WorkerHasServed, worker_task};
 
 use crate::crew::Crew;
@@ -32,7 +32,7 @@ fn write_row<W: ByteWriter>(
     workers: &[Worker],
     writer: &mut W,
 ) -> Result<(), DeviceFailed>
-    requires { HasPlace (map worker_task workers.now) row.now.setup place.now }
+    requires { RowHasPlace (map worker_task workers.now) row.now.setup place.now }
     ensures line { (rs : List DinRecord) → All (WorkerHasServed rs) workers.now → OnOk result
         (Appends (W.contents writer.old) (W.contents writer.new) (row_line columns rs row.now)) }
     ensures sound { OnOk result (W.failures writer.new ≡ W.failures writer.old) }

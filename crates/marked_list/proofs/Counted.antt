@@ -11,7 +11,7 @@ use Rattle.cache_core.proofs.Shift.{IsOnce, without, without-absent}
 use Rattle.cache_core.proofs.Cases.{by_cases}
 use Rattle.cache_core.specs.Residents.{distinct}
 use Rattle.marked_list.specs.declared.marks.Mark.{Mark}
-use Rattle.marked_list.specs.Marks.{IsMark, AreMarks, size_of, settled, counted_with}
+use Rattle.marked_list.specs.Marks.{AreMarks, IsMark, counted_with, mark_size, settled}
 use Rattle.marked_list.specs.Uses.{dead, last_in, living, used_next}
 use Rattle.marked_list.proofs.LastUse.{has-last, none-last}
 use Rattle.marked_list.proofs.Living.{has-living, living-next, living-take, living-twice, once-is}
@@ -73,6 +73,6 @@ settled-marks ms (k ∷ ks) a zero lt = let first = a 0 (omega arith) in settled
 settled-marks ms (k ∷ ks) a (suc i) lt =
     settled-marks ms ks (λ j below. a (suc j) (omega arith)) i (omega arith)
 
-pub sizes-settled : (n : ℕ) (ks : List Mark) → map size_of (map (settled n) ks) ≡ map size_of ks
+pub sizes-settled : (n : ℕ) (ks : List Mark) → map mark_size (map (settled n) ks) ≡ map mark_size ks
 sizes-settled n [] = refl
 sizes-settled n (k ∷ ks) = ap (λ l. k.size ∷ l) (sizes-settled n ks)

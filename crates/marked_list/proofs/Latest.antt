@@ -7,7 +7,7 @@ use Rattle.cache_core.specs.Residents.{distinct}
 use Rattle.cache_core.proofs.Shift.{IsOnce, without, without-absent}
 use Rattle.marked_list.specs.declared.marks.Mark.{Mark}
 use Rattle.marked_list.specs.Recency.{is_among, level_of, brought_front}
-use Rattle.marked_list.specs.Marks.{AreMarks, size_of}
+use Rattle.marked_list.specs.Marks.{AreMarks, mark_size}
 use Rattle.marked_list.specs.Uses.{dead, living}
 use Rattle.marked_list.proofs.Living.{living-first, once-is}
 
@@ -36,12 +36,12 @@ module _ (b : ℕ) (low : b ≢ dead) where
 
   -- and each size has the block
   pub level-front : (ms : List ℕ) → 0 < length ms → get_or ms 0 0 ≡ b → (ks : List Mark)
-      → AreMarks ms ks → 0 ≡ level_of (map size_of ks) (living ms) b
+      → AreMarks ms ks → 0 ≡ level_of (map mark_size ks) (living ms) b
   level-front [] lt e ks are = absurd (omega arith)
   level-front (m ∷ ms) lt e [] are = refl
   level-front (m ∷ ms) lt e (k ∷ ks) are =
       let some = (are 0 (omega arith)).some in
-      sym (ap (λ t. cond t 0 (suc (level_of (map size_of ks) (living (m ∷ ms)) b)))
+      sym (ap (λ t. cond t 0 (suc (level_of (map mark_size ks) (living (m ∷ ms)) b)))
       (subst (λ l. is_among b l k.size ≡ true)
       (sym (ap (λ n. living (n ∷ ms)) e ∙ living-first b ms low))
       (first-among k.size (living ms) some)))

@@ -11,7 +11,7 @@ use Rattle.cache_core.proofs.Shift.{IsOnce}
 use Rattle.marked_list.specs.declared.marks.Mark.{Mark}
 use Rattle.marked_list.specs.Uses.{dead, last_in, living, used_next}
 use Rattle.marked_list.specs.Recency.{is_among, index_of, level_of}
-use Rattle.marked_list.specs.Marks.{covers, IsMark, AreMarks, no_mark, size_of}
+use Rattle.marked_list.specs.Marks.{AreMarks, IsMark, covers, mark_size, no_mark}
 use Rattle.marked_list.proofs.LevelLaws.{level-tells}
 use Rattle.marked_list.proofs.Windows.{level-marks, mark-covers, stays-inside}
 
@@ -56,7 +56,7 @@ module _ (last : Option ℕ) where
 
 -- of rising sizes, the marks from the level on stay where they are
 pub rest-stays : (ms : List ℕ) (b : ℕ) → b ≢ dead → IsOnce (living ms) → (ks : List Mark)
-    → IsStrictlyIncreasing (map size_of ks) → AreMarks ms ks
+    → IsStrictlyIncreasing (map mark_size ks) → AreMarks ms ks
     → (k : ℕ) → index_of (λ (z : Mark). covers z.place (last_in ms b)) ks ≤ k → k < length ks
     → IsMark (used_next b ms) (get_or ks k no_mark)
 rest-stays ms b low once ks rising are k le lt =
@@ -65,17 +65,17 @@ rest-stays ms b low once ks rising are k le lt =
     stays-inside ms b low once (get_or ks k no_mark) mark
     (mark-covers ms b low (get_or ks k no_mark) mark
     ∙ ap (is_among b (living ms)) (sym size)
-    ∙ level-tells (map size_of ks) rising (living ms) b k
+    ∙ level-tells (map mark_size ks) rising (living ms) b k
     (omega (arith, sizes-length ks))
-    ∙ ap not (le-ltb k (level_of (map size_of ks) (living ms) b)
+    ∙ ap not (le-ltb k (level_of (map mark_size ks) (living ms) b)
     (omega (arith, level-marks ms b low ks are))))
   where
-    sizes-length : (zs : List Mark) → length (map size_of zs) ≡ length zs
+    sizes-length : (zs : List Mark) → length (map mark_size zs) ≡ length zs
     sizes-length [] = refl
     sizes-length (z ∷ zs) = ap suc (sizes-length zs)
 
     get_or-map : (zs : List Mark) (i : ℕ) → i < length zs
-        → get_or (map size_of zs) i 0 ≡ (get_or zs i no_mark).size
+        → get_or (map mark_size zs) i 0 ≡ (get_or zs i no_mark).size
     get_or-map [] i below = absurd (omega arith)
     get_or-map (z ∷ zs) zero below = refl
     get_or-map (z ∷ zs) (suc i) below = get_or-map zs i (omega arith)

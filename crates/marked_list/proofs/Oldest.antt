@@ -6,7 +6,7 @@ use Rattle.std.proofs.lemmas.Option.{same_Some}
 use Rattle.cache_core.proofs.Cases.{by_cases}
 use Rattle.cache_core.proofs.Reuse.{has}
 use Rattle.marked_list.specs.Recency.{index_in}
-use Rattle.marked_list.specs.Uses.{last_in, dead, living, stamp_at, place_of, AreStamps}
+use Rattle.marked_list.specs.Uses.{AreStamps, dead, last_in, living, stamp_at, stamped_place}
 use Rattle.marked_list.proofs.LastUse.{has-last, last-other, last-same, last-there}
 use Rattle.marked_list.proofs.Living.{has-living, living-first}
 use Rattle.marked_list.proofs.Stamps.{living-low, place-below, place-some}
@@ -40,7 +40,7 @@ module _ (ms stamps : List ℕ) (st : AreStamps ms stamps) where
   stamp-last b h =
       let low = living-low ms b h in
       let u = has-last ms b (sym (has-living ms b low) ∙ h) in
-      let is : place_of (stamp_at stamps b) ≡ last_in ms b = st b low in
+      let is : stamped_place (stamp_at stamps b) ≡ last_in ms b = st b low in
       sym is ∙ place-some (stamp_at stamps b) (place-below (stamp_at stamps b) u.0 (is ∙ u.1))
 
   -- of two blocks in the list, the one with the smaller stamp stands further behind

@@ -10,8 +10,8 @@ use Rattle.std.proofs.lemmas.Option.{none-some}
 use Rattle.cache_core.proofs.Cases.{by_cases}
 use Rattle.cache_core.proofs.Reuse.{has}
 use Rattle.cache_core.proofs.Shift.{has-filter_not}
-use Rattle.marked_list.specs.Uses.{last_in, dead, living, buried, used_next, never, forgotten}
-use Rattle.marked_list.specs.Uses.{stamp_at, place_of, AreStamps, has_stamp, HaveRoom}
+use Rattle.marked_list.specs.Uses.{AreStamps, HaveStampRoom, buried, dead, forgotten, has_stamp}
+use Rattle.marked_list.specs.Uses.{last_in, living, never, stamp_at, stamped_place, used_next}
 use Rattle.marked_list.proofs.Counted.{living-le}
 use Rattle.marked_list.proofs.LastUse.{has-last, has-there, last-other, last-same, last-there}
 use Rattle.marked_list.proofs.LastUse.{none-last}
@@ -28,7 +28,7 @@ set-stamp stamps b n q lt = by_cases (eqb b q)
     ∙ sym (ap (λ t. cond t n (stamp_at stamps q)) e))
 
 -- a stamp below the two others says a place, and that its block was used
-pub place-some : (n : ℕ) → n < forgotten → place_of n ≡ Some n
+pub place-some : (n : ℕ) → n < forgotten → stamped_place n ≡ Some n
 place-some n lt = ap (λ t. cond t (Some n) None) (lt-ltb n forgotten lt)
 
 place-used : (n : ℕ) → n < forgotten → not (eqb n never) ≡ true
@@ -36,7 +36,7 @@ place-used n lt = by_cases (eqb n never)
     (λ e. let same = eqb-true n never e in absurd (omega arith))
     (λ e. ap not e)
 
-pub place-below : (n p : ℕ) → place_of n ≡ Some p → n < forgotten
+pub place-below : (n p : ℕ) → stamped_place n ≡ Some p → n < forgotten
 place-below n p is = by_cases (ltb n forgotten)
     (λ e. ltb-true n forgotten e)
     (λ e. absurd (none-some p (sym (ap (λ t. cond t (Some n) None) e) ∙ is)))
@@ -52,7 +52,7 @@ pub used-stamped : (ms stamps : List ℕ) → AreStamps ms stamps → (b : ℕ) 
 used-stamped ms stamps st b low h = let u = has-last ms b h in
     place-used (stamp_at stamps b) (place-below (stamp_at stamps b) u.0 (st b low ∙ u.1))
 
-stamp-room : (stamps : List ℕ) (b p : ℕ) → place_of (stamp_at stamps b) ≡ Some p
+stamp-room : (stamps : List ℕ) (b p : ℕ) → stamped_place (stamp_at stamps b) ≡ Some p
     → b < length stamps
 stamp-room stamps b p is = by_cases (ltb b (length stamps))
     (λ e. ltb-true b (length stamps) e)
@@ -60,13 +60,14 @@ stamp-room stamps b p is = by_cases (ltb b (length stamps))
     let below : never < forgotten = subst (λ n. n < forgotten) none
     (place-below (stamp_at stamps b) p is) in absurd (omega arith))
 
-pub stamps-room : (ms stamps : List ℕ) → AreStamps ms stamps → HaveRoom (living ms) stamps
+pub stamps-room : (ms stamps : List ℕ) → AreStamps ms stamps → HaveStampRoom (living ms) stamps
 stamps-room ms stamps st b h = let low = living-low ms b h in
     let u = has-last ms b (sym (has-living ms b low) ∙ h) in
     stamp-room stamps b u.0 (st b low ∙ u.1)
 
 -- the stamps have a place for each number of the log
-pub room-logged : (log stamps : List ℕ) (i : ℕ) → HaveRoom (reverse log) stamps → i < length log
+pub room-logged : (log stamps : List ℕ) (i : ℕ) → HaveStampRoom (reverse log) stamps
+    → i < length log
     → get_or log i 0 < length stamps
 room-logged log stamps i room lt = room (get_or log i 0) (has-there log i lt)
 
@@ -75,10 +76,10 @@ module _ (old new : List ℕ) (b n : ℕ) (small : n < forgotten)
     (is : (q : ℕ) → stamp_at new q ≡ cond (eqb b q) n (stamp_at old q)) where
   pub stamps-next : (ms : List ℕ) → AreStamps ms old → n ≡ length ms
       → AreStamps (used_next b ms) new
-  stamps-next ms st long q low = ap place_of (is q) ∙ by_cases (eqb b q)
-      (λ e. ap (λ t. place_of (cond t n (stamp_at old q))) e ∙ place-some n small
+  stamps-next ms st long q low = ap stamped_place (is q) ∙ by_cases (eqb b q)
+      (λ e. ap (λ t. stamped_place (cond t n (stamp_at old q))) e ∙ place-some n small
       ∙ ap Some (long ∙ sym (length-buried b ms)) ∙ sym (last-same b q (buried b ms) e))
-      (λ e. ap (λ t. place_of (cond t n (stamp_at old q))) e ∙ st q low
+      (λ e. ap (λ t. stamped_place (cond t n (stamp_at old q))) e ∙ st q low
       ∙ sym (last-buried b q ms e low) ∙ sym (last-other b q (buried b ms) e))
 
   pub stamped-next : (q : ℕ) → has_stamp new q ≡ (eqb b q || has_stamp old q)
@@ -114,8 +115,8 @@ module _ (ms old new : List ℕ) (st : AreStamps ms old) (small : length ms ≤ 
   pub restamped : AreStamps (living ms) new
   restamped q low = by_cases (has (living ms) q)
       (λ e. let u = has-last (living ms) q e in
-      ap place_of (there q u.0 u.1) ∙ place-some u.0 (below q u.0 u.1) ∙ sym u.1)
-      (λ e. ap place_of (kept q e) ∙ st q low ∙ none-last ms q (sym (has-living ms q low) ∙ e)
+      ap stamped_place (there q u.0 u.1) ∙ place-some u.0 (below q u.0 u.1) ∙ sym u.1)
+      (λ e. ap stamped_place (kept q e) ∙ st q low ∙ none-last ms q (sym (has-living ms q low) ∙ e)
       ∙ sym (none-last (living ms) q e))
 
   pub restamped-same : (q : ℕ) → has_stamp new q ≡ has_stamp old q
@@ -141,9 +142,9 @@ unstamped-next ms stamps b other st lt q = set-stamp stamps b forgotten q lt
 module _ (ms old new : List ℕ) (st : AreStamps ms old)
     (is : (q : ℕ) → stamp_at new q ≡ cond (has (living ms) q) forgotten (stamp_at old q)) where
   pub unstamped : AreStamps [] new
-  unstamped q low = ap place_of (is q) ∙ by_cases (has (living ms) q)
-      (λ e. ap (λ t. place_of (cond t forgotten (stamp_at old q))) e)
-      (λ e. ap (λ t. place_of (cond t forgotten (stamp_at old q))) e ∙ st q low
+  unstamped q low = ap stamped_place (is q) ∙ by_cases (has (living ms) q)
+      (λ e. ap (λ t. stamped_place (cond t forgotten (stamp_at old q))) e)
+      (λ e. ap (λ t. stamped_place (cond t forgotten (stamp_at old q))) e ∙ st q low
       ∙ none-last ms q (sym (has-living ms q low) ∙ e))
 
   pub unstamped-same : (q : ℕ) → has_stamp new q ≡ has_stamp old q

@@ -12,7 +12,7 @@ use Rattle.cache_core.proofs.Shift.{IsOnce, without, without-absent}
 use Rattle.cache_core.proofs.Shift.{has-take_absent}
 use Rattle.cache_core.proofs.Shadow.{take-without_there, take-without_absent}
 use Rattle.marked_list.specs.declared.marks.Mark.{Mark}
-use Rattle.marked_list.specs.Marks.{covers, IsMark, AreMarks, size_of, fresh_mark, restarted}
+use Rattle.marked_list.specs.Marks.{AreMarks, IsMark, covers, fresh_mark, mark_size, restarted}
 use Rattle.marked_list.specs.Uses.{last_in, since, dead, living, buried, used_next}
 use Rattle.marked_list.specs.Recency.{is_among, index_of, level_of}
 use Rattle.marked_list.proofs.LastUse.{has-since}
@@ -86,7 +86,7 @@ mark-covers ms b low k mark = sym (ap (λ l. has l b) mark.window
 
 -- the first mark that has the last use gives the level
 pub level-marks : (ms : List ℕ) (b : ℕ) → b ≢ dead → (ks : List Mark) → AreMarks ms ks
-    → index_of (λ k. covers k.place (last_in ms b)) ks ≡ level_of (map size_of ks) (living ms) b
+    → index_of (λ k. covers k.place (last_in ms b)) ks ≡ level_of (map mark_size ks) (living ms) b
 level-marks ms b low [] are = refl
 level-marks ms b low (k ∷ ks) are =
     let here = mark-covers ms b low k (are 0 (omega arith)) in
@@ -144,9 +144,9 @@ module _ (ms : List ℕ) (b : ℕ) (low : b ≢ dead) (once : IsOnce (living ms)
 
 -- a mark that is put in the place of one of its size leaves the sizes
 pub sizes-set : (ks : List Mark) (i : ℕ) (v d : Mark) → v.size ≡ (get_or ks i d).size
-    → map size_of (set ks i v) ≡ map size_of ks
+    → map mark_size (set ks i v) ≡ map mark_size ks
 sizes-set [] i v d e = refl
-sizes-set (k ∷ ks) zero v d e = ap (λ n. n ∷ map size_of ks) e
+sizes-set (k ∷ ks) zero v d e = ap (λ n. n ∷ map mark_size ks) e
 sizes-set (k ∷ ks) (suc i) v d e = ap (λ l. k.size ∷ l) (sizes-set ks i v d e)
 
 none-of : (k : Mark) → k.place ≡ 0 → 0 < k.size → IsMark [] k
@@ -169,10 +169,10 @@ restarted-marks ms (k ∷ ks) a zero lt = let first = a 0 (omega arith) in
 restarted-marks ms (k ∷ ks) a (suc i) lt =
     restarted-marks ms ks (λ j below. a (suc j) (omega arith)) i (omega arith)
 
-pub sizes-fresh : (sizes : List ℕ) → map size_of (map fresh_mark sizes) ≡ sizes
+pub sizes-fresh : (sizes : List ℕ) → map mark_size (map fresh_mark sizes) ≡ sizes
 sizes-fresh [] = refl
 sizes-fresh (n ∷ ns) = ap (λ l. n ∷ l) (sizes-fresh ns)
 
-pub sizes-restarted : (ks : List Mark) → map size_of (map restarted ks) ≡ map size_of ks
+pub sizes-restarted : (ks : List Mark) → map mark_size (map restarted ks) ≡ map mark_size ks
 sizes-restarted [] = refl
 sizes-restarted (k ∷ ks) = ap (λ l. k.size ∷ l) (sizes-restarted ks)

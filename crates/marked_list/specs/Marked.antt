@@ -2,7 +2,7 @@
 use Rattle.std.specs.Prelude.{ℕ, Bool, List, map, length}
 use Rattle.marked_list.specs.declared.marked.Marked.{Marked}
 use Rattle.marked_list.specs.Log.{uses_of, is_stamped}
-use Rattle.marked_list.specs.Marks.{size_of}
+use Rattle.marked_list.specs.Marks.{mark_size}
 use Rattle.marked_list.specs.Uses.{living}
 
 -- the blocks in order of last use, the latest first
@@ -11,7 +11,7 @@ order_of m = living (uses_of m.uses)
 
 -- the sizes
 unfoldable pub marked_sizes : Marked → List ℕ
-marked_sizes m = map size_of m.marks.items
+marked_sizes m = map mark_size m.marks.items
 
 -- whether a block was ever used
 unfoldable pub was_used : Marked → ℕ → Bool

@@ -37,8 +37,8 @@ abbrev pub restarted : Mark → Mark
 restarted k = record { size = k.size; place = 0 }
 
 -- the size of a mark
-abbrev pub size_of : Mark → ℕ
-size_of k = k.size
+abbrev pub mark_size : Mark → ℕ
+mark_size k = k.size
 
 -- each is a mark
 abbrev pub AreMarks : List ℕ → List Mark → Type 0

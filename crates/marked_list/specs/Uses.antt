@@ -48,17 +48,17 @@ abbrev pub stamp_at : List ℕ → ℕ → ℕ
 stamp_at stamps q = get_or stamps q never
 
 -- the place that a stamp says, if it says one
-abbrev pub place_of : ℕ → Option ℕ
-place_of n = if nat_lt n forgotten then Some n else None
+abbrev pub stamped_place : ℕ → Option ℕ
+stamped_place n = if nat_lt n forgotten then Some n else None
 
 -- the stamp of each block that was used is the place of its last use, and no other says a place
 abbrev pub AreStamps : List ℕ → List ℕ → Type 0
-AreStamps ms stamps = (q : ℕ) → q ≢ dead → place_of (stamp_at stamps q) ≡ last_in ms q
+AreStamps ms stamps = (q : ℕ) → q ≢ dead → stamped_place (stamp_at stamps q) ≡ last_in ms q
 
 -- whether the stamp of a block says that it was ever used
 abbrev pub has_stamp : List ℕ → ℕ → Bool
 has_stamp stamps q = not (stamp_at stamps q == never)
 
 -- each block that was used has room for a stamp
-abbrev pub HaveRoom : List ℕ → List ℕ → Type 0
-HaveRoom ms stamps = (b : ℕ) → list_any (λ m. m == b) ms ≡ true → b < length stamps
+abbrev pub HaveStampRoom : List ℕ → List ℕ → Type 0
+HaveStampRoom ms stamps = (b : ℕ) → list_any (λ m. m == b) ms ≡ true → b < length stamps

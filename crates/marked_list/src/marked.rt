@@ -4,7 +4,7 @@ ghost use Rattle.std.specs.Prelude.{◌≡◌, ◌<◌, ◌≤◌, ◌+◌, ◌*
 ghost use Rattle.std.specs.List.Sorted.{IsStrictlyIncreasing};
 ghost use Rattle.marked_list.specs.Log.{uses_of};
 ghost use Rattle.marked_list.specs.Uses.{living};
-ghost use Rattle.marked_list.specs.Marks.{AreMarks, counted_with, size_of};
+ghost use Rattle.marked_list.specs.Marks.{AreMarks, counted_with, mark_size};
 
 use crate::marks::{Mark, is_rising, move_each, new_marks, restart_each, settle_each};
 use crate::uses::Uses;
@@ -22,7 +22,7 @@ pub struct Marked {
     rising: bool,
     ghost marked: { AreMarks (uses_of uses) marks.items },
     ghost counted: { used ≡ length (living (uses_of uses)) },
-    ghost rises: { rising ≡ true → IsStrictlyIncreasing (map size_of marks.items) },
+    ghost rises: { rising ≡ true → IsStrictlyIncreasing (map mark_size marks.items) },
     ghost short: { length (uses_of uses) ≤ 4096 + 2 * used },
 }
 

@@ -5,8 +5,8 @@ ghost use Rattle.std.specs.List.Sorted.{IsStrictlyIncreasing};
 ghost use Rattle.marked_list.specs.Recency.{index_of};
 ghost use Rattle.marked_list.specs.Uses.{used_next};
 ghost use Rattle.marked_list.specs.Log.{uses_of};
-ghost use Rattle.marked_list.specs.Marks.{covers, IsMark, AreMarks, AreBelow, no_mark, fresh_mark};
-ghost use Rattle.marked_list.specs.Marks.{IsUseAfter, restarted, size_of, settled};
+ghost use Rattle.marked_list.specs.Marks.{AreBelow, AreMarks, IsMark, IsUseAfter, covers};
+ghost use Rattle.marked_list.specs.Marks.{fresh_mark, mark_size, no_mark, restarted, settled};
 
 use crate::uses::Uses;
 use std::alloc::{AllocError, Global};
@@ -76,7 +76,7 @@ fn move_mark(mark: &mut Mark, uses: &Uses, last: Option<usize>, used: usize)
 fn move_first(marks: &mut [Mark], uses: &Uses, last: Option<usize>, used: usize) -> usize
     requires { AreBelow (length (uses_of uses.now)) marks.old }
     ensures level { result ≡ index_of (λ k. covers k.place last) marks.old }
-    ensures sizes { map size_of marks.new ≡ map size_of marks.old }
+    ensures sizes { map mark_size marks.new ≡ map mark_size marks.old }
     ensures moves { (ms : List ℕ) (b : ℕ) → uses_of uses.now ≡ used_next b ms →
         IsUseAfter ms b last used → AreMarks ms marks.old → (k : ℕ) → k < result →
         IsMark (used_next b ms) (get_or marks.new k no_mark) }
@@ -96,7 +96,7 @@ fn move_first(marks: &mut [Mark], uses: &Uses, last: Option<usize>, used: usize)
 fn move_rest(marks: &mut [Mark], from: usize, uses: &Uses, last: Option<usize>, used: usize)
     requires { (k : ℕ) → from ≤ k → k < length marks.old →
         (get_or marks.old k no_mark).place < length (uses_of uses.now) }
-    ensures sizes { map size_of marks.new ≡ map size_of marks.old }
+    ensures sizes { map mark_size marks.new ≡ map mark_size marks.old }
     ensures moves { (ms : List ℕ) (b : ℕ) → uses_of uses.now ≡ used_next b ms →
         IsUseAfter ms b last used → (k : ℕ) → from ≤ k → k < length marks.old →
         IsMark ms (get_or marks.old k no_mark) →
@@ -121,9 +121,10 @@ fn move_all(
 ) -> usize
     requires { AreBelow (length (uses_of uses.now)) marks.old }
     ensures level { result ≡ index_of (λ k. covers k.place last) marks.old }
-    ensures sizes { map size_of marks.new ≡ map size_of marks.old }
+    ensures sizes { map mark_size marks.new ≡ map mark_size marks.old }
     ensures moves { (ms : List ℕ) (b : ℕ) → uses_of uses.now ≡ used_next b ms →
-        IsUseAfter ms b last used → (rising ≡ true → IsStrictlyIncreasing (map size_of marks.old)) →
+        IsUseAfter ms b last used →
+        (rising ≡ true → IsStrictlyIncreasing (map mark_size marks.old)) →
         AreMarks ms marks.old → AreMarks (used_next b ms) marks.new }
 {
     let level = move_first(marks, uses, last, used);
@@ -155,10 +156,10 @@ pub(crate) fn move_each(
 ) -> usize
     requires { AreBelow (length (uses_of uses.now)) marks.old.items }
     ensures level { result ≡ index_of (λ k. covers k.place last) marks.old.items }
-    ensures sizes { map size_of marks.new.items ≡ map size_of marks.old.items }
+    ensures sizes { map mark_size marks.new.items ≡ map mark_size marks.old.items }
     ensures moves { (ms : List ℕ) (b : ℕ) → uses_of uses.now ≡ used_next b ms →
         IsUseAfter ms b last used →
-        (rising ≡ true → IsStrictlyIncreasing (map size_of marks.old.items)) →
+        (rising ≡ true → IsStrictlyIncreasing (map mark_size marks.old.items)) →
         AreMarks ms marks.old.items → AreMarks (used_next b ms) marks.new.items }
 {
     if rising && first_has(marks, last) {

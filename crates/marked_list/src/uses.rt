@@ -4,8 +4,8 @@ ghost use Rattle.std.specs.Prelude.{◌≡◌, ◌<◌, ◌≤◌, ◌+◌, ◌-
 ghost use Rattle.std.specs.Prelude.{if◌then◌else◌, length, reverse, take, unwrap_or, OnOk, OnErr};
 ghost use Rattle.std.specs.List.{list_any};
 ghost use Rattle.cache_core.specs.Residents.{distinct};
-ghost use Rattle.marked_list.specs.Uses.{AreStamps, HaveRoom, forgotten, last_in, living, since};
-ghost use Rattle.marked_list.specs.Uses.{stamp_at, with_dead};
+ghost use Rattle.marked_list.specs.Uses.{AreStamps, HaveStampRoom, forgotten, last_in, living};
+ghost use Rattle.marked_list.specs.Uses.{since, stamp_at, with_dead};
 
 use crate::stamp::{FORGOTTEN, NEVER, least_stamped};
 use std::alloc::{AllocError, Global};
@@ -106,7 +106,7 @@ fn keep_each(log: &mut Vec<u32>)
 /// Stamps each block with the place of its last use.
 fn restamp(log: &[u32], stamps: &mut [u32])
     requires short { length log.now < 2 ^ 32 }
-    requires room { HaveRoom (reverse log.now) stamps.old }
+    requires room { HaveStampRoom (reverse log.now) stamps.old }
     ensures { (q : ℕ) → stamp_at stamps.new q
         ≡ unwrap_or (last_in (reverse log.now) q) (stamp_at stamps.old q) }
 {
@@ -118,7 +118,7 @@ fn restamp(log: &[u32], stamps: &mut [u32])
 /// The same for vectors.
 fn restamp_each(log: &Vec<u32>, stamps: &mut Vec<u32>)
     requires short { length log.now.items < 2 ^ 32 }
-    requires room { HaveRoom (reverse log.now.items) stamps.old.items }
+    requires room { HaveStampRoom (reverse log.now.items) stamps.old.items }
     ensures { (q : ℕ) → stamp_at stamps.new.items q
         ≡ unwrap_or (last_in (reverse log.now.items) q) (stamp_at stamps.old.items q) }
 {
@@ -127,7 +127,7 @@ fn restamp_each(log: &Vec<u32>, stamps: &mut Vec<u32>)
 
 /// Stamps each block as one whose uses were forgotten.
 fn unstamp(log: &[u32], stamps: &mut [u32])
-    requires { HaveRoom (reverse log.now) stamps.old }
+    requires { HaveStampRoom (reverse log.now) stamps.old }
     ensures { (q : ℕ) → stamp_at stamps.new q
         ≡ (if list_any (λ m. m == q) (reverse log.now) then forgotten else stamp_at stamps.old q) }
 {
@@ -138,7 +138,7 @@ fn unstamp(log: &[u32], stamps: &mut [u32])
 
 /// The same for vectors.
 fn unstamp_each(log: &Vec<u32>, stamps: &mut Vec<u32>)
-    requires { HaveRoom (reverse log.now.items) stamps.old.items }
+    requires { HaveStampRoom (reverse log.now.items) stamps.old.items }
     ensures { (q : ℕ) → stamp_at stamps.new.items q
         ≡ (if list_any (λ m. m == q) (reverse log.now.items) then forgotten
         else stamp_at stamps.old.items q) }

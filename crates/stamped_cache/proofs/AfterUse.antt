@@ -11,28 +11,28 @@ use Rattle.marked_list.specs.declared.marked.Marked.{Marked}
 use Rattle.marked_list.specs.Marked.{marked_sizes, order_of, was_used}
 use Rattle.marked_list.specs.Recency.{brought_front, level_of}
 use Rattle.grid_core.specs.Numbers.{number_at}
-use Rattle.grid_core.specs.Shadows.{is_used, number_by}
+use Rattle.grid_core.specs.Shadows.{number_by, was_number_used}
 use Rattle.grid_core.proofs.Renumbered.{low-after, used-after}
 use Rattle.stamped_cache.specs.declared.cache.StampedCache.{StampedCache}
-use Rattle.stamped_cache.specs.Stamped.{StampedStandsBy, rules_in}
+use Rattle.stamped_cache.specs.Stamped.{StampedStandsBy, stamped_rules}
 use Rattle.stamped_cache.proofs.CacheFacts.{is-stacked, used-named}
 use Rattle.stamped_cache.proofs.Nearness.{near-is, order-next}
 
 module _ (blocks : List ℕ) (c : StampedCache) (h : History) (st : StampedStandsBy blocks c h)
-    (x : Access) (n : ℕ) (is : number_at blocks (block_of (rules_in c) x) ≡ Some n) where
+    (x : Access) (n : ℕ) (is : number_at blocks (block_of (stamped_rules c) x) ≡ Some n) where
   abbrev r : Rules
-  r = rules_in c
+  r = stamped_rules c
 
   -- whether its block was known before
   pub known-before : was_used c.order n
       ≡ list_any (λ t. t == block_of r x) (referenced_blocks r h)
-  known-before = ap (is_used c.order) (sym is) ∙ st.known (block_of r x)
+  known-before = ap (was_number_used c.order) (sym is) ∙ st.known (block_of r x)
 
   -- whether the shadow had it
   pub near-before : (level : ℕ)
       → level ≡ level_of (marked_sizes c.order) (order_of c.order) n
       → eqb level 0 ≡ hits (shadow_of r) (renewals (shadow_of r) h) x
-  unfolding rules_in
+  unfolding stamped_rules
   near-before level at = near-is blocks r (is-stacked c) h x n is (used-named blocks c h st) level
       (at ∙ ap (λ (l : List ℕ). level_of l (order_of c.order) n) c.sized
       ∙ ap (λ (l : List ℕ). level_of (blocks_of c.geometry ∷ []) l n) st.order)
@@ -44,7 +44,7 @@ module _ (blocks : List ℕ) (c : StampedCache) (h : History) (st : StampedStand
     order-after = order ∙ ap (brought_front n) st.order
         ∙ order-next blocks r (is-stacked c) h x n is (used-named blocks c h st)
 
-    pub known-after : (b : ℕ) → is_used new (number_at blocks b)
+    pub known-after : (b : ℕ) → was_number_used new (number_at blocks b)
         ≡ list_any (λ t. t == b) (referenced_blocks r (access x ∷ h))
     unfolding referenced_blocks
     known-after b = used-after c.order new blocks (block_of r x) n is used b

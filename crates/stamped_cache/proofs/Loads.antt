@@ -22,7 +22,7 @@ use Rattle.grid_core.specs.Ways.{IsStacked}
 use Rattle.grid_core.proofs.Numbers.{number-low}
 use Rattle.stamped_cache.specs.declared.state.State.{State}
 use Rattle.stamped_cache.specs.declared.state.State.TheVariants.{Absent}
-use Rattle.stamped_cache.specs.Holding.{HoldBy, IsRowOf, IsStateOf}
+use Rattle.stamped_cache.specs.Holding.{HoldBy, IsStateOf, RowHoldsResidents}
 use Rattle.stamped_cache.specs.States.{is_held, was_written}
 use Rattle.stamped_cache.proofs.Holds.{resident-apart, resident-number, row-length, row-once}
 use Rattle.stamped_cache.proofs.Holds.{same-block, same-number}
@@ -88,8 +88,9 @@ module _ (blocks : List ℕ) (r : Rules) (st : IsStacked r) (some : 0 < r.assoc)
   num-b = ap (λ o. unwrap_or o 0) is
 
   elsewhere : (next : ℕ → List ℕ) → ((t : ℕ) → t ≢ s → next t ≡ rows t) → (t : ℕ)
-      → t < r.sets → t ≢ s → IsRowOf blocks r after t (next t)
-  elsewhere next others t lt apart = subst (IsRowOf blocks r after t) (sym (others t apart))
+      → t < r.sets → t ≢ s → RowHoldsResidents blocks r after t (next t)
+  elsewhere next others t lt apart = subst (RowHoldsResidents blocks r after t)
+      (sym (others t apart))
       (record {
         once = (held.sets t lt).once;
         same = λ q. (held.sets t lt).same q
@@ -157,8 +158,8 @@ module _ (blocks : List ℕ) (r : Rules) (st : IsStacked r) (some : 0 < r.assoc)
           short : length (residents_of r h s) < r.assoc
           short = let same = row-length blocks r h states rows held s inside in omega arith
 
-          room-row : IsRowOf blocks r after s (turned s)
-          room-row = subst (IsRowOf blocks r after s) (sym added) (record {
+          room-row : RowHoldsResidents blocks r after s (turned s)
+          room-row = subst (RowHoldsResidents blocks r after s) (sym added) (record {
             once = distinct-once (rows s ++ n ∷ []) (IsOnce-added (rows s) n
                 (row-once blocks r h states rows held s inside) not-there);
             same = λ q. has-added (rows s) n q
@@ -198,7 +199,7 @@ module _ (blocks : List ℕ) (r : Rules) (st : IsStacked r) (some : 0 < r.assoc)
                 (λ t. held.low k (sym (ap is_held (now k ∙ ap (λ u. cond u new (states k)) t))
                 ∙ there));
             sets = λ t lt. elim (cases_eq t s) [
-              | inl e ↦ subst (λ i. IsRowOf blocks r after i (turned i)) (sym e) room-row
+              | inl e ↦ subst (λ i. RowHoldsResidents blocks r after i (turned i)) (sym e) room-row
               | inr apart ↦ elsewhere turned others t lt apart
             ];
           }
@@ -215,11 +216,11 @@ module _ (blocks : List ℕ) (r : Rules) (st : IsStacked r) (some : 0 < r.assoc)
         apart z g = resident-apart blocks r h states rows held (gone full) z (gone-resident full)
             (has-resident r h s z g)
 
-        over-row : IsRowOf blocks r after s (turned s)
+        over-row : RowHoldsResidents blocks r after s (turned s)
         over-row =
             let once = row-once blocks r h states rows held s inside in
             let res = residents_of r h s in
-            subst (IsRowOf blocks r after s) (sym replaced) (record {
+            subst (RowHoldsResidents blocks r after s) (sym replaced) (record {
               once = distinct-once (set (rows s) i n) (IsOnce-set (rows s) i n once low not-there);
               same = λ q. has-set (rows s) i n q once low
                   ∙ ap (λ v. eqb n q || (has (rows s) q && not (eqb v q))) there
@@ -288,7 +289,7 @@ module _ (blocks : List ℕ) (r : Rules) (st : IsStacked r) (some : 0 < r.assoc)
               ∙ ap (λ p. cond p new (cond (eqb (num (gone full)) k) Absent (states k))) t
               ∙ ap (λ p. cond p Absent (states k)) u)) ∙ g)));
           sets = λ t lt. elim (cases_eq t s) [
-            | inl e ↦ subst (λ i. IsRowOf blocks r after i (turned i)) (sym e) over-row
+            | inl e ↦ subst (λ i. RowHoldsResidents blocks r after i (turned i)) (sym e) over-row
             | inr other ↦ elsewhere turned others t lt other
           ];
         }

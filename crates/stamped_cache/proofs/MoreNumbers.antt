@@ -14,7 +14,7 @@ use Rattle.grid_core.proofs.Renumbered.{low-same, used-same}
 use Rattle.stamped_cache.specs.declared.state.State.{State}
 use Rattle.stamped_cache.specs.Holding.{HoldBy}
 use Rattle.stamped_cache.specs.Rows.{row_held}
-use Rattle.stamped_cache.specs.Stamped.{MoreNumbersServe, rules_in}
+use Rattle.stamped_cache.specs.Stamped.{MoreNumbersServeStampedCaches, stamped_rules}
 use Rattle.stamped_cache.specs.States.{is_held, state_at}
 use Rattle.stamped_cache.proofs.CacheFacts.{used-named}
 use Rattle.stamped_cache.proofs.Holds.{resident-number}
@@ -65,20 +65,22 @@ module _ (blocks more : List ℕ) (on : IsBeginning blocks more) (r : Rules) (h 
   }
 
 -- a cache
-pub cache-more : MoreNumbersServe
+pub cache-more : MoreNumbersServeStampedCaches
 cache-more blocks more c h on st =
-    let named = λ (y : ℕ) (there : has (distinct (renewals (rules_in c) h)) y ≡ true).
+    let named = λ (y : ℕ) (there : has (distinct (renewals (stamped_rules c) h)) y ≡ true).
     used-named blocks c h st y there in
     record {
       working = st.working;
       served = st.served;
       order = st.order ∙ same-by (number_by blocks) (number_by more)
-          (distinct (renewals (rules_in c) h)) (λ y there. sym (ap (λ o. unwrap_or o 0)
-          (kept blocks more on (rules_in c) h (state_at c.states.items) (row_held c.rows) st.holds
+          (distinct (renewals (stamped_rules c) h)) (λ y there. sym (ap (λ o. unwrap_or o 0)
+          (kept blocks more on (stamped_rules c) h (state_at c.states.items) (row_held c.rows)
+          st.holds
           y (number_by blocks y) (named y there))));
       known = λ b. used-same c.order blocks more on st.numbered b ∙ st.known b;
       numbered = low-same c.order blocks more on st.numbered;
-      holds = holds-more blocks more on (rules_in c) h (state_at c.states.items) (row_held c.rows)
+      holds = holds-more blocks more on (stamped_rules c) h (state_at c.states.items)
+          (row_held c.rows)
           st.holds;
       counts = st.counts;
       far = st.far;

@@ -18,7 +18,7 @@ use Rattle.grid_core.specs.WriteBacks.{is_first_write}
 use Rattle.grid_core.proofs.WriteBacks.{backs-are-first-writes}
 use Rattle.grid_core.proofs.WrittenBack.{none-dirty}
 use Rattle.stamped_cache.specs.declared.tally.Tally.{Tally}
-use Rattle.stamped_cache.specs.Counted.{AreFew, CountsAccess}
+use Rattle.stamped_cache.specs.Counted.{CountsAccess, IsWithinTally}
 
 module _ (r : Rules) (h : History) (x : Access) where
   -- the misses of the shadow
@@ -104,7 +104,7 @@ one_if-low true = omega arith
 one_if-low false = omega arith
 
 pub few-more : (n : ℕ) (x : Access) (o : Outcome) (far first : Bool) (old new : Tally)
-    → AreFew n old → CountsAccess x o far first old new → AreFew (n + 1) new
+    → IsWithinTally n old → CountsAccess x o far first old new → IsWithinTally (n + 1) new
 few-more n x o far first old new few counts = record {
   counts = subst (λ c. AreWithin c (n + 1)) (sym counts.counts)
       (AreWithin-with_access x o old.counts n few.counts);

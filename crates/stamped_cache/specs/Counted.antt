@@ -23,7 +23,7 @@ pub record CountsAccess (x : Access) (o : Outcome) (is_far is_first : Bool) (old
   pub first_writes : new.first_writes ≡ one_if is_first + old.first_writes
 
 -- no count is above n
-pub record AreFew (n : ℕ) (t : Tally) : Type 0 where
+pub record IsWithinTally (n : ℕ) (t : Tally) : Type 0 where
   pub counts : AreWithin t.counts n
   pub far : IsWithin t.far n
   pub first_writes : t.first_writes ≤ n

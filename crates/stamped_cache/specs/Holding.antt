@@ -16,7 +16,7 @@ pub record IsStateOf (r : Rules) (h : History) (y : ℕ) (s : State) : Type 0 wh
   pub written : is_held s ≡ true → was_written s ≡ is_written r h y
 
 -- the row has the numbers of the residents of set s, each once and in any order
-pub record IsRowOf (blocks : List ℕ) (r : Rules) (h : History) (s : ℕ) (row : List ℕ)
+pub record RowHoldsResidents (blocks : List ℕ) (r : Rules) (h : History) (s : ℕ) (row : List ℕ)
     : Type 0 where
   pub once : distinct row ≡ row
   pub same : (n : ℕ) → list_any (λ m. m == n) row
@@ -30,4 +30,4 @@ pub record HoldBy (blocks : List ℕ) (r : Rules) (h : History) (states : ℕ �
       is_some (number_at blocks y) ≡ true
   pub each : (y n : ℕ) → number_at blocks y ≡ Some n → IsStateOf r h y (states n)
   pub low : (n : ℕ) → is_held (states n) ≡ true → n < length blocks
-  pub sets : (s : ℕ) → s < r.sets → IsRowOf blocks r h s (rows s)
+  pub sets : (s : ℕ) → s < r.sets → RowHoldsResidents blocks r h s (rows s)

@@ -22,9 +22,9 @@ last_of r h s = get_or (residents_of r h s) (r.assoc - 1) 0
 
 -- the set of this row has so many ways: it has room for one more block where none is to leave, and
 -- else the one at an index leaves a full row
-abbrev pub HasPlace : ℕ → List ℕ → Option ℕ → Type 0
-HasPlace ways row None = length row < ways
-HasPlace ways row (Some i) = (i < length row) × (length row ≡ ways)
+abbrev pub LeavesRoom : ℕ → List ℕ → Option ℕ → Type 0
+LeavesRoom ways row None = length row < ways
+LeavesRoom ways row (Some i) = (i < length row) × (length row ≡ ways)
 
 -- the block that is to leave set s, if one is, is the one whose last use is the longest ago
 abbrev pub IsLeaving : List ℕ → Rules → History → ℕ → List ℕ → Option ℕ → Type 0
@@ -42,5 +42,5 @@ pub record Misses (blocks : List ℕ) (r : Rules) (h : History) (x : Access) (n 
   pub number : number_at blocks (block_of r x) ≡ Some n
   pub absent : is_held (states n) ≡ false
   pub here : set ≡ block_of r x % r.sets
-  pub place : HasPlace r.assoc (rows set) leaving
+  pub place : LeavesRoom r.assoc (rows set) leaving
   pub last : IsLeaving blocks r h set (rows set) leaving

@@ -12,5 +12,5 @@ unfoldable pub sets_in : Rows → ℕ
 sets_in rows = length rows.filled.items
 
 -- how many ways a set has
-unfoldable pub ways_in : Rows → ℕ
-ways_in rows = rows.ways
+unfoldable pub set_ways : Rows → ℕ
+set_ways rows = rows.ways

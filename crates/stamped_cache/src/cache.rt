@@ -3,8 +3,8 @@
 ghost use Rattle.std.specs.Prelude.{◌≡◌, ◌<◌, ◌≤◌, ◌∷◌, [], ◌^◌};
 ghost use Rattle.cache_core.specs.Geometry.{assoc_of, blocks_of, sets_of};
 ghost use Rattle.marked_list.specs.Marked.{marked_sizes};
-ghost use Rattle.stamped_cache.specs.Counted.{AreFew};
-ghost use Rattle.stamped_cache.specs.Rows.{sets_in, ways_in};
+ghost use Rattle.stamped_cache.specs.Counted.{IsWithinTally};
+ghost use Rattle.stamped_cache.specs.Rows.{set_ways, sets_in};
 
 use crate::contents::put;
 use crate::rows::Rows;
@@ -32,12 +32,12 @@ pub struct StampedCache {
     failed: bool,
     ghost sized: { marked_sizes order ≡ blocks_of geometry ∷ [] },
     ghost deep: { sets_in rows ≡ sets_of geometry },
-    ghost wide: { ways_in rows ≡ assoc_of geometry },
-    ghost within: { AreFew served tally },
+    ghost wide: { set_ways rows ≡ assoc_of geometry },
+    ghost within: { IsWithinTally served tally },
     ghost few: { served ≤ 2 ^ 44 },
 }
 
-#[tactic(auto, unfolding(crate::specs::Stamped::rules_in, crate::specs::Stamped::served_in, crate::specs::Stamped::counts_in, crate::specs::Stamped::misses_in, crate::specs::Stamped::has_failed))]
+#[tactic(auto, unfolding(crate::specs::Stamped::stamped_rules, crate::specs::Stamped::stamped_served, crate::specs::Stamped::stamped_counts, crate::specs::Stamped::stamped_shadow_misses, crate::specs::Stamped::stamped_has_failed))]
 impl StampedCache {
     ghost use Rattle.std.specs.Prelude.{◌≡◌, ◌<◌, ◌+◌, ◌∷◌, [], List, ℕ, true, false};
     ghost use Rattle.std.specs.Prelude.{IfOk, IsErr, OnErr, OnOk};
@@ -47,19 +47,20 @@ impl StampedCache {
     ghost use Rattle.grid_core.specs.FullyAssociative.{shadow_misses};
     ghost use Rattle.grid_core.specs.Numbers.{IsNumberOf};
     ghost use Rattle.grid_core.specs.Standing.{stack_rules};
-    ghost use Rattle.stamped_cache.specs.Putting.{HasPlace, IsLeaving};
-    ghost use Rattle.stamped_cache.specs.Rows.{row_held, ways_in};
-    ghost use Rattle.stamped_cache.specs.Stamped.{StampedStandsBy, counts_in, has_failed};
-    ghost use Rattle.stamped_cache.specs.Stamped.{misses_in, rules_in, served_in};
+    ghost use Rattle.stamped_cache.specs.Putting.{IsLeaving, LeavesRoom};
+    ghost use Rattle.stamped_cache.specs.Rows.{row_held, set_ways};
+    ghost use Rattle.stamped_cache.specs.Stamped.{StampedStandsBy, stamped_counts};
+    ghost use Rattle.stamped_cache.specs.Stamped.{stamped_has_failed, stamped_rules};
+    ghost use Rattle.stamped_cache.specs.Stamped.{stamped_served, stamped_shadow_misses};
     ghost use Rattle.stamped_cache.specs.States.{is_held, state_at};
 
     /// An empty cache of this geometry, which writes back or through.
     pub fn new(alloc: Global, geometry: Geometry, wback: bool) -> Result<StampedCache, NoMemory>
         ensures stands { IfOk result (λ cache. (blocks : List ℕ) →
             StampedStandsBy blocks cache []) }
-        ensures rules { IfOk result (λ cache. rules_in cache ≡ stack_rules geometry wback) }
-        ensures served { IfOk result (λ cache. served_in cache ≡ 0) }
-        ensures works { IfOk result (λ cache. has_failed cache ≡ false) }
+        ensures rules { IfOk result (λ cache. stamped_rules cache ≡ stack_rules geometry wback) }
+        ensures served { IfOk result (λ cache. stamped_served cache ≡ 0) }
+        ensures works { IfOk result (λ cache. stamped_has_failed cache ≡ false) }
     {
         let sizes = [geometry.blocks() as usize];
         let Ok(order) = Marked::new(alloc, &sizes) else {
@@ -84,18 +85,18 @@ impl StampedCache {
     /// Serves an access whose block, of this number, the cache holds in this state.
     #[inline(always)]
     fn hit(&mut self, access: Access, number: usize, state: State) -> Result<(), AllocError>
-        requires few { served_in self.old < MAX_EVENTS }
+        requires few { stamped_served self.old < MAX_EVENTS }
         requires state { state ≡ state_at self.old.states.items number }
         requires held { is_held state ≡ true }
         ensures stands { OnOk result ((blocks : List ℕ) (h : History) →
-            IsNumberOf blocks (rules_in self.old).bsize access number →
+            IsNumberOf blocks (stamped_rules self.old).bsize access number →
             StampedStandsBy blocks self.old h →
             StampedStandsBy blocks self.new (accessed access ∷ h)) }
-        ensures served { OnOk result (served_in self.new ≡ served_in self.old + 1) }
+        ensures served { OnOk result (stamped_served self.new ≡ stamped_served self.old + 1) }
         ensures keeps { OnErr result (self.new.tally ≡ self.old.tally) }
-        ensures kept { OnErr result (served_in self.new ≡ served_in self.old) }
-        ensures failed { has_failed self.new ≡ has_failed self.old }
-        ensures rules { rules_in self.new ≡ rules_in self.old }
+        ensures kept { OnErr result (stamped_served self.new ≡ stamped_served self.old) }
+        ensures failed { stamped_has_failed self.new ≡ stamped_has_failed self.old }
+        ensures rules { stamped_rules self.new ≡ stamped_rules self.old }
     {
         let level = self.order.touch(number)?;
         note_write(&mut self.states, number, access.writes());
@@ -109,9 +110,9 @@ impl StampedCache {
     /// holds, if they are as many as it can, the one whose last use is the longest ago.
     fn leaving(&self, set: usize) -> Option<usize>
         requires { set < sets_of self.now.geometry }
-        ensures place { HasPlace (ways_in self.now.rows) (row_held self.now.rows set) result }
+        ensures place { LeavesRoom (set_ways self.now.rows) (row_held self.now.rows set) result }
         ensures last { (blocks : List ℕ) (h : History) → StampedStandsBy blocks self.now h →
-            IsLeaving blocks (rules_in self.now) h set (row_held self.now.rows set) result }
+            IsLeaving blocks (stamped_rules self.now) h set (row_held self.now.rows set) result }
     {
         let row = self.rows.held(set);
         if row.len() < self.rows.ways() {
@@ -124,17 +125,17 @@ impl StampedCache {
     /// hits are served by less code.
     #[inline(never)]
     fn load(&mut self, access: Access, number: usize) -> Result<(), AllocError>
-        requires few { served_in self.old < MAX_EVENTS }
+        requires few { stamped_served self.old < MAX_EVENTS }
         requires absent { is_held (state_at self.old.states.items number) ≡ false }
         ensures stands { OnOk result ((blocks : List ℕ) (h : History) →
-            IsNumberOf blocks (rules_in self.old).bsize access number →
+            IsNumberOf blocks (stamped_rules self.old).bsize access number →
             StampedStandsBy blocks self.old h →
             StampedStandsBy blocks self.new (accessed access ∷ h)) }
-        ensures served { OnOk result (served_in self.new ≡ served_in self.old + 1) }
+        ensures served { OnOk result (stamped_served self.new ≡ stamped_served self.old + 1) }
         ensures keeps { OnErr result (self.new.tally ≡ self.old.tally) }
-        ensures kept { OnErr result (served_in self.new ≡ served_in self.old) }
-        ensures failed { has_failed self.new ≡ has_failed self.old }
-        ensures rules { rules_in self.new ≡ rules_in self.old }
+        ensures kept { OnErr result (stamped_served self.new ≡ stamped_served self.old) }
+        ensures failed { stamped_has_failed self.new ≡ stamped_has_failed self.old }
+        ensures rules { stamped_rules self.new ≡ stamped_rules self.old }
     {
         if number >= u32::MAX as usize {
             return Err(AllocError);
@@ -165,16 +166,16 @@ impl StampedCache {
     /// Serves an access, whose block has this number.
     #[inline(always)]
     fn serve(&mut self, access: Access, number: usize) -> Result<(), AllocError>
-        requires { served_in self.old < MAX_EVENTS }
+        requires { stamped_served self.old < MAX_EVENTS }
         ensures stands { OnOk result ((blocks : List ℕ) (h : History) →
-            IsNumberOf blocks (rules_in self.old).bsize access number →
+            IsNumberOf blocks (stamped_rules self.old).bsize access number →
             StampedStandsBy blocks self.old h →
             StampedStandsBy blocks self.new (accessed access ∷ h)) }
-        ensures served { OnOk result (served_in self.new ≡ served_in self.old + 1) }
+        ensures served { OnOk result (stamped_served self.new ≡ stamped_served self.old + 1) }
         ensures keeps { OnErr result (self.new.tally ≡ self.old.tally) }
-        ensures kept { OnErr result (served_in self.new ≡ served_in self.old) }
-        ensures failed { has_failed self.new ≡ has_failed self.old }
-        ensures rules { rules_in self.new ≡ rules_in self.old }
+        ensures kept { OnErr result (stamped_served self.new ≡ stamped_served self.old) }
+        ensures failed { stamped_has_failed self.new ≡ stamped_has_failed self.old }
+        ensures rules { stamped_rules self.new ≡ stamped_rules self.old }
     {
         let state = state_of(&self.states, number);
         if state.is_held() {
@@ -187,20 +188,20 @@ impl StampedCache {
     /// within the loop over the requests.
     #[inline(always)]
     pub fn access(&mut self, access: Access, number: usize) -> Result<(), NoMemory>
-        requires { served_in self.old < MAX_EVENTS }
+        requires { stamped_served self.old < MAX_EVENTS }
         ensures stands { OnOk result ((blocks : List ℕ) (h : History) →
-            IsNumberOf blocks (rules_in self.old).bsize access number →
+            IsNumberOf blocks (stamped_rules self.old).bsize access number →
             StampedStandsBy blocks self.old h →
             StampedStandsBy blocks self.new (accessed access ∷ h)) }
-        ensures served { OnOk result (served_in self.new ≡ served_in self.old + 1) }
-        ensures works { OnOk result (has_failed self.new ≡ false) }
+        ensures served { OnOk result (stamped_served self.new ≡ stamped_served self.old + 1) }
+        ensures works { OnOk result (stamped_has_failed self.new ≡ false) }
 
-        ensures fails { OnErr result (has_failed self.new ≡ true) }
-        ensures keeps { OnErr result ((counts_in self.new ≡ counts_in self.old)
-            × (misses_in self.new ≡ misses_in self.old)
-            × (served_in self.new ≡ served_in self.old)) }
-        ensures failed { has_failed self.old ≡ true → IsErr result }
-        ensures rules { rules_in self.new ≡ rules_in self.old }
+        ensures fails { OnErr result (stamped_has_failed self.new ≡ true) }
+        ensures keeps { OnErr result ((stamped_counts self.new ≡ stamped_counts self.old)
+            × (stamped_shadow_misses self.new ≡ stamped_shadow_misses self.old)
+            × (stamped_served self.new ≡ stamped_served self.old)) }
+        ensures failed { stamped_has_failed self.old ≡ true → IsErr result }
+        ensures rules { stamped_rules self.new ≡ stamped_rules self.old }
     {
         if self.failed {
             return Err(NoMemory);
@@ -215,17 +216,17 @@ impl StampedCache {
     /// Empties the cache and its shadow. Known blocks stay known. It needs no memory, and answers
     /// `NoMemory` only if an earlier call did.
     pub fn flush(&mut self) -> Result<(), NoMemory>
-        requires { served_in self.old < MAX_EVENTS }
+        requires { stamped_served self.old < MAX_EVENTS }
         ensures stands { OnOk result ((blocks : List ℕ) (h : History) →
             StampedStandsBy blocks self.old h →
             StampedStandsBy blocks self.new (flushed ∷ h)) }
-        ensures served { OnOk result (served_in self.new ≡ served_in self.old + 1) }
-        ensures works { OnOk result (has_failed self.new ≡ false) }
+        ensures served { OnOk result (stamped_served self.new ≡ stamped_served self.old + 1) }
+        ensures works { OnOk result (stamped_has_failed self.new ≡ false) }
 
         ensures unchanged { OnErr result (self.new ≡ self.old) }
-        ensures only_failed { IsErr result → has_failed self.old ≡ true }
-        ensures failed { has_failed self.old ≡ true → IsErr result }
-        ensures rules { rules_in self.new ≡ rules_in self.old }
+        ensures only_failed { IsErr result → stamped_has_failed self.old ≡ true }
+        ensures failed { stamped_has_failed self.old ≡ true → IsErr result }
+        ensures rules { stamped_rules self.new ≡ stamped_rules self.old }
     {
         if self.failed() {
             return Err(NoMemory);
@@ -240,32 +241,32 @@ impl StampedCache {
 
     /// All counts.
     pub fn counts(&self) -> Counts
-        ensures kept { result ≡ counts_in self.now }
+        ensures kept { result ≡ stamped_counts self.now }
         ensures counted { (blocks : List ℕ) (h : History) → StampedStandsBy blocks self.now h →
-            result ≡ counts_of (rules_in self.now) h }
+            result ≡ counts_of (stamped_rules self.now) h }
     {
         self.tally.counts
     }
 
     /// How often the shadow missed.
     pub fn shadow_misses(&self) -> PerClass
-        ensures kept { result ≡ misses_in self.now }
+        ensures kept { result ≡ stamped_shadow_misses self.now }
         ensures counted { (blocks : List ℕ) (h : History) → StampedStandsBy blocks self.now h →
-            result ≡ shadow_misses (rules_in self.now) h }
+            result ≡ shadow_misses (stamped_rules self.now) h }
     {
         self.tally.far
     }
 
     /// How many accesses and flushes succeeded.
     pub fn served(&self) -> u64
-        ensures { result ≡ served_in self.now }
+        ensures { result ≡ stamped_served self.now }
     {
         self.served
     }
 
     /// Whether a call was refused memory.
     pub fn failed(&self) -> bool
-        ensures { result ≡ has_failed self.now }
+        ensures { result ≡ stamped_has_failed self.now }
     {
         self.failed
     }

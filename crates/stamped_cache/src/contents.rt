@@ -7,8 +7,8 @@ ghost use Rattle.cache_core.specs.History.{History, Rules, access as accessed, i
 ghost use Rattle.cache_core.specs.Parts.{outcome_of};
 ghost use Rattle.stamped_cache.specs.declared.state.State.TheVariants.{Absent};
 ghost use Rattle.stamped_cache.specs.Holding.{HoldBy};
-ghost use Rattle.stamped_cache.specs.Putting.{HasPlace, Misses, loaded};
-ghost use Rattle.stamped_cache.specs.Rows.{row_held, sets_in, ways_in};
+ghost use Rattle.stamped_cache.specs.Putting.{LeavesRoom, Misses, loaded};
+ghost use Rattle.stamped_cache.specs.Rows.{row_held, set_ways, sets_in};
 ghost use Rattle.stamped_cache.specs.States.{was_written, state_at};
 
 use crate::rows::Rows;
@@ -17,14 +17,14 @@ use crate::state::{State, set_state, state_of};
 /// Puts a block of this number into a set that has room.
 fn put_beside(states: &mut Vec<State>, rows: &mut Rows, set: usize, number: u32, write: bool)
     requires set { set < sets_in rows.old }
-    requires room { length (row_held rows.old set) < ways_in rows.old }
+    requires room { length (row_held rows.old set) < set_ways rows.old }
     requires number { number < length states.old.items }
     ensures states { (k : ℕ) → state_at states.new.items k
         ≡ (if number == k then loaded write else state_at states.old.items k) }
     ensures row { row_held rows.new set ≡ row_held rows.old set ++ number ∷ [] }
     ensures others { (t : ℕ) → t ≢ set → row_held rows.new t ≡ row_held rows.old t }
     ensures sets { sets_in rows.new ≡ sets_in rows.old }
-    ensures ways { ways_in rows.new ≡ ways_in rows.old }
+    ensures ways { set_ways rows.new ≡ set_ways rows.old }
 {
     rows.add(set, number);
     set_state(states, number as usize, State::of_load(write));
@@ -52,7 +52,7 @@ fn put_over(
     ensures row { row_held rows.new set ≡ set_at (row_held rows.old set) index number }
     ensures others { (t : ℕ) → t ≢ set → row_held rows.new t ≡ row_held rows.old t }
     ensures sets { sets_in rows.new ≡ sets_in rows.old }
-    ensures ways { ways_in rows.new ≡ ways_in rows.old }
+    ensures ways { set_ways rows.new ≡ set_ways rows.old }
 {
     let left = rows.replace(set, index, number) as usize;
     let written = state_of(states, left).was_written();
@@ -72,7 +72,7 @@ pub(crate) fn put(
     write: bool,
 ) -> bool
     requires set { set < sets_in rows.old }
-    requires place { HasPlace (ways_in rows.old) (row_held rows.old set) leaving }
+    requires place { LeavesRoom (set_ways rows.old) (row_held rows.old set) leaving }
     requires number { number < length states.old.items }
     ensures held { (blocks : List ℕ) (r : Rules) (h : History) (x : Access) → write ≡ is_write x →
         Misses blocks r h x number set leaving (state_at states.old.items) (row_held rows.old) →
@@ -81,7 +81,7 @@ pub(crate) fn put(
         Misses blocks r h x number set leaving (state_at states.old.items) (row_held rows.old) →
         is_some (outcome_of r h x).back ≡ (result && r.wback) }
     ensures sets { sets_in rows.new ≡ sets_in rows.old }
-    ensures ways { ways_in rows.new ≡ ways_in rows.old }
+    ensures ways { set_ways rows.new ≡ set_ways rows.old }
 {
     match leaving {
         None => {

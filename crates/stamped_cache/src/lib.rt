@@ -21,4 +21,4 @@ mod state;
 mod tally;
 
 pub use cache::StampedCache;
-pub use laws::more_numbers_serve;
+pub use laws::more_numbers_serve_stamped_caches;

@@ -37,11 +37,11 @@ fn empty_each(filled: &mut Vec<u32>)
     }
 }
 
-#[tactic(auto, unfolding(crate::specs::Rows::row_held, crate::specs::Rows::sets_in, crate::specs::Rows::ways_in))]
+#[tactic(auto, unfolding(crate::specs::Rows::row_held, crate::specs::Rows::sets_in, crate::specs::Rows::set_ways))]
 impl Rows {
     ghost use Rattle.std.specs.Prelude.{◌≡◌, ◌≢◌, ◌<◌, ◌≤◌, ◌+◌, ◌*◌, ◌^◌, ◌++◌, ◌∷◌, [], ℕ};
     ghost use Rattle.std.specs.Prelude.{length, get_or, set as set_at, IfOk};
-    ghost use Rattle.stamped_cache.specs.Rows.{row_held, sets_in, ways_in};
+    ghost use Rattle.stamped_cache.specs.Rows.{row_held, set_ways, sets_in};
 
     /// So many empty sets, of so many ways.
     pub fn new(alloc: Global, sets: usize, ways: usize) -> Result<Rows, AllocError>
@@ -49,7 +49,7 @@ impl Rows {
         requires narrow { ways ≤ 2 ^ 24 }
         ensures empty { IfOk result (λ rows. (s : ℕ) → row_held rows s ≡ []) }
         ensures sets { IfOk result (λ rows. sets_in rows ≡ sets) }
-        ensures ways { IfOk result (λ rows. ways_in rows ≡ ways) }
+        ensures ways { IfOk result (λ rows. set_ways rows ≡ ways) }
     {
         Ok(Rows {
             ways,
@@ -62,7 +62,7 @@ impl Rows {
     pub fn held(&self, set: usize) -> &[u32]
         requires { set < sets_in self.now }
         ensures held { result.now ≡ row_held self.now set }
-        ensures few { length result.now ≤ ways_in self.now }
+        ensures few { length result.now ≤ set_ways self.now }
     {
         let first = set * self.ways;
         &self.numbers[first..first + self.filled[set] as usize]
@@ -70,7 +70,7 @@ impl Rows {
 
     /// How many ways a set has.
     pub fn ways(&self) -> usize
-        ensures { result ≡ ways_in self.now }
+        ensures { result ≡ set_ways self.now }
     {
         self.ways
     }
@@ -78,11 +78,11 @@ impl Rows {
     /// Adds the number of a block to a set that has room.
     pub fn add(&mut self, set: usize, number: u32)
         requires inside { set < sets_in self.old }
-        requires room { length (row_held self.old set) < ways_in self.old }
+        requires room { length (row_held self.old set) < set_ways self.old }
         ensures added { row_held self.new set ≡ row_held self.old set ++ number ∷ [] }
         ensures others { (t : ℕ) → t ≢ set → row_held self.new t ≡ row_held self.old t }
         ensures sets { sets_in self.new ≡ sets_in self.old }
-        ensures ways { ways_in self.new ≡ ways_in self.old }
+        ensures ways { set_ways self.new ≡ set_ways self.old }
     {
         let count = self.filled[set];
         self.numbers[set * self.ways + count as usize] = number;
@@ -98,7 +98,7 @@ impl Rows {
             ≡ set_at (row_held self.old set) index number }
         ensures others { (t : ℕ) → t ≢ set → row_held self.new t ≡ row_held self.old t }
         ensures sets { sets_in self.new ≡ sets_in self.old }
-        ensures ways { ways_in self.new ≡ ways_in self.old }
+        ensures ways { set_ways self.new ≡ set_ways self.old }
     {
         let place = set * self.ways + index;
         let was = self.numbers[place];
@@ -110,7 +110,7 @@ impl Rows {
     pub fn clear(&mut self)
         ensures empty { (s : ℕ) → row_held self.new s ≡ [] }
         ensures sets { sets_in self.new ≡ sets_in self.old }
-        ensures ways { ways_in self.new ≡ ways_in self.old }
+        ensures ways { set_ways self.new ≡ set_ways self.old }
     {
         empty_each(&mut self.filled);
     }

@@ -54,7 +54,7 @@ impl Tally {
     ghost use Rattle.cache_core.specs.History.{is_write};
     ghost use Rattle.grid_core.specs.Hits.{hit_made};
     ghost use Rattle.cache_core.specs.Kinds.{kind_by};
-    ghost use Rattle.stamped_cache.specs.Counted.{AreFew, CountsAccess, load_made};
+    ghost use Rattle.stamped_cache.specs.Counted.{CountsAccess, IsWithinTally, load_made};
 
     /// Nothing.
     pub fn new() -> Tally
@@ -73,7 +73,7 @@ impl Tally {
     /// not.
     #[inline(always)]
     pub fn hit(&mut self, access: Access, near: bool, written: bool, wback: bool)
-        requires { AreFew (2 ^ 44) self.old }
+        requires { IsWithinTally (2 ^ 44) self.old }
         ensures { CountsAccess access (hit_made (is_write access && not wback)) (not near)
             (is_write access && not written) self.old self.new }
     {
@@ -87,7 +87,7 @@ impl Tally {
 
     /// Counts an access that loads its block. `back` says whether a written block leaves.
     pub fn load(&mut self, access: Access, prior: Prior, back: bool, wback: bool)
-        requires { AreFew (2 ^ 44) self.old }
+        requires { IsWithinTally (2 ^ 44) self.old }
         ensures { (address : Option ℕ) → is_some address ≡ (back && wback) →
             CountsAccess access (load_made (kind_by prior.referenced prior.in_shadow) address
             (is_write access && not wback)) (not prior.in_shadow) (is_write access)
@@ -107,7 +107,7 @@ impl Tally {
 
     /// Counts a flush. What was made dirty and was not yet written back is written back now.
     pub fn flush(&mut self, wback: bool)
-        requires { AreFew (2 ^ 44) self.old }
+        requires { IsWithinTally (2 ^ 44) self.old }
         ensures counts { self.new.counts ≡ record self.old.counts {
           written_back = if wback then self.old.first_writes else self.old.counts.written_back;
           flushes = self.old.counts.flushes + 1;

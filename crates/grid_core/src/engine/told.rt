@@ -3,7 +3,7 @@
 use crate::engine::Engine;
 use cache_core::{Counts, Outcome, PerClass};
 
-#[tactic(auto, unfolding(crate::specs::Engines::rules_in, crate::specs::Engines::kept_in))]
+#[tactic(auto, unfolding(crate::specs::Engines::engine_rules, crate::specs::Engines::kept_in))]
 impl Engine {
     ghost use Rattle.std.specs.Prelude.{◌≡◌, ◌<◌, ℕ, List, true, get_or, length};
     ghost use Rattle.cache_core.specs.declared.access.Access.{Access};
@@ -11,26 +11,27 @@ impl Engine {
     ghost use Rattle.cache_core.specs.Parts.{SendsNothing, outcome_of};
     ghost use Rattle.cache_core.specs.Counts.{counts_of};
     ghost use Rattle.grid_core.specs.FullyAssociative.{shadow_misses};
-    ghost use Rattle.grid_core.specs.Engines.{EngineStandsBy, HasAnswered, kept_in, rules_in};
-    ghost use Rattle.grid_core.specs.Written.{none_kept, rules_at};
+    ghost use Rattle.grid_core.specs.Engines.{EngineHasAnswered, EngineStandsBy, engine_rules};
+    ghost use Rattle.grid_core.specs.Engines.{kept_in};
+    ghost use Rattle.grid_core.specs.Written.{none_kept, rules_at_index};
 
     /// The counts of one cache. For caches that are served together they are worked out from
     /// tables and all rows: ask for them at the end, and not after each access.
     pub fn counts(&self, index: usize) -> Counts
-        requires { index < length (rules_in self.now) }
+        requires { index < length (engine_rules self.now) }
         ensures kept { result ≡ (get_or (kept_in self.now) index none_kept).0 }
         ensures counted { (blocks : List ℕ) (h : History) → EngineStandsBy blocks self.now h →
-            result ≡ counts_of (rules_at (rules_in self.now) index) h }
+            result ≡ counts_of (rules_at_index (engine_rules self.now) index) h }
     {
         self.caches.counts(self.seats[index].cell)
     }
 
     /// The fully associative misses of one cache.
     pub fn shadow_misses(&self, index: usize) -> PerClass
-        requires { index < length (rules_in self.now) }
+        requires { index < length (engine_rules self.now) }
         ensures kept { result ≡ (get_or (kept_in self.now) index none_kept).1 }
         ensures counted { (blocks : List ℕ) (h : History) → EngineStandsBy blocks self.now h →
-            result ≡ shadow_misses (rules_at (rules_in self.now) index) h }
+            result ≡ shadow_misses (rules_at_index (engine_rules self.now) index) h }
     {
         self.caches.shadow_misses(self.seats[index].shadow)
     }
@@ -39,18 +40,18 @@ impl Engine {
     /// cache: it wrote nothing back, fetched nothing and is no write that is sent on. May be
     /// `false` though nothing was sent.
     pub fn sent_nothing(&self) -> bool
-        ensures { result ≡ true → (h : History) (x : Access) → HasAnswered self.now h x →
-            (index : ℕ) → index < length (rules_in self.now) →
-            SendsNothing (outcome_of (rules_at (rules_in self.now) index) h x) }
+        ensures { result ≡ true → (h : History) (x : Access) → EngineHasAnswered self.now h x →
+            (index : ℕ) → index < length (engine_rules self.now) →
+            SendsNothing (outcome_of (rules_at_index (engine_rules self.now) index) h x) }
     {
         self.caches.sent_nothing()
     }
 
     /// What the last access did in one cache, if no flush came after it.
     pub fn answer(&self, index: usize) -> Outcome
-        requires { index < length (rules_in self.now) }
-        ensures { (h : History) (x : Access) → HasAnswered self.now h x →
-            result ≡ outcome_of (rules_at (rules_in self.now) index) h x }
+        requires { index < length (engine_rules self.now) }
+        ensures { (h : History) (x : Access) → EngineHasAnswered self.now h x →
+            result ≡ outcome_of (rules_at_index (engine_rules self.now) index) h x }
     {
         self.caches.answer(self.seats[index].cell)
     }

@@ -15,14 +15,14 @@ impl Stacked {
     ghost use Rattle.cache_core.specs.Parts.{SendsNothing, outcome_of};
     ghost use Rattle.cache_core.specs.Residents.{hits, renewals};
     ghost use Rattle.grid_core.specs.StackedCells.{StackedHasAnswered, is_silent, stacked_rules};
-    ghost use Rattle.grid_core.specs.Written.{rules_at};
+    ghost use Rattle.grid_core.specs.Written.{rules_at_index};
 
     /// Whether the block of the last access was accessed before.
     pub fn knew(&self) -> bool
         requires { 0 < length (stacked_rules self.now) }
         ensures { (h : History) (x : Access) → StackedHasAnswered self.now h x →
-            result ≡ list_any (λ b. b == block_of (rules_at (stacked_rules self.now) 0) x)
-            (referenced_blocks (rules_at (stacked_rules self.now) 0) h) }
+            result ≡ list_any (λ b. b == block_of (rules_at_index (stacked_rules self.now) 0) x)
+            (referenced_blocks (rules_at_index (stacked_rules self.now) 0) h) }
     {
         self.prior.known
     }
@@ -31,8 +31,8 @@ impl Stacked {
     pub fn shadow_had(&self, index: usize) -> bool
         requires { index < length (stacked_rules self.now) }
         ensures { (h : History) (x : Access) → StackedHasAnswered self.now h x →
-            result ≡ hits (shadow_of (rules_at (stacked_rules self.now) index))
-            (renewals (shadow_of (rules_at (stacked_rules self.now) index)) h) x }
+            result ≡ hits (shadow_of (rules_at_index (stacked_rules self.now) index))
+            (renewals (shadow_of (rules_at_index (stacked_rules self.now) index)) h) x }
     {
         !(self.shapes[index].rank < self.prior.level)
     }
@@ -43,7 +43,7 @@ impl Stacked {
         ensures told { result ≡ true → (h : History) (x : Access) →
             StackedHasAnswered self.now h x →
             (index : ℕ) → index < length (stacked_rules self.now) →
-            SendsNothing (outcome_of (rules_at (stacked_rules self.now) index) h x) }
+            SendsNothing (outcome_of (rules_at_index (stacked_rules self.now) index) h x) }
     {
         if sends_on(self.write, self.wback) {
             return false;
@@ -55,7 +55,7 @@ impl Stacked {
     pub fn answer(&self, index: usize) -> Outcome
         requires { index < length (stacked_rules self.now) }
         ensures { (h : History) (x : Access) → StackedHasAnswered self.now h x →
-            result ≡ outcome_of (rules_at (stacked_rules self.now) index) h x }
+            result ≡ outcome_of (rules_at_index (stacked_rules self.now) index) h x }
     {
         let shape = self.shapes[index];
         if self.again {

@@ -1,5 +1,5 @@
 use Rattle.std.proofs.Common.{◌+◌, ◌^◌, map, ap, ◌∙◌}
-use Rattle.grid_core.specs.Totals.{added, past, table_of}
+use Rattle.grid_core.specs.Totals.{added, listed_counts, past}
 use Rattle.grid_core.proofs.Tables.{level-there, sum-next, sum-within, within-there}
 use Rattle.grid_core.proofs.histogram.sum_past.Goals as goal
 
@@ -17,14 +17,14 @@ plus-sum-requires c =
     let vs = c.args.tables.now in
     let f = c.sum_from.result in
     sum-within vs c.loop-place-test.true c.index-tables-place.is c.deref.ensures.value c.args.level
-    (2 ^ 44) c.loop-place.sum f (past c.args.distance c.args.level (map table_of vs))
+    (2 ^ 44) c.loop-place.sum f (past c.args.distance c.args.level (map listed_counts vs))
     c.loop-place.invariant c.sum_from.ensures c.requires.within
 
 pub loop-place-preserved : goal.loop-place-preserved
 loop-place-preserved c =
     let vs = c.args.tables.now in
     let k = c.args.level in
-    ap (λ s. added s (past (c.loop-place.place + 1) k (map table_of vs))) c.plus-sum.ensures
+    ap (λ s. added s (past (c.loop-place.place + 1) k (map listed_counts vs))) c.plus-sum.ensures
     ∙ sum-next vs c.loop-place-test.true c.index-tables-place.is c.deref.ensures.value k
-    c.loop-place.sum c.sum_from.result (past c.args.distance k (map table_of vs))
+    c.loop-place.sum c.sum_from.result (past c.args.distance k (map listed_counts vs))
     c.loop-place.invariant c.sum_from.ensures

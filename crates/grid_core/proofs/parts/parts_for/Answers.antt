@@ -5,7 +5,7 @@ use Rattle.std.specs.List.{All}
 use Rattle.std.proofs.lemmas.List.{map-append, map_more}
 use Rattle.std.proofs.lemmas.List.Elements.{All-push, All-weaker}
 use Rattle.cache_core.specs.Geometry.{bsize_of, blocks_of}
-use Rattle.grid_core.specs.Standing.{stack_rules, rules_of}
+use Rattle.grid_core.specs.Standing.{rules_of_rows, stack_rules}
 use Rattle.grid_core.specs.Shapes.{IsSuitedShape}
 use Rattle.grid_core.specs.Cells.{IsPlacedAmong, shape_rules}
 use Rattle.grid_core.specs.State.{IsRanked}
@@ -62,5 +62,6 @@ loop-geometry-preserved c =
 pub returns-clause-placed : goal.returns-clause-placed
 returns-clause-placed c =
     let stacks = c.loop-geometry.stacks.items in
-    All-weaker (IsSuitedShape stacks) (IsPlacedAmong (map rules_of stacks)) (suited-placed stacks)
+    All-weaker (IsSuitedShape stacks) (IsPlacedAmong (map rules_of_rows stacks))
+    (suited-placed stacks)
     c.loop-geometry.shapes.items c.loop-geometry.invariant.suited

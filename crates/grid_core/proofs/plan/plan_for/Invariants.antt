@@ -3,7 +3,7 @@ use Rattle.std.specs.List.{All}
 use Rattle.cache_core.specs.Geometry.{bsize_of}
 use Rattle.cache_core.specs.Standing.{rules_from}
 use Rattle.grid_core.specs.Places.{IsSeated, planned_rules}
-use Rattle.grid_core.specs.Plans.{IsNew, IsNewShade}
+use Rattle.grid_core.specs.Plans.{IsNewShade, IsNewSingle}
 use Rattle.grid_core.specs.Shades.{shade_rules}
 use Rattle.grid_core.specs.Shading.{IsShaded}
 use Rattle.grid_core.specs.Singles.{single_rules, single_shading}
@@ -21,6 +21,6 @@ invariant-loop-geometry l = record {
       (map shade_rules l.shades.items)) (map single_shading l.singles.items);
   same : All (λ g. bsize_of g ≡ bsize_of l.fn.first) l.together.items;
   words : All HasWords l.together.items;
-  fresh : All IsNew l.singles.items;
+  fresh : All IsNewSingle l.singles.items;
   fresh_shades : All IsNewShade l.shades.items;
 }

@@ -3,7 +3,7 @@ use Rattle.std.specs.List.{All}
 use Rattle.std.proofs.lemmas.List.{map-append}
 use Rattle.std.proofs.lemmas.List.Elements.{All-push}
 use Rattle.cache_core.specs.History.{Rules}
-use Rattle.grid_core.specs.Standing.{IsEmptyStack, rules_of}
+use Rattle.grid_core.specs.Standing.{IsEmptyStack, rules_of_rows}
 use Rattle.grid_core.proofs.shapes.stack_for.Goals as goal
 
 pub returns-clause-sizes : goal.returns-clause-sizes
@@ -11,9 +11,9 @@ returns-clause-sizes c = λ n same all.
     let old = c.args.stacks.now.items in
     let v = c.in_ok-stack.stack in
     let P : Rules → Type 0 = λ r. r.bsize ≡ n in
-    subst (All P) (sym (ap (map rules_of) c.in_ok-push.ensures.items
-    ∙ map-append rules_of old (v ∷ [])))
-    (All-push P (map rules_of old) (rules_of v) all
+    subst (All P) (sym (ap (map rules_of_rows) c.in_ok-push.ensures.items
+    ∙ map-append rules_of_rows old (v ∷ [])))
+    (All-push P (map rules_of_rows old) (rules_of_rows v) all
     (ap (λ (r : Rules). r.bsize) c.in_ok-stack.ensures.rules
     ∙ c.widest-wide.ensures.wider.same_bsize ∙ same))
 

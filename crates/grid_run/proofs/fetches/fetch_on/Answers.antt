@@ -3,7 +3,7 @@ use Rattle.std.proofs.Common.{subst, sym, ◌∙◌, append_assoc, arith, length
 use Rattle.std.proofs.lemmas.List.{take_more}
 use Rattle.cache_core.specs.History.{Rules}
 use Rattle.din_trace.specs.declared.record.DinRecord.{DinRecord}
-use Rattle.grid_core.specs.Written.{rules_at}
+use Rattle.grid_core.specs.Written.{rules_at_index}
 use Rattle.stage_core.specs.Events.{history}
 use Rattle.stage_core.specs.SecondLevel.{parts_of, sent_up}
 use Rattle.stage_core.specs.declared.message.Side.TheVariants as side
@@ -16,11 +16,11 @@ use Rattle.grid_run.proofs.fetches.fetch_on.Goals as goal
 
 -- caches of the same rules send nothing either
 silent-by : {rs rs' : List Rules} (es : List DinRecord) (e : DinRecord) (cell : ℕ) → rs ≡ rs'
-    → (cell < length rs → sent_up (parts_of (rules_at rs cell)) side.I es e ≡ [])
-    → cell < length rs' → sent_up (parts_of (rules_at rs' cell)) side.I es e ≡ []
+    → (cell < length rs → sent_up (parts_of (rules_at_index rs cell)) side.I es e ≡ [])
+    → cell < length rs' → sent_up (parts_of (rules_at_index rs' cell)) side.I es e ≡ []
 silent-by es e cell same none =
     subst (λ (rs : List Rules). cell < length rs
-    → sent_up (parts_of (rules_at rs cell)) side.I es e ≡ []) same none
+    → sent_up (parts_of (rules_at_index rs cell)) side.I es e ≡ []) same none
 
 pub fetch_once-requires : goal.fetch_once-requires
 fetch_once-requires c =
@@ -61,7 +61,7 @@ fetches-preserved c =
           (append_assoc es (take k xs) _ ∙ ap (λ (l : List DinRecord). es ++ l) (sym longer))
           (one.stands refl blocks (es ++ take k xs) (inv.stands blocks es at));
       silent = λ blocks es at cell inside.
-          let r = rules_at (front_rules c.args.front.now) cell in
+          let r = rules_at_index (front_rules c.args.front.now) cell in
           let none = silent-by (es ++ take k xs) _ cell inv.rules
           (one.silent refl blocks (es ++ take k xs) (inv.stands blocks es at) cell) inside in
           subst (λ (l : List DinRecord). fetched r es l ≡ []) (sym longer)

@@ -1,7 +1,7 @@
 use Rattle.std.proofs.Common.{◌≡◌, ◌<◌, ◌≤◌, ◌-◌, ◌++◌, ℕ, List, [], length, take}
 use Rattle.std.specs.List.{All}
 use Rattle.din_trace.specs.declared.record.DinRecord.{DinRecord}
-use Rattle.grid_core.specs.Written.{rules_at}
+use Rattle.grid_core.specs.Written.{rules_at_index}
 use Rattle.stage_core.specs.Events.{history}
 use Rattle.stage_core.specs.declared.message.Side.TheVariants as side
 use Rattle.grid_run.specs.Fetching.{AsksNoData, fetched}
@@ -17,7 +17,7 @@ invariant-fetches l = record {
   silent : (blocks : List ℕ) (es : List DinRecord) →
       FrontAt blocks (history side.I es) l.initial.front →
       (cell : ℕ) → cell < length (front_rules l.initial.front) →
-      fetched (rules_at (front_rules l.initial.front) cell) es (take l.count l.part) ≡ [];
+      fetched (rules_at_index (front_rules l.initial.front) cell) es (take l.count l.part) ≡ [];
   no_data : All AsksNoData (take l.count l.part);
   within : l.count ≤ length l.part;
   rules : front_rules l.front ≡ front_rules l.initial.front;

@@ -1,6 +1,6 @@
 use Rattle.std.proofs.Common.{◌≡◌, ◌<◌, ◌∷◌, [], List, length, subst, sym, ◌∙◌}
 use Rattle.cache_core.specs.History.{History, Rules}
-use Rattle.grid_core.specs.Written.{rules_at}
+use Rattle.grid_core.specs.Written.{rules_at_index}
 use Rattle.stage_core.specs.Events.{asked, history}
 use Rattle.stage_core.specs.SecondLevel.{parts_of, sent_up}
 use Rattle.stage_core.specs.declared.message.Side.TheVariants as side
@@ -36,10 +36,11 @@ returns-clause-silent c =
     let fetch = request.Access c.in-Some-Access.fetch in
     λ yes blocks es at cell.
     subst (λ (rs : List Rules). cell < length rs
-    → sent_up (parts_of (rules_at rs cell)) side.I es e ≡ [])
+    → sent_up (parts_of (rules_at_index rs cell)) side.I es e ≡ [])
     c.again.ensures.rules
     (λ inside.
-    sym (sent-one side.I es e (rules_at (front_rules c.again.new.self) cell) fetch (asks-it c))
+    sym (sent-one side.I es e (rules_at_index (front_rules c.again.new.self) cell) fetch
+    (asks-it c))
     ∙ sent-by-silent c.again.new.self (history side.I es) cell side.I fetch inside
     (c.again.ensures.silent yes)
     (c.again.ensures.last yes blocks (history side.I es) at))

@@ -4,7 +4,7 @@ use Rattle.stage_core.specs.Config.{hierarchy_of}
 use Rattle.stage_core.specs.declared.selection.Selection.{Selection}
 use Rattle.grid_run.specs.Grids.{IsBoundedSetup}
 use Rattle.grid_run.specs.Lanes.{task_of_plan}
-use Rattle.grid_run.specs.Rows.{HasPlace, IsPlaceIn, IsSound}
+use Rattle.grid_run.specs.Rows.{IsPlaceIn, IsSound, RowHasPlace}
 use Rattle.grid_run.specs.declared.grid.Setup.{Setup}
 use Rattle.grid_run.specs.declared.plan.LanePlan.{LanePlan}
 use Rattle.grid_run.proofs.Growing.{at-found}
@@ -24,7 +24,7 @@ returns-clause-place c =
     let h = hierarchy_of c.in-Simulated.config in
     let s = c.in-Simulated.selection in
     let p = c.in_ok-place.place in
-    subst (λ (z : Setup). HasPlace (map task_of_plan (set xs k y)) z (Some p))
+    subst (λ (z : Setup). RowHasPlace (map task_of_plan (set xs k y)) z (Some p))
     (sym c.in-Simulated.is)
     (place-of xs k x y own.inside h s p c.in_ok-place.ensures.lane
     (subst (λ (z : Selection). IsPlaceIn (task_of_plan y) h z p)

@@ -9,7 +9,7 @@ use Rattle.stage_core.specs.declared.config.Config.{Config}
 use Rattle.stage_core.specs.declared.selection.Selection.{Selection}
 use Rattle.grid_run.specs.Grids.{setup_line}
 use Rattle.grid_run.specs.Lanes.{LaneTask}
-use Rattle.grid_run.specs.Rows.{HasPlace, IsPlaceIn, IsPlaceOf}
+use Rattle.grid_run.specs.Rows.{IsPlaceIn, IsPlaceOf, RowHasPlace}
 use Rattle.grid_run.specs.Workers.{WorkerHasServed, worker_task}
 use Rattle.grid_run.specs.Table.{counted_line}
 use Rattle.grid_run.specs.declared.grid.Setup.{Setup}
@@ -20,10 +20,11 @@ use Rattle.grid_run.proofs.simulation.write_row.Goals as goal
 
 -- a row that is simulated has the place of its configuration
 has-place : (ts : List LaneTask) (setup : Setup) (o : Option Place) (c : Config) (s : Selection)
-    (p : Place) → setup ≡ Simulated c s → o ≡ Some p → HasPlace ts setup o
+    (p : Place) → setup ≡ Simulated c s → o ≡ Some p → RowHasPlace ts setup o
     → IsPlaceOf ts (hierarchy_of c) s p
 has-place ts setup o c s p simulated there has =
-    subst (λ (t : Setup). HasPlace ts t (Some p)) simulated (subst (HasPlace ts setup) there has)
+    subst (λ (t : Setup). RowHasPlace ts t (Some p)) simulated
+    (subst (RowHasPlace ts setup) there has)
 
 -- at a place, there is a lane
 lane-inside : (ls : List Worker) (c : Config) (s : Selection) (p : Place)
@@ -67,7 +68,7 @@ returns-in-Some-clause-line g c = λ past served.
     let inside = lane-inside c.args.workers.now f s p place in
     let there = lane-there c.args.workers.now f s p l c.index-workers-place.is place in
     let taken = subst (WorkerHasServed past) (sym c.index-workers-place.is)
-        (served p.lane l inside) in
+    (served p.lane l inside) in
     let counted = c.figures-figures.ensures (hierarchy_of f) s past there taken in
     let line = ap (λ ws. counted_line c.args.columns (map string_bytes ws) c.figures-figures.result)
     c.deref-in-Some.ensures.value

@@ -7,7 +7,7 @@ use Rattle.std.proofs.lemmas.List.{take_more}
 use Rattle.din_trace.proofs.WritesLemmas.{appends_twice}
 use Rattle.din_trace.specs.declared.record.DinRecord.{DinRecord}
 use Rattle.grid_run.specs.Grids.{row_line}
-use Rattle.grid_run.specs.Rows.{HasPlace}
+use Rattle.grid_run.specs.Rows.{RowHasPlace}
 use Rattle.grid_run.specs.Workers.{worker_task}
 use Rattle.grid_run.specs.declared.grid.Row.{Row}
 use Rattle.grid_run.proofs.simulation.write_rows.Goals as goal
@@ -15,7 +15,7 @@ use Rattle.grid_run.proofs.simulation.write_rows.Goals as goal
 pub write_row-requires : goal.write_row-requires
 write_row-requires g c =
     let k = c.loop-index.index in
-    subst (λ (row : Row). HasPlace (map worker_task c.args.workers.now) row.setup
+    subst (λ (row : Row). RowHasPlace (map worker_task c.args.workers.now) row.setup
     (get_or c.args.places.now k None)) (sym c.index-rows-index.is)
     (c.requires.each k c.index-rows-index.result None c.loop-index-test.true)
 

@@ -5,7 +5,7 @@ use Rattle.std.proofs.lemmas.Grind.{common_steps}
 use Rattle.marked_list.specs.Recency.{index_of}
 use Rattle.marked_list.specs.Uses.{used_next}
 use Rattle.marked_list.specs.declared.marks.Mark.{Mark}
-use Rattle.marked_list.specs.Marks.{AreMarks, covers, size_of}
+use Rattle.marked_list.specs.Marks.{AreMarks, covers, mark_size}
 use Rattle.marked_list.proofs.Living.{once-is}
 use Rattle.marked_list.proofs.MarkSteps.{level-found, rest-stays}
 use Rattle.marked_list.proofs.marks.move_each.Goals as goal
@@ -27,6 +27,6 @@ returns-clause-moves c = λ ms b log after rises are.
     grind (arith, common_steps) in
     subst (AreMarks (used_next b ms)) (sym e)
     (c.move_all.ensures.moves ms b log after
-    (λ rising. subst (λ (l : List Mark). IsStrictlyIncreasing (map size_of l))
+    (λ rising. subst (λ (l : List Mark). IsStrictlyIncreasing (map mark_size l))
     (sym c.deref_mut.ensures.value) (rises rising))
     (subst (AreMarks ms) (sym c.deref_mut.ensures.value) are))

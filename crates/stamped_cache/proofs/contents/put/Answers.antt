@@ -7,7 +7,7 @@ use Rattle.cache_core.specs.Parts.{outcome_of}
 use Rattle.stamped_cache.specs.declared.state.State.{State}
 use Rattle.stamped_cache.specs.declared.state.State.TheVariants.{Absent}
 use Rattle.stamped_cache.specs.Holding.{HoldBy}
-use Rattle.stamped_cache.specs.Putting.{HasPlace, IsLeaving, Misses, loaded}
+use Rattle.stamped_cache.specs.Putting.{IsLeaving, LeavesRoom, Misses, loaded}
 use Rattle.stamped_cache.specs.Rows.{row_held}
 use Rattle.stamped_cache.specs.States.{is_held, was_written, state_at}
 use Rattle.stamped_cache.proofs.Loads.{back-is, holds-over, holds-room, room-gone}
@@ -28,7 +28,7 @@ module _ (blocks : List ℕ) (r : Rules) (h : History) (x : Access) (n set' : �
   beside : Misses blocks r h x n set' None states rows
       → ((k : ℕ) → next k ≡ cond (eqb n k) (loaded write) (states k))
       → turned set' ≡ rows set' ++ n ∷ [] → HoldBy blocks r (access x ∷ h) next turned
-  beside m now row = (subst (λ s. HasPlace r.assoc (rows s) None
+  beside m now row = (subst (λ s. LeavesRoom r.assoc (rows s) None
       → turned s ≡ rows s ++ n ∷ [] → ((t : ℕ) → t ≢ s → turned t ≡ rows t)
       → HoldBy blocks r (access x ∷ h) next turned) (sym m.here)
       (λ room added same. holds-room blocks r m.stacked m.some m.deep h x states rows m.held n
@@ -39,7 +39,7 @@ module _ (blocks : List ℕ) (r : Rules) (h : History) (x : Access) (n set' : �
       → ((k : ℕ) → next k ≡ cond (eqb n k) (loaded write)
       (cond (eqb (get_or (rows set') i 0) k) Absent (states k)))
       → turned set' ≡ set (rows set') i n → HoldBy blocks r (access x ∷ h) next turned
-  over i m now row = (subst (λ s. HasPlace r.assoc (rows s) (Some i)
+  over i m now row = (subst (λ s. LeavesRoom r.assoc (rows s) (Some i)
       → IsLeaving blocks r h s (rows s) (Some i)
       → ((k : ℕ) → next k ≡ cond (eqb n k) (loaded write)
       (cond (eqb (get_or (rows s) i 0) k) Absent (states k)))
@@ -57,7 +57,7 @@ back-over : (blocks : List ℕ) (r : Rules) (h : History) (x : Access) (n set' i
     → Misses blocks r h x n set' (Some i) states rows
     → is_some (outcome_of r h x).back ≡ (back && r.wback)
 back-over blocks r h x n set' i states rows back is m =
-    (subst (λ s. HasPlace r.assoc (rows s) (Some i)
+    (subst (λ s. LeavesRoom r.assoc (rows s) (Some i)
     → IsLeaving blocks r h s (rows s) (Some i)
     → back ≡ was_written (states (get_or (rows s) i 0))
     → is_some (outcome_of r h x).back ≡ (back && r.wback)) (sym m.here)

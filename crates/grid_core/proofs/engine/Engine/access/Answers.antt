@@ -1,14 +1,15 @@
 use Rattle.std.proofs.Common.{List, ◌∷◌, ℕ, sym, ap, subst, ◌∙◌}
 use Rattle.std.proofs.lemmas.Result.{on_ok_weaker}
 use Rattle.cache_core.specs.History.{access as accessed}
-use Rattle.grid_core.specs.Engines.{EngineStandsBy, bsize_in, has_failed, numbered_in, served_in}
+use Rattle.grid_core.specs.Engines.{EngineStandsBy, bsize_in, engine_has_failed, engine_served}
+use Rattle.grid_core.specs.Engines.{numbered_in}
 use Rattle.grid_core.specs.Numbered.{blocks_in}
 use Rattle.grid_core.specs.Numbers.{number_at}
 use Rattle.grid_core.proofs.MoreNumbers.{engine-more}
 use Rattle.grid_core.proofs.engine.Engine.access.Goals as goal
 
 pub returns-clause-stands : goal.returns-clause-stands
-unfolding bsize_in has_failed numbered_in served_in
+unfolding bsize_in engine_has_failed numbered_in engine_served
 returns-clause-stands c =
     on_ok_weaker c.access_numbered.result (λ stands h e.
     let old = c.args.self.now in
@@ -22,7 +23,7 @@ returns-clause-stands c =
     c.access_numbered.ensures.stands
 
 pub returns-clause-answers : goal.returns-clause-answers
-unfolding bsize_in has_failed numbered_in served_in
+unfolding bsize_in engine_has_failed numbered_in engine_served
 returns-clause-answers c =
     on_ok_weaker c.access_numbered.result (λ answers h e.
     let old = c.args.self.now in

@@ -1,6 +1,6 @@
 use Rattle.std.proofs.Common.{sym, subst, arith}
 use Rattle.grid_core.specs.Caches.{together_rules}
-use Rattle.grid_core.specs.Engines.{bsize_in, has_failed, served_in}
+use Rattle.grid_core.specs.Engines.{bsize_in, engine_has_failed, engine_served}
 use Rattle.grid_core.specs.Numbers.{IsNumberIn, IsNumberOf}
 use Rattle.grid_core.proofs.Kept.{seated-same, sized-same}
 use Rattle.grid_core.proofs.engine.Engine.access_numbered.Goals as goal
@@ -16,7 +16,7 @@ invariant_of-self-2 c =
     }
 
 pub returns-clause-stands : goal.returns-clause-stands
-unfolding bsize_in has_failed served_in
+unfolding bsize_in engine_has_failed engine_served
 returns-clause-stands c = λ blocks h is e.
     let old = c.args.self.now in
     let told : IsNumberIn blocks (together_rules old.caches) c.args.access c.args.number =

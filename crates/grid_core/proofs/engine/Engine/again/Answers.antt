@@ -2,7 +2,7 @@ use Rattle.std.proofs.Common.{get_or, refl, subst}
 use Rattle.cache_core.specs.History.{Rules}
 use Rattle.cache_core.specs.Parts.{SendsNothing, outcome_of}
 use Rattle.cache_core.specs.Standing.{rules_from}
-use Rattle.grid_core.specs.Engines.{rules_in}
+use Rattle.grid_core.specs.Engines.{engine_rules}
 use Rattle.grid_core.proofs.Kept.{seated-same, sized-same}
 use Rattle.grid_core.proofs.Silence.{at-rules}
 use Rattle.grid_core.proofs.engine.Engine.again.Goals as goal
@@ -18,7 +18,7 @@ invariant_of-self-2 c =
     }
 
 pub returns-clause-silent : goal.returns-clause-silent
-unfolding rules_in
+unfolding engine_rules
 returns-clause-silent c = λ e h x answered index lt.
     let old = c.args.self.now in
     let seats = old.seats.items in

@@ -1,6 +1,6 @@
 use Rattle.std.proofs.Common.{◌∙◌}
 use Rattle.grid_core.specs.Caches.{together_rules, apart_rules, shades_rules}
-use Rattle.grid_core.specs.Engines.{rules_in}
+use Rattle.grid_core.specs.Engines.{engine_rules}
 use Rattle.grid_core.proofs.Kept.{seated-same, sized-same}
 use Rattle.grid_core.proofs.Seats.{written-seated}
 use Rattle.grid_core.proofs.engine.Engine.flush.Goals as goal
@@ -16,7 +16,7 @@ invariant_of-self-2 c =
     }
 
 pub returns-clause-lists : goal.returns-clause-lists
-unfolding rules_in
+unfolding engine_rules
 returns-clause-lists c = λ blocks h e.
     let old = c.args.self.now in
     c.in-Ok.ensures.lists blocks h e.caches

@@ -2,7 +2,7 @@ use Rattle.std.proofs.Common.{◌≡◌, List, map, refl, sym, ap, subst, ◌∙
 use Rattle.std.specs.List.{All}
 use Rattle.cache_core.specs.Geometry.{bsize_of}
 use Rattle.cache_core.specs.History.{Rules}
-use Rattle.grid_core.specs.Engines.{served_in, has_failed}
+use Rattle.grid_core.specs.Engines.{engine_has_failed, engine_served}
 use Rattle.grid_core.specs.Numbers.{HaveBlocksOf}
 use Rattle.grid_core.specs.Places.{IsSeated, planned_rules}
 use Rattle.grid_core.specs.Shades.{ShadeHasCounted, shade_rules}
@@ -45,7 +45,7 @@ invariant_of-result-2 c =
     }
 
 pub returns-clause-stands : goal.returns-clause-stands
-unfolding served_in has_failed
+unfolding engine_served engine_has_failed
 returns-clause-stands c = λ blocks. record {
   working = refl;
   served = refl;

@@ -2,12 +2,12 @@ use Rattle.std.proofs.Common.{get_or, subst}
 use Rattle.cache_core.specs.History.{Rules}
 use Rattle.cache_core.specs.Parts.{SendsNothing, outcome_of}
 use Rattle.cache_core.specs.Standing.{rules_from}
-use Rattle.grid_core.specs.Engines.{rules_in}
+use Rattle.grid_core.specs.Engines.{engine_rules}
 use Rattle.grid_core.proofs.Silence.{at-rules}
 use Rattle.grid_core.proofs.engine.Engine.sent_nothing.Goals as goal
 
 pub returns : goal.returns
-unfolding rules_in
+unfolding engine_rules
 returns c = λ none h x answered index lt.
     let engine = c.args.self.now in
     let seats = engine.seats.items in

@@ -5,14 +5,14 @@ use Rattle.cache_core.specs.Kinds.{shadow_of}
 use Rattle.cache_core.specs.Standing.{rules_from}
 use Rattle.grid_core.specs.declared.places.Seat.{Seat}
 use Rattle.grid_core.specs.Caches.{together_rules, shades_rules}
-use Rattle.grid_core.specs.Engines.{rules_in}
+use Rattle.grid_core.specs.Engines.{engine_rules}
 use Rattle.grid_core.specs.FullyAssociative.{shadow_misses}
 use Rattle.grid_core.specs.Places.{shadow_placed}
 use Rattle.grid_core.specs.Written.{no_rules}
 use Rattle.grid_core.proofs.engine.Engine.shadow_misses.Goals as goal
 
 pub returns-clause-counted : goal.returns-clause-counted
-unfolding rules_in shadow_misses
+unfolding engine_rules shadow_misses
 returns-clause-counted c = λ blocks h e.
     let old = c.args.self.now in
     let i = c.args.index in

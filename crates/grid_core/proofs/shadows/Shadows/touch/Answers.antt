@@ -5,7 +5,7 @@ use Rattle.cache_core.proofs.Reuse.{has}
 use Rattle.marked_list.specs.Recency.{level_of, brought_front}
 use Rattle.marked_list.specs.Marked.{marked_sizes, order_of}
 use Rattle.grid_core.specs.Numbers.{number_at}
-use Rattle.grid_core.specs.Shadows.{is_known, is_used, number_by, shadow_sizes}
+use Rattle.grid_core.specs.Shadows.{is_known, number_by, shadow_sizes, was_number_used}
 use Rattle.grid_core.specs.Totals.{total}
 use Rattle.grid_core.proofs.Numbering.{tells, level-map, front-map, known-front}
 use Rattle.grid_core.proofs.Numbers.{number-apart, number-low}
@@ -57,7 +57,7 @@ returns-clause-far c = λ k.
 
 pub returns-clause-known : goal.returns-clause-known
 returns-clause-known c = λ blocks is.
-    c.knows-known.ensures ∙ sym (ap (is_used c.args.self.now.order) is)
+    c.knows-known.ensures ∙ sym (ap (was_number_used c.args.self.now.order) is)
 
 pub returns-clause-level : goal.returns-clause-level
 returns-clause-level c = λ blocks ys is held.

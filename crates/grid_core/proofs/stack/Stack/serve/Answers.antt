@@ -5,7 +5,7 @@ use Rattle.cache_core.specs.Geometry.{sets_of}
 use Rattle.cache_core.specs.Row.{row}
 use Rattle.grid_core.specs.Slot.{slots_in, stride_of}
 use Rattle.grid_core.specs.Slots.{holds}
-use Rattle.grid_core.specs.Standing.{row_slots, rules_of, found_in}
+use Rattle.grid_core.specs.Standing.{found_in, row_slots, rules_of_rows}
 use Rattle.grid_core.proofs.StackStep.{back-turned, clean-turned, distance-turned}
 use Rattle.grid_core.proofs.StackStep.{row-room, row-whole, rows-turned, set-below}
 use Rattle.grid_core.proofs.Counted.{counted-next}
@@ -23,7 +23,7 @@ turn_in-turned-requires-clause-short c =
     omega arith
 
 pub turn_in-turned-requires-clause-far : goal.turn_in-turned-requires-clause-far
-unfolding rules_of
+unfolding rules_of_rows
 turn_in-turned-requires-clause-far c =
     let wide = c.args.self.now.width in
     let from = c.min-from.ensures in
@@ -35,7 +35,7 @@ turn_in-turned-requires-clause-far c =
     omega arith))
 
 pub returns-clause-stands : goal.returns-clause-stands
-unfolding rules_of
+unfolding rules_of_rows
 returns-clause-stands c = λ h st.
     let old = c.args.self.now in
     let g = old.geometry in
@@ -52,7 +52,7 @@ returns-clause-stands c = λ h st.
     }
 
 pub returns-clause-moved : goal.returns-clause-moved
-unfolding rules_of found_in
+unfolding rules_of_rows found_in
 returns-clause-moved c = λ h st.
     let old = c.args.self.now in
     let e = c.sought-sought.ensures in
@@ -87,14 +87,14 @@ note-requires-clause-clean c =
     omega arith
 
 pub returns-clause-counted : goal.returns-clause-counted
-unfolding rules_of
+unfolding rules_of_rows
 returns-clause-counted c = λ sizes h st low counted.
     let old = c.args.self.now in
     let x = c.args.access in
     let result = c.turn_in-turned.result in
     let e = c.sought-sought.ensures in
     let turned = rw (e.stride, e.sets) at c.turn_in-turned.ensures in
-    counted-next (rules_of old) sizes h x old.histogram c.note.new.self result.position
+    counted-next (rules_of_rows old) sizes h x old.histogram c.note.new.self result.position
     result.clean c.args.level
     (distance-turned old h st x (e.block ∙ c.requires.block) e.set c.writes-write.ensures
     turned.position)

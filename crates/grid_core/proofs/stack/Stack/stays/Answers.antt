@@ -3,7 +3,7 @@ use Rattle.cache_core.specs.Geometry.{sets_of}
 use Rattle.cache_core.specs.History.{is_write}
 use Rattle.cache_core.proofs.Lawful.{sane_of}
 use Rattle.grid_core.specs.Slots.{stays_in}
-use Rattle.grid_core.specs.Standing.{row_slots, rules_of}
+use Rattle.grid_core.specs.Standing.{row_slots, rules_of_rows}
 use Rattle.grid_core.proofs.StackStep.{first-turned, row-room}
 use Rattle.grid_core.proofs.stack.Stack.stays.Goals as goal
 
@@ -34,7 +34,7 @@ returns-clause-is c =
     (e.block ∙ c.requires)
 
 pub returns-clause-first : goal.returns-clause-first
-unfolding rules_of
+unfolding rules_of_rows
 returns-clause-first c = λ yes h st.
     let e = c.sought-sought.ensures in
     first-turned c.args.self.now h st c.args.access (e.block ∙ c.requires) e.set

@@ -10,7 +10,8 @@ use Rattle.grid_core.specs.declared.stacked.Stacked.{Stacked}
 use Rattle.grid_core.specs.Cells.{IsPlacedOn, shape_rules}
 use Rattle.grid_core.specs.Shadows.{shadow_sizes}
 use Rattle.grid_core.specs.StackedCells.{stacked_kept, stacked_rules}
-use Rattle.grid_core.specs.Standing.{IsCountedIn, IsWithinStack, StandsFor, rules_of, told_in}
+use Rattle.grid_core.specs.Standing.{IsCountedIn, IsWithinStack, StackStandsFor, rules_of_rows}
+use Rattle.grid_core.specs.Standing.{told_in}
 use Rattle.grid_core.specs.State.{IsRanked, counts_at, kept_by}
 use Rattle.grid_core.specs.Written.{no_rules, none_kept}
 use Rattle.grid_core.proofs.CountsOf.{counts-are, kept-here}
@@ -37,7 +38,7 @@ module _ (old : Stacked) {i : ℕ} (below : i < length (stacked_rules old)) {v :
   inside : v.stack < length stacks
   inside = inside-at stacks shapes old.placed i lt v shape-is
 
-  on : IsPlacedOn (rules_of w) v
+  on : IsPlacedOn (rules_of_rows w) v
   on = on-at stacks shapes old.placed i lt v shape-is w rows-are
 
   ranked : IsRanked sizes old.geometry v
@@ -113,7 +114,7 @@ returns-clause-counted c = λ blocks h e.
     (ranked old c.requires c.index-shape.ensures c.index.ensures)
     (on old c.requires c.index-shape.ensures c.index.ensures) h
     (subst (IsCountedIn levels h) (sym c.index.ensures) (e.state.counted v.stack w here))
-    (subst (λ t. StandsFor t h) (sym c.index.ensures) (e.state.rows v.stack w here))
+    (subst (λ t. StackStandsFor t h) (sym c.index.ensures) (e.state.rows v.stack w here))
     old.alike e.alike
     ∙ ap (λ s. counts_of (shape_rules s) h) c.index-shape.ensures
     ∙ ap (λ r. counts_of r h) (sym (get_or-map shape_rules old.shapes.items c.args.index v no_rules

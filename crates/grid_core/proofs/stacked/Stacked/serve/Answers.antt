@@ -14,7 +14,7 @@ use Rattle.grid_core.specs.Shadows.{HoldsOrder, is_known, levels_in, recent_in}
 use Rattle.grid_core.specs.Shadows.{shadow_sizes}
 use Rattle.grid_core.specs.State.{base_rules}
 use Rattle.grid_core.specs.StackedCells.{stacked_served}
-use Rattle.grid_core.specs.Standing.{rules_of}
+use Rattle.grid_core.specs.Standing.{rules_of_rows}
 use Rattle.grid_core.specs.Totals.{total}
 use Rattle.grid_core.proofs.After.{after-access, level-is, shapes-prior}
 use Rattle.grid_core.proofs.Again.{size-at}
@@ -110,7 +110,7 @@ returns-clause-stands c = λ blocks h is e.
           old.shapes.items c.in-Ok.prior st known level old.shapes.items old.ranked)
           (c.serve_rows.ensures.stands (bsize_of g) h old.one_size st.rows)
           (c.serve_rows.ensures.counted (bsize_of g) sizes h old.one_size st.rows
-          (λ k d lt. level-is g h x sizes (rules_of (get_or stacks k d))
+          (λ k d lt. level-is g h x sizes (rules_of_rows (get_or stacks k d))
           (stacked (get_or stacks k d))
           (size-at (bsize_of g) stacks old.one_size k d lt) c.in-Ok.prior.level
           (level ys st.order)) st.counted)

@@ -6,7 +6,7 @@ use Rattle.cache_core.specs.History.{Rules}
 use Rattle.cache_core.specs.Standing.{rules_from}
 use Rattle.cache_core.specs.declared.geometry.Geometry.{Geometry}
 use Rattle.cache_core.specs.declared.policy.Policy.{Policy}
-use Rattle.grid_run.specs.Families.{bsize_on, rules_in}
+use Rattle.grid_run.specs.Families.{bsize_on, family_rules}
 use Rattle.grid_run.proofs.family.Family.new.Goals as goal
 
 pub new-requires : goal.new-requires
@@ -15,7 +15,7 @@ new-requires c =
     (sym c.first-first.ensures) c.geometries.ensures.alike
 
 pub returns-clause-rules : goal.returns-clause-rules
-unfolding rules_in
+unfolding family_rules
 returns-clause-rules c =
     c.in_ok-engine.ensures.rules
     ∙ ap (λ (p : Policy). map (λ g. rules_from g p) c.geometries.result.now) c.policy.ensures

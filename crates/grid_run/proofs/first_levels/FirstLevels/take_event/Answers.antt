@@ -9,8 +9,8 @@ use Rattle.grid_core.specs.Numbered.{blocks_in}
 use Rattle.stage_core.specs.Events.{asked, asked_by, history}
 use Rattle.stage_core.specs.SecondLevel.{parts_of}
 use Rattle.stage_core.specs.declared.message.Side.TheVariants as side
-use Rattle.grid_run.specs.Backs.{IsPlacedOn, QueuesStayNumbered, followed_by, queue_seats}
-use Rattle.grid_run.specs.Backs.{seat_on, sent_behind, sent_on_side}
+use Rattle.grid_run.specs.Backs.{IsSeatedOn, QueuesStayNumbered, followed_by, queue_seats, seat_on}
+use Rattle.grid_run.specs.Backs.{sent_behind, sent_on_side}
 use Rattle.grid_run.specs.FirstLevels.{first_task}
 use Rattle.grid_run.specs.Fronts.{FrontAt, front_rules}
 use Rattle.grid_run.specs.Seats.{rules_of_seat}
@@ -42,7 +42,7 @@ serve_side-requires-2 c =
     let room = c.requires.room in
     let ds = map front_rules c.args.self.now.d.items in
     record {
-      placed = subst (λ (ps : List BothSeats). All (IsPlacedOn side.D ds) ps)
+      placed = subst (λ (ps : List BothSeats). All (IsSeatedOn side.D ds) ps)
           (sym c.serve_side.ensures.seats) (seated-on-d _ c.requires.seated);
       room = (
         room.1,

@@ -1,9 +1,9 @@
 use Rattle.std.proofs.Common.{◌++◌, ap, map, option_to_list, subst, sym, ◌∙◌}
 use Rattle.std.proofs.Common.{append-nil, arith}
 use Rattle.std.proofs.lemmas.Result.{on_ok_weaker}
-use Rattle.grid_core.specs.Written.{rules_at}
+use Rattle.grid_core.specs.Written.{rules_at_index}
 use Rattle.grid_run.specs.Fronts.{WasLast}
-use Rattle.grid_run.specs.Families.{rules_in}
+use Rattle.grid_run.specs.Families.{family_rules}
 use Rattle.grid_run.specs.Numbering.{what_of}
 use Rattle.grid_run.specs.declared.front.Last.{Last}
 use Rattle.grid_run.proofs.Events.{access-parts, flush-parts}
@@ -24,7 +24,7 @@ returns-in-Silence-clause-sent c = λ h q sent.
 pub returns-in-Access-clause-sent : goal.returns-in-Access-clause-sent
 returns-in-Access-clause-sent c =
     let family = c.args.self.now.family in
-    let r = rules_at (rules_in family) c.args.cell in
+    let r = rules_at_index (family_rules family) c.args.cell in
     let x = c.in-Access.access in
     let ws = map what_of c.args.waiting.now.items in
     on_ok_weaker c.ask_parts.result (λ longer h q last.
@@ -40,7 +40,7 @@ returns-in-Access-clause-sent c =
 pub index-list-requires : goal.index-list-requires
 index-list-requires c =
     let family = c.args.self.now.family in
-    let r = rules_at (rules_in family) c.args.cell in
+    let r = rules_at_index (family_rules family) c.args.cell in
     let h = c.requires.last.0 in
     let q = c.requires.last.1 in
     let v = c.args.self.now.lists in
@@ -49,21 +49,21 @@ index-list-requires c =
     let sent = sent-flush family h v.items r c.args.side q was in
     omega (
       arith,
-      list-inside h (rules_in family) v.items sent.1 c.args.cell c.requires.inside,
+      list-inside h (family_rules family) v.items sent.1 c.args.cell c.requires.inside,
       v.ok.0,
     )
 
 pub returns-in-Flush-clause-sent : goal.returns-in-Flush-clause-sent
 returns-in-Flush-clause-sent c =
     let family = c.args.self.now.family in
-    let r = rules_at (rules_in family) c.args.cell in
+    let r = rules_at_index (family_rules family) c.args.cell in
     let v = c.args.self.now.lists in
     let ws = map what_of c.args.waiting.now.items in
     on_ok_weaker c.ask_write_backs.result (λ longer h q last.
     let was = subst (λ (w : Last). WasLast family h w v.items q) c.in-Flush.is last.last in
     let sent = sent-flush family h v.items r c.args.side q was in
     let backs = c.deref.ensures.value
-    ∙ list-at h (rules_in family) v.items sent.1 c.args.cell c.index-list.result.now
+    ∙ list-at h (family_rules family) v.items sent.1 c.args.cell c.index-list.result.now
     c.requires.inside c.index-list.ensures in
     let parts = flush-parts r c.args.side h c.deref.result.now
     (option_to_list c.flush_part.result) backs c.flush_part.ensures in

@@ -1,7 +1,7 @@
 use Rattle.std.proofs.Common.{◌≡◌, ℕ, List, Some, ap, sym, subst, unwrap_or, ◌∙◌}
 use Rattle.grid_core.specs.Numbered.{blocks_in}
 use Rattle.grid_core.specs.Numbers.{number_at}
-use Rattle.grid_run.specs.Numbering.{IsRight}
+use Rattle.grid_run.specs.Numbering.{KnowsNumber}
 use Rattle.grid_run.specs.declared.numbered.Known.{Known}
 use Rattle.grid_run.proofs.MoreNumbers.{family-more}
 use Rattle.grid_run.proofs.Sent.{was-access}
@@ -9,7 +9,7 @@ use Rattle.grid_run.proofs.front.Front.serve_access.Goals as goal
 
 -- a block that has this number is right
 right-some : (blocks : List ℕ) (k : Known) → number_at blocks k.block ≡ Some k.number
-    → IsRight blocks (Some k)
+    → KnowsNumber blocks (Some k)
 right-some blocks k is j same =
     subst (λ (l : Known). number_at blocks l.block ≡ Some l.number)
     (ap (λ o. unwrap_or o k) same) is

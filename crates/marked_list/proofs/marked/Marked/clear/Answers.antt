@@ -1,7 +1,7 @@
 use Rattle.std.proofs.Common.{◌≤◌, ℕ, List, [], length, map, sym, ap, subst, ◌∙◌, arith}
 use Rattle.std.specs.List.Sorted.{IsStrictlyIncreasing}
 use Rattle.marked_list.specs.Log.{uses_of}
-use Rattle.marked_list.specs.Marks.{AreMarks, size_of}
+use Rattle.marked_list.specs.Marks.{AreMarks, mark_size}
 use Rattle.marked_list.specs.Marked.{marked_sizes}
 use Rattle.marked_list.specs.Uses.{living}
 use Rattle.marked_list.proofs.Windows.{restarted-marks, sizes-restarted}
@@ -16,12 +16,12 @@ invariant_of-self c =
           (subst (AreMarks []) (sym c.restart_each.ensures)
           (restarted-marks (uses_of old.uses) old.marks.items old.marked));
       counted = ap (λ (l : List ℕ). length (living l)) none;
-      rises = λ e. subst IsStrictlyIncreasing (sym (ap (map size_of) c.restart_each.ensures
+      rises = λ e. subst IsStrictlyIncreasing (sym (ap (map mark_size) c.restart_each.ensures
           ∙ sizes-restarted old.marks.items)) (old.rises e);
       short = subst (λ (l : List ℕ). length l ≤ 4096) none (omega arith);
     }
 
 pub returns-clause-sizes : goal.returns-clause-sizes
 unfolding marked_sizes
-returns-clause-sizes c = ap (map size_of) c.restart_each.ensures
+returns-clause-sizes c = ap (map mark_size) c.restart_each.ensures
     ∙ sizes-restarted c.args.self.now.marks.items

@@ -1,7 +1,7 @@
 use Rattle.std.proofs.Common.{ℕ, List, length, map, sym, ap, subst, ◌∙◌, arith}
 use Rattle.std.specs.List.Sorted.{IsStrictlyIncreasing}
 use Rattle.marked_list.specs.Log.{uses_of}
-use Rattle.marked_list.specs.Marks.{AreMarks, settled, size_of}
+use Rattle.marked_list.specs.Marks.{AreMarks, mark_size, settled}
 use Rattle.marked_list.specs.Marked.{order_of, marked_sizes}
 use Rattle.marked_list.specs.Uses.{living}
 use Rattle.marked_list.proofs.Counted.{settled-marks, sizes-settled}
@@ -20,7 +20,7 @@ invariant_of-self c =
           (settled-marks ms old.marks.items old.marked));
       counted = old.counted ∙ ap (λ (l : List ℕ). length l) (sym (living-twice ms))
           ∙ sym (ap (λ l. length (living l)) last);
-      rises = λ e. subst IsStrictlyIncreasing (sym (ap (map size_of) c.settle_each.ensures
+      rises = λ e. subst IsStrictlyIncreasing (sym (ap (map mark_size) c.settle_each.ensures
           ∙ sizes-settled old.used old.marks.items)) (old.rises e);
       short = let same = ap (λ (l : List ℕ). length l) last in omega (arith, same, old.counted);
     }
@@ -38,5 +38,5 @@ returns-clause-order c = ap living c.shorten.ensures.uses
 
 pub returns-clause-sizes : goal.returns-clause-sizes
 unfolding marked_sizes
-returns-clause-sizes c = ap (map size_of) c.settle_each.ensures
+returns-clause-sizes c = ap (map mark_size) c.settle_each.ensures
     ∙ sizes-settled c.args.self.now.used c.args.self.now.marks.items

@@ -3,8 +3,8 @@ use Rattle.std.proofs.Common.{not, eqb, Option, arith, sym, ap, subst, ◌∙◌
 use Rattle.std.proofs.lemmas.List.{length-append, length-reverse}
 use Rattle.cache_core.specs.Residents.{distinct}
 use Rattle.marked_list.specs.Log.{uses_of, is_stamped}
-use Rattle.marked_list.specs.Uses.{AreStamps, dead, forgotten, last_in, living, never, place_of}
-use Rattle.marked_list.specs.Uses.{used_next, with_dead}
+use Rattle.marked_list.specs.Uses.{AreStamps, dead, forgotten, last_in, living, never}
+use Rattle.marked_list.specs.Uses.{stamped_place, used_next, with_dead}
 use Rattle.marked_list.proofs.LastUse.{last-there}
 use Rattle.marked_list.proofs.Living.{log-next, length-buried, once-is, once-next}
 use Rattle.marked_list.proofs.Stamps.{stamps-next, stamped-next}
@@ -55,7 +55,7 @@ invariant_of-self-2 c =
       stamped = subst (λ l. AreStamps l stamps) (sym after)
           (stamps-next c.grow.new.stamps.items stamps b (length log) small
           c.in_ok-note.ensures.stamps (reverse log)
-          (λ q ne. ap place_of (c.grow.ensures.kept q) ∙ old.stamped q ne)
+          (λ q ne. ap stamped_place (c.grow.ensures.kept q) ∙ old.stamped q ne)
           (sym (length-reverse log)));
       once = subst (λ l. distinct (living l) ≡ living l) (sym after)
           (once-next b (reverse log) low old.once);

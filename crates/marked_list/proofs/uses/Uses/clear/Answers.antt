@@ -3,13 +3,13 @@ use Rattle.std.proofs.Common.{sym, subst}
 use Rattle.cache_core.specs.Residents.{distinct}
 use Rattle.cache_core.proofs.Reuse.{has}
 use Rattle.marked_list.specs.Log.{is_stamped}
-use Rattle.marked_list.specs.Uses.{AreStamps, HaveRoom, forgotten, living, stamp_at}
+use Rattle.marked_list.specs.Uses.{AreStamps, HaveStampRoom, forgotten, living, stamp_at}
 use Rattle.marked_list.proofs.Stamps.{stamps-room, unstamped, unstamped-same}
 use Rattle.marked_list.proofs.uses.Uses.clear.Goals as goal
 
 pub unstamp_each-requires : goal.unstamp_each-requires
 unstamp_each-requires c = let old = c.args.self.now in
-    subst (λ l. HaveRoom l old.stamps.items) (sym c.keep_each.ensures)
+    subst (λ l. HaveStampRoom l old.stamps.items) (sym c.keep_each.ensures)
     (stamps-room (reverse old.log.items) old.stamps.items old.stamped)
 
 -- the stamps are told by the last uses

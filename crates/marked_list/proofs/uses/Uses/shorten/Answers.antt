@@ -4,7 +4,7 @@ use Rattle.std.specs.Prelude.{unwrap_or}
 use Rattle.std.proofs.lemmas.List.{length-reverse}
 use Rattle.cache_core.specs.Residents.{distinct}
 use Rattle.marked_list.specs.Log.{is_stamped}
-use Rattle.marked_list.specs.Uses.{AreStamps, HaveRoom, forgotten, last_in, living, stamp_at}
+use Rattle.marked_list.specs.Uses.{AreStamps, HaveStampRoom, forgotten, last_in, living, stamp_at}
 use Rattle.marked_list.proofs.Counted.{living-le}
 use Rattle.marked_list.proofs.Living.{living-twice}
 use Rattle.marked_list.proofs.Stamps.{stamps-room, restamped, restamped-same}
@@ -21,7 +21,7 @@ restamp_each-requires-clause-short c = let old = c.args.self.now in
 
 pub restamp_each-requires-clause-room : goal.restamp_each-requires-clause-room
 restamp_each-requires-clause-room c = let old = c.args.self.now in
-    subst (λ l. HaveRoom l old.stamps.items) (sym c.keep_each.ensures)
+    subst (λ l. HaveStampRoom l old.stamps.items) (sym c.keep_each.ensures)
     (stamps-room (reverse old.log.items) old.stamps.items old.stamped)
 
 -- the stamps are told by the last uses

@@ -6,8 +6,8 @@ use Rattle.grid_core.specs.Numbers.{number_at}
 use Rattle.grid_core.specs.Shadows.{number_by}
 use Rattle.grid_core.proofs.After.{far-flush, referenced-flush}
 use Rattle.stamped_cache.specs.Rows.{row_held}
-use Rattle.stamped_cache.specs.Stamped.{counts_in, has_failed, misses_in}
-use Rattle.stamped_cache.specs.Stamped.{rules_in, served_in}
+use Rattle.stamped_cache.specs.Stamped.{stamped_counts, stamped_has_failed, stamped_rules}
+use Rattle.stamped_cache.specs.Stamped.{stamped_served, stamped_shadow_misses}
 use Rattle.stamped_cache.specs.States.{state_at}
 use Rattle.stamped_cache.proofs.CacheFacts.{assoc-some, is-stacked, used-same}
 use Rattle.stamped_cache.proofs.Holds.{holds-nothing}
@@ -15,10 +15,10 @@ use Rattle.stamped_cache.proofs.Tallies.{counts-flush, first-flush}
 use Rattle.stamped_cache.proofs.cache.StampedCache.flush.Goals as goal
 
 pub returns-clause-stands : goal.returns-clause-stands
-unfolding rules_in served_in counts_in misses_in has_failed
+unfolding stamped_rules stamped_served stamped_counts stamped_shadow_misses stamped_has_failed
 returns-clause-stands c = λ blocks h st.
     let old = c.args.self.now in
-    let r = rules_in old in
+    let r = stamped_rules old in
     let none = renewals-flush r h in
     record {
       working = st.working;

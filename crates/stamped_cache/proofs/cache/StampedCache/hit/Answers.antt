@@ -9,8 +9,8 @@ use Rattle.cache_core.proofs.Steps.{counts-step}
 use Rattle.grid_core.specs.WriteBacks.{is_first_write}
 use Rattle.stamped_cache.specs.declared.state.State.TheVariants.{Written}
 use Rattle.stamped_cache.specs.Rows.{row_held}
-use Rattle.stamped_cache.specs.Stamped.{counts_in, has_failed, misses_in}
-use Rattle.stamped_cache.specs.Stamped.{rules_in, served_in}
+use Rattle.stamped_cache.specs.Stamped.{stamped_counts, stamped_has_failed, stamped_rules}
+use Rattle.stamped_cache.specs.Stamped.{stamped_served, stamped_shadow_misses}
 use Rattle.stamped_cache.specs.States.{is_held, was_written, state_at}
 use Rattle.stamped_cache.proofs.AfterUse.{known-after, near-before, numbered-after, order-after}
 use Rattle.stamped_cache.proofs.CacheFacts.{assoc-some, is-stacked, state-inside}
@@ -20,10 +20,10 @@ use Rattle.stamped_cache.proofs.Tallies.{far-next, first-hit, first-next}
 use Rattle.stamped_cache.proofs.cache.StampedCache.hit.Goals as goal
 
 pub returns-clause-stands : goal.returns-clause-stands
-unfolding rules_in served_in counts_in misses_in has_failed
+unfolding stamped_rules stamped_served stamped_counts stamped_shadow_misses stamped_has_failed
 returns-clause-stands c = λ blocks h is st.
     let old = c.args.self.now in
-    let r = rules_in old in
+    let r = stamped_rules old in
     let x = c.args.access in
     let n = c.args.number in
     let states = state_at old.states.items in

@@ -6,17 +6,17 @@ use Rattle.marked_list.specs.Marked.{order_of}
 use Rattle.marked_list.specs.Recency.{index_in}
 use Rattle.grid_core.specs.Shadows.{number_by}
 use Rattle.stamped_cache.specs.Rows.{row_held}
-use Rattle.stamped_cache.specs.Stamped.{rules_in}
+use Rattle.stamped_cache.specs.Stamped.{stamped_rules}
 use Rattle.stamped_cache.specs.States.{state_at}
 use Rattle.stamped_cache.proofs.Leaving.{leaving-is, row-used}
 use Rattle.stamped_cache.proofs.CacheFacts.{assoc-some, is-stacked, used-named}
 use Rattle.stamped_cache.proofs.cache.StampedCache.leaving.Goals as goal
 
 pub returns-clause-last : goal.returns-clause-last
-unfolding rules_in
+unfolding stamped_rules
 returns-clause-last c = λ blocks h st.
     let old = c.args.self.now in
-    let r = rules_in old in
+    let r = stamped_rules old in
     let s = c.args.set in
     let rows = row_held old.rows in
     let states = state_at old.states.items in

@@ -9,10 +9,10 @@ use Rattle.cache_core.specs.Parts.{one_if, outcome_of}
 use Rattle.cache_core.specs.Residents.{is_resident, renewals}
 use Rattle.cache_core.proofs.Steps.{counts-step}
 use Rattle.grid_core.specs.WriteBacks.{is_first_write}
-use Rattle.stamped_cache.specs.Putting.{HasPlace, Misses}
+use Rattle.stamped_cache.specs.Putting.{LeavesRoom, Misses}
 use Rattle.stamped_cache.specs.Rows.{row_held}
-use Rattle.stamped_cache.specs.Stamped.{counts_in, has_failed, misses_in}
-use Rattle.stamped_cache.specs.Stamped.{rules_in, served_in}
+use Rattle.stamped_cache.specs.Stamped.{stamped_counts, stamped_has_failed, stamped_rules}
+use Rattle.stamped_cache.specs.Stamped.{stamped_served, stamped_shadow_misses}
 use Rattle.stamped_cache.specs.States.{is_held, state_at}
 use Rattle.stamped_cache.proofs.AfterUse.{known-after, known-before, near-before, numbered-after}
 use Rattle.stamped_cache.proofs.AfterUse.{order-after}
@@ -23,14 +23,14 @@ use Rattle.stamped_cache.proofs.Tallies.{far-next, few-more, first-load, first-n
 use Rattle.stamped_cache.proofs.cache.StampedCache.load.Goals as goal
 
 pub leaving-leaving-requires : goal.leaving-leaving-requires
-unfolding rules_in
+unfolding stamped_rules
 leaving-leaving-requires c =
     let deep = sets-some c.args.self.now in
     let is = c.set-set.ensures in
     omega arith
 
 pub put-back-requires-clause-set : goal.put-back-requires-clause-set
-unfolding rules_in
+unfolding stamped_rules
 put-back-requires-clause-set c =
     let deep = sets-some c.args.self.now in
     let is = c.set-set.ensures in
@@ -46,7 +46,7 @@ any-is true = refl
 any-is false = refl
 
 pub invariant_of-self-2 : goal.invariant_of-self-2
-unfolding served_in
+unfolding stamped_served
 invariant_of-self-2 c =
     let old = c.args.self.now in
     let back = c.put-back.result && old.wback in
@@ -61,10 +61,10 @@ invariant_of-self-2 c =
     }
 
 pub returns-clause-stands : goal.returns-clause-stands
-unfolding rules_in served_in counts_in misses_in has_failed
+unfolding stamped_rules stamped_served stamped_counts stamped_shadow_misses stamped_has_failed
 returns-clause-stands c = λ blocks h is st.
     let old = c.args.self.now in
-    let r = rules_in old in
+    let r = stamped_rules old in
     let x = c.args.access in
     let n = c.args.number in
     let states = state_at c.grow.new.states.items in
@@ -87,7 +87,7 @@ returns-clause-stands c = λ blocks h is st.
       number = is;
       absent = absent;
       here = here;
-      place = subst (λ w. HasPlace w (rows set) c.leaving-leaving.result) old.wide
+      place = subst (λ w. LeavesRoom w (rows set) c.leaving-leaving.result) old.wide
           c.leaving-leaving.ensures.place;
       last = c.leaving-leaving.ensures.last blocks h st;
     } in

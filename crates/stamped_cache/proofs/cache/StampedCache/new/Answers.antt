@@ -11,8 +11,8 @@ use Rattle.grid_core.specs.Shadows.{number_by}
 use Rattle.grid_core.specs.Standing.{stack_rules}
 use Rattle.grid_core.proofs.After.{far-start}
 use Rattle.stamped_cache.specs.Rows.{row_held}
-use Rattle.stamped_cache.specs.Stamped.{counts_in, has_failed, misses_in}
-use Rattle.stamped_cache.specs.Stamped.{rules_in, served_in}
+use Rattle.stamped_cache.specs.Stamped.{stamped_counts, stamped_has_failed, stamped_rules}
+use Rattle.stamped_cache.specs.Stamped.{stamped_served, stamped_shadow_misses}
 use Rattle.stamped_cache.specs.States.{state_at}
 use Rattle.stamped_cache.proofs.CacheFacts.{none-renewed, referenced-none, used-none}
 use Rattle.stamped_cache.proofs.Holds.{holds-nothing}
@@ -43,7 +43,7 @@ new-requires-2-clause-narrow c =
     omega arith
 
 pub returns-clause-stands : goal.returns-clause-stands
-unfolding rules_in served_in counts_in misses_in has_failed
+unfolding stamped_rules stamped_served stamped_counts stamped_shadow_misses stamped_has_failed
 returns-clause-stands c = λ blocks.
     let r = stack_rules c.args.geometry c.args.wback in
     let none = none-renewed r in

@@ -3,13 +3,13 @@ use Rattle.std.proofs.Common.{◌++◌, ◌∷◌, [], sym, ap, ◌∙◌, arith
 use Rattle.std.proofs.lemmas.List.{get_or-set_same, get_or_default, length-set}
 use Rattle.std.proofs.lemmas.List.Elements.{All-set}
 use Rattle.cache_core.specs.Row.{row}
-use Rattle.stamped_cache.specs.Rows.{row_held, sets_in, ways_in}
+use Rattle.stamped_cache.specs.Rows.{row_held, set_ways, sets_in}
 use Rattle.stamped_cache.proofs.RowLists.{row-add, row-set_other}
 use Rattle.stamped_cache.proofs.RowSizes.{has-room, inside-all}
 use Rattle.stamped_cache.proofs.rows.Rows.add.Goals as goal
 
 pub invariant_of-self : goal.invariant_of-self
-unfolding sets_in ways_in
+unfolding sets_in set_ways
 invariant_of-self c =
     let old = c.args.self.now in
     let s = c.args.set in
@@ -23,7 +23,7 @@ invariant_of-self c =
     }
 
 pub returns-clause-added : goal.returns-clause-added
-unfolding row_held sets_in ways_in
+unfolding row_held sets_in set_ways
 returns-clause-added c =
     let old = c.args.self.now in
     let s = c.args.set in
@@ -37,7 +37,7 @@ returns-clause-added c =
     ∙ ap (λ k. take k (row old.ways s old.numbers.items) ++ c.args.number ∷ []) is
 
 pub returns-clause-others : goal.returns-clause-others
-unfolding row_held sets_in ways_in
+unfolding row_held sets_in set_ways
 returns-clause-others c = λ t apart.
     let old = c.args.self.now in
     let s = c.args.set in
