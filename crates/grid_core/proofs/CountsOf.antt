@@ -8,7 +8,6 @@ use Rattle.cache_core.specs.declared.access.Access.{Access}
 use Rattle.cache_core.specs.declared.geometry.Geometry.{Geometry}
 use Rattle.cache_core.specs.Geometry.{bsize_of}
 use Rattle.cache_core.specs.History.{History, Rules, block_of}
-use Rattle.cache_core.specs.declared.counts.PerClass.{PerClass}
 use Rattle.cache_core.specs.Counts.{by_class, counts_of, none_by_class}
 use Rattle.cache_core.specs.Residents.{distinct, renewals}
 use Rattle.cache_core.specs.Kinds.{shadow_of}
@@ -19,8 +18,8 @@ use Rattle.grid_core.specs.declared.stack.Stack.{Stack}
 use Rattle.grid_core.specs.Cells.{IsPlacedOn, shape_rules}
 use Rattle.grid_core.specs.Histograms.{level_at, misses_past, past_in}
 use Rattle.grid_core.specs.Standing.{IsCountedIn, StackStandsFor, rules_of_rows, written_at}
-use Rattle.grid_core.specs.State.{IsAlike, IsRanked, backs_at, base_rules, counts_at, past_at}
-use Rattle.grid_core.specs.State.{whole_counts}
+use Rattle.grid_core.specs.State.{IsAlike, IsRanked, base_rules, counts_at, shape_misses}
+use Rattle.grid_core.specs.State.{shape_written_back, whole_counts}
 use Rattle.grid_core.specs.Ways.{stack_distance}
 use Rattle.grid_core.proofs.After.{level-is, near-is}
 use Rattle.grid_core.proofs.Distances.{hits-distance}
@@ -93,22 +92,21 @@ module _ (g : Geometry) (sizes : List ℕ) (rising : IsStrictlyIncreasing sizes)
 -- the counts of a shape are those that its rows give
 module _ (stacks : List Stack) (v : Shape) (w : Stack) (here : w ≡ get_or stacks v.stack w)
     (inside : v.stack < length stacks) where
-  past-here : (k : ℕ) → past_in w.histogram v.ways k ≡ past_at stacks v k
-  past-here k = ap (λ (t : Stack). past_in t.histogram v.ways k) here
-      ∙ sym (ap (λ (f : ℕ → ℕ → PerClass). f v.ways k)
-      (get_or-map (λ t. past_in t.histogram) stacks v.stack w (λ n k. none_by_class) inside))
+  misses-here : (k : ℕ) → past_in w.histogram v.ways k ≡ shape_misses stacks v k
+  misses-here k = ap (λ (t : Stack). past_in t.histogram v.ways k) here
+      ∙ sym (get_or-map (λ (t : Stack). past_in t.histogram v.ways k) stacks v.stack w none_by_class
+      inside)
 
-  backs-here : written_at w v.ways ≡ backs_at stacks v
+  backs-here : written_at w v.ways ≡ shape_written_back stacks v
   backs-here = ap (λ (t : Stack). written_at t v.ways) here
-      ∙ sym (ap (λ (f : ℕ → ℕ). f v.ways)
-      (get_or-map written_at stacks v.stack w (λ n. 0) inside))
+      ∙ sym (get_or-map (λ (t : Stack). written_at t v.ways) stacks v.stack w 0 inside)
 
   pub kept-here : (a : Alike) → whole_counts a (past_in w.histogram v.ways 0)
       (past_in w.histogram v.ways (v.rank + 1)) (written_at w v.ways) v.wback
       ≡ counts_at a stacks v
   kept-here a = ap (λ p. whole_counts a p (past_in w.histogram v.ways (v.rank + 1))
-      (written_at w v.ways) v.wback) (past-here 0)
-      ∙ ap (λ p. whole_counts a (past_at stacks v 0) p (written_at w v.ways) v.wback)
-      (past-here (v.rank + 1))
-      ∙ ap (λ n. whole_counts a (past_at stacks v 0) (past_at stacks v (v.rank + 1)) n v.wback)
-      backs-here
+      (written_at w v.ways) v.wback) (misses-here 0)
+      ∙ ap (λ p. whole_counts a (shape_misses stacks v 0) p (written_at w v.ways) v.wback)
+      (misses-here (v.rank + 1))
+      ∙ ap (λ n. whole_counts a (shape_misses stacks v 0) (shape_misses stacks v (v.rank + 1)) n
+      v.wback) backs-here

@@ -1,5 +1,5 @@
 -- As many slots of the rows are dirty as blocks.
-use Rattle.std.proofs.Common.{◌≡◌, ℕ, zero, suc, ◌*◌, ◌%◌, ◌<◌, ◌≤◌, Bool, true, false, cond}
+use Rattle.std.proofs.Common.{◌≡◌, ℕ, zero, suc, ◌%◌, ◌<◌, ◌≤◌, Bool, true, false, cond}
 use Rattle.std.proofs.Common.{◌&&◌, eqb, ltb, List, [], ◌∷◌, ◌++◌, length, take, map}
 use Rattle.std.proofs.Common.{filter, replicate, refl, sym, ap, subst, ◌∙◌, inl, inr, arith}
 use Rattle.std.proofs.Math.Nat.{mod-lt}
@@ -21,7 +21,8 @@ use Rattle.grid_core.specs.Slot.{Slot, no_slot}
 use Rattle.grid_core.specs.declared.stack.Stack.{Stack}
 use Rattle.grid_core.specs.Ways.{with_ways, IsStacked}
 use Rattle.grid_core.specs.Levels.{dirty_level}
-use Rattle.grid_core.specs.Slots.{dirty_bytes, dirty_in_rows}
+use Rattle.grid_core.specs.Pushed.{is_dirty_slot}
+use Rattle.grid_core.specs.Slots.{dirty_slot_count, dirty_slot_count_in_rows}
 use Rattle.grid_core.specs.Standing.{StackStandsFor, row_slots, rules_of_rows, slot_at, slots_of}
 use Rattle.grid_core.proofs.Distances.{resident-take}
 use Rattle.grid_core.proofs.Levels.{written-level}
@@ -126,61 +127,57 @@ module _ (r : Rules) (st : IsStacked r) (n : ℕ) (pos : 0 < n) (le : n ≤ r.as
       (λ z g. dirty-has q h z (of-dirty z (to-set r.sets z g).1))
       (λ z g. set-to r.sets z (mod-lt z setful) (dirty-of z (has-dirty q h z g)))
 
-  module _ (bsize : ℕ) where
-    none-empty : (j k : ℕ) → dirty_bytes bsize r.wback n (take j (replicate k no_slot)) ≡ []
-    none-empty zero k = refl
-    none-empty (suc j) zero = refl
-    none-empty (suc j) (suc k) = none-empty j k
+  none-empty : (j k : ℕ) → dirty_slot_count r.wback n (take j (replicate k no_slot)) ≡ 0
+  none-empty zero k = refl
+  none-empty (suc j) zero = refl
+  none-empty (suc j) (suc k) = none-empty j k
 
-    -- the dirty bytes of the first of a row that shows some blocks
-    abbrev bytes_of : ℕ → ℕ → List ℕ → List ℕ
-    bytes_of j k bs =
-        dirty_bytes bsize r.wback n (take j (map (slot_at r h) bs ++ replicate k no_slot))
+  -- how many are dirty among the first slots of a row that shows some blocks
+  abbrev shown_dirty : ℕ → ℕ → List ℕ → ℕ
+  shown_dirty j k bs =
+      dirty_slot_count r.wback n (take j (map (slot_at r h) bs ++ replicate k no_slot))
 
-    -- they are as many as the first of these blocks that are dirty
-    count-shown : (j k : ℕ) (bs : List ℕ)
-        → length (bytes_of j k bs) ≡ length (filter marked (take j bs))
-    count-shown zero k bs = refl
-    count-shown (suc j) k [] = ap length (none-empty (suc j) k)
-    count-shown (suc j) k (b ∷ bs) = (elim (marked b) as (λ t.
-        length (cond t (b * bsize ∷ bytes_of j k bs) (bytes_of j k bs))
-        ≡ length (cond t (b ∷ filter marked (take j bs)) (filter marked (take j bs)))) [
-          | true ↦ let e = count-shown j k bs in omega arith
-          | false ↦ count-shown j k bs
-        ])
+  -- as many as of the first of these blocks
+  count-shown : (j k : ℕ) (bs : List ℕ) → shown_dirty j k bs ≡ length (filter marked (take j bs))
+  count-shown zero k bs = refl
+  count-shown (suc j) k [] = none-empty (suc j) k
+  count-shown (suc j) k (b ∷ bs) =
+      let rest = map (slot_at r h) bs ++ replicate k no_slot in
+      let dirty = filter (is_dirty_slot r.wback n) (take j rest) in
+      (elim (marked b) as (λ t. length (cond t (slot_at r h b ∷ dirty) dirty)
+      ≡ length (cond t (b ∷ filter marked (take j bs)) (filter marked (take j bs)))) [
+        | true ↦ let e = count-shown j k bs in omega arith
+        | false ↦ count-shown j k bs
+      ])
 
-    module _ (xs : ℕ → List Slot) (rows : (t : ℕ) → t < r.sets → xs t ≡ slots_of r h t) where
-      abbrev part : ℕ → List Slot
-      part t = take n (xs t)
+  module _ (xs : ℕ → List Slot) (rows : (t : ℕ) → t < r.sets → xs t ≡ slots_of r h t) where
+    abbrev part : ℕ → List Slot
+    part t = take n (xs t)
 
-      count-row : (t : ℕ) → t < r.sets
-          → length (dirty_bytes bsize r.wback n (part t)) ≡ length (dirty_of t)
-      unfolding slots_of
-      count-row t below =
-          let ranks = ranked r t ms in
-          ap (λ l. length (dirty_bytes bsize r.wback n l))
-          (ap (take n) (rows t below)
-          ∙ take-take n r.assoc (map (slot_at r h) ranks ++ replicate r.assoc no_slot) le)
-          ∙ count-shown n r.assoc ranks
+    count-row : (t : ℕ) → t < r.sets → dirty_slot_count r.wback n (part t) ≡ length (dirty_of t)
+    unfolding slots_of
+    count-row t below =
+        let ranks = ranked r t ms in
+        ap (dirty_slot_count r.wback n)
+        (ap (take n) (rows t below)
+        ∙ take-take n r.assoc (map (slot_at r h) ranks ++ replicate r.assoc no_slot) le)
+        ∙ count-shown n r.assoc ranks
 
-      count-rows : (k : ℕ) → k ≤ r.sets
-          → length (dirty_in_rows bsize r.wback n xs k) ≡ length (dirty_to k)
-      count-rows zero below = refl
-      count-rows (suc k) below =
-          let before = count-rows k (omega arith) in
-          let here = count-row k (omega arith) in
-          let all = length-append (dirty_in_rows bsize r.wback n xs k)
-          (dirty_bytes bsize r.wback n (part k)) in
-          let both = length-append (dirty_to k) (dirty_of k) in
-          omega arith
+    count-rows : (k : ℕ) → k ≤ r.sets
+        → dirty_slot_count_in_rows r.wback n xs k ≡ length (dirty_to k)
+    count-rows zero below = refl
+    count-rows (suc k) below =
+        let before = count-rows k (omega arith) in
+        let here = count-row k (omega arith) in
+        let both = length-append (dirty_to k) (dirty_of k) in
+        omega arith
 
 -- as many slots of a stack are dirty in n ways as a cache of n ways has dirty blocks
 pub dirty-slots : (s : Stack) (h : History) → StackStandsFor s h → (n : ℕ) → 0 < n
-    → n ≤ (rules_of_rows s).assoc → (bsize : ℕ)
-    → length (dirty_in_rows bsize (rules_of_rows s).wback n (row_slots s)
-    (rules_of_rows s).sets) ≡ length (dirty_blocks (with_ways n (rules_of_rows s)) h)
-dirty-slots s h stands n pos le bsize =
-    count-rows (rules_of_rows s) (stacked s) n pos le h bsize (row_slots s) stands.rows
-    (rules_of_rows s).sets
-    (omega arith)
+    → n ≤ (rules_of_rows s).assoc
+    → dirty_slot_count_in_rows (rules_of_rows s).wback n (row_slots s) (rules_of_rows s).sets
+    ≡ length (dirty_blocks (with_ways n (rules_of_rows s)) h)
+dirty-slots s h stands n pos le =
+    count-rows (rules_of_rows s) (stacked s) n pos le h (row_slots s) stands.rows
+    (rules_of_rows s).sets (omega arith)
     ∙ all-sets (rules_of_rows s) (stacked s) n pos le h (some-sets s)

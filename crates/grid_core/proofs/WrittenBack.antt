@@ -13,7 +13,7 @@ use Rattle.cache_core.specs.Residents.{is_resident, renewals, victim}
 use Rattle.grid_core.specs.declared.stack.Stack.{Stack}
 use Rattle.grid_core.specs.Histograms.{clean_ways, first_in, writes_first}
 use Rattle.grid_core.specs.Levels.{dirty_level}
-use Rattle.grid_core.specs.Slots.{dirty_in_rows, level_after}
+use Rattle.grid_core.specs.Slots.{dirty_slot_count_in_rows, level_after}
 use Rattle.grid_core.specs.Standing.{IsCountedIn, StackStandsFor, dirty_slots, row_slots}
 use Rattle.grid_core.specs.Standing.{rules_of_rows, written_at}
 use Rattle.grid_core.specs.Ways.{IsStacked, stack_distance, with_ways}
@@ -97,8 +97,8 @@ module _ (r : Rules) (st : IsStacked r) (n : ℕ) (some : 0 < n) (fits : n ≤ r
 
 -- the dirty slots in the words of the rules
 slots-are : (s : Stack) (n : ℕ)
-    → dirty_slots s n ≡ length (dirty_in_rows 1 (rules_of_rows s).wback n
-    (row_slots s) (rules_of_rows s).sets)
+    → dirty_slots s n ≡ dirty_slot_count_in_rows (rules_of_rows s).wback n (row_slots s)
+    (rules_of_rows s).sets
 unfolding rules_of_rows
 slots-are s n = refl
 
@@ -119,7 +119,7 @@ written-is sizes s h stands counted n some fits =
           ∙ writes-are r st n some fits back h in
           let law = backs-are-first-writes q st.allocates back some h in
           let dirty : dirty_slots s n ≡ length (dirty_blocks q h) =
-          slots-are s n ∙ dirty-slots s h stands n some fits 1 in
+          slots-are s n ∙ dirty-slots s h stands n some fits in
           omega arith
       | false ↦ λ through. sym (nothing-written q through h)
     ]) refl

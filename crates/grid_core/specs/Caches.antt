@@ -9,13 +9,13 @@ use Rattle.cache_core.specs.Counts.{no_counts, none_by_class}
 use Rattle.grid_core.specs.declared.caches.Caches.{Caches}
 use Rattle.grid_core.specs.declared.places.Place.{Place}
 use Rattle.grid_core.specs.declared.places.Place.TheVariants.{Together, Apart}
-use Rattle.grid_core.specs.StackedCells.{stacked_kept, stacked_rules, stacked_served}
+use Rattle.grid_core.specs.StackedCells.{stacked_counts, stacked_rules, stacked_served}
+use Rattle.grid_core.specs.StackedCells.{stacked_shadow_misses}
 use Rattle.grid_core.specs.Singles.{single_rules, single_counts, SingleStandsFor}
 use Rattle.grid_core.specs.Singles.{SingleHasAnswered}
 use Rattle.grid_core.specs.Shades.{ShadeStandsFor, shade_rules, shade_misses}
 use Rattle.grid_core.specs.Shading.{FollowsStacked, StackedFollowed}
 use Rattle.grid_core.specs.Places.{IsPlace}
-use Rattle.grid_core.specs.Written.{none_kept}
 
 -- the rules of the caches that are served together
 abbrev pub together_rules : Caches → List Rules
@@ -39,12 +39,12 @@ HasShadowAt c p = IsPlace (length (together_rules c)) (length (shades_rules c)) 
 
 -- the counts at a place
 abbrev pub counts_in : Caches → Place → Counts
-counts_in c (Together i) = (get_or (stacked_kept c.stacked) i none_kept).0
+counts_in c (Together i) = get_or (stacked_counts c.stacked) i no_counts
 counts_in c (Apart i) = get_or (map single_counts c.singles.items) i no_counts
 
 -- the misses of the shadow at a place
 abbrev pub misses_in : Caches → Place → PerClass
-misses_in c (Together i) = (get_or (stacked_kept c.stacked) i none_kept).1
+misses_in c (Together i) = get_or (stacked_shadow_misses c.stacked) i none_by_class
 misses_in c (Apart i) = get_or (map shade_misses c.shades.items) i none_by_class
 
 -- each cache stands for the history, by the numbers that the places of a list of blocks are
@@ -73,6 +73,7 @@ pub record HaveSameRules (c d : Caches) : Type 0 where
 
 -- the caches have the same counts
 pub record HaveSameCounts (c d : Caches) : Type 0 where
-  pub together : stacked_kept c.stacked ≡ stacked_kept d.stacked
+  pub together : stacked_counts c.stacked ≡ stacked_counts d.stacked
+  pub together_shadows : stacked_shadow_misses c.stacked ≡ stacked_shadow_misses d.stacked
   pub apart : map single_counts c.singles.items ≡ map single_counts d.singles.items
   pub shades : map shade_misses c.shades.items ≡ map shade_misses d.shades.items

@@ -19,9 +19,13 @@ engine_rules e = map (λ s. rules_from s.geometry e.policy) e.seats.items
 unfoldable pub engine_served : Engine → ℕ
 engine_served e = e.served
 
--- what the caches counted, and the misses of their shadows
-unfoldable pub kept_in : Engine → List (Counts × PerClass)
-kept_in e = map (λ s. (counts_in e.caches s.cell, misses_in e.caches s.shadow)) e.seats.items
+-- what each cache counted
+unfoldable pub engine_counts : Engine → List Counts
+engine_counts e = map (λ s. counts_in e.caches s.cell) e.seats.items
+
+-- the misses of the shadow of each cache
+unfoldable pub engine_shadow_misses : Engine → List PerClass
+engine_shadow_misses e = map (λ s. misses_in e.caches s.shadow) e.seats.items
 
 -- whether an allocation failed
 unfoldable pub engine_has_failed : Engine → Bool

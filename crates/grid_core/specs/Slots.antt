@@ -2,7 +2,7 @@
 use Rattle.std.specs.Prelude.{ℕ, zero, suc, ◌*◌}
 use Rattle.std.specs.Prelude.{Bool, false, not, ◌&&◌, ◌||◌, ◌==◌}
 use Rattle.std.specs.Prelude.{nat_lt, if◌then◌else◌, get_or, ◌-◌, List, [], ◌∷◌, ◌++◌, length}
-use Rattle.std.specs.Prelude.{take, min}
+use Rattle.std.specs.Prelude.{take, min, filter, ◌+◌}
 use Rattle.std.specs.List.{find}
 use Rattle.std.specs.Option.{option_map_or}
 use Rattle.cache_core.specs.Row.{shifted, row}
@@ -45,6 +45,18 @@ clean_in level distance n = min (level_after false level distance) n
 abbrev pub next_slots : ℕ → Bool → List Slot → List Slot
 next_slots b write row = shifted (holds b) (used_slot b (level_after write (level_in b row)
     (index_of (holds b) row))) row
+
+module _ (wback : Bool) (n : ℕ) where
+  -- how many slots of a row are dirty in a cache of n ways
+  abbrev pub dirty_slot_count : List Slot → ℕ
+  dirty_slot_count row = length (filter (is_dirty_slot wback n) row)
+
+  -- the same of the first n slots of each row, from the first row on: the number says how many
+  -- rows are gone through
+  abbrev pub dirty_slot_count_in_rows : (ℕ → List Slot) → ℕ → ℕ
+  dirty_slot_count_in_rows rows zero = 0
+  dirty_slot_count_in_rows rows (suc k) =
+      dirty_slot_count_in_rows rows k + dirty_slot_count (take n (rows k))
 
 module _ (bsize : ℕ) (wback : Bool) (n : ℕ) where
   -- the first bytes of the blocks of a row that are dirty in a cache of n ways

@@ -8,7 +8,8 @@ use Rattle.cache_core.specs.History.{History, Rules, is_write}
 use Rattle.grid_core.specs.declared.stacked.Stacked.{Stacked}
 use Rattle.grid_core.specs.Standing.{HasMoved, found_in}
 use Rattle.grid_core.specs.Cells.{HitsIn, KnowsPrior, hit_at, shape_rules}
-use Rattle.grid_core.specs.State.{IsAfter, IsAlike, kept_by}
+use Rattle.grid_core.specs.Shadows.{far_in}
+use Rattle.grid_core.specs.State.{IsAfter, IsAlike, counts_at}
 
 -- the rules of the caches
 unfoldable pub stacked_rules : Stacked → List Rules
@@ -18,9 +19,13 @@ stacked_rules e = map shape_rules e.shapes.items
 unfoldable pub stacked_served : Stacked → ℕ
 stacked_served e = e.served
 
--- what the caches counted
-unfoldable pub stacked_kept : Stacked → List (Counts × PerClass)
-stacked_kept e = map (kept_by e.alike e.stacks.items e.shadows) e.shapes.items
+-- what each cache counted
+unfoldable pub stacked_counts : Stacked → List Counts
+stacked_counts e = map (counts_at e.alike e.stacks.items) e.shapes.items
+
+-- the misses of the shadow of each cache
+unfoldable pub stacked_shadow_misses : Stacked → List PerClass
+stacked_shadow_misses e = map (λ s. far_in e.shadows s.rank) e.shapes.items
 
 -- the caches stand for the history by the numbers that the places of a list of blocks are: their
 -- state is what the history gives

@@ -1,6 +1,6 @@
 -- How the rows of slots relate to the history.
 use Rattle.std.specs.Prelude.{◌≡◌, ℕ, ◌<◌, ◌≤◌, ◌+◌, ◌-◌, ◌*◌, ◌/◌, ◌%◌, ◌++◌, List, map, take}
-use Rattle.std.specs.Prelude.{replicate, true, min, length, []}
+use Rattle.std.specs.Prelude.{replicate, true, min, []}
 use Rattle.std.specs.Prelude.{false, Bool, Option, get_or, nat_lt, if◌then◌else◌}
 use Rattle.std.specs.List.{All}
 use Rattle.std.specs.Option.{option_map}
@@ -17,7 +17,7 @@ use Rattle.cache_core.specs.Geometry.{bsize_of, sets_of}
 use Rattle.grid_core.specs.Slot.{Slot, no_slot, slot_of, slots_in, stride_of, used_slot}
 use Rattle.grid_core.specs.declared.stack.Stack.{Stack}
 use Rattle.grid_core.specs.declared.stacks.Behind.{Behind}
-use Rattle.grid_core.specs.Slots.{dirty_in_rows, stays_in}
+use Rattle.grid_core.specs.Slots.{dirty_slot_count_in_rows, stays_in}
 use Rattle.grid_core.specs.Histograms.{HasCounted, IsWithinHistogram, first_in, histogram_levels}
 use Rattle.grid_core.specs.Pushed.{dirty_in}
 use Rattle.grid_core.specs.Ways.{with_ways, stack_distance}
@@ -126,7 +126,7 @@ IsWithinStack n s = IsWithinHistogram n s.histogram
 
 -- how many slots are dirty in n ways
 abbrev pub dirty_slots : Stack → ℕ → ℕ
-dirty_slots s n = length (dirty_in_rows 1 s.wback n (row_slots s) (sets_of s.geometry))
+dirty_slots s n = dirty_slot_count_in_rows s.wback n (row_slots s) (sets_of s.geometry)
 
 -- how many blocks a cache of n ways has written back
 abbrev pub written_at : Stack → ℕ → ℕ

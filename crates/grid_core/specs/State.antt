@@ -75,13 +75,13 @@ pub record IsShapeFor (sizes : List ℕ) (stacks : List Stack) (g : Geometry) (w
   pub found : get_or sizes s.rank 0 ≡ blocks_of g
 
 -- the accesses that missed in the cache of a shape, and in the first k of the shadows
-abbrev pub past_at : List Stack → Shape → ℕ → PerClass
-past_at stacks s k = get_or (map (λ t. past_in t.histogram) stacks) s.stack
-    (λ n k. none_by_class) s.ways k
+abbrev pub shape_misses : List Stack → Shape → ℕ → PerClass
+shape_misses stacks s k =
+    get_or (map (λ t. past_in t.histogram s.ways k) stacks) s.stack none_by_class
 
 -- how many blocks the cache of a shape has written back
-abbrev pub backs_at : List Stack → Shape → ℕ
-backs_at stacks s = get_or (map written_at stacks) s.stack (λ n. 0) s.ways
+abbrev pub shape_written_back : List Stack → Shape → ℕ
+shape_written_back stacks s = get_or (map (λ t. written_at t s.ways) stacks) s.stack 0
 
 -- all counts of a cache, by what all caches count alike, its misses, those of them that miss in its
 -- shadow too, and the blocks that it wrote back
@@ -100,9 +100,5 @@ whole_counts a misses far backs wback = record {
 
 -- the counts of the cache of a shape
 abbrev pub counts_at : Alike → List Stack → Shape → Counts
-counts_at a stacks s = whole_counts a (past_at stacks s 0) (past_at stacks s (s.rank + 1))
-    (backs_at stacks s) s.wback
-
--- what is kept for a cache: its counts, and the misses of its shadow
-abbrev pub kept_by : Alike → List Stack → Shadows → Shape → Counts × PerClass
-kept_by a stacks shadows s = (counts_at a stacks s, far_in shadows s.rank)
+counts_at a stacks s = whole_counts a (shape_misses stacks s 0)
+    (shape_misses stacks s (s.rank + 1)) (shape_written_back stacks s) s.wback

@@ -1,10 +1,7 @@
 -- Words for lists of caches, and for what a flush writes back in each.
 use Rattle.std.specs.Prelude.{ℕ, ◌*◌, false, List, get_or, map}
-use Rattle.cache_core.specs.declared.counts.Counts.{Counts}
-use Rattle.cache_core.specs.declared.counts.PerClass.{PerClass}
 use Rattle.cache_core.specs.History.{History, Rules}
 use Rattle.cache_core.specs.Dirty.{dirty_blocks}
-use Rattle.cache_core.specs.Counts.{no_counts, none_by_class}
 
 -- rules for what lies past the end of a list
 abbrev pub no_rules : Rules
@@ -25,7 +22,3 @@ rules_at_index rs k = get_or rs k no_rules
 -- the first bytes of the blocks that a flush writes back, in rising order
 abbrev pub written_by : History → Rules → List ℕ
 written_by h r = map (λ b. b * r.bsize) (dirty_blocks r h)
-
--- nothing was counted, for what lies past the end of a list
-abbrev pub none_kept : Counts × PerClass
-none_kept = (no_counts, none_by_class)

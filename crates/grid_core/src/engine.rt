@@ -40,7 +40,7 @@ pub struct Engine {
     ghost step: { failed ≡ false → AreInStep served caches },
 }
 
-#[tactic(auto, unfolding(crate::specs::Engines::engine_rules, crate::specs::Engines::engine_served, crate::specs::Engines::kept_in, crate::specs::Engines::engine_has_failed, crate::specs::Engines::bsize_in, crate::specs::Engines::numbered_in))]
+#[tactic(auto, unfolding(crate::specs::Engines::engine_rules, crate::specs::Engines::engine_served, crate::specs::Engines::engine_counts, crate::specs::Engines::engine_shadow_misses, crate::specs::Engines::engine_has_failed, crate::specs::Engines::bsize_in, crate::specs::Engines::numbered_in))]
 impl Engine {
     ghost use Rattle.std.specs.Prelude.{◌≡◌, ◌<◌, ◌+◌, ◌/◌, ◌∷◌, [], List, map, true, false};
     ghost use Rattle.std.specs.Prelude.{OnOk, OnErr, IfOk, IsErr, length, ℕ};
@@ -52,8 +52,9 @@ impl Engine {
     ghost use Rattle.cache_core.specs.Lists.{IsBeginning};
     ghost use Rattle.grid_core.specs.Cells.{items_of};
     ghost use Rattle.grid_core.specs.Engines.{EngineHasAnswered, EngineStandsBy, EngineStandsFor};
-    ghost use Rattle.grid_core.specs.Engines.{bsize_in, engine_has_failed, engine_rules};
-    ghost use Rattle.grid_core.specs.Engines.{engine_served, kept_in, numbered_in};
+    ghost use Rattle.grid_core.specs.Engines.{bsize_in, engine_counts, engine_has_failed};
+    ghost use Rattle.grid_core.specs.Engines.{engine_rules, engine_served, engine_shadow_misses};
+    ghost use Rattle.grid_core.specs.Engines.{numbered_in};
     ghost use Rattle.grid_core.specs.Numbers.{IsNumberOf, MayNumber, with_number};
     ghost use Rattle.grid_core.specs.Written.{rules_at_index, written_by};
 
@@ -108,7 +109,8 @@ impl Engine {
         ensures works { OnOk result (engine_has_failed self.new ≡ false) }
 
         ensures fails { OnErr result (engine_has_failed self.new ≡ true) }
-        ensures keeps { OnErr result ((kept_in self.new ≡ kept_in self.old)
+        ensures keeps { OnErr result ((engine_counts self.new ≡ engine_counts self.old)
+            × (engine_shadow_misses self.new ≡ engine_shadow_misses self.old)
             × (engine_served self.new ≡ engine_served self.old)) }
         ensures failed { engine_has_failed self.old ≡ true → IsErr result }
         ensures numbers { IsBeginning (numbered_in self.old) (numbered_in self.new) }
@@ -145,7 +147,8 @@ impl Engine {
         ensures works { OnOk result (engine_has_failed self.new ≡ false) }
 
         ensures fails { OnErr result (engine_has_failed self.new ≡ true) }
-        ensures keeps { OnErr result ((kept_in self.new ≡ kept_in self.old)
+        ensures keeps { OnErr result ((engine_counts self.new ≡ engine_counts self.old)
+            × (engine_shadow_misses self.new ≡ engine_shadow_misses self.old)
             × (engine_served self.new ≡ engine_served self.old)) }
         ensures failed { engine_has_failed self.old ≡ true → IsErr result }
         ensures numbers { numbered_in self.new ≡ numbered_in self.old }
@@ -205,7 +208,8 @@ impl Engine {
         ensures works { OnOk result (engine_has_failed self.new ≡ false) }
 
         ensures fails { OnErr result (engine_has_failed self.new ≡ true) }
-        ensures keeps { OnErr result ((kept_in self.new ≡ kept_in self.old)
+        ensures keeps { OnErr result ((engine_counts self.new ≡ engine_counts self.old)
+            × (engine_shadow_misses self.new ≡ engine_shadow_misses self.old)
             × (engine_served self.new ≡ engine_served self.old)) }
         ensures failed { engine_has_failed self.old ≡ true → IsErr result }
         ensures numbers { numbered_in self.new ≡ numbered_in self.old }
@@ -234,7 +238,8 @@ impl Engine {
         ensures works { OnOk result (engine_has_failed self.new ≡ false) }
 
         ensures fails { OnErr result (engine_has_failed self.new ≡ true) }
-        ensures keeps { OnErr result ((kept_in self.new ≡ kept_in self.old)
+        ensures keeps { OnErr result ((engine_counts self.new ≡ engine_counts self.old)
+            × (engine_shadow_misses self.new ≡ engine_shadow_misses self.old)
             × (engine_served self.new ≡ engine_served self.old)) }
         ensures failed { engine_has_failed self.old ≡ true → IsErr result }
         ensures numbers { numbered_in self.new ≡ numbered_in self.old }

@@ -9,8 +9,8 @@ ghost use Rattle.std.specs.Ordering.{nat_cmp};
 ghost use Rattle.marked_list.specs.Recency.{index_of};
 ghost use Rattle.cache_core.specs.Row.{row};
 ghost use Rattle.grid_core.specs.Slot.{slot_of, slots_at, slots_in};
-ghost use Rattle.grid_core.specs.Slots.{holds, level_in, slot_level};
-ghost use Rattle.grid_core.specs.Slots.{dirty_bytes, dirty_in_rows};
+ghost use Rattle.grid_core.specs.Slots.{dirty_bytes, dirty_in_rows, dirty_slot_count};
+ghost use Rattle.grid_core.specs.Slots.{dirty_slot_count_in_rows, holds, level_in, slot_level};
 
 use crate::sought::Sought;
 use crate::word::{EMPTY, first_byte_of, has_block, is_dirty, level_of};
@@ -150,12 +150,11 @@ pub(crate) fn dirty_rising(
     Ok(bytes)
 }
 
-/// How many slots of a row are dirty in a cache of `ways` ways: as many as there are first bytes of
-/// their blocks, which may be of any size, so of one byte.
+/// How many slots of a row are dirty in a cache of `ways` ways.
 fn count_in(row: &[u64], stride: u64, wback: bool, ways: usize) -> usize
     requires power { (k : ℕ) × (stride ≡ 2 ^ k) × (k < 64) }
     ensures count { (sets set : ℕ) → result
-        ≡ length (dirty_bytes 1 wback ways (slots_in stride sets set row.now)) }
+        ≡ dirty_slot_count wback ways (slots_in stride sets set row.now) }
     ensures few { result ≤ length row.now }
 {
     let mut count = 0;
@@ -179,8 +178,8 @@ pub(crate) fn count_dirty(
     requires room { vec_len slots.now ≡ sets * most }
     requires fits { ways ≤ most }
     requires power { (k : ℕ) × (stride ≡ 2 ^ k) × (k < 64) }
-    ensures { result ≡ length (dirty_in_rows 1 wback ways
-        (λ t. slots_in stride sets t (row most t slots.now.items)) sets) }
+    ensures { result ≡ dirty_slot_count_in_rows wback ways
+        (λ t. slots_in stride sets t (row most t slots.now.items)) sets }
 {
     let mut count = 0;
     for set in 0..sets {

@@ -58,7 +58,7 @@ pub(crate) struct Stacked {
     ghost lived: { HaveLived stacks.items },
 }
 
-#[tactic(auto, unfolding(crate::specs::StackedCells::stacked_rules, crate::specs::StackedCells::stacked_served, crate::specs::StackedCells::stacked_kept))]
+#[tactic(auto, unfolding(crate::specs::StackedCells::stacked_rules, crate::specs::StackedCells::stacked_served, crate::specs::StackedCells::stacked_counts, crate::specs::StackedCells::stacked_shadow_misses))]
 impl Stacked {
     ghost use Rattle.std.specs.Prelude.{◌≡◌, ◌<◌, ◌≤◌, ◌+◌, ◌/◌, ◌^◌, ◌∷◌, [], map, true};
     ghost use Rattle.std.specs.Prelude.{false, OnOk, OnErr, IfOk, get_or, length, ℕ, List};
@@ -67,7 +67,7 @@ impl Stacked {
     ghost use Rattle.cache_core.specs.History.{History, access as accessed, flush as flushed};
     ghost use Rattle.cache_core.specs.History.{is_write};
     ghost use Rattle.cache_core.specs.Parts.{SendsNothing, outcome_of};
-    ghost use Rattle.cache_core.specs.Counts.{counts_of};
+    ghost use Rattle.cache_core.specs.Counts.{counts_of, no_counts, none_by_class};
     ghost use Rattle.grid_core.specs.Recent.{IsAgain};
     ghost use Rattle.grid_core.specs.Shadows.{recent_in};
     ghost use Rattle.grid_core.specs.FullyAssociative.{shadow_misses};
@@ -76,8 +76,9 @@ impl Stacked {
     ghost use Rattle.grid_core.specs.Standing.{stack_rules};
     ghost use Rattle.grid_core.specs.Numbers.{IsNumberOf};
     ghost use Rattle.grid_core.specs.StackedCells.{StackedHasAnswered, StackedStandsBy};
-    ghost use Rattle.grid_core.specs.StackedCells.{stacked_kept, stacked_rules, stacked_served};
-    ghost use Rattle.grid_core.specs.Written.{none_kept, rules_at_index, written_by};
+    ghost use Rattle.grid_core.specs.StackedCells.{stacked_counts, stacked_rules, stacked_served};
+    ghost use Rattle.grid_core.specs.StackedCells.{stacked_shadow_misses};
+    ghost use Rattle.grid_core.specs.Written.{rules_at_index, written_by};
 
     /// Empty caches of these geometries, which have the block size of `first`.
     pub fn new(
@@ -148,7 +149,8 @@ impl Stacked {
             IsNumberOf blocks (bsize_of self.old.geometry) access number →
             StackedStandsBy blocks self.old h → StackedHasAnswered self.new h access) }
         ensures served { OnOk result (stacked_served self.new ≡ stacked_served self.old + 1) }
-        ensures keeps { OnErr result ((stacked_kept self.new ≡ stacked_kept self.old)
+        ensures keeps { OnErr result ((stacked_counts self.new ≡ stacked_counts self.old)
+            × (stacked_shadow_misses self.new ≡ stacked_shadow_misses self.old)
             × (stacked_served self.new ≡ stacked_served self.old)) }
         ensures rules { stacked_rules self.new ≡ stacked_rules self.old }
     {
@@ -209,7 +211,8 @@ impl Stacked {
             IsNumberOf blocks (bsize_of self.old.geometry) access number →
             StackedStandsBy blocks self.old h → StackedHasAnswered self.new h access) }
         ensures served { OnOk result (stacked_served self.new ≡ stacked_served self.old + 1) }
-        ensures keeps { OnErr result ((stacked_kept self.new ≡ stacked_kept self.old)
+        ensures keeps { OnErr result ((stacked_counts self.new ≡ stacked_counts self.old)
+            × (stacked_shadow_misses self.new ≡ stacked_shadow_misses self.old)
             × (stacked_served self.new ≡ stacked_served self.old)) }
         ensures rules { stacked_rules self.new ≡ stacked_rules self.old }
     {
@@ -257,7 +260,7 @@ impl Stacked {
     /// The counts of one cache.
     pub fn counts(&self, index: usize) -> Counts
         requires { index < length (stacked_rules self.now) }
-        ensures kept { result ≡ (get_or (stacked_kept self.now) index none_kept).0 }
+        ensures kept { result ≡ get_or (stacked_counts self.now) index no_counts }
         ensures counted { (blocks : List ℕ) (h : History) → StackedStandsBy blocks self.now h →
             result ≡ counts_of (rules_at_index (stacked_rules self.now) index) h }
     {
@@ -268,7 +271,7 @@ impl Stacked {
     /// The fully associative misses of one cache.
     pub fn shadow_misses(&self, index: usize) -> PerClass
         requires { index < length (stacked_rules self.now) }
-        ensures kept { result ≡ (get_or (stacked_kept self.now) index none_kept).1 }
+        ensures kept { result ≡ get_or (stacked_shadow_misses self.now) index none_by_class }
         ensures counted { (blocks : List ℕ) (h : History) → StackedStandsBy blocks self.now h →
             result ≡ shadow_misses (rules_at_index (stacked_rules self.now) index) h }
     {

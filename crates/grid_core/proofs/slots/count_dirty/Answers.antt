@@ -1,9 +1,9 @@
-use Rattle.std.proofs.Common.{◌≡◌, suc, ◌+◌, ◌-◌, ◌*◌, List, ℕ, take, drop, length, ap}
+use Rattle.std.proofs.Common.{◌≡◌, suc, ◌+◌, ◌-◌, ◌*◌, List, ℕ, drop, ap}
 use Rattle.std.proofs.Common.{◌∙◌, arith}
-use Rattle.std.proofs.lemmas.List.{length-append, length-take}
+use Rattle.std.proofs.lemmas.List.{length-take}
 use Rattle.cache_core.specs.Row.{row}
 use Rattle.grid_core.specs.Slot.{Slot, slots_in}
-use Rattle.grid_core.specs.Slots.{dirty_bytes, dirty_in_rows}
+use Rattle.grid_core.specs.Slots.{dirty_slot_count, dirty_slot_count_in_rows}
 use Rattle.grid_core.proofs.WordRows.{row-cut}
 use Rattle.grid_core.proofs.slots.count_dirty.Goals as goal
 
@@ -19,16 +19,14 @@ loop-set-preserved c =
     let ws = c.args.slots.now.items in
     let rows : ℕ → List Slot = λ k. slots_in n sets k (row most k ws) in
     let here = c.count_in-count.ensures.count sets set
-    ∙ ap (λ l. length (dirty_bytes 1 t ways l))
+    ∙ ap (dirty_slot_count t ways)
     (row-cut n sets set ways most place ws c.deref.result.now c.requires.fits
     c.deref.ensures.value) in
-    let all = length-append (dirty_in_rows 1 t ways rows set)
-    (dirty_bytes 1 t ways (take ways (rows set))) in
     let before = c.loop-set.invariant.counted in
     let next : suc set ≡ set + 1 = omega arith in
-    let more = ap (λ k. length (dirty_in_rows 1 t ways rows k)) next in
+    let more = ap (dirty_slot_count_in_rows t ways rows) next in
     let before' : c.loop-set.count + c.count_in-count.result
-    ≡ length (dirty_in_rows 1 t ways rows (suc set)) = omega (arith, here, all, before) in
+    ≡ dirty_slot_count_in_rows t ways rows (suc set) = omega (arith, here, before) in
     let few = c.loop-set.invariant.few in
     let low = c.count_in-count.ensures.few in
     let short = length-take (place + ways - place) (drop place c.deref.result.now) in

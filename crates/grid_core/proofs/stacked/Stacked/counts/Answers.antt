@@ -1,19 +1,17 @@
 use Rattle.std.proofs.Common.{◌≡◌, ℕ, ◌<◌, ◌+◌, ◌^◌, List, get_or, length, map, sym, ap, subst}
 use Rattle.std.proofs.Common.{◌∙◌, arith}
 use Rattle.std.proofs.lemmas.List.{get_or-map, length-map}
-use Rattle.cache_core.specs.declared.counts.Counts.{Counts}
-use Rattle.cache_core.specs.declared.counts.PerClass.{PerClass}
-use Rattle.cache_core.specs.Counts.{counts_of}
+use Rattle.cache_core.specs.Counts.{counts_of, no_counts}
 use Rattle.grid_core.specs.declared.cells.Shape.{Shape}
 use Rattle.grid_core.specs.declared.stack.Stack.{Stack}
 use Rattle.grid_core.specs.declared.stacked.Stacked.{Stacked}
 use Rattle.grid_core.specs.Cells.{IsPlacedOn, shape_rules}
 use Rattle.grid_core.specs.Shadows.{shadow_sizes}
-use Rattle.grid_core.specs.StackedCells.{stacked_kept, stacked_rules}
+use Rattle.grid_core.specs.StackedCells.{stacked_counts, stacked_rules}
 use Rattle.grid_core.specs.Standing.{IsCountedIn, IsWithinStack, StackStandsFor, rules_of_rows}
 use Rattle.grid_core.specs.Standing.{told_in}
-use Rattle.grid_core.specs.State.{IsRanked, counts_at, kept_by}
-use Rattle.grid_core.specs.Written.{no_rules, none_kept}
+use Rattle.grid_core.specs.State.{IsRanked, counts_at}
+use Rattle.grid_core.specs.Written.{no_rules}
 use Rattle.grid_core.proofs.CountsOf.{counts-are, kept-here}
 use Rattle.grid_core.proofs.StackBounds.{within-stack}
 use Rattle.grid_core.proofs.Placed.{inside-at, on-at, shape-there}
@@ -87,7 +85,7 @@ shape_counts-requires-clause-within c =
     (old.bounded v.stack w (inside old c.requires c.index-shape.ensures c.index.ensures)))
 
 pub returns-clause-kept : goal.returns-clause-kept
-unfolding stacked_kept
+unfolding stacked_counts
 returns-clause-kept c =
     let old = c.args.self.now in
     let v = c.index-shape.result.now in
@@ -97,9 +95,8 @@ returns-clause-kept c =
     ∙ kept-here rows v w c.index.ensures
     (inside old c.requires c.index-shape.ensures c.index.ensures) old.alike
     ∙ ap (counts_at old.alike rows) c.index-shape.ensures
-    ∙ ap (λ (p : Counts × PerClass). p.0) (sym (get_or-map
-    (kept_by old.alike rows old.shadows) old.shapes.items c.args.index v none_kept
-    (lt old c.requires c.index-shape.ensures c.index.ensures)))
+    ∙ sym (get_or-map (counts_at old.alike rows) old.shapes.items c.args.index v no_counts
+    (lt old c.requires c.index-shape.ensures c.index.ensures))
 
 pub returns-clause-counted : goal.returns-clause-counted
 unfolding stacked_rules

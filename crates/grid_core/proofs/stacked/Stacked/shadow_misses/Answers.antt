@@ -1,14 +1,12 @@
 use Rattle.std.proofs.Common.{◌<◌, length, sym, ap, subst, ◌∙◌}
 use Rattle.std.proofs.lemmas.List.{get_or-map}
-use Rattle.cache_core.specs.declared.counts.Counts.{Counts}
-use Rattle.cache_core.specs.declared.counts.PerClass.{PerClass}
+use Rattle.cache_core.specs.Counts.{none_by_class}
 use Rattle.grid_core.specs.declared.cells.Shape.{Shape}
 use Rattle.grid_core.specs.Cells.{shape_rules}
 use Rattle.grid_core.specs.FullyAssociative.{shadow_misses}
 use Rattle.grid_core.specs.Shadows.{far_in, shadow_sizes}
-use Rattle.grid_core.specs.StackedCells.{stacked_kept, stacked_rules}
-use Rattle.grid_core.specs.State.{kept_by}
-use Rattle.grid_core.specs.Written.{no_rules, none_kept}
+use Rattle.grid_core.specs.StackedCells.{stacked_rules, stacked_shadow_misses}
+use Rattle.grid_core.specs.Written.{no_rules}
 use Rattle.grid_core.proofs.Placed.{shape-there}
 use Rattle.grid_core.proofs.StackBounds.{within-events}
 use Rattle.grid_core.proofs.stacked.Stacked.shadow_misses.Goals as goal
@@ -24,15 +22,15 @@ pub misses-requires-clause-within : goal.misses-requires-clause-within
 misses-requires-clause-within c = within-events c.args.self.now c.args.self.now.leveled
 
 pub returns-clause-kept : goal.returns-clause-kept
-unfolding stacked_rules stacked_kept
+unfolding stacked_rules stacked_shadow_misses
 returns-clause-kept c =
     let old = c.args.self.now in
     let i = c.args.index in
     let v = c.index.result.now in
     let lt = shape-there old c.requires in
     c.misses.ensures ∙ ap (λ (s : Shape). far_in old.shadows s.rank) c.index.ensures
-    ∙ ap (λ (w : Counts × PerClass). w.1) (sym (get_or-map
-    (kept_by old.alike old.stacks.items old.shadows) old.shapes.items i v none_kept lt))
+    ∙ sym (get_or-map (λ (s : Shape). far_in old.shadows s.rank) old.shapes.items i v none_by_class
+    lt)
 
 pub returns-clause-counted : goal.returns-clause-counted
 unfolding stacked_rules
