@@ -52,6 +52,7 @@ impl Marked {
         ensures order { IfOk result (λ marked. order_of marked ≡ []) }
         ensures used { IfOk result (λ marked. (q : ℕ) → was_used marked q ≡ false) }
         ensures sizes { IfOk result (λ marked. marked_sizes marked ≡ sizes.now) }
+        ensures few { IfOk result (λ marked. kept_uses marked ≡ 0) }
     {
         let marks = new_marks(alloc, sizes)?;
         Ok(Marked {
@@ -151,6 +152,7 @@ impl Marked {
         ensures order { order_of self.new ≡ [] }
         ensures used { (q : ℕ) → was_used self.new q ≡ was_used self.old q }
         ensures sizes { marked_sizes self.new ≡ marked_sizes self.old }
+        ensures few { kept_uses self.new ≡ 0 }
     {
         self.uses.clear();
         restart_each(&mut self.marks);
