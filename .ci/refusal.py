@@ -52,9 +52,15 @@ def open_goal(function, said):
     return next((it for it in told if is_told_of(function, it)), None)
 
 
-def is_proved(function, said):
-    """Whether the function is said to be proved."""
-    return f"fn {function.name}: proved" in said
+def is_proved(name, said):
+    """Whether the function of this name, or of one that ends so, is said to be proved."""
+    told = re.compile(rf"fn (\S+::)?{re.escape(name)}: proved\b")
+    return any(told.match(it) for it in said)
+
+
+def type_error(line):
+    """What the line says behind the place of an error and its kind."""
+    return UNREAD.split(line, maxsplit=1)[-1]
 
 
 def waits(said):
