@@ -40,8 +40,8 @@ def line(name, its, first, references):
     speeds = [references / one[0] / 1e6 for one in its]
     ratios = [base[0] / own[0] for base, own in zip(first, its)]
     figures = [statistics.median(speeds), min(speeds), statistics.median(ratios), min(ratios)]
-    figures.append(statistics.median(one[1] for one in its))
     return COLUMNS.format(name, *("{:.2f}".format(figure) for figure in figures),
+                          "{:.3f}".format(statistics.median(one[1] for one in its)),
                           "{:.0f}".format(max(one[2] for one in its)),
                           "{:.0%}".format(max(one[3] for one in its)))
 
