@@ -44,6 +44,20 @@ pub fn wind_up<H: Threads>(rt: &H, i: Option<StageHandle>, d: Option<StageHandle
     gravest(RunFault::Threads, i, d, None)
 }
 
+/// Drops what the threads that were not started were to own, and only then joins those that were
+/// started: they end when their peers are gone.
+pub fn give_up<H: Threads, L: Drop>(
+    rt: &H,
+    left: L,
+    i: Option<StageHandle>,
+    d: Option<StageHandle>,
+) -> RunFault
+    ensures { (result ≡ RunFault.Memory) ⊎ (result ≡ RunFault.Threads) }
+{
+    drop(left);
+    wind_up(rt, i, d)
+}
+
 /// Joins the thread of a stage. Answers the counts of the stage and its ends.
 pub fn join_stage<H: Threads>(rt: &H, handle: StageHandle) -> Result<(Counts, StageEnds), Stop>
     ensures { IfOk result (λ r. StageCounted handle.promise.machine.value

@@ -23,7 +23,7 @@ use crate::fault::{RunFault, gravest};
 use crate::feed::Feed;
 use crate::gap::gap;
 use crate::gate::{Gate, Who};
-use crate::joins::{all_ended, join_merge, join_stage, why_stopped, wind_up};
+use crate::joins::{all_ended, give_up, join_merge, join_stage, why_stopped};
 use crate::merge_thread::{MergeHandle, start_merge};
 use crate::split::split;
 use crate::stage_thread::{StageHandle, start_stage};
@@ -97,20 +97,6 @@ pub struct Started {
     pub i: StageHandle,
     pub d: StageHandle,
     pub merge: MergeHandle,
-}
-
-/// Drops what the threads that were not started were to own, and only then joins those that were
-/// started: they end when their peers are gone.
-fn give_up<H: Threads, L: Drop>(
-    rt: &H,
-    left: L,
-    i: Option<StageHandle>,
-    d: Option<StageHandle>,
-) -> RunFault
-    ensures { (result ≡ RunFault.Memory) ⊎ (result ≡ RunFault.Threads) }
-{
-    drop(left);
-    wind_up(rt, i, d)
 }
 
 /// Starts the three threads. If one cannot be started, all ends are dropped, so that the threads
