@@ -46,6 +46,12 @@ pub record EngineStandsBy (blocks : List ℕ) (e : Engine) (h : History) : Type 
   pub served : engine_served e ≡ length h
   pub caches : CachesStandBy blocks h e.caches
 
+-- the engine has counted what it had before, and served as many accesses and flushes
+abbrev pub EngineKeepsCounts : Engine → Engine → Type 0
+EngineKeepsCounts new old = (engine_counts new ≡ engine_counts old)
+    × (engine_shadow_misses new ≡ engine_shadow_misses old)
+    × (engine_served new ≡ engine_served old)
+
 -- the engine stands for the history by its own numbers
 abbrev pub EngineStandsFor : Engine → History → Type 0
 EngineStandsFor e = EngineStandsBy (numbered_in e) e

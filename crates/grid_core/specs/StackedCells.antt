@@ -27,6 +27,12 @@ stacked_counts e = map (counts_at e.alike e.stacks.items) e.shapes.items
 unfoldable pub stacked_shadow_misses : Stacked → List PerClass
 stacked_shadow_misses e = map (λ s. far_in e.shadows s.rank) e.shapes.items
 
+-- the caches have counted what they had before, and served as many accesses and flushes
+abbrev pub StackedKeepsCounts : Stacked → Stacked → Type 0
+StackedKeepsCounts new old = (stacked_counts new ≡ stacked_counts old)
+    × (stacked_shadow_misses new ≡ stacked_shadow_misses old)
+    × (stacked_served new ≡ stacked_served old)
+
 -- the caches stand for the history by the numbers that the places of a list of blocks are: their
 -- state is what the history gives
 pub record StackedStandsBy (blocks : List ℕ) (e : Stacked) (h : History) : Type 0 where

@@ -9,8 +9,8 @@ ghost use Rattle.grid_core.specs.Numbers.{IsNumberIn};
 ghost use Rattle.grid_core.specs.Shades.{shade_rules};
 ghost use Rattle.grid_core.specs.Shading.{FollowsStacked, StackedFollowed, IsShaded};
 ghost use Rattle.grid_core.specs.Singles.{single_shading};
-ghost use Rattle.grid_core.specs.StackedCells.{stacked_counts, stacked_rules, stacked_served};
-ghost use Rattle.grid_core.specs.StackedCells.{stacked_shadow_misses};
+ghost use Rattle.grid_core.specs.StackedCells.{StackedKeepsCounts, stacked_rules};
+ghost use Rattle.grid_core.specs.StackedCells.{stacked_served};
 ghost use Rattle.grid_core.specs.Written.{written_by};
 
 use crate::places::{Place, Seat, lists_of};
@@ -46,8 +46,7 @@ fn serve_stacked(stacked: &mut Stacked, access: Access, number: usize) -> Result
         IsNumberIn blocks (stacked_rules stacked.old) access number →
         FollowsStacked blocks h stacked.old → StackedFollowed h access stacked.new) }
     ensures served { OnOk result (stacked_served stacked.new ≤ stacked_served stacked.old + 1) }
-    ensures keeps { OnErr result ((stacked_counts stacked.new ≡ stacked_counts stacked.old)
-        × (stacked_shadow_misses stacked.new ≡ stacked_shadow_misses stacked.old)) }
+    ensures keeps { OnErr result (StackedKeepsCounts stacked.new stacked.old) }
     ensures rules { stacked_rules stacked.new ≡ stacked_rules stacked.old }
 {
     if stacked.cells() == 0 {

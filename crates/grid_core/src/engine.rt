@@ -51,9 +51,9 @@ impl Engine {
     ghost use Rattle.cache_core.specs.Standing.{rules_from};
     ghost use Rattle.cache_core.specs.Lists.{IsBeginning};
     ghost use Rattle.grid_core.specs.Cells.{items_of};
-    ghost use Rattle.grid_core.specs.Engines.{EngineHasAnswered, EngineStandsBy, EngineStandsFor};
-    ghost use Rattle.grid_core.specs.Engines.{bsize_in, engine_counts, engine_has_failed};
-    ghost use Rattle.grid_core.specs.Engines.{engine_rules, engine_served, engine_shadow_misses};
+    ghost use Rattle.grid_core.specs.Engines.{EngineHasAnswered, EngineKeepsCounts};
+    ghost use Rattle.grid_core.specs.Engines.{EngineStandsBy, EngineStandsFor, bsize_in};
+    ghost use Rattle.grid_core.specs.Engines.{engine_has_failed, engine_rules, engine_served};
     ghost use Rattle.grid_core.specs.Engines.{numbered_in};
     ghost use Rattle.grid_core.specs.Numbers.{IsNumberOf, MayNumber, with_number};
     ghost use Rattle.grid_core.specs.Written.{rules_at_index, written_by};
@@ -109,9 +109,7 @@ impl Engine {
         ensures works { OnOk result (engine_has_failed self.new ≡ false) }
 
         ensures fails { OnErr result (engine_has_failed self.new ≡ true) }
-        ensures keeps { OnErr result ((engine_counts self.new ≡ engine_counts self.old)
-            × (engine_shadow_misses self.new ≡ engine_shadow_misses self.old)
-            × (engine_served self.new ≡ engine_served self.old)) }
+        ensures keeps { OnErr result (EngineKeepsCounts self.new self.old) }
         ensures failed { engine_has_failed self.old ≡ true → IsErr result }
         ensures numbers { IsBeginning (numbered_in self.old) (numbered_in self.new) }
         ensures only { OnOk result (numbered_in self.new
@@ -147,9 +145,7 @@ impl Engine {
         ensures works { OnOk result (engine_has_failed self.new ≡ false) }
 
         ensures fails { OnErr result (engine_has_failed self.new ≡ true) }
-        ensures keeps { OnErr result ((engine_counts self.new ≡ engine_counts self.old)
-            × (engine_shadow_misses self.new ≡ engine_shadow_misses self.old)
-            × (engine_served self.new ≡ engine_served self.old)) }
+        ensures keeps { OnErr result (EngineKeepsCounts self.new self.old) }
         ensures failed { engine_has_failed self.old ≡ true → IsErr result }
         ensures numbers { numbered_in self.new ≡ numbered_in self.old }
         ensures rules { engine_rules self.new ≡ engine_rules self.old }
@@ -208,9 +204,7 @@ impl Engine {
         ensures works { OnOk result (engine_has_failed self.new ≡ false) }
 
         ensures fails { OnErr result (engine_has_failed self.new ≡ true) }
-        ensures keeps { OnErr result ((engine_counts self.new ≡ engine_counts self.old)
-            × (engine_shadow_misses self.new ≡ engine_shadow_misses self.old)
-            × (engine_served self.new ≡ engine_served self.old)) }
+        ensures keeps { OnErr result (EngineKeepsCounts self.new self.old) }
         ensures failed { engine_has_failed self.old ≡ true → IsErr result }
         ensures numbers { numbered_in self.new ≡ numbered_in self.old }
         ensures rules { engine_rules self.new ≡ engine_rules self.old }
@@ -238,9 +232,7 @@ impl Engine {
         ensures works { OnOk result (engine_has_failed self.new ≡ false) }
 
         ensures fails { OnErr result (engine_has_failed self.new ≡ true) }
-        ensures keeps { OnErr result ((engine_counts self.new ≡ engine_counts self.old)
-            × (engine_shadow_misses self.new ≡ engine_shadow_misses self.old)
-            × (engine_served self.new ≡ engine_served self.old)) }
+        ensures keeps { OnErr result (EngineKeepsCounts self.new self.old) }
         ensures failed { engine_has_failed self.old ≡ true → IsErr result }
         ensures numbers { numbered_in self.new ≡ numbered_in self.old }
         ensures rules { engine_rules self.new ≡ engine_rules self.old }

@@ -75,7 +75,8 @@ impl Stacked {
     ghost use Rattle.grid_core.specs.Slot.{HasWords};
     ghost use Rattle.grid_core.specs.Standing.{stack_rules};
     ghost use Rattle.grid_core.specs.Numbers.{IsNumberOf};
-    ghost use Rattle.grid_core.specs.StackedCells.{StackedHasAnswered, StackedStandsBy};
+    ghost use Rattle.grid_core.specs.StackedCells.{StackedHasAnswered, StackedKeepsCounts};
+    ghost use Rattle.grid_core.specs.StackedCells.{StackedStandsBy};
     ghost use Rattle.grid_core.specs.StackedCells.{stacked_counts, stacked_rules, stacked_served};
     ghost use Rattle.grid_core.specs.StackedCells.{stacked_shadow_misses};
     ghost use Rattle.grid_core.specs.Written.{rules_at_index, written_by};
@@ -149,9 +150,7 @@ impl Stacked {
             IsNumberOf blocks (bsize_of self.old.geometry) access number →
             StackedStandsBy blocks self.old h → StackedHasAnswered self.new h access) }
         ensures served { OnOk result (stacked_served self.new ≡ stacked_served self.old + 1) }
-        ensures keeps { OnErr result ((stacked_counts self.new ≡ stacked_counts self.old)
-            × (stacked_shadow_misses self.new ≡ stacked_shadow_misses self.old)
-            × (stacked_served self.new ≡ stacked_served self.old)) }
+        ensures keeps { OnErr result (StackedKeepsCounts self.new self.old) }
         ensures rules { stacked_rules self.new ≡ stacked_rules self.old }
     {
         let Ok(prior) = self.shadows.touch(block, number, access) else {
@@ -211,9 +210,7 @@ impl Stacked {
             IsNumberOf blocks (bsize_of self.old.geometry) access number →
             StackedStandsBy blocks self.old h → StackedHasAnswered self.new h access) }
         ensures served { OnOk result (stacked_served self.new ≡ stacked_served self.old + 1) }
-        ensures keeps { OnErr result ((stacked_counts self.new ≡ stacked_counts self.old)
-            × (stacked_shadow_misses self.new ≡ stacked_shadow_misses self.old)
-            × (stacked_served self.new ≡ stacked_served self.old)) }
+        ensures keeps { OnErr result (StackedKeepsCounts self.new self.old) }
         ensures rules { stacked_rules self.new ≡ stacked_rules self.old }
     {
         let block = self.geometry.block(access.addr);

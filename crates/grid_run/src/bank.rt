@@ -26,7 +26,7 @@ fn backs_for(alloc: Global, shelves: &[BackShelf]) -> Result<Vec<Back>, NoMemory
         All (WereAsked blocks no_requests) backs.items) }
     ensures settled { IfOk result (λ backs. All NothingWaits backs.items) }
 {
-    made_for_each!(alloc, shelves, Back::new)
+    made_for_each!(alloc, shelves, shelf => Back::new(alloc, shelf)?)
 }
 
 /// Serves all requests that wait, for one second level after another.

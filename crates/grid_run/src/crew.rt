@@ -44,7 +44,7 @@ fn workers_for(alloc: Global, plans: &[LanePlan], share: usize) -> Result<Vec<Wo
         map worker_task workers.items ≡ map task_of_plan plans.now) }
     ensures taken { IfOk result (λ workers. All (HasTakenUnlessFailed []) workers.items) }
 {
-    made_for_each!(alloc, plans, Worker::new, share)
+    made_for_each!(alloc, plans, plan => Worker::new(alloc, plan, share)?)
 }
 
 /// Each worker takes the batch, on so many threads of its own; at most so many work at once.

@@ -33,7 +33,7 @@ pub(crate) fn fronts_for(alloc: Global, shelves: &[Shelf]) -> Result<Vec<Front>,
     ensures stands { IfOk result (λ fronts. (blocks : List ℕ) →
         All (FrontAt blocks []) fronts.items) }
 {
-    made_for_each!(alloc, shelves, Front::new)
+    made_for_each!(alloc, shelves, shelf => Front::new(alloc, shelf)?)
 }
 
 /// Serves a request in all caches. Its block gets a number, if it has none yet.

@@ -17,13 +17,12 @@ pub(crate) fn add_to<T: Drop>(list: &mut Vec<T>, next: T) -> Result<usize, NoMem
     Ok(index)
 }
 
-/// What a function makes of each of these plans, in their order, with the same further words; or
-/// `NoMemory`, if it answers that.
+/// What an expression makes of each of these plans, in their order.
 macro_rules! made_for_each {
-    ($alloc:expr, $plans:expr, $make:path $(, $word:expr)*) => {{
+    ($alloc:expr, $plans:expr, $plan:ident => $one:expr) => {{
         let mut made = Vec::new($alloc);
-        for plan in $plans {
-            let one = $make($alloc, plan $(, $word)*)?;
+        for $plan in $plans {
+            let one = $one;
             $crate::lists::add_to(&mut made, one)?;
         }
         Ok(made)

@@ -13,7 +13,7 @@ ghost use Rattle.grid_run.specs.declared.plan.BackShelf.{BackShelf};
 ghost use Rattle.grid_run.specs.declared.requests.Request.{Request};
 
 use crate::front::Front;
-use crate::lists::add_to;
+use crate::lists::made_for_each;
 use crate::plan::BackShelf;
 use crate::queue::Queue;
 use cache_core::NoMemory;
@@ -43,12 +43,7 @@ pub(crate) fn queues_for(alloc: Global, shelves: &[BackShelf]) -> Result<Vec<Que
         ≡ map (λ (shelf : BackShelf). seats_of_task (task_of_shelf shelf)) shelves.now) }
     ensures none { IfOk result (λ queues. All HasNone queues.items) }
 {
-    let mut queues = Vec::new(alloc);
-    for shelf in shelves {
-        let queue = queue_for(alloc, shelf);
-        add_to(&mut queues, queue)?;
-    }
-    Ok(queues)
+    made_for_each!(alloc, shelves, shelf => queue_for(alloc, shelf))
 }
 
 /// All queues take what the first-level caches of a side sent for the last request.

@@ -4,8 +4,8 @@ use Rattle.grid_run.proofs.Each.{AreMade}
 use Rattle.grid_run.proofs.bank.backs_for.Given as goal
 
 -- there are the second levels of each shelf that was passed
-abbrev pub invariant-loop-plan : goal.invariant-loop-plan
-invariant-loop-plan l =
+abbrev pub invariant-loop-shelf : goal.invariant-loop-shelf
+invariant-loop-shelf l =
     AreMade back_task task_of_shelf
     (λ b. ((blocks : List ℕ) → WereAsked blocks no_requests b) × NothingWaits b) l.shelves
-    l.plan-index l.made.items
+    l.shelf-index l.made.items

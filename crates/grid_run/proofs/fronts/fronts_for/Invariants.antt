@@ -5,7 +5,7 @@ use Rattle.grid_run.proofs.Each.{AreMade}
 use Rattle.grid_run.proofs.fronts.fronts_for.Given as goal
 
 -- there are the caches of each shelf that was passed
-abbrev pub invariant-loop-plan : goal.invariant-loop-plan
-invariant-loop-plan l =
+abbrev pub invariant-loop-shelf : goal.invariant-loop-shelf
+invariant-loop-shelf l =
     AreMade front_rules rules_on (λ f. (blocks : List ℕ) → FrontAt blocks [] f) l.shelves
-    l.plan-index l.made.items
+    l.shelf-index l.made.items

@@ -7,4 +7,4 @@ use Rattle.grid_run.proofs.queues.queues_for.Given as goal
 abbrev pub invariant-loop-shelf : goal.invariant-loop-shelf
 invariant-loop-shelf l =
     AreMade queue_seats (λ (shelf : BackShelf). seats_of_task (task_of_shelf shelf)) HasNone
-    l.shelves l.shelf-index l.queues.items
+    l.shelves l.shelf-index l.made.items
