@@ -2,7 +2,8 @@
 # shellcheck shell=bash
 
 # A function of the caller's, which the shell has taken over, would stand in for the tool of its
-# name.
+# name. Before it reads this file, each command sets POSIXLY_CORRECT: until that is taken back
+# below, no function comes before `unset`, `set` and `.`.
 while builtin read -r _ _ theirs; do
     builtin unset -f -- "$theirs" || true
 done <<<"$(builtin declare -F)"

@@ -5,6 +5,11 @@
 # Beside a link, and where the call comes from, stands a file of the name of one that is read.
 mkdir links
 echo 'touch pwned' >links/common.sh
+# Functions with the names of what a command begins with.
+first=()
+for name in unset set . source builtin command readlink; do
+    first+=("BASH_FUNC_$name%%=() { echo own; return 1; }")
+done
 for command in dinero_pipe dinero_grid record sweep plot install prove release; do
     ln -s "$bin/$command" links/$command
     run env -C links ./$command --help
@@ -15,6 +20,12 @@ for command in dinero_pipe dinero_grid record sweep plot install prove release; 
     run env -C links PATH="$bin:$PATH" bash $command --help
     "$bin/$command" --help | cmp -s - "$out" && [ "$status" -eq 0 ] && [ ! -e links/pwned ]
     verdict "bash $command, found by PATH" $?
+    for words in "$bin/$command" "bash $bin/$command"; do
+        # shellcheck disable=SC2086  # words
+        run env "${first[@]}" $words --help
+        "$bin/$command" --help | cmp -s - "$out" && [ "$status" -eq 0 ] && [ ! -s "$err" ]
+        verdict "${words%% *} with the caller's functions" $?
+    done
 done
 rm -r links
 
@@ -41,7 +52,8 @@ fi
 # shellcheck disable=SC2016  # the words of functions
 own=('BASH_FUNC_cat%%=() { command cat -n "$@"; }' 'BASH_FUNC_cd%%=() { builtin cd "$@" && pwd; }'
     'BASH_FUNC_readlink%%=() { pwd; }' 'BASH_FUNC_read%%=() { return 1; }'
-    'BASH_FUNC_declare%%=() { return 1; }' 'BASH_FUNC_unset%%=() { return 1; }')
+    'BASH_FUNC_declare%%=() { return 1; }' 'BASH_FUNC_unset%%=() { return 1; }'
+    'BASH_FUNC_command%%=() { return 1; }' 'BASH_FUNC_.%%=() { return 1; }')
 for option in SHELLOPTS=noglob SHELLOPTS=keyword SHELLOPTS=noclobber "${own[@]}"; do
     for again in '' ' again'; do
         ends "a task with $option$again" 0 '' \
