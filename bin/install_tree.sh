@@ -7,7 +7,8 @@
 
 commands=(record sweep plot)
 
-# grow TREE VERSION: it fails where a file can't be written.
+# grow TREE VERSION: it fails where a file can't be written. No file of the tree is run, since where
+# temporary files are, that may be forbidden.
 grow() {
     local lib=$1/lib/dinero_pipe pages=$1/share/man/man1 name built
     mkdir -p "$lib" "$pages" "$1/bin" || return
@@ -25,9 +26,22 @@ grow() {
     for name in "${commands[@]}"; do
         print_way "dinero_$name" "$name" "$2" > "$1/bin/dinero_$name" || return
         chmod 755 "$lib/$name" "$1/bin/dinero_$name" || return
-        "$lib/$name" --help | print_page "dinero_$name" | with_version "$2" > \
+        "$BASH" -- "$lib/$name" --help | print_page "dinero_$name" | with_version "$2" > \
             "$pages/dinero_$name.1" || return
     done
+}
+
+# make_tree TREE VERSION: or tells what went wrong first.
+make_tree() {
+    local fault
+    fault=$({ grow "$@"; } 2>&1) || {
+        case $fault in
+        *'No space left on device'* | *'File too large'* | *'Disk quota exceeded'*) no_room ;;
+        esac
+        fault=${fault%%$'\n'*}
+        fault=${fault#*: line [0-9]*: }
+        die 4 "the files could not be made${fault:+: $fault}"
+    }
 }
 
 # with_version VERSION: a man page, whose first line names the product without a version.

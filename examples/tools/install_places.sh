@@ -30,6 +30,47 @@ test_foreign() {
 }
 test_foreign
 
+# Where nothing in the folder of temporary files may be run.
+test_no_programs() {
+    # shellcheck disable=SC2016  # the inner shell's words
+    run unshare -rm sh -c 'mount -t tmpfs -o noexec none "$TMPDIR" && exec "$1" usr' - "$install"
+    [ "$status" -eq 0 ] && [ ! -s "$err" ] && files_of usr | cmp -s - "$work/files"
+    verdict 'install where no temporary file may be run' $?
+    rm -rf usr
+}
+if unshare -rm mount -t tmpfs -o noexec none "$TMPDIR" 2>"$err"; then
+    test_no_programs
+else
+    skip 'install where no temporary file may be run' 'the right to mount'
+fi
+
+# A checkout without a page of the manual.
+new_checkout
+for name in pipe grid; do "$fresh/bin/dinero_$name" --help; done >"$out" 2>&1
+rm "$fresh/docs/dinero_grid.1"
+ends 'install where a file is missing' 4 "install: the files could not be made: \
+$fresh/docs/dinero_grid.1: No such file or directory" "$fresh/bin/install" usr
+[ ! -e usr ]
+verdict 'and nothing is placed' $?
+rm -rf "$fresh"
+
+# A prefix beside the folder that packages are made in, and one in it.
+for word in "$PWD/away" away/.; do
+    ends "install beside DESTDIR=$word" 2 \
+        "install: DESTDIR is set, and $PWD/usr is not in it: give both as one folder; try --help" \
+        env DESTDIR="$word" "$install" usr
+done
+[ ! -e usr ] && [ ! -e away ]
+verdict 'and no such folder is made' $?
+for word in '' / "$PWD" away; do
+    run env DESTDIR="$word" "$install" away/usr
+    [ "$status" -eq 0 ] && files_of away/usr | cmp -s - "$work/files"
+    verdict "install in DESTDIR=$word" $?
+    run env DESTDIR="$word" "$install" --remove away/usr
+    [ "$status" -eq 0 ] && [ ! -e away ]
+    verdict 'and --remove' $?
+done
+
 for word in "PREFIX=$PWD/usr" DESTDIR=; do
     ends "install with $word" 2 "install: give the folder alone: '${word#*=}'; try --help" \
         "$install" "$word"
