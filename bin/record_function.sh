@@ -32,7 +32,8 @@ is_position_independent() {
 # base_of_others: where valgrind puts such programs, as it says of one that does nothing.
 base_of_others() {
     is_position_independent "$(type -P true)" &&
-        valgrind --command-line-only=yes --tool=none --trace-symtab=yes -- "$(type -P true)" 2>&1 |
+        valgrind --command-line-only=yes --vgdb=no --tool=none --trace-symtab=yes -- \
+            "$(type -P true)" 2>&1 |
         sed -nE '0,/ bias 0x/s/.* bias (0x[0-9a-f]+)$/\1/p' | grep .
 }
 

@@ -145,7 +145,22 @@ test_odd_descriptors() {
     done
 }
 
+# A disk without room for temporary files.
+test_no_room() {
+    # shellcheck disable=SC2016  # the inner shell's words
+    run unshare -rm sh -c 'mount -t tmpfs -o size=64k none "$TMPDIR" &&
+        ! head -c 65537 /dev/zero >"$TMPDIR/full" 2>/dev/null &&
+        exec "$1" --split 64 sh -c "exit 7"' - "$record"
+    [ "$status" -eq 7 ] && [ ! -s "$err" ] && lines_at_least "$out" 1000
+    verdict 'record where there is no room for temporary files' $?
+}
+
 cp "$top/examples/1-kinds/kinds.din" kinds.din
+if has valgrind && unshare -rm mount -t tmpfs none "$TMPDIR" 2>"$err"; then
+    test_no_room
+else
+    skip 'record where there is no room for temporary files' 'valgrind and the right to mount'
+fi
 test_output
 test_no_output
 test_mixture

@@ -160,8 +160,21 @@ ends_quietly() {
     verdict "record of a program that does: $1" $?
 }
 
+# Valgrind leaves nothing behind, though it can tidy nothing up.
+test_killed() {
+    # shellcheck disable=SC2016  # the inner shell's words
+    start_ready "$record" --split 64 sh -c 'echo $$ >traced; echo ready >&2; while :; do :; done'
+    kill -KILL "$(<traced)"
+    wait_for_started
+    [ "$status" -eq 137 ] &&
+        [ "$(tail -n 1 "$err")" = 'record: valgrind was killed: the trace is not whole' ]
+    verdict 'record whose valgrind is killed' $?
+    rm traced
+}
+
 test_slow_end
 if has valgrind; then
+    test_killed
     test_crashes
     test_group
     test_alone
