@@ -17,10 +17,11 @@ run_with_xargs() {
 
 # parallel logs each run as it ends, and keeps what it printed. It takes braces in the name of a
 # file for its own, and runs what stands in them; so it is given names of ours. Its bar shows what
-# it is given for a run: the number.
+# it is given for a run: the number. It tries out how many processes there can be, so it is asked
+# for no more of them than there are runs.
 run_with_parallel() {
     local number words=(--plain --joblog joblog --results 'raw.{#}')
-    [ -z "$jobs" ] || words+=(--jobs "$jobs")
+    [ -z "$jobs" ] || words+=(--jobs $((jobs < runs ? jobs : runs)))
     [ ! -t 2 ] || words+=(--bar)
     [ -z "$hosts" ] || words+=("${host_words[@]}")
     cd "$work" && : > joblog || return
@@ -64,6 +65,15 @@ read_machines() {
     [ ${#machines[@]} -gt 0 ] || die 4 "no machine stands in $hosts"
 }
 
+# list_machines: for parallel, with as many runs at once as there are, or fewer.
+list_machines() {
+    local machine
+    for machine in "${machines[@]}"; do
+        [[ $machine != */* ]] || [ "${machine%%/*}" -le "$runs" ] || machine=$runs/${machine#*/}
+        echo "$machine"
+    done
+}
+
 # On each machine the runs are made in a folder of one name: here it has links, elsewhere copies. It
 # is not the folder that is copied, since a list may name this machine by its address too.
 host_words=()
@@ -75,7 +85,7 @@ choose_hosts() {
         site=$temporary
     fi
     { mkdir "$site/host" && furnish "$site/host" && ln -s "$work/commands" "$site/host/commands" &&
-        printf '%s\n' "${machines[@]}" > "$work/hosts"; } 2>/dev/null || no_room
+        list_machines > "$work/hosts"; } 2>/dev/null || no_room
     host_words=(--sshloginfile hosts --workdir "$site/host")
     grep -qvE '^([0-9]+/)?:$' "$work/hosts" || return 0
     need ssh openssh-client
@@ -174,14 +184,20 @@ read_ended() {
     done
 }
 
+# name_rows: sets `rows_name` to what the file of the task's rows is called.
+name_rows() {
+    rows_name=$task
+    [ "$tasks" -eq "$cells" ] || rows_name=$task-$tasks
+}
+
 # one_task: its rows are kept as soon as a run of it has ended. Those of an earlier call stay until
 # all are there anew.
 one_task() {
-    local number name=$task
-    [ "$tasks" -eq "$cells" ] || name=$task-$tasks
+    local number rows_name
+    name_rows
     claim "$into"
     plan 'plan parts commands' "task=$task" "tasks=$tasks"
-    take_earlier "$store/$name"
+    take_earlier "$store/$rows_name"
     : > "$work/kept"
     for ((number = 1; number <= runs; number++)); do
         (cd "$work" && exec sh -c "$one_run" run "$number" "${commands[number - 1]}") > /dev/null ||
@@ -196,7 +212,7 @@ one_task() {
             die 4 "task $task has not all of its rows"
         fi
         [ "$number" -lt "$runs" ] || : > "$work/earlier"
-        keep_for_task "$store/$name"
+        keep_for_task "$store/$rows_name"
     done
     tell_faults_of_task
 }

@@ -79,13 +79,21 @@ check_once() {
     [ -z "$twice" ] || refuse "the trace $twice is given twice"
 }
 
+# check_kept TRACE: nothing that this call writes goes to it.
+check_kept() {
+    [ ! -f /dev/stdout ] || [ ! "$1" -ef /dev/stdout ] || refuse "$1 is where the table goes"
+    [ -z "$log" ] || [ ! "$1" -ef "$log" ] || refuse "--resume: $log is a trace of this call"
+    [ -z "$task" ] || [ ! "$1" -ef "$into/$rows_name" ] ||
+        refuse "--into: $into/$rows_name, for the rows, is a trace of this call"
+}
+
 check_files() {
-    local trace unpacker
+    local trace unpacker rows_name
+    [ -z "$task" ] || name_rows
     for trace in "${traces[@]}"; do
         [ -n "$trace" ] || refuse 'the name of a trace is empty'
         [[ $trace != *[$'\t\n']* ]] || refuse 'the name of a trace has a tab or a line feed'
-        [ ! -f /dev/stdout ] || [ ! "$trace" -ef /dev/stdout ] ||
-            refuse "$trace is where the table goes"
+        check_kept "$trace"
         check_trace "$trace"
         unpackers+=("$unpacker")
     done

@@ -121,16 +121,39 @@ check_values() {
     [ -z "$full" ] || note_shared
 }
 
-# try_values OPTION LIST: all at once where the simulator takes them, and else one by one: some
-# options take no list, and a grid has a greatest size.
+# How many values the simulator takes at once: the greatest size of a grid.
+most_at_once=4096
+
+# try_values OPTION LIST: all at once where the simulator takes them, or else in lists of as many as
+# it may take.
 try_values() {
-    local status=0 value
+    local status=0 all=() i
     finish "$1" || status=$?
-    if [ "$status" -eq 0 ] || [ "$status" -eq 5 ]; then
-        [ -z "$full" ] || note_shown "${1#--}" "$2"
-        return
+    ! is_taken "$1" "$2" "$status" || return 0
+    for i in ${2//,/ }; do
+        all+=("$i")
+    done
+    for ((i = 0; i < ${#all[@]}; i += most_at_once)); do
+        try_part "$1" "${all[@]:i:most_at_once}"
+    done
+}
+
+# is_taken OPTION LIST STATUS: the trial that has ended says so. Then it is noted.
+is_taken() {
+    [ "$3" -eq 0 ] || [ "$3" -eq 5 ] || return
+    [ -z "$full" ] || note_shown "${1#--}" "$2"
+}
+
+# try_part OPTION VALUE..: these of `all`, and what the simulator does not take at once, one by one:
+# some options take no list. It has refused all of them before.
+try_part() {
+    local status=0 value list
+    list=$(IFS=, && echo "${*:2}")
+    if [ ${#all[@]} -ge $# ]; then
+        (run_trial "$1" "$list") || status=$?
+        ! is_taken "$1" "$list" "$status" || return 0
     fi
-    for value in ${2//,/ }; do
+    for value in "${@:2}"; do
         try "$1" "$value"
         [ -z "$full" ] || note_shown "${1#--}" "$value"
     done

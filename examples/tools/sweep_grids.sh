@@ -263,6 +263,24 @@ if has bzip2; then
     rm ./-kinds
 fi
 
+# A list of more values than the simulator takes at once is not tried one by one.
+test_long_list() {
+    local -x TRIALS=$work/trials
+    local real=$simulator
+    local simulator=$work/trying
+    printf '#!/bin/sh\n%s\nexec "%s" "$@"\n' \
+        '[ "$1" = --help ] || [ ! /dev/stdin -ef /dev/null ] || echo "$2" >>"$TRIALS"' "$real" \
+        >"$simulator"
+    chmod +x "$simulator"
+    noted --full --vary --flushcount "$(seq -s , 4098)" --l1-dsize 8 "${rest[@]}" -- kinds.din
+    [ "$status" -eq 0 ] && [ ! -s "$err" ] && [ "$(wc -l <"$TRIALS")" -eq 3 ] &&
+        tail -n +2 "$out" | cut -f 20 | cmp -s - <(seq 4098)
+    verdict 'sweep of a long list' $?
+    refused "--flushcount: not a number: 'x'" --vary --flushcount "$(seq -s , 4097),x" \
+        --l1-dsize 8 "${rest[@]}" -- kinds.din
+}
+test_long_list
+
 # Each row beside a run of dinero_pipe.
 run "$top/examples/tools/random_grids" 10
 grep -v '^passed' "$out" >>"$err"

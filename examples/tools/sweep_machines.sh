@@ -58,6 +58,27 @@ else
     skip "sweep of which two machines can't be reached" 'parallel, ssh and rsync'
 fi
 
+# No more runs are made at once than there are: parallel would try out how many there can be.
+test_few_runs() {
+    local noted=$work/noted-parallel
+    mkdir "$noted"
+    cat >"$noted/parallel" <<END
+#!/bin/sh
+[ "\$1" = --version ] || { cp hosts "$noted/hosts"; echo " \$*" >"$noted/words"; }
+exec $(command -v parallel) "\$@"
+END
+    chmod +x "$noted/parallel"
+    echo 9999/: >machines
+    run env PATH="$noted:$PATH" "$sweep" --hosts machines "${grid[@]}" -- kinds.din fifo.din
+    is_table_of_rows && [ "$(<"$noted/hosts")" = 8/: ]
+    verdict 'sweep over a machine that can make more runs than there are' $?
+    run env PATH="$noted:$PATH" "$sweep" --hosts machines --jobs 999999999 "${grid[@]}" \
+        -- kinds.din fifo.din
+    is_table_of_rows && grep -q ' --jobs 8 ' "$noted/words"
+    verdict 'and with --jobs' $?
+}
+if has parallel; then test_few_runs; else skip 'sweep with more jobs than runs' parallel; fi
+
 # Another program that is called parallel.
 mkdir "$work/another-parallel"
 printf '#!/bin/sh\necho "parallel: invalid option" >&2\nexit 1\n' >"$work/another-parallel/parallel"

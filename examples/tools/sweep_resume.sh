@@ -228,6 +228,16 @@ status=$?
 [ "$status" -eq 2 ] && [ ! -s same.tsv ] &&
     [ "$(<"$err")" = 'sweep: --resume: same.tsv is where the table goes; try --help' ]
 verdict 'a log where the table goes' $?
+# A trace that is empty, as a log may be that is to begin.
+: >own.din && ln own.din own.log
+for words in own.din own.log 'own.log --restart'; do
+    # shellcheck disable=SC2086  # several words
+    refused "--resume: ${words% *} is a trace of this call" \
+        --resume $words "${grid[@]}" -- kinds.din own.din
+done
+[ ! -s own.din ]
+verdict 'it is left as it was' $?
+rm own.din own.log
 test_known_traces
 test_steps
 test_long_trace

@@ -73,6 +73,12 @@ sed -i '1s/fault$/flaw/' changing/part && mv changing/part changing/grid
 ends 'a task of another simulator' 2 'sweep: changing is of another simulator' \
     "$sweep" --task 3 --into changing "${grid[@]}" -- changing.din
 rm -r tasks faulty changing changing.din
+mkdir own && : >own/1-2
+refused '--into: own/1-2, for the rows, is a trace of this call' \
+    --task 1/2 --into own "${grid[@]}" -- own/1-2
+[ "$(ls own)" = 1-2 ] && [ ! -s own/1-2 ]
+verdict 'it is left as it was' $?
+rm -r own
 
 # A grid of 6 sizes and 2 numbers of ways, which is cut into 6 tasks by its sizes.
 test_missing() {
