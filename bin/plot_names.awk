@@ -81,15 +81,16 @@ function label(option, value,   text) {
 }
 
 # trace_name(TRACE): without its folder, unless another trace is then called so too.
-function trace_name(trace,   other, short, several) {
-    short = trace
-    sub(/.*\//, "", short)
+function trace_name(trace,   other, short) {
+    short = without_folder(trace)
     if (by != "trace") return short
-    for (other in group) {
-        sub(/.*\//, "", other)
-        if (other == short) several++
-    }
-    return several > 1 ? trace : short
+    if (!(short in called_so)) for (other in group) called_so[without_folder(other)]++
+    return called_so[short] > 1 ? trace : short
+}
+
+function without_folder(trace) {
+    sub(/.*\//, "", trace)
+    return trace
 }
 
 # title(): what all points have in common, as far as the table knows it: the trace and the cache

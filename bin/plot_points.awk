@@ -88,6 +88,8 @@ function is_wanted(   column, text, all) {
     return all
 }
 
+# A line may end in CR and LF.
+{ sub(/\r$/, "") }
 NR == 1 { read_names(); next }
 NF != columns { fail("line " NR ": " NF " fields, where the names are " columns) }
 !is_wanted() { next }
@@ -225,10 +227,17 @@ function group_of_line(   value) {
     value = (by == "" ? "" : is_amount(by) ? sprintf("%.0f", amount(by)) : $at[by])
     if (!(value in group)) {
         group[value] = ++groups
+        if (groups > most_groups()) fail("more than " most_groups() " groups: choose by --only")
         value_of[groups] = value
         if (value !~ /^[0-9]+$/) has_words = 1
     }
     return group[value]
+}
+
+# most_groups(): no picture has room for more. Below the bars, the largest one has the smallest
+# letters 2,673 times, and a name takes three. All names of lines, which differ, are below 128 KiB.
+function most_groups() {
+    return kind == "rates" ? 50000 : 900
 }
 
 # class(): of what is on the axis.
@@ -237,13 +246,24 @@ function class() {
     return is_size(over) ? "size" : is_ways(over) ? "ways" : "other"
 }
 
-# rank_groups(): finds the place of each group in the picture.
-function rank_groups(   i, j) {
-    for (i = 1; i <= groups; i++) {
-        rank[i] = 1
-        for (j = 1; j <= groups; j++) if (goes_before(j, i)) rank[i]++
-        ranked[rank[i]] = i
+# rank_groups(): finds the place of each group in the picture, by merging twice as many at a time.
+function rank_groups(   i, wide) {
+    for (i = 1; i <= groups; i++) ranked[i] = i
+    for (wide = 1; wide < groups; wide *= 2) {
+        for (i = 1; i <= groups; i += 2 * wide) merge(i, i + wide, i + 2 * wide)
+        for (i = 1; i <= groups; i++) ranked[i] = merged[i]
     }
+    for (i = 1; i <= groups; i++) rank[ranked[i]] = i
+}
+
+# merge(I, J, LAST): those from the I-th on and those from the J-th on, before the last, are each in
+# their order; in `merged` all of them are.
+function merge(i, j, last,   at, middle) {
+    middle = j
+    if (last > groups + 1) last = groups + 1
+    for (at = i; at < last; at++)
+        if (j >= last || i < middle && goes_before(ranked[i], ranked[j])) merged[at] = ranked[i++]
+        else merged[at] = ranked[j++]
 }
 
 # goes_before(J, I): numbers are in their order. Words, and numbers that are equal, such as 1 and

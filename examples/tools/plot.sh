@@ -200,6 +200,8 @@ fi
 stopped_in 'plot and Ctrl-C while its folder is made' INT "$(slow_folders)" \
     "$plot" kinds kinds.tsv stopped.svg
 # What is left of a number then is none.
-signalled INT "$(standing_still tr)" "$plot" kinds kinds.tsv stopped.svg &&
+folder=$(standing_still tr)
+sed -i "2i [ \"\$1\" = -dc ] || exec $(command -v tr) \"\$@\"" "$folder/tr"
+signalled INT "$folder" "$plot" kinds kinds.tsv stopped.svg &&
     [ "$(<"$err")" = 'plot: interrupted' ]
 verdict 'plot and Ctrl-C while it compares labels' $?

@@ -120,6 +120,18 @@ test_options() {
         "$plot" rates full.tsv none.svg --only --l1-dsize 9k
 }
 
+# Lines that end in CR and LF, with the fault last, and a trace whose name has a zero byte.
+test_bytes() {
+    sed 's/^\([^\t]*\)\t\(.*\)/\2\t\1\r/; s/a\/x/a\/\x00/' points.tsv >bytes.tsv
+    keeps kinds bytes.tsv points.svg && [ -s "$err" ]
+    verdict 'a table with lines of another form, and a fault' $?
+    gives 'its points' points $'1\t8192\t10.000000\t15.000000\t25.000000
+1\t16384\t10.000000\t5.000000\t5.000000
+2\t8192\t10.000000\t10.000000\t5.000000'
+    keeps rates bytes.tsv points.svg --only fault=-
+    gives 'its title' words ' ?.din, l1-dcache, 32-byte blocks, LRUsize of l1-dcache (KiB)1 way2 ways'
+}
+
 # The programs of awk are read by others than mawk.
 test_another_awk() {
     mkdir "$work/another"
@@ -254,6 +266,7 @@ test_widths
 test_options
 test_places
 test_equal_numbers
+test_bytes
 ends 'plot without awk' 69 'plot: awk is missing: install the package mawk' \
     env PATH="$(without awk)" "$plot" rates points.tsv points.svg
 if has original-awk; then test_another_awk; else skip 'points of another awk' original-awk; fi

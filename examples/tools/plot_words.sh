@@ -56,6 +56,29 @@ lacks 'line 3: fewer fully associative misses than compulsory ones of l1-dcache'
     '3s/\t30\t/\t19\t/' kinds --whole-counts
 lacks 'the table has no column l1-dcache-misses' '1s/l1-dcache-misses/misses/' rates
 
+lacks 'line 3: l1-dcache-fetches is no number: ?' '3s/200/\x00/' rates
+
+# make_groups NUMBER: a table with so many.
+make_groups() {
+    awk -v OFS='\t' -v "groups=$1" 'BEGIN {
+        print "trace", "l1-dsize", "l1-dassoc", "l1-dcache-fetches", "l1-dcache-misses", \
+            "l1-dcache-compulsory", "l1-dcache-capacity", "l1-dcache-conflict"
+        for (i = groups; i > 0; i--) print "a/" i, "1k", i, 9, 3, 1, 1, 1
+    }' >groups.tsv
+}
+make_groups 901
+ends 'plot of more groups than a picture can have' 1 \
+    'plot: groups.tsv: more than 900 groups: choose by --only' "$plot" kinds groups.tsv none.svg
+make_groups 50001
+ends 'plot of more lines than a picture can have' 1 \
+    'plot: groups.tsv: more than 50000 groups: choose by --only' "$plot" rates groups.tsv none.svg
+make_groups 20000
+for option in trace l1-dassoc; do
+    ends "plot of many lines, --by $option" 2 "plot: no room for the text in 720x340120, with \
+letters of 9: take a larger --size, a smaller --font, or fewer lines by --only" \
+        timeout 20 "$plot" rates groups.tsv none.svg --by "$option"
+done
+
 # The letters are larger than the picture can hold, and there are more lines than it can name.
 ends 'plot with large letters' 2 "plot: no room for the text in 336x250, with letters of 60: \
 take a larger --size, a smaller --font, or fewer lines by --only" \
