@@ -8,9 +8,9 @@ use std::alloc::{AllocError, Global};
 use std::fmt::Debug;
 use std::process::Abort;
 
-mod against_slow;
+pub(crate) mod against_slow;
 mod memory;
-mod slow;
+pub(crate) mod slow;
 
 /// What came has to be what is wanted, at this use of this block.
 fn same<T: PartialEq + Debug>(rt: &impl Abort, came: &T, wanted: &T, place: u64, block: usize) {

@@ -7,6 +7,7 @@ mod grid;
 mod list;
 mod ring;
 mod run;
+mod shared;
 mod stages;
 mod stamped;
 mod table;
@@ -31,6 +32,10 @@ fn print_caches(rt: &HostRuntime) -> anyhow::Result<()> {
         bail!("no list");
     };
     println!(rt; "marked_list: {hits:?}")?;
+    let Ok(hits) = shared::hits_of_two_users(alloc) else {
+        bail!("no lists");
+    };
+    println!(rt; "shared_list: {hits:?}")?;
     let Ok(Some(misses)) = grid::misses_of_ways(alloc) else {
         bail!("no grid");
     };

@@ -10,7 +10,7 @@ use std::alloc::Global;
 use std::process::Abort;
 
 /// The next pseudo-random number, by a linear congruence with Knuth's constants.
-fn next_random(state: &mut u64) -> usize {
+pub(crate) fn next_random(state: &mut u64) -> usize {
     *state = state
         .wrapping_mul(6_364_136_223_846_793_005)
         .wrapping_add(1_442_695_040_888_963_407);
@@ -18,7 +18,7 @@ fn next_random(state: &mut u64) -> usize {
 }
 
 /// A block: often one of few, now and then one of many.
-fn block_of(state: &mut u64, few: usize, many: usize) -> usize {
+pub(crate) fn block_of(state: &mut u64, few: usize, many: usize) -> usize {
     let blocks = if next_random(state) % 4 == 0 {
         many
     } else {

@@ -4,14 +4,14 @@ use std::alloc::Global;
 use std::process::Abort;
 
 #[derive(Drop)]
-pub(super) struct Slow {
+pub(crate) struct Slow {
     sizes: Vec<usize>,
     /// The latest block is the last one.
     blocks: Vec<usize>,
 }
 
 impl Slow {
-    pub(super) fn new(rt: &impl Abort, alloc: Global, sizes: &[usize]) -> Slow {
+    pub(crate) fn new(rt: &impl Abort, alloc: Global, sizes: &[usize]) -> Slow {
         Slow {
             sizes: Vec::from_slice(alloc, sizes).expect(rt, "memory"),
             blocks: Vec::new(alloc),
@@ -40,14 +40,14 @@ impl Slow {
     }
 
     /// Uses a block, and answers its level before.
-    pub(super) fn touch(&mut self, rt: &impl Abort, number: usize) -> usize {
+    pub(crate) fn touch(&mut self, rt: &impl Abort, number: usize) -> usize {
         let level = self.level(number);
         self.blocks.retain(|block| *block != number);
         assert!(rt; self.blocks.push(number).is_ok());
         level
     }
 
-    pub(super) fn clear(&mut self) {
+    pub(crate) fn clear(&mut self) {
         self.blocks.clear();
     }
 }

@@ -1,0 +1,5 @@
+pub mod Users
+pub mod Log
+pub mod Stamps
+pub mod Windows
+pub mod Shared

@@ -1,0 +1,28 @@
+-- What a contract sees of a `SharedList`.
+use Rattle.std.specs.Prelude.{◌≡◌, ℕ, ◌<◌, ◌-◌, Bool, List, length, get_or}
+use Rattle.marked_list.specs.Uses.{has_stamp, living}
+use Rattle.shared_list.specs.declared.list.SharedList.{SharedList}
+use Rattle.shared_list.specs.Log.{no_use, seen_by}
+use Rattle.shared_list.specs.Stamps.{blocks_in, stamps_of}
+
+-- the blocks that user q used, the latest first
+unfoldable pub order_by : SharedList → ℕ → List ℕ
+order_by l q = living (seen_by q l.log.items)
+
+-- whether user q ever used a block
+unfoldable pub was_used_by : SharedList → ℕ → ℕ → Bool
+was_used_by l q b = has_stamp (stamps_of l.stamps q) b
+
+-- how many users there are
+unfoldable pub users_of : SharedList → ℕ
+users_of l = length l.windows.items
+
+-- of how many blocks each user is told whether they are among those that it used last
+unfoldable pub size_of_list : SharedList → ℕ
+size_of_list l = l.size
+
+-- a use of this block was begun, and no other one since
+pub record IsBegun (l : SharedList) (b : ℕ) : Type 0 where
+  pub some : 0 < length l.log.items
+  pub room : b < blocks_in l.stamps
+  pub block : (get_or l.log.items (length l.log.items - 1) (no_use 0)).number ≡ b
