@@ -14,7 +14,7 @@ number_at blocks b = position (nat_eq b) blocks
 abbrev pub with_number : ℕ → List ℕ → List ℕ
 with_number b blocks = if list_any (nat_eq b) blocks then blocks else blocks ++ b ∷ []
 
--- and where memory was refused: maybe as they were
+-- the numbered blocks once memory was refused: as before, or with a number for the block b, too
 abbrev pub MayNumber : ℕ → List ℕ → List ℕ → Type 0
 MayNumber b before after = (after ≡ before) ⊎ (after ≡ with_number b before)
 

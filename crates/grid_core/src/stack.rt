@@ -90,7 +90,7 @@ impl Stack {
         })
     }
 
-    /// The block of this number and address, as its row is searched for it.
+    /// This block, which holds this address, as its row is searched for it.
     fn sought(&self, block: u64, addr: u64) -> Sought
         requires { block ≡ addr / bsize_of self.now.geometry }
         ensures block { result.block ≡ block }
@@ -107,8 +107,8 @@ impl Stack {
         }
     }
 
-    /// Whether the block of an access, which has this number, is the first of its set, and dirty in
-    /// all numbers of ways if this is a write: then the access changes no row.
+    /// Whether the block of an access is the first of its set, and dirty in all numbers of ways if
+    /// this is a write: then the access changes no row.
     pub fn stays(&self, access: Access, block: u64) -> bool
         requires { block ≡ access.addr / bsize_of self.now.geometry }
         ensures is { result ≡ stays_at self.now access }
@@ -120,9 +120,9 @@ impl Stack {
         stays(&self.slots, sought.set as usize, self.ways, sought, write)
     }
 
-    /// Serves one access, whose block has this number and this level in the shadows, and is not
-    /// among the first `from` of its set: the block is then the one used last there. Where it stood
-    /// before is counted and stays known, and so does what was pushed out.
+    /// Serves one access to this block, which has this level in the shadows, and is not among the
+    /// first `from` of its set: it is then the one used last there. Where it stood before is
+    /// counted and stays known, and so does what was pushed out.
     pub fn serve(&mut self, access: Access, block: u64, level: usize, from: usize)
         requires block { block ≡ access.addr / bsize_of self.old.geometry }
         requires level { level < told_in self.old }

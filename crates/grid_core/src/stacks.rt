@@ -49,8 +49,8 @@ fn least_staying(stacks: &[Stack], access: Access, block: u64) -> u64
     u64::MAX
 }
 
-/// Serves an access, whose block has this number and this level in the shadows, in the rows of one
-/// number of sets. In rows of more sets than `least`, its block stays first: those are passed over.
+/// Serves an access to this block, which has this level in the shadows, in the rows of one number
+/// of sets. In rows of more sets than `least`, the block stays first: those are passed over.
 /// Answers where the block is not in rows of fewer sets.
 fn serve_one(
     stack: &mut Stack,
@@ -94,7 +94,7 @@ fn serve_one(
     }
 }
 
-/// Serves an access, whose block has this number and this level in the shadows, in all rows.
+/// Serves an access to this block, which has this level in the shadows, in all rows.
 pub(crate) fn serve_rows(stacks: &mut Vec<Stack>, access: Access, block: u64, level: usize)
     requires block { (n : ℕ) × HaveBsize n stacks.old.items × (block ≡ access.addr / n) }
     requires levels { All (λ s. level < told_in s) stacks.old.items }

@@ -10,8 +10,8 @@ use din_trace::TraceFault;
 pub enum GridFault {
     /// The trace is faulty, too long or could not be read. Never holds `TraceFault::Memory`.
     Trace(TraceFault),
-    /// An allocation failed, or the trace has more blocks of one size than can be numbered, some
-    /// 2^31 or more.
+    /// An allocation failed, or the trace has more blocks than can be numbered: some 2^31 of one
+    /// size or more, or some 2^32 of all block sizes of the grid together.
     Memory,
     /// The writer failed. It is not known how much of the table was written.
     Write,

@@ -64,8 +64,8 @@ fn share_first_level(one: Option<&Config>, other: Option<&Config>) -> bool {
     }
 }
 
-/// Numbers the groups from 0, and answers how many there are. Rows beside one another that have the
-/// same first-level caches are a group.
+/// Numbers the groups from 0, and answers how many there are, or 1 if there is no row. Rows beside
+/// one another that have the same first-level caches are a group.
 fn number_groups(rows: &[Row], ordered: &mut [RowSets]) -> usize {
     let mut group = 0usize;
     let mut last = None;

@@ -9,8 +9,8 @@ use Rattle.cache_core.specs.Residents.{distinct, before, hits, renewals}
 use Rattle.cache_core.specs.Kinds.{shadow_of}
 use Rattle.marked_list.specs.Recency.{is_among, level_of, brought_front}
 
--- a size holds a block just if the block was used, and fewer other blocks than the size says were
--- used after it
+-- a size holds a block just if the block is in the list, with fewer other blocks before it than the
+-- size says
 abbrev pub SizesHoldByDistance : Type 0
 SizesHoldByDistance = (ys : List ℕ) (b size : ℕ) → is_among b ys size
     ≡ (list_any (λ m. m == b) ys && nat_lt (length (before b ys)) size)
