@@ -1,5 +1,5 @@
 -- A log with one more use that is nobody's yet.
-use Rattle.std.proofs.Common.{◌≡◌, ℕ, suc, ◌-◌, ◌<◌, ◌≤◌, ◌+◌, Bool, cond, eqb, List, []}
+use Rattle.std.proofs.Common.{◌≡◌, ℕ, suc, ◌-◌, ◌<◌, ◌≤◌, ◌+◌, ◌^◌, Bool, cond, eqb, List, []}
 use Rattle.std.proofs.Common.{◌∷◌, ◌++◌, length, map, subst}
 use Rattle.std.proofs.Common.{reverse, take, sym, ap, ◌∙◌, arith}
 use Rattle.std.specs.List.{All}
@@ -69,6 +69,15 @@ module _ (t : Bool) (n : ℕ) (log new : List Use) (is : new ≡ cond t (log ++ 
         (All-cons (λ (u : Use). u.number < bound) (no_use n) [] low
         (λ k d lt. absurd (omega (arith, lt))))))
         (λ e. subst (λ b. All (λ (u : Use). u.number < bound) (pick b)) (sym e) all))
+
+    pub fit-either : All (λ (u : Use). u.users < 2 ^ 32) log
+        → All (λ (u : Use). u.users < 2 ^ 32) new
+    fit-either all = subst (All (λ (u : Use). u.users < 2 ^ 32)) (sym is) (by_cases t
+        (λ e. subst (λ b. All (λ (u : Use). u.users < 2 ^ 32) (pick b)) (sym e)
+        (All-append (λ (u : Use). u.users < 2 ^ 32) log (no_use n ∷ []) all
+        (All-cons (λ (u : Use). u.users < 2 ^ 32) (no_use n) [] (omega arith)
+        (λ k d lt. absurd (omega (arith, lt))))))
+        (λ e. subst (λ b. All (λ (u : Use). u.users < 2 ^ 32) (pick b)) (sym e) all))
 
     pub length-either : length new ≤ length log + 1
     length-either = let long = length-append log (no_use n ∷ []) in

@@ -5,3 +5,4 @@ pub mod Kept
 pub mod Touching
 pub mod Adding
 pub mod Shortened
+pub mod SeenUses

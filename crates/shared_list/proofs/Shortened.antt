@@ -37,7 +37,7 @@ few-kept (u ∷ log) = by_cases (has_users u)
     (λ e. rw e (let few = few-kept log in omega (arith, few)))
     (λ e. rw e (let few = few-kept log in omega (arith, few)))
 
-living-reverse : (l : List ℕ) → living (reverse l) ≡ reverse (living l)
+pub living-reverse : (l : List ℕ) → living (reverse l) ≡ reverse (living l)
 living-reverse [] = refl
 living-reverse (x ∷ l) = ap living (reverse-cons x l)
     ∙ filter-append (λ m. not (eqb m dead)) (reverse l) (x ∷ [])

@@ -1,8 +1,7 @@
 -- A list when a user uses the block of the use that was begun.
-use Rattle.std.proofs.Common.{◌≡◌, ◌≢◌, ℕ, ◌-◌, ◌^◌, ◌<◌, ◌&&◌, true, false, cond, eqb, ltb}
-use Rattle.std.proofs.Common.{not}
-use Rattle.std.proofs.Common.{List}
-use Rattle.std.proofs.Common.{◌∷◌, length, set, get_or, Option, Some, refl, sym, ap, subst, ◌∙◌}
+use Rattle.std.proofs.Common.{◌≤◌, ◌≡◌, ◌≢◌, ℕ, ◌-◌, ◌^◌, ◌<◌, ◌&&◌, true, false, cond, eqb, ltb}
+use Rattle.std.proofs.Common.{not, List, ◌∷◌, length, set, get_or, Option, Some, None, refl, sym}
+use Rattle.std.proofs.Common.{ap, subst, ◌∙◌}
 use Rattle.std.proofs.Common.{arith, get_or-set_same, get_or-set_other}
 use Rattle.std.proofs.lemmas.Bool.{eqb-true, eqb-false, eq-eqb, le-ltb, ltb-true, ltb-false}
 use Rattle.std.proofs.lemmas.List.{get_or-reverse, length-set}
@@ -10,7 +9,7 @@ use Rattle.cache_core.proofs.Cases.{by_cases}
 use Rattle.marked_list.specs.Marks.{IsMark, IsUseAfter, counted_with, covers}
 use Rattle.marked_list.specs.Recency.{brought_front, is_among}
 use Rattle.marked_list.specs.Uses.{dead, last_in, living, stamp_at, used_next}
-use Rattle.marked_list.proofs.Counted.{living-le}
+use Rattle.marked_list.proofs.Counted.{count-next, living-le}
 use Rattle.marked_list.proofs.LastUse.{last-there}
 use Rattle.marked_list.proofs.Latest.{front-stays}
 use Rattle.marked_list.proofs.Living.{living-next}
@@ -33,6 +32,10 @@ pub begun-low : (l : SharedList) (b : ℕ) → IsBegun l b → b ≢ dead
 begun-low l b begun e = let some = begun.some in
     let low = l.low (length l.log.items - 1) (no_use 0) (omega (arith, some)) in
     omega (arith, low, begun.block, e)
+
+counted-more : (last : Option ℕ) (n : ℕ) → n ≤ counted_with last n
+counted-more None n = omega arith
+counted-more (Some place) n = omega arith
 
 -- where the latest use is one of the user already, nothing is to do
 module _ (self : SharedList) (u b : ℕ) (lu : u < length self.windows.items)
@@ -172,6 +175,21 @@ module _ (self : SharedList) (u b : ℕ) (lu : u < length self.windows.items)
       where
         differ : (q : ℕ) → q ≢ u → eqb u q ≡ false
         differ q apart = by_cases (eqb u q) (λ e. absurd (apart (sym (eqb-true u q e)))) (λ e. e)
+
+    -- each user sees as many uses as before, or one more
+    pub more-seen : (q : ℕ) → q < length self.windows.items
+        → length (living (seen_by q log)) ≤ length (living (seen_by q log₂))
+    more-seen q lq = by_cases (eqb q u)
+        (λ e. let here : length (living (seen_by u log)) ≤ length (living (seen_by u log₂)) =
+        (let next = ap (λ l. length (living l)) seen ∙ count-next rest b low after.once in
+        let same = ap (λ (l : List ℕ). length l) living-same in
+        let more = counted-more (last_in rest b) (length (living rest)) in
+        omega (arith, next, same, more)) in
+        subst (λ z. length (living (seen_by z log)) ≤ length (living (seen_by z log₂)))
+        (sym (eqb-true q u e)) here)
+        (λ e. let same = ap (λ l. length (living l))
+        (others q (omega (arith, lq, self.few)) (eqb-false q u e)) in
+        omega (arith, same))
 
     pub kept-all : (q : ℕ) → q < length windows → IsKept self.size (seen_by q log₂)
         (stamps_of stamps₂ q) (get_or windows q no_window)

@@ -1,6 +1,7 @@
 -- A log of uses that many users share, as each of them sees it.
-use Rattle.std.specs.Prelude.{ℕ, Bool, not, ◌==◌, if◌then◌else◌, List, map, reverse}
-use Rattle.marked_list.specs.Uses.{dead}
+use Rattle.std.specs.Prelude.{ℕ, zero, suc, ◌+◌, Bool, not, ◌==◌, if◌then◌else◌, List, length}
+use Rattle.std.specs.Prelude.{map, reverse}
+use Rattle.marked_list.specs.Uses.{dead, living}
 use Rattle.shared_list.specs.declared.log.Use.{Use}
 use Rattle.shared_list.specs.Users.{has_user}
 
@@ -20,3 +21,8 @@ has_users u = not (u.users == 0)
 -- the uses as user q sees them, the latest first
 abbrev pub seen_by : ℕ → List Use → List ℕ
 seen_by q log = reverse (map (seen q) log)
+
+-- how many uses the first n users see, each by itself
+abbrev pub seen_uses : List Use → ℕ → ℕ
+seen_uses log zero = 0
+seen_uses log (suc n) = length (living (seen_by n log)) + seen_uses log n

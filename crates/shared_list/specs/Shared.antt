@@ -1,5 +1,6 @@
 -- What a contract sees of a `SharedList`.
-use Rattle.std.specs.Prelude.{◌≡◌, ℕ, ◌<◌, ◌-◌, Bool, List, length, get_or}
+use Rattle.std.specs.Prelude.{◌≡◌, ℕ, zero, suc, ◌+◌, ◌*◌, ◌<◌, ◌≤◌, ◌-◌, Bool}
+use Rattle.std.specs.Prelude.{List, length, get_or}
 use Rattle.marked_list.specs.Uses.{has_stamp, living}
 use Rattle.shared_list.specs.declared.list.SharedList.{SharedList}
 use Rattle.shared_list.specs.Log.{no_use, seen_by}
@@ -20,6 +21,19 @@ users_of l = length l.windows.items
 -- of how many blocks each user is told whether they are among those that it used last
 unfoldable pub size_of_list : SharedList → ℕ
 size_of_list l = l.size
+
+-- how many blocks the first n users used since the last clear, each by itself
+abbrev pub used_by_first : SharedList → ℕ → ℕ
+used_by_first l zero = 0
+used_by_first l (suc n) = length (order_by l n) + used_by_first l n
+
+-- how many uses the log has
+unfoldable pub kept_in : SharedList → ℕ
+kept_in l = length l.log.items
+
+-- the log has at most two uses for each block in the lists of all users, and 4,096 more
+abbrev pub IsShort : SharedList → Type 0
+IsShort l = kept_in l ≤ 4096 + 2 * used_by_first l (users_of l)
 
 -- a use of this block was begun, and no other one since
 pub record IsBegun (l : SharedList) (b : ℕ) : Type 0 where

@@ -1,6 +1,7 @@
 //! The latest use of a log.
 
-ghost use Rattle.std.specs.Prelude.{◌≡◌, ◌≢◌, ◌<◌, ◌≤◌, ◌-◌, ◌==◌, ◌&&◌, ◌∷◌, ℕ, List, Some};
+ghost use Rattle.std.specs.Prelude.{◌≡◌, ◌≢◌, ◌<◌, ◌≤◌, ◌-◌, ◌==◌, ◌&&◌, ◌∷◌, ◌^◌, ℕ, List, Some};
+ghost use Rattle.std.specs.List.{All};
 ghost use Rattle.std.specs.Prelude.{if◌then◌else◌, length, map, get_or};
 ghost use Rattle.cache_core.specs.Residents.{distinct};
 ghost use Rattle.marked_list.specs.Uses.{dead, forgotten, last_in, living, stamp_at, used_next};
@@ -20,6 +21,8 @@ fn bury_last(log: &mut Vec<Use>, user: usize, last: Option<usize>)
         ≡ (if q == user then with_dead (map (seen q) log.old.items) last
         else map (seen q) log.old.items) }
     ensures numbers { map (λ u. u.number) log.new.items ≡ map (λ u. u.number) log.old.items }
+    ensures fit { All (λ u. u.users < 2 ^ 32) log.old.items →
+        All (λ u. u.users < 2 ^ 32) log.new.items }
 {
     if let Some(place) = last {
         bury(log, place, user);
@@ -51,6 +54,8 @@ pub(crate) fn use_latest(
         ≡ (if number == n && user == q then length log.old.items - 1
         else stamp_at (stamps_of stamps.old q) n) }
     ensures numbers { map (λ u. u.number) log.new.items ≡ map (λ u. u.number) log.old.items }
+    ensures fit { All (λ u. u.users < 2 ^ 32) log.old.items →
+        All (λ u. u.users < 2 ^ 32) log.new.items }
     ensures blocks { blocks_in stamps.new ≡ blocks_in stamps.old }
     ensures users { users_in stamps.new ≡ users_in stamps.old }
 {

@@ -1,10 +1,10 @@
 //! A list of blocks in order of last use for each user of a log.
 
-ghost use Rattle.std.specs.Prelude.{◌≡◌, ◌≢◌, ◌<◌, ◌≤◌, ◌+◌, ◌^◌, ℕ, [], length, Some, true};
-ghost use Rattle.std.specs.Prelude.{false};
+ghost use Rattle.std.specs.Prelude.{◌≡◌, ◌≢◌, ◌<◌, ◌≤◌, ◌+◌, ◌*◌, ◌^◌, ℕ, [], length, Some};
+ghost use Rattle.std.specs.Prelude.{true, false};
 ghost use Rattle.std.specs.List.{All};
 ghost use Rattle.marked_list.specs.Uses.{dead, living};
-ghost use Rattle.shared_list.specs.Log.{seen_by};
+ghost use Rattle.shared_list.specs.Log.{seen_by, seen_uses};
 ghost use Rattle.shared_list.specs.Stamps.{blocks_in, users_in};
 ghost use Rattle.shared_list.specs.Windows.{AreKept};
 
@@ -36,6 +36,9 @@ pub struct SharedList {
     ghost low: { All (λ u. u.number < dead) log.items },
     ghost room: { All (λ u. u.number < blocks_in stamps) log.items },
     ghost short: { length log.items + 1 < 2 ^ 32 },
+    ghost fit: { All (λ u. u.users < 2 ^ 32) log.items },
+    ghost long: { length log.items ≤ limit },
+    ghost limited: { limit ≤ 4096 + 2 * seen_uses log.items (length windows.items) },
 }
 
 /// Whether a use is at a place.
@@ -50,7 +53,7 @@ fn is_at(last: Option<usize>, place: usize) -> bool
     }
 }
 
-#[tactic(auto, unfolding(crate::specs::Shared::order_by, crate::specs::Shared::was_used_by, crate::specs::Shared::users_of, crate::specs::Shared::size_of_list))]
+#[tactic(auto, unfolding(crate::specs::Shared::order_by, crate::specs::Shared::was_used_by, crate::specs::Shared::users_of, crate::specs::Shared::size_of_list, crate::specs::Shared::kept_in))]
 impl SharedList {
     ghost use Rattle.std.specs.Prelude.{◌≡◌, ◌≢◌, ◌<◌, ◌≤◌, ◌==◌, ◌||◌, ℕ, [], OnOk, IfOk};
     ghost use Rattle.std.specs.Prelude.{IsErr, length, get_or, true, false};
@@ -58,8 +61,8 @@ impl SharedList {
     ghost use Rattle.marked_list.specs.Recency.{brought_front, index_in, is_among};
     ghost use Rattle.marked_list.specs.Uses.{dead, last_in};
     ghost use Rattle.shared_list.specs.Log.{seen_by};
-    ghost use Rattle.shared_list.specs.Shared.{IsBegun, order_by, size_of_list, users_of};
-    ghost use Rattle.shared_list.specs.Shared.{was_used_by};
+    ghost use Rattle.shared_list.specs.Shared.{IsBegun, IsShort, order_by, size_of_list};
+    ghost use Rattle.shared_list.specs.Shared.{users_of, was_used_by};
 
     /// An empty list for each of so many users, of which there are at most [`MAX_USERS`]. A use
     /// tells whether the block was among the last ones, as many as the size says.
@@ -73,6 +76,7 @@ impl SharedList {
             was_used_by list q b ≡ false) }
         ensures users { IfOk result (λ list. users_of list ≡ users) }
         ensures size { IfOk result (λ list. size_of_list list ≡ size) }
+        ensures few { IfOk result IsShort }
     {
         let mut windows = Vec::new(alloc);
         windows.resize(users, Window { place: 0, used: 0 })?;
@@ -89,6 +93,7 @@ impl SharedList {
     /// Forgets the uses that are not the last ones of a user. Not inlined, since few uses need it.
     #[inline(never)]
     fn shorten(&mut self) -> Result<(), AllocError>
+        ensures room { OnOk result (length self.new.log.items < self.new.limit) }
         ensures order { (q : ℕ) → order_by self.new q ≡ order_by self.old q }
         ensures used { (q b : ℕ) → q < users_of self.old →
             was_used_by self.new q b ≡ was_used_by self.old q b }
@@ -106,7 +111,8 @@ impl SharedList {
     /// Adds a use of a block by no user yet.
     #[inline(always)]
     fn add(&mut self, number: usize) -> Result<(), AllocError>
-        requires { number < dead }
+        requires low { number < dead }
+        requires room { length self.old.log.items < self.old.limit }
         ensures begun { OnOk result (IsBegun self.new number) }
         ensures order { (q : ℕ) → order_by self.new q ≡ order_by self.old q }
         ensures used { (q b : ℕ) → q < users_of self.old →
@@ -135,6 +141,7 @@ impl SharedList {
             was_used_by self.new q b ≡ was_used_by self.old q b }
         ensures users { users_of self.new ≡ users_of self.old }
         ensures size { size_of_list self.new ≡ size_of_list self.old }
+        ensures few { IsShort self.new }
         ensures high { u32.MAX ≤ number → IsErr result }
     {
         if number >= u32::MAX as usize {
@@ -183,6 +190,7 @@ impl SharedList {
             was_used_by self.new q b ≡ was_used_by self.old q b }
         ensures users { users_of self.new ≡ users_of self.old }
         ensures size { size_of_list self.new ≡ size_of_list self.old }
+        ensures few { IsShort self.new }
     {
         unstamp(&self.log, &mut self.stamps);
         self.log.clear();
@@ -221,6 +229,7 @@ impl SharedList {
         ensures begun { IsBegun self.new number }
         ensures users { users_of self.new ≡ users_of self.old }
         ensures size { size_of_list self.new ≡ size_of_list self.old }
+        ensures few { IsShort self.new }
     {
         let latest = self.log.len() - 1;
         let last = self.last_use(user, number);

@@ -1,6 +1,6 @@
 //! A log of uses that many users share.
 
-ghost use Rattle.std.specs.Prelude.{◌≡◌, ◌<◌, ◌≤◌, ◌+◌, ◌-◌, ◌==◌, ℕ};
+ghost use Rattle.std.specs.Prelude.{◌≡◌, ◌<◌, ◌≤◌, ◌+◌, ◌-◌, ◌==◌, ◌^◌, ℕ};
 ghost use Rattle.std.specs.Prelude.{if◌then◌else◌, length, map, get_or, set, take};
 ghost use Rattle.std.specs.List.{All};
 ghost use Rattle.marked_list.specs.Uses.{dead, living, since};
@@ -24,6 +24,8 @@ pub(crate) fn bury(log: &mut Vec<Use>, place: usize, user: usize)
         ≡ (if q == user then set (map (seen q) log.old.items) place dead
         else map (seen q) log.old.items) }
     ensures numbers { map (λ u. u.number) log.new.items ≡ map (λ u. u.number) log.old.items }
+    ensures fit { All (λ u. u.users < 2 ^ 32) log.old.items →
+        All (λ u. u.users < 2 ^ 32) log.new.items }
 {
     log[place].users = without(log[place].users, user);
 }
@@ -38,6 +40,8 @@ pub(crate) fn give(log: &mut Vec<Use>, place: usize, user: usize)
         then set (map (seen q) log.old.items) place (get_or log.old.items place (no_use 0)).number
         else map (seen q) log.old.items) }
     ensures numbers { map (λ u. u.number) log.new.items ≡ map (λ u. u.number) log.old.items }
+    ensures fit { All (λ u. u.users < 2 ^ 32) log.old.items →
+        All (λ u. u.users < 2 ^ 32) log.new.items }
 {
     log[place].users = with(log[place].users, user);
 }

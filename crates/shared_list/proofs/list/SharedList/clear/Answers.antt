@@ -1,5 +1,5 @@
-use Rattle.std.proofs.Common.{◌≡◌, ◌<◌, ℕ, List, [], length, get_or, cond, refl, sym, ap, subst}
-use Rattle.std.proofs.Common.{◌∙◌, arith}
+use Rattle.std.proofs.Common.{◌^◌, ◌≡◌, ◌<◌, ℕ, List, [], length, get_or, cond, refl, sym, ap}
+use Rattle.std.proofs.Common.{subst, ◌∙◌, arith}
 use Rattle.std.specs.List.{All}
 use Rattle.cache_core.proofs.Nothing.{take_none}
 use Rattle.cache_core.proofs.Reuse.{has}
@@ -51,6 +51,10 @@ invariant_of-self c = let self = c.args.self.now in
       room = subst (All (λ (u : Use). u.number < blocks_in c.unstamp.new.stamps)) (sym none)
           (λ k d lt. absurd (omega (arith, lt)));
       short = (let all = ap (λ (l : List Use). length l) none in omega (arith, all));
+      fit = subst (All (λ (u : Use). u.users < 2 ^ 32)) (sym none)
+          (λ k d lt. absurd (omega (arith, lt)));
+      long = (let all = ap (λ (l : List Use). length l) none in omega (arith, all));
+      limited = omega arith;
     }
 
 pub returns-clause-used : goal.returns-clause-used

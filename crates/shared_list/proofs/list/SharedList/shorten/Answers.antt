@@ -1,19 +1,20 @@
-use Rattle.std.proofs.Common.{◌≡◌, ◌<◌, ℕ, List, length, take, get_or, sym, ap, subst, ◌∙◌}
+use Rattle.std.proofs.Common.{◌^◌, ◌≡◌, ◌<◌, ℕ, List, length, take, get_or, sym, ap, subst, ◌∙◌}
 use Rattle.std.proofs.Common.{arith}
 use Rattle.std.specs.List.{All}
 use Rattle.std.proofs.lemmas.List.{get_or-map, length-map}
-use Rattle.std.proofs.lemmas.List.Elements.{All-filter}
+use Rattle.std.proofs.lemmas.List.Elements.{All-filter, filter_passes}
 use Rattle.std.specs.Prelude.{unwrap_or}
 use Rattle.marked_list.specs.Uses.{dead, last_in, living, stamp_at}
 use Rattle.shared_list.specs.declared.log.Use.{Use}
 use Rattle.shared_list.specs.declared.window.Window.{Window}
-use Rattle.shared_list.specs.Log.{has_users, seen_by}
+use Rattle.shared_list.specs.Log.{has_users, seen_by, seen_uses}
 use Rattle.shared_list.specs.Shared.{order_by, users_of, was_used_by}
 use Rattle.shared_list.specs.Stamps.{blocks_in, stamps_of, users_in}
 use Rattle.shared_list.specs.Windows.{IsKept, at_place, no_window}
 use Rattle.shared_list.proofs.Seen.{length-seen-by}
 use Rattle.shared_list.proofs.Shortened.{few-kept, kept-shortened, kept_uses, known-shortened}
 use Rattle.shared_list.proofs.Shortened.{living-shortened}
+use Rattle.shared_list.proofs.SeenUses.{each-sees}
 use Rattle.shared_list.proofs.list.SharedList.shorten.Goals as goal
 
 pub restamp-requires-clause-short : goal.restamp-requires-clause-short
@@ -82,6 +83,18 @@ invariant_of-self-2 c = let self = c.args.self.now in
           (All-filter has_users (λ (u : Use). u.number < blocks_in self.stamps) log self.room));
       short = (let all = ap (λ (l : List Use). length l) c.keep_used.ensures in
           let short = self.short in omega (arith, all, few, short));
+      fit = subst (All (λ (u : Use). u.users < 2 ^ 32)) (sym c.keep_used.ensures)
+          (All-filter has_users (λ (u : Use). u.users < 2 ^ 32) log self.fit);
+      long = omega (arith, c.len.ensures, c.keep_used.new.log.ok.0);
+      limited = (let kept = kept_uses log in
+          let sees = each-sees (length new) kept (filter_passes has_users log)
+          (All-filter has_users (λ (u : Use). u.users < 2 ^ 32) log self.fit)
+          (All-filter has_users (λ (u : Use). u.number < dead) log self.low)
+          (λ q past lq. ap (λ (l : List ℕ). length l) (living-shortened q log
+          ∙ self.none q (omega (arith, past, long)) lq)) in
+          let is = ap (λ (l : List Use). length l) c.keep_used.ensures in
+          let same = ap (λ l. seen_uses l (length new)) c.keep_used.ensures in
+          omega (arith, sees, is, same, c.len.ensures, c.keep_used.new.log.ok.0));
     }
 
 pub returns-clause-order : goal.returns-clause-order

@@ -7,12 +7,14 @@ use Rattle.marked_list.specs.Uses.{dead, living}
 use Rattle.shared_list.specs.declared.list.SharedList.{SharedList}
 use Rattle.shared_list.specs.declared.log.Use.{Use}
 use Rattle.shared_list.specs.declared.window.Window.{Window}
-use Rattle.shared_list.specs.Log.{no_use, seen_by}
+use Rattle.shared_list.specs.Log.{no_use, seen_by, seen_uses}
 use Rattle.shared_list.specs.Shared.{order_by, size_of_list, users_of}
 use Rattle.shared_list.specs.Stamps.{blocks_in}
 use Rattle.shared_list.specs.Windows.{mark_of, no_window}
 use Rattle.shared_list.proofs.Seen.{number-at, numbers-low}
 use Rattle.shared_list.proofs.Touching.{after, before-latest, few-used, kept-all, mark}
+use Rattle.shared_list.proofs.SeenUses.{seen-more}
+use Rattle.shared_list.proofs.Touching.{more-seen}
 use Rattle.shared_list.proofs.Touching.{order-next, order-stays, rest, unseen-latest}
 use Rattle.shared_list.proofs.Touching.{window-has, window-keeps}
 use Rattle.shared_list.proofs.list.SharedList.touch.Goals as goal
@@ -91,16 +93,18 @@ invariant_of-self c = let self = c.args.self.now in
     ∙ get_or_default self.windows.items u c.index-window.result.now no_window lu in
     let same = c.deref.ensures.value in
     let long = ap (λ (l : List ℕ). length l) c.use_latest.ensures.numbers in
+    let moved = c.window_after.ensures.mark (rest self u b lu begun last is ne) b
+    (ap (seen_by u) same ∙ seen)
+    (subst (λ (z : Window). IsUseAfter (rest self u b lu begun last is ne) b last z.used)
+    (sym window) after-use)
+    (subst (λ (z : Window). IsMark (rest self u b lu begun last is ne)
+    (mark_of self.size z)) (sym window) (mark self u b lu begun last is ne)) in
+    let used = c.window_after.ensures.used
+    ∙ ap (λ (z : Window). counted_with last z.used) window in
     record {
       kept = kept-all self u b lu begun last is ne log c.use_latest.new.stamps v seen
           c.use_latest.ensures.others c.use_latest.ensures.stamps
-          (c.window_after.ensures.mark (rest self u b lu begun last is ne) b
-          (ap (seen_by u) same ∙ seen)
-          (subst (λ (z : Window). IsUseAfter (rest self u b lu begun last is ne) b last z.used)
-          (sym window) after-use)
-          (subst (λ (z : Window). IsMark (rest self u b lu begun last is ne)
-          (mark_of self.size z)) (sym window) (mark self u b lu begun last is ne)))
-          (c.window_after.ensures.used ∙ ap (λ (z : Window). counted_with last z.used) window);
+          moved used;
       users = c.use_latest.ensures.users ∙ self.users ∙ sym (length-set self.windows.items u v);
       few = (let few = self.few in omega (arith, few, length-set self.windows.items u v));
       none = λ q past lq. ap living (c.use_latest.ensures.others q lq
@@ -118,6 +122,20 @@ invariant_of-self c = let self = c.args.self.now in
         length-map log (λ (z : Use). z.number),
         length-map self.log.items (λ (z : Use). z.number),
       ));
+      fit = c.use_latest.ensures.fit self.fit;
+      long = (let below = self.long in omega (
+        arith,
+        below,
+        long,
+        length-map log (λ (z : Use). z.number),
+        length-map self.log.items (λ (z : Use). z.number),
+      ));
+      limited = (let limited = self.limited in
+          let more = seen-more self.log.items log (length self.windows.items)
+          (more-seen self u b lu begun last is ne log c.use_latest.new.stamps v seen
+          c.use_latest.ensures.others c.use_latest.ensures.stamps moved used) in
+          let all = ap (seen_uses log) (length-set self.windows.items u v) in
+          omega (arith, limited, more, all));
     }
 
 pub returns-clause-near : goal.returns-clause-near
