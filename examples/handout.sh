@@ -1,8 +1,10 @@
 #!/usr/bin/env bash
 # Makes the hand-out of a first course from a trace: three pictures and a table. See usage.
+# Functions of the caller's don't come before the shell's own words (bin/common.sh).
+POSIXLY_CORRECT=yes && unset -f builtin command
 set -euo pipefail
 self=handout
-here=$(readlink -f -- "${BASH_SOURCE[0]}"); here=${here%/*}
+here=$(command readlink -f -- "${BASH_SOURCE[0]}"); here=${here%/*}
 bin=${here%/*}/bin
 . "$bin/common.sh"
 . "$bin/plot_place.sh"

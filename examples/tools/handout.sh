@@ -12,6 +12,10 @@ ln -s "$handout" made-by
 run ./made-by --help
 [ "$status" -eq 0 ] && [ ! -s "$err" ] && grep -q '^Usage: examples/handout.sh' "$out"
 verdict 'a hand-out by a link' $?
+run env 'BASH_FUNC_set%%=() { echo own; return 1; }' \
+    'BASH_FUNC_readlink%%=() { echo own; return 1; }' "$handout" --help
+[ "$status" -eq 0 ] && [ ! -s "$err" ] && [ "$("$handout" --help)" = "$(<"$out")" ]
+verdict "a hand-out with the caller's functions" $?
 ends 'a hand-out into an empty name' 2 'handout: a trace and a folder are needed; try --help' \
     "$handout" hand.din ''
 printf '0 0\n0 400\n0 0\n1 400\n2 0\n' >hand.din
