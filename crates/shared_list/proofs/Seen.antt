@@ -35,19 +35,19 @@ pub number-at : (new old : List Use) (i : ℕ)
 number-at new old i e = sym (get_or-map-any (λ (v : Use). v.number) new i (no_use 0))
     ∙ ap (λ l. get_or l i 0) e ∙ get_or-map-any (λ (v : Use). v.number) old i (no_use 0)
 
+-- where all numbers are the same, there are as many uses
+pub length-same : (new old : List Use)
+    → map (λ (v : Use). v.number) new ≡ map (λ (v : Use). v.number) old → length new ≡ length old
+length-same new old e = sym (length-map new (λ (v : Use). v.number))
+    ∙ ap (λ (l : List ℕ). length l) e ∙ length-map old (λ (v : Use). v.number)
+
 -- all numbers stay below a bound
 pub numbers-low : (n : ℕ) (old new : List Use)
     → map (λ (v : Use). v.number) new ≡ map (λ (v : Use). v.number) old
     → All (λ (v : Use). v.number < n) old → All (λ (v : Use). v.number < n) new
 numbers-low n old new e low k d lt =
-    let long = ap (λ (l : List ℕ). length l) e in
-    let lk : k < length old = omega (
-      arith,
-      lt,
-      long,
-      length-map old (λ (v : Use). v.number),
-      length-map new (λ (v : Use). v.number),
-    ) in
+    let long = length-same new old e in
+    let lk : k < length old = omega (arith, lt, long) in
     let is = ap (λ (v : Use). v.number) (get_or_default new k d (no_use 0) lt)
     ∙ number-at new old k e in
     let below = low k (no_use 0) lk in

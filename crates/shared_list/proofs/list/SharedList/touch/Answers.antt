@@ -1,6 +1,6 @@
-use Rattle.std.proofs.Common.{◌≡◌, ◌≢◌, ◌<◌, ◌-◌, ℕ, List, Option, Some, length, get_or, arith}
+use Rattle.std.proofs.Common.{◌≡◌, ◌≢◌, ◌<◌, ◌-◌, Option, Some, length, get_or, arith}
 use Rattle.std.proofs.Common.{sym, ap, subst, ◌∙◌}
-use Rattle.std.proofs.lemmas.List.{get_or_default, length-map, length-set}
+use Rattle.std.proofs.lemmas.List.{get_or_default, length-set}
 use Rattle.std.specs.List.{All}
 use Rattle.marked_list.specs.Marks.{IsMark, IsUseAfter, counted_with, covers}
 use Rattle.marked_list.specs.Uses.{dead, living}
@@ -11,7 +11,7 @@ use Rattle.shared_list.specs.Log.{no_use, seen_by, seen_uses}
 use Rattle.shared_list.specs.Shared.{order_by, size_of_list, users_of}
 use Rattle.shared_list.specs.Stamps.{blocks_in}
 use Rattle.shared_list.specs.Windows.{mark_of, no_window}
-use Rattle.shared_list.proofs.Seen.{number-at, numbers-low}
+use Rattle.shared_list.proofs.Seen.{length-same, number-at, numbers-low}
 use Rattle.shared_list.proofs.Touching.{after, before-latest, few-used, kept-all, mark}
 use Rattle.shared_list.proofs.SeenUses.{seen-more}
 use Rattle.shared_list.proofs.Touching.{more-seen}
@@ -92,7 +92,7 @@ invariant_of-self c = let self = c.args.self.now in
     let window : c.index-window.result.now ≡ w = c.index-window.ensures
     ∙ get_or_default self.windows.items u c.index-window.result.now no_window lu in
     let same = c.deref.ensures.value in
-    let long = ap (λ (l : List ℕ). length l) c.use_latest.ensures.numbers in
+    let long = length-same log self.log.items c.use_latest.ensures.numbers in
     let moved = c.window_after.ensures.mark (rest self u b lu begun last is ne) b
     (ap (seen_by u) same ∙ seen)
     (subst (λ (z : Window). IsUseAfter (rest self u b lu begun last is ne) b last z.used)
@@ -115,21 +115,9 @@ invariant_of-self c = let self = c.args.self.now in
       room = subst (λ n. All (λ (z : Use). z.number < n) log)
           (sym c.use_latest.ensures.blocks) (numbers-low (blocks_in self.stamps) self.log.items log
           c.use_latest.ensures.numbers self.room);
-      short = (let short = self.short in omega (
-        arith,
-        short,
-        long,
-        length-map log (λ (z : Use). z.number),
-        length-map self.log.items (λ (z : Use). z.number),
-      ));
+      short = (let short = self.short in omega (arith, short, long));
       fit = c.use_latest.ensures.fit self.fit;
-      long = (let below = self.long in omega (
-        arith,
-        below,
-        long,
-        length-map log (λ (z : Use). z.number),
-        length-map self.log.items (λ (z : Use). z.number),
-      ));
+      long = (let below = self.long in omega (arith, below, long));
       limited = (let limited = self.limited in
           let more = seen-more self.log.items log (length self.windows.items)
           (more-seen self u b lu begun last is ne log c.use_latest.new.stamps v seen
@@ -173,14 +161,7 @@ pub returns-clause-begun : goal.returns-clause-begun
 returns-clause-begun c = let self = c.args.self.now in
     let log = c.use_latest.new.log.items in
     let begun = c.requires.begun in
-    let all = ap (λ (l : List ℕ). length l) c.use_latest.ensures.numbers in
-    let long : length log ≡ length self.log.items =
-    omega (
-      arith,
-      all,
-      length-map log (λ (z : Use). z.number),
-      length-map self.log.items (λ (z : Use). z.number),
-    ) in
+    let long = length-same log self.log.items c.use_latest.ensures.numbers in
     record {
       some = omega (arith, long, begun.some);
       room = omega (arith, begun.room, c.use_latest.ensures.blocks);
