@@ -14,4 +14,4 @@ mod users;
 mod window;
 
 pub use list::SharedList;
-pub use users::MAX_USERS;
+pub use users::{MAX_USERS, Users};
