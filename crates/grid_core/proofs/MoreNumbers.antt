@@ -7,6 +7,7 @@ use Rattle.grid_core.specs.declared.cells.Shape.{Shape}
 use Rattle.grid_core.specs.declared.engine.Engine.{Engine}
 use Rattle.grid_core.specs.declared.shadows.Shadows.{Shadows}
 use Rattle.grid_core.specs.declared.stack.Stack.{Stack}
+use Rattle.marked_list.specs.Marked.{was_used}
 use Rattle.grid_core.specs.Engines.{EngineStandsBy}
 use Rattle.grid_core.specs.Shadows.{AreNumbered, HoldsOrder}
 use Rattle.grid_core.specs.State.{IsAfter}
@@ -25,8 +26,8 @@ module _ (blocks more : List ℕ) (on : IsBeginning blocks more) where
   pub order-more : (s : Shadows) (ys : List ℕ) → AreNumbered blocks s
       → HoldsOrder blocks s ys → HoldsOrder more s ys
   order-more s ys low held = record {
-    order = held.order ∙ order-same s.order blocks more on low ys held.known;
-    known = λ y h. used-same s.order blocks more on low y ∙ held.known y h;
+    order = held.order ∙ order-same (was_used s.order) blocks more on low ys held.known;
+    known = λ y h. used-same (was_used s.order) blocks more on low y ∙ held.known y h;
   }
 
   -- the state of caches that are served together
@@ -35,8 +36,8 @@ module _ (blocks more : List ℕ) (on : IsBeginning blocks more) where
   after-more g stacks s shapes h st = record {
     rows = st.rows;
     order = order-more s _ st.numbered st.order;
-    known = λ b. used-same s.order blocks more on st.numbered b ∙ st.known b;
-    numbered = low-same s.order blocks more on st.numbered;
+    known = λ b. used-same (was_used s.order) blocks more on st.numbered b ∙ st.known b;
+    numbered = low-same (was_used s.order) blocks more on st.numbered;
     counted = st.counted;
     far = st.far;
     recent = st.recent;

@@ -51,7 +51,8 @@ module _ (f : ℕ → ℕ) (n b : ℕ) where
   pub agree-tail : (y : ℕ) (ys : List ℕ) → Agree (y ∷ ys) → Agree ys
   agree-tail y ys a z h = a z (or_right (eqb y z) (has ys z) h)
 
-  among-map : (size : ℕ) (ys : List ℕ) → Agree ys
+  -- the first blocks are the same by numbers
+  pub among-map : (size : ℕ) (ys : List ℕ) → Agree ys
       → is_among n (map f ys) size ≡ is_among b ys size
   among-map zero ys a = refl
   among-map (suc size) [] a = refl

@@ -3,21 +3,20 @@ use Rattle.std.specs.Prelude.{◌≡◌, ℕ, ◌==◌, ◌<◌, length, Bool, t
 use Rattle.std.specs.Prelude.{Option, Some, None, unwrap_or}
 use Rattle.std.specs.List.{list_any}
 use Rattle.cache_core.specs.declared.counts.PerClass.{PerClass}
-use Rattle.marked_list.specs.declared.marked.Marked.{Marked}
 use Rattle.marked_list.specs.Marked.{order_of, marked_sizes, was_used}
 use Rattle.grid_core.specs.declared.recent.Recent.{Recent}
 use Rattle.grid_core.specs.declared.shadows.Shadows.{Shadows}
 use Rattle.grid_core.specs.Numbers.{number_at}
 use Rattle.grid_core.specs.Totals.{total}
 
--- whether the block of this number was used, if there is such a number
-abbrev pub was_number_used : Marked → Option ℕ → Bool
-was_number_used m None = false
-was_number_used m (Some n) = was_used m n
+-- whether the block of this number was used, if there is such a number, by the numbers that were
+abbrev pub was_number_used : (ℕ → Bool) → Option ℕ → Bool
+was_number_used used None = false
+was_number_used used (Some n) = used n
 
 -- whether a block was accessed, if each block of a list has its place there as its number
 abbrev pub is_known : List ℕ → Shadows → ℕ → Bool
-is_known blocks s b = was_number_used s.order (number_at blocks b)
+is_known blocks s b = was_number_used (was_used s.order) (number_at blocks b)
 
 -- each number that was used is that of a block of the list
 abbrev pub AreNumbered : List ℕ → Shadows → Type 0

@@ -3,7 +3,7 @@ use Rattle.std.proofs.Common.{is_some, unwrap_or, List}
 use Rattle.std.proofs.Common.{refl, sym, ap, ◌∙◌, arith}
 use Rattle.cache_core.proofs.Reuse.{has}
 use Rattle.marked_list.specs.Recency.{level_of, brought_front}
-use Rattle.marked_list.specs.Marked.{marked_sizes, order_of}
+use Rattle.marked_list.specs.Marked.{marked_sizes, order_of, was_used}
 use Rattle.grid_core.specs.Numbers.{number_at}
 use Rattle.grid_core.specs.Shadows.{is_known, number_by, shadow_sizes, was_number_used}
 use Rattle.grid_core.specs.Totals.{total}
@@ -57,14 +57,14 @@ returns-clause-far c = λ k.
 
 pub returns-clause-known : goal.returns-clause-known
 returns-clause-known c = λ blocks is.
-    c.knows-known.ensures ∙ sym (ap (was_number_used c.args.self.now.order) is)
+    c.knows-known.ensures ∙ sym (ap (was_number_used (was_used c.args.self.now.order)) is)
 
 pub returns-clause-level : goal.returns-clause-level
 returns-clause-level c = λ blocks ys is held.
     let s = c.args.self.now in
     let b = c.args.block in
     let n = c.args.number in
-    let some = λ (y : ℕ) (h : has ys y ≡ true). used-some s.order (number_at blocks y)
+    let some = λ (y : ℕ) (h : has ys y ≡ true). used-some (was_used s.order) (number_at blocks y)
     (held.known y h) in
     c.in_ok-level.ensures.level
     ∙ ap (λ l. level_of (shadow_sizes s) l n) held.order
@@ -75,23 +75,23 @@ returns-clause-order c = λ blocks ys is held.
     let s = c.args.self.now in
     let b = c.args.block in
     let n = c.args.number in
-    let some = λ (y : ℕ) (h : has ys y ≡ true). used-some s.order (number_at blocks y)
+    let some = λ (y : ℕ) (h : has ys y ≡ true). used-some (was_used s.order) (number_at blocks y)
     (held.known y h) in
     record {
       order = c.in_ok-level.ensures.order
           ∙ ap (brought_front n) held.order
           ∙ front-map (number_by blocks) n b (number_by blocks) (ap (λ o. unwrap_or o 0) is)
           (λ y e. refl) ys (number-tells blocks b n ys is some);
-      known = λ y h. used-after s.order _ blocks b n is c.in_ok-level.ensures.used y
+      known = λ y h. used-after (was_used s.order) _ blocks b n is c.in_ok-level.ensures.used y
           ∙ known-front (is_known blocks s) b ys held.known y h;
     }
 
 pub returns-clause-adds : goal.returns-clause-adds
 returns-clause-adds c = λ blocks is q.
-    used-after c.args.self.now.order _ blocks c.args.block c.args.number is
+    used-after (was_used c.args.self.now.order) _ blocks c.args.block c.args.number is
     c.in_ok-level.ensures.used q
 
 pub returns-clause-numbers : goal.returns-clause-numbers
 returns-clause-numbers c = λ blocks is low.
-    low-after c.args.self.now.order _ blocks c.args.block c.args.number is
+    low-after (was_used c.args.self.now.order) _ blocks c.args.block c.args.number is
     c.in_ok-level.ensures.used low
