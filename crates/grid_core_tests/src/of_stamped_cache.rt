@@ -1,35 +1,54 @@
 //! Counts that were worked out by hand, and pseudo-random accesses and flushes beside caches of
 //! cache_core.
 
-use crate::tests::{BLOCK, access_all, access_of, caches_of, flush_all, next_random, whole_of};
-use cache_core::{Access, Cache, Class, Counts, Geometry, MAX_EVENTS, PerClass, Policy, Repl};
-use grid_core::BlockNumbers;
-use stamped_cache::StampedCache;
+use cache_core::{Access, Class, Counts, Geometry, PerClass};
+use shared_list::Users;
+use stamped_cache::StampedCaches;
 use std::alloc::Global;
 use std::process::Abort;
 use std::test::Fail;
 
+mod many;
 mod memory;
 
 /// An access by its class, the address, and the number of the block.
 type Use = (Class, u64, usize);
 
-/// Serves these accesses.
-fn serve(rt: &impl Abort, cache: &mut StampedCache, uses: &[Use]) {
+/// Serves these accesses in the caches of these users.
+fn serve(rt: &impl Abort, caches: &mut StampedCaches, users: Users, uses: &[Use]) {
     for (class, addr, number) in uses {
-        assert!(rt; cache.served() < MAX_EVENTS);
+        assert!(rt; caches.have_room());
         let access = Access {
             class: *class,
             addr: *addr,
         };
-        cache.access(access, *number).expect(rt, "memory");
+        caches.access(access, *number, users).expect(rt, "memory");
     }
 }
 
-/// Flushes the cache.
-fn flush(rt: &impl Abort, cache: &mut StampedCache) {
-    assert!(rt; cache.served() < MAX_EVENTS);
-    cache.flush().expect(rt, "memory");
+/// Flushes all caches.
+fn flush(rt: &impl Abort, caches: &mut StampedCaches) {
+    assert!(rt; caches.have_room());
+    caches.flush().expect(rt, "memory");
+}
+
+/// The counts of a user's cache have to be these, and the misses of its shadow these.
+fn expect_counts(
+    rt: &impl Abort,
+    caches: &StampedCaches,
+    user: usize,
+    counts: Counts,
+    far: PerClass,
+) {
+    assert!(rt; user < caches.users());
+    assert_eq!(rt; caches.counts(user), counts);
+    assert_eq!(rt; caches.shadow_misses(user), far);
+}
+
+/// A user's cache has to have served so many accesses and flushes.
+fn expect_served(rt: &impl Abort, caches: &StampedCaches, user: usize, served: u64) {
+    assert!(rt; user < caches.users());
+    assert_eq!(rt; caches.served(user), served);
 }
 
 /// The accesses before the flush. A block has 16 bytes, so the first digit of an address is the
@@ -109,17 +128,31 @@ fn per_class(instr: u64, read: u64, write: u64, misc: u64) -> PerClass {
     }
 }
 
-/// A cache of two sets of two ways counts this much. Its shadow misses where it is `far` above.
+/// What the shadow of a cache misses in these accesses: it does where it is `far` above.
+fn far_by_hand() -> PerClass {
+    per_class(1, 7, 3, 1)
+}
+
+/// Of three caches of two sets of two ways, the first and the last count this much, and the other
+/// one, which gets no access, counts the flush alone. The last user that is named has no cache.
 fn expect_by_hand(rt: &impl Abort, alloc: Global, wback: bool, counts: Counts) {
     let geometry = Geometry::new(64, 16, 2).expect(rt, "a lawful geometry");
-    let mut cache = StampedCache::new(alloc, geometry, wback).expect(rt, "memory");
-    serve(rt, &mut cache, &BEFORE);
-    flush(rt, &mut cache);
-    serve(rt, &mut cache, &AFTER);
-    assert_eq!(rt; cache.counts(), counts);
-    assert_eq!(rt; cache.shadow_misses(), per_class(1, 7, 3, 1));
-    assert_eq!(rt; cache.served(), 17);
-    assert!(rt; !cache.failed());
+    let mut caches = StampedCaches::new(alloc, geometry, wback, 3).expect(rt, "memory");
+    let users = Users::one(0).with(2).with(31);
+    serve(rt, &mut caches, users, &BEFORE);
+    flush(rt, &mut caches);
+    serve(rt, &mut caches, users, &AFTER);
+    let flushed = Counts {
+        flushes: 1,
+        ..Counts::default()
+    };
+    expect_counts(rt, &caches, 0, counts, far_by_hand());
+    expect_counts(rt, &caches, 1, flushed, PerClass::default());
+    expect_counts(rt, &caches, 2, counts, far_by_hand());
+    expect_served(rt, &caches, 0, 17);
+    expect_served(rt, &caches, 1, 1);
+    expect_served(rt, &caches, 2, 17);
+    assert!(rt; !caches.failed());
 }
 
 #[test]
@@ -129,102 +162,13 @@ fn counts_are_those_worked_out_by_hand(rt: HostRuntime) {
 }
 
 #[test]
-fn a_new_cache_has_counted_nothing(rt: HostRuntime) {
+fn new_caches_have_counted_nothing(rt: HostRuntime) {
     let geometry = Geometry::new(64, 16, 2).expect(&rt, "a lawful geometry");
-    let cache = StampedCache::new(rt.alloc(), geometry, true).expect(&rt, "memory");
-    assert_eq!(&rt; cache.counts(), Counts::default());
-    assert_eq!(&rt; cache.shadow_misses(), PerClass::default());
-    assert_eq!(&rt; cache.served(), 0);
-    assert!(&rt; !cache.failed());
-}
-
-/// A cache, and beside it one of the same geometry and one fully associative, both of cache_core.
-#[derive(Drop)]
-struct Beside {
-    cache: StampedCache,
-    others: Vec<Cache>,
-}
-
-/// New caches of so many blocks and ways.
-fn beside_of(rt: &impl Abort, alloc: Global, shape: (u64, u64), wback: bool) -> Beside {
-    let size = shape.0.wrapping_mul(BLOCK);
-    let geometry = Geometry::new(size, BLOCK, shape.1).expect(rt, "a lawful geometry");
-    let policy = Policy {
-        repl: Repl::Lru,
-        wback,
-        walloc: true,
-    };
-    Beside {
-        cache: StampedCache::new(alloc, geometry, wback).expect(rt, "memory"),
-        others: caches_of(rt, alloc, &[geometry, whole_of(rt, geometry)], policy),
-    }
-}
-
-/// The counts have to be those of the cache of the same geometry, and the misses of the shadow
-/// those of the fully associative one.
-fn expect_alike(rt: &impl Abort, beside: &Beside) {
-    assert!(rt; 1 < beside.others.len());
-    assert_eq!(rt; beside.cache.counts(), beside.others[0].counts());
-    assert_eq!(rt;
-        beside.cache.shadow_misses(),
-        beside.others[1].counts().misses
-    );
-    assert_eq!(rt; beside.cache.served(), beside.others[0].served());
-}
-
-/// Serves a pseudo-random access in all three caches, and now and then a flush.
-fn serve_next(
-    rt: &impl Abort,
-    alloc: Global,
-    beside: &mut Beside,
-    numbers: &mut BlockNumbers,
-    state: &mut u64,
-) {
-    let access = access_of(state, 256);
-    let number = numbers.number(access.addr / BLOCK).expect(rt, "memory");
-    assert!(rt; beside.cache.served() < MAX_EVENTS);
-    beside.cache.access(access, number).expect(rt, "memory");
-    access_all(rt, &mut beside.others, access);
-    if next_random(state) % 256 == 0 {
-        flush(rt, &mut beside.cache);
-        flush_all(rt, alloc, &mut beside.others);
-    }
-    expect_alike(rt, beside);
-}
-
-/// How many blocks and ways a cache has.
-type Shape = (u64, u64);
-
-/// Two caches of each pair share the numbers of their blocks.
-static PAIRS: [(Shape, Shape); 4] = [
-    ((1, 1), (32, 1)),
-    ((2, 2), (16, 2)),
-    ((4, 4), (64, 8)),
-    ((16, 16), (8, 1)),
-];
-
-/// Serves accesses in two caches, which take turns at random, so that each gets its numbers in any
-/// order.
-fn are_alike(rt: &impl Abort, alloc: Global, pair: (Shape, Shape), wback: bool, seed: u64) {
-    let mut numbers = BlockNumbers::new(alloc);
-    let mut one = beside_of(rt, alloc, pair.0, wback);
-    let mut other = beside_of(rt, alloc, pair.1, wback);
-    let mut state = seed;
-    for _ in 0..2_000 {
-        if next_random(&mut state) % 2 == 0 {
-            serve_next(rt, alloc, &mut one, &mut numbers, &mut state);
-        } else {
-            serve_next(rt, alloc, &mut other, &mut numbers, &mut state);
-        }
-    }
-}
-
-#[test]
-fn caches_that_share_numbers_are_single_caches(rt: HostRuntime) {
-    let mut seed = 1u64;
-    for pair in PAIRS.iter() {
-        are_alike(&rt, rt.alloc(), *pair, true, seed);
-        are_alike(&rt, rt.alloc(), *pair, false, seed);
-        seed = seed.wrapping_add(1);
-    }
+    let caches = StampedCaches::new(rt.alloc(), geometry, true, 2).expect(&rt, "memory");
+    expect_counts(&rt, &caches, 0, Counts::default(), PerClass::default());
+    expect_counts(&rt, &caches, 1, Counts::default(), PerClass::default());
+    expect_served(&rt, &caches, 1, 0);
+    assert_eq!(&rt; caches.users(), 2);
+    assert!(&rt; caches.have_room());
+    assert!(&rt; !caches.failed());
 }

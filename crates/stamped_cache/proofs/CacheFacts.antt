@@ -1,28 +1,25 @@
--- What holds of every cache that stands for a history.
-use Rattle.std.proofs.Common.{◌≡◌, ◌<◌, ℕ, true, List, Some, refl, sym, ◌∙◌}
-use Rattle.std.proofs.Common.{ap, inl, inr, length, false, None, Option, [], ◌==◌}
+-- What holds of all caches that stand for histories.
+use Rattle.std.proofs.Common.{◌≡◌, ◌<◌, ℕ, ◌+◌, ◌*◌, Bool, true, List, Some, refl, sym, subst, ◌∙◌}
+use Rattle.std.proofs.Common.{false, None, Option, [], ◌==◌}
 use Rattle.std.specs.List.{list_any}
-use Rattle.std.proofs.Math.ListN.{get_or-eq_default}
-use Rattle.std.proofs.lemmas.Bool.{cases_lt, false≢true}
+use Rattle.cache_core.specs.Geometry.{sets_of}
 use Rattle.cache_core.specs.History.{History, Rules}
 use Rattle.cache_core.specs.Kinds.{referenced_blocks}
 use Rattle.cache_core.specs.Residents.{distinct, renewals}
 use Rattle.cache_core.proofs.Lawful.{sane_of}
 use Rattle.cache_core.proofs.Reuse.{has, has-distinct}
 use Rattle.cache_core.proofs.Referenced.{renewals-referenced}
+use Rattle.shared_list.specs.Shared.{was_used_by}
+use Rattle.shared_list.proofs.Columns.{place-inside}
 use Rattle.grid_core.specs.Numbers.{number_at}
-use Rattle.marked_list.specs.declared.marked.Marked.{Marked}
-use Rattle.marked_list.specs.Marked.{was_used}
 use Rattle.grid_core.specs.Shadows.{number_by, was_number_used}
 use Rattle.grid_core.specs.Ways.{IsStacked}
 use Rattle.grid_core.proofs.Renumbered.{used-some}
-use Rattle.stamped_cache.specs.declared.cache.StampedCache.{StampedCache}
-use Rattle.stamped_cache.specs.declared.state.State.{State}
-use Rattle.stamped_cache.specs.declared.state.State.TheVariants.{Absent}
+use Rattle.stamped_cache.specs.declared.caches.StampedCaches.{StampedCaches}
+use Rattle.stamped_cache.specs.Rows.{rows_in}
 use Rattle.stamped_cache.specs.Stamped.{StampedStandsBy, stamped_rules}
-use Rattle.stamped_cache.specs.States.{is_held, state_at}
 
-module _ (c : StampedCache) where
+module _ (c : StampedCaches) where
   -- it is LRU and allocates at writes
   pub is-stacked : IsStacked (stamped_rules c)
   unfolding stamped_rules
@@ -38,34 +35,33 @@ module _ (c : StampedCache) where
   unfolding stamped_rules
   sets-some = (sane_of c.geometry).sets_pos
 
+-- the row of a set in a user's cache is one of the rows
+pub row-inside : (c : StampedCaches) (s u : ℕ) → s < sets_of c.geometry → u < c.users
+    → s * c.users + u < rows_in c.rows
+row-inside c s u inside low = subst (λ n. s * c.users + u < n) (sym c.deep)
+    (place-inside s (sets_of c.geometry) c.users u inside low)
+
 -- each block that was used since the last flush has a number
-pub used-named : (blocks : List ℕ) (c : StampedCache) (h : History) → StampedStandsBy blocks c h
+pub used-named : (blocks : List ℕ) (c : StampedCaches) (q : ℕ) (h : History)
+    → StampedStandsBy blocks c q h
     → (y : ℕ) → has (distinct (renewals (stamped_rules c) h)) y ≡ true
     → number_at blocks y ≡ Some (number_by blocks y)
-used-named blocks c h st y there =
-    used-some c.order (number_at blocks y) (st.known y
+used-named blocks c q h st y there =
+    used-some (was_used_by c.list q) (number_at blocks y) (st.known y
     ∙ renewals-referenced (stamped_rules c) h y
     (sym (has-distinct (renewals (stamped_rules c) h) y) ∙ there))
 
--- a block that is held has a state that is kept
-pub state-inside : (states : List State) (n : ℕ) → is_held (state_at states n) ≡ true
-    → n < length states
-state-inside states n held = elim (cases_lt n (length states)) [
-  | inl lt ↦ lt
-  | inr le ↦ absurd (false≢true (sym (ap is_held (get_or-eq_default states Absent le)) ∙ held))
-]
-
 -- blocks that were used by their numbers are used where the same numbers were
-pub used-same : (old new : Marked) → ((n : ℕ) → was_used new n ≡ was_used old n) → (o : Option ℕ)
+pub used-same : (old new : ℕ → Bool) → ((n : ℕ) → new n ≡ old n) → (o : Option ℕ)
     → was_number_used new o ≡ was_number_used old o
 used-same old new same None = refl
 used-same old new same (Some n) = same n
 
 -- at the start none is used
-pub used-none : (m : Marked) → ((n : ℕ) → was_used m n ≡ false) → (o : Option ℕ)
-    → was_number_used m o ≡ false
-used-none m none None = refl
-used-none m none (Some n) = none n
+pub used-none : (used : ℕ → Bool) → ((n : ℕ) → used n ≡ false) → (o : Option ℕ)
+    → was_number_used used o ≡ false
+used-none used none None = refl
+used-none used none (Some n) = none n
 
 -- no block was renewed, and none is known
 pub none-renewed : (r : Rules) → renewals r [] ≡ []

@@ -23,7 +23,7 @@ use Rattle.grid_core.proofs.Numbers.{number-apart}
 use Rattle.grid_core.proofs.Onces.{once-length}
 use Rattle.stamped_cache.specs.declared.state.State.{State}
 use Rattle.stamped_cache.specs.declared.state.State.TheVariants.{Absent, Written}
-use Rattle.stamped_cache.specs.Holding.{HoldBy, IsStateOf}
+use Rattle.stamped_cache.specs.Holding.{HoldBy, IsStateOf, RowHoldsResidents}
 use Rattle.stamped_cache.specs.States.{is_held, was_written}
 use Rattle.stamped_cache.proofs.Named.{number-found, same-numbers}
 use Rattle.stamped_cache.proofs.Residents.{has-resident}
@@ -177,15 +177,15 @@ residents-none r h s none = ap (ways_of r s) none ∙ by_cases r.fifo
     (λ e. ap (λ t. take r.assoc (cond t (in_set r s []) (distinct (in_set r s [])))) e
     ∙ take-nil r.assoc)
 
--- what is held is told by other states that are the same
+-- what is held is told by other states and rows that are the same
 pub holds-same : (blocks : List ℕ) (r : Rules) (h : History) (old new : ℕ → State)
-    (rows : ℕ → List ℕ) → ((n : ℕ) → new n ≡ old n) → HoldBy blocks r h old rows
-    → HoldBy blocks r h new rows
-holds-same blocks r h old new rows same held = record {
+    (rows turned : ℕ → List ℕ) → ((n : ℕ) → new n ≡ old n) → ((s : ℕ) → turned s ≡ rows s)
+    → HoldBy blocks r h old rows → HoldBy blocks r h new turned
+holds-same blocks r h old new rows turned same alike held = record {
   named = held.named;
   each = λ y n e. subst (IsStateOf r h y) (sym (same n)) (held.each y n e);
   low = λ n there. held.low n (ap is_held (sym (same n)) ∙ there);
-  sets = held.sets;
+  sets = λ s lt. subst (RowHoldsResidents blocks r h s) (sym (alike s)) (held.sets s lt);
 }
 
 -- an empty cache holds nothing

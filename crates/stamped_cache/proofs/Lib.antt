@@ -3,12 +3,15 @@ pub mod RowSizes
 pub mod Oldest
 pub mod Residents
 pub mod Named
+pub mod Places
 pub mod Holds
 pub mod Loads
 pub mod Leaving
 pub mod CacheFacts
 pub mod Nearness
 pub mod Outcomes
-pub mod Tallies
+pub mod Tallied
 pub mod AfterUse
 pub mod MoreNumbers
+pub mod SameCaches
+pub mod Those

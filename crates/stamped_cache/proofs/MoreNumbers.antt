@@ -7,15 +7,16 @@ use Rattle.cache_core.specs.Lists.{IsBeginning}
 use Rattle.cache_core.specs.Order.{residents_of}
 use Rattle.cache_core.specs.Residents.{distinct, is_resident, renewals}
 use Rattle.cache_core.proofs.Reuse.{has}
+use Rattle.shared_list.specs.Shared.{was_used_by}
 use Rattle.grid_core.specs.Numbers.{number_at}
 use Rattle.grid_core.specs.Shadows.{number_by}
 use Rattle.grid_core.proofs.Numbers.{number-kept, number-low, number-low-kept}
 use Rattle.grid_core.proofs.Renumbered.{low-same, used-same}
 use Rattle.stamped_cache.specs.declared.state.State.{State}
 use Rattle.stamped_cache.specs.Holding.{HoldBy}
-use Rattle.stamped_cache.specs.Rows.{row_held}
+use Rattle.stamped_cache.specs.Rows.{rows_of}
 use Rattle.stamped_cache.specs.Stamped.{MoreNumbersServeStampedCaches, stamped_rules}
-use Rattle.stamped_cache.specs.States.{is_held, state_at}
+use Rattle.stamped_cache.specs.States.{is_held, states_of}
 use Rattle.stamped_cache.proofs.CacheFacts.{used-named}
 use Rattle.stamped_cache.proofs.Holds.{resident-number}
 use Rattle.stamped_cache.proofs.Named.{same-by}
@@ -64,24 +65,23 @@ module _ (blocks more : List ℕ) (on : IsBeginning blocks more) (r : Rules) (h 
     };
   }
 
--- a cache
-pub cache-more : MoreNumbersServeStampedCaches
-cache-more blocks more c h on st =
+-- each of many caches
+pub caches-more : MoreNumbersServeStampedCaches
+caches-more blocks more c q h on st =
     let named = λ (y : ℕ) (there : has (distinct (renewals (stamped_rules c) h)) y ≡ true).
-    used-named blocks c h st y there in
+    used-named blocks c q h st y there in
+    let states = states_of c.states q in
+    let rows = rows_of c.rows c.users q in
     record {
       working = st.working;
       served = st.served;
       order = st.order ∙ same-by (number_by blocks) (number_by more)
           (distinct (renewals (stamped_rules c) h)) (λ y there. sym (ap (λ o. unwrap_or o 0)
-          (kept blocks more on (stamped_rules c) h (state_at c.states.items) (row_held c.rows)
-          st.holds
-          y (number_by blocks y) (named y there))));
-      known = λ b. used-same c.order blocks more on st.numbered b ∙ st.known b;
-      numbered = low-same c.order blocks more on st.numbered;
-      holds = holds-more blocks more on (stamped_rules c) h (state_at c.states.items)
-          (row_held c.rows)
-          st.holds;
+          (kept blocks more on (stamped_rules c) h states rows st.holds y (number_by blocks y)
+          (named y there))));
+      known = λ b. used-same (was_used_by c.list q) blocks more on st.numbered b ∙ st.known b;
+      numbered = low-same (was_used_by c.list q) blocks more on st.numbered;
+      holds = holds-more blocks more on (stamped_rules c) h states rows st.holds;
       counts = st.counts;
       far = st.far;
       first_writes = st.first_writes;

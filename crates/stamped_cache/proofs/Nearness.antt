@@ -1,5 +1,5 @@
 -- Whether the shadow of a cache has a block, and the order of the blocks after a use, by numbers.
-use Rattle.std.proofs.Common.{◌≡◌, ℕ, suc, Bool, true, false, cond, eqb, List, [], ◌∷◌, map, Some}
+use Rattle.std.proofs.Common.{◌≡◌, ℕ, Bool, true, eqb, List, ◌∷◌, map, Some}
 use Rattle.std.proofs.Common.{unwrap_or, refl, sym, ap, ◌∙◌}
 use Rattle.cache_core.specs.declared.access.Access.{Access}
 use Rattle.cache_core.specs.History.{History, Rules, access, block_of}
@@ -7,13 +7,13 @@ use Rattle.cache_core.specs.Kinds.{shadow_of}
 use Rattle.cache_core.specs.Residents.{distinct, hits, renewals}
 use Rattle.cache_core.proofs.Reuse.{has}
 use Rattle.cache_core.proofs.Shadow.{eqb-comm}
-use Rattle.marked_list.specs.Recency.{brought_front, is_among, level_of}
+use Rattle.marked_list.specs.Recency.{brought_front, is_among}
 use Rattle.marked_list.proofs.LevelLaws.{shadow-holds}
 use Rattle.grid_core.specs.Numbers.{number_at}
 use Rattle.grid_core.specs.Shadows.{number_by}
 use Rattle.grid_core.specs.Ways.{IsStacked}
 use Rattle.grid_core.proofs.Distances.{renewals-size}
-use Rattle.grid_core.proofs.Numbering.{front-map, level-map}
+use Rattle.grid_core.proofs.Numbering.{among-map, front-map}
 use Rattle.stamped_cache.proofs.Holds.{same-number}
 use Rattle.stamped_cache.proofs.Residents.{access-renews}
 
@@ -40,15 +40,10 @@ module _ (blocks : List ℕ) (r : Rules) (st : IsStacked r) (h : History) (x : A
   order-next = front-map num n b num (ap (λ o. unwrap_or o 0) is) (λ y e. refl) ys agree
       ∙ ap (λ l. map num (distinct l)) (sym (access-renews r st h x))
 
-  none-below : (t : Bool) → eqb (cond t 0 (suc 0)) 0 ≡ t
-  none-below true = refl
-  none-below false = refl
-
-  -- the shadow has the block just if its level is that of the first size
-  pub near-is : (level : ℕ) → level ≡ level_of (r.blocks ∷ []) (map num ys) n
-      → eqb level 0 ≡ hits (shadow_of r) (renewals (shadow_of r) h) x
-  near-is level at = ap (λ k. eqb k 0) (at ∙ level-map num n b (r.blocks ∷ []) ys agree)
-      ∙ none-below (is_among b ys r.blocks)
+  -- the shadow has the block just if its number is among the first ones
+  pub near-is : (near : Bool) → near ≡ is_among n (map num ys) r.blocks
+      → near ≡ hits (shadow_of r) (renewals (shadow_of r) h) x
+  near-is near at = at ∙ among-map num n b r.blocks ys agree
       ∙ ap (λ l. is_among b (distinct l) r.blocks) (renewals-size r (shadow_of r) st
       (record { lru = refl; allocates = st.allocates }) refl h)
       ∙ sym (shadow-holds r (renewals (shadow_of r) h) b)

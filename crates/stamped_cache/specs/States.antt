@@ -1,11 +1,8 @@
--- What a cache knows of blocks, by number.
-use Rattle.std.specs.Prelude.{ℕ, Bool, true, false, List, get_or}
+-- What caches know of blocks, by number.
+use Rattle.std.specs.Prelude.{ℕ, ◌+◌, ◌*◌, Bool, true, false, get_or}
 use Rattle.stamped_cache.specs.declared.state.State.{State}
+use Rattle.stamped_cache.specs.declared.states.States.{States}
 use Rattle.stamped_cache.specs.declared.state.State.TheVariants.{Absent, Clean, Written}
-
--- the state of the block of a number
-abbrev pub state_at : List State → ℕ → State
-state_at states n = get_or states n Absent
 
 -- the cache holds the block
 abbrev pub is_held : State → Bool
@@ -18,3 +15,15 @@ abbrev pub was_written : State → Bool
 was_written Absent = false
 was_written Clean = false
 was_written Written = true
+
+-- the state that the block of number n has in the cache of user q
+unfoldable pub states_of : States → ℕ → ℕ → State
+states_of s q n = get_or s.states.items (n * s.users + q) Absent
+
+-- how many caches there are
+unfoldable pub state_users : States → ℕ
+state_users s = s.users
+
+-- how many blocks have states
+unfoldable pub state_blocks : States → ℕ
+state_blocks s = s.blocks

@@ -1,13 +1,13 @@
 //! What a cache counts.
 
-ghost use Rattle.std.specs.Prelude.{◌≡◌, ◌+◌, ◌^◌, ℕ, Option, is_some, if◌then◌else◌};
+ghost use Rattle.std.specs.Prelude.{◌≡◌, ◌^◌, ℕ, Option, is_some};
 ghost use Rattle.cache_core.specs.Counting.{AreWithin, with_access};
 ghost use Rattle.grid_core.specs.Hits.{hit_made};
 ghost use Rattle.stamped_cache.specs.Counted.{load_made};
 
-use cache_core::{Access, Counts, MissKind, PerClass, Prior};
+use cache_core::{Access, Counts, MAX_EVENTS, MissKind, PerClass, Prior};
 
-/// All counts of a cache.
+/// All that is counted of a cache.
 #[derive(Clone, Copy, Debug)]
 pub(crate) struct Tally {
     pub counts: Counts,
@@ -16,6 +16,8 @@ pub(crate) struct Tally {
     /// The writes that found their blocks not written, and so made them dirty under write back.
     /// Each of these blocks is written back once, or is dirty still.
     pub first_writes: u64,
+    /// The accesses and flushes that were counted.
+    pub served: u64,
 }
 
 /// Adds an access that hits. It may be a write that is sent on.
@@ -48,24 +50,22 @@ fn add_load(counts: &mut Counts, access: Access, kind: MissKind, back: bool, thr
 }
 
 impl Tally {
-    ghost use Rattle.std.specs.Prelude.{◌≡◌, ◌+◌, ◌^◌, ◌&&◌, not, ℕ, Option, is_some};
-    ghost use Rattle.std.specs.Prelude.{if◌then◌else◌};
-    ghost use Rattle.cache_core.specs.Counts.{no_counts, none_by_class};
+    ghost use Rattle.std.specs.Prelude.{◌≡◌, ◌<◌, ◌&&◌, not, ℕ, Option, is_some};
     ghost use Rattle.cache_core.specs.History.{is_write};
-    ghost use Rattle.grid_core.specs.Hits.{hit_made};
     ghost use Rattle.cache_core.specs.Kinds.{kind_by};
-    ghost use Rattle.stamped_cache.specs.Counted.{CountsAccess, IsWithinTally, load_made};
+    ghost use Rattle.grid_core.specs.Hits.{hit_made};
+    ghost use Rattle.stamped_cache.specs.Counted.{CountsAccess, IsTally, flushed_tally, load_made};
+    ghost use Rattle.stamped_cache.specs.Counted.{no_tally};
 
     /// Nothing.
     pub fn new() -> Tally
-        ensures counts { result.counts ≡ no_counts }
-        ensures far { result.far ≡ none_by_class }
-        ensures first_writes { result.first_writes ≡ 0 }
+        ensures { result ≡ no_tally }
     {
         Tally {
             counts: Counts::default(),
             far: PerClass::default(),
             first_writes: 0,
+            served: 0,
         }
     }
 
@@ -73,7 +73,8 @@ impl Tally {
     /// not.
     #[inline(always)]
     pub fn hit(&mut self, access: Access, near: bool, written: bool, wback: bool)
-        requires { IsWithinTally (2 ^ 44) self.old }
+        requires within { IsTally self.old }
+        requires few { self.old.served < MAX_EVENTS }
         ensures { CountsAccess access (hit_made (is_write access && not wback)) (not near)
             (is_write access && not written) self.old self.new }
     {
@@ -83,11 +84,13 @@ impl Tally {
             self.far.count(access, true);
         }
         self.first_writes += (write && !written) as u64;
+        self.served += 1;
     }
 
     /// Counts an access that loads its block. `back` says whether a written block leaves.
     pub fn load(&mut self, access: Access, prior: Prior, back: bool, wback: bool)
-        requires { IsWithinTally (2 ^ 44) self.old }
+        requires within { IsTally self.old }
+        requires few { self.old.served < MAX_EVENTS }
         ensures { (address : Option ℕ) → is_some address ≡ (back && wback) →
             CountsAccess access (load_made (kind_by prior.referenced prior.in_shadow) address
             (is_write access && not wback)) (not prior.in_shadow) (is_write access)
@@ -103,21 +106,20 @@ impl Tally {
         );
         self.far.count(access, !prior.in_shadow);
         self.first_writes += write as u64;
+        self.served += 1;
     }
 
     /// Counts a flush. What was made dirty and was not yet written back is written back now.
     pub fn flush(&mut self, wback: bool)
-        requires { IsWithinTally (2 ^ 44) self.old }
-        ensures counts { self.new.counts ≡ record self.old.counts {
-          written_back = if wback then self.old.first_writes else self.old.counts.written_back;
-          flushes = self.old.counts.flushes + 1;
-        } }
-        ensures far { self.new.far ≡ self.old.far }
-        ensures first_writes { self.new.first_writes ≡ self.old.first_writes }
+        requires within { IsTally self.old }
+        requires few { self.old.served < MAX_EVENTS }
+        ensures flushed { self.new ≡ flushed_tally wback self.old }
+        ensures within { IsTally self.new }
     {
         if wback {
             self.counts.written_back = self.first_writes;
         }
         self.counts.flushes += 1;
+        self.served += 1;
     }
 }

@@ -8,8 +8,8 @@ pub returns-clause-others : goal.returns-clause-others
 unfolding row_held
 returns-clause-others c = λ t apart.
     let old = c.args.self.now in
-    let low = held-low old c.args.set in
+    let low = held-low old c.args.row in
     let held = c.requires.held in
     ap (take (get_or old.filled.items t 0))
-    (row-set_other old.ways c.args.set old.numbers.items c.args.number c.args.index t
+    (row-set_other old.ways c.args.row old.numbers.items c.args.number c.args.index t
     (omega arith) apart)
