@@ -1,29 +1,45 @@
 -- Second levels in banks.
-use Rattle.std.proofs.Common.{◌≡◌, ℕ, ◌<◌, ◌≤◌, ◌+◌, ◌-◌, ◌++◌, ◌∷◌, List, length, map, get_or}
-use Rattle.std.proofs.Common.{take, drop, ap, sym, subst, ◌∙◌, length-append, arith}
+use Rattle.std.proofs.Common.{◌≡◌, ℕ, ◌≤◌, ◌+◌, ◌++◌, ◌∷◌, List, length, map}
+use Rattle.std.proofs.Common.{take, drop, ap, sym, subst, ◌∙◌, append_assoc, length-append, arith}
+use Rattle.std.proofs.lemmas.Grind.{flat_map-append}
 use Rattle.std.proofs.Math.Seq.{drop-append_seam, take-append_seam}
 use Rattle.std.specs.Global.{Vec}
 use Rattle.std.specs.List.{All, flat_map}
-use Rattle.std.proofs.lemmas.List.{get_or-append-add, get_or-map, get_or_append_left}
+use Rattle.std.proofs.lemmas.List.{get_or-append-add, get_or_append_left}
 use Rattle.std.proofs.lemmas.List.{length-map, map-append}
 use Rattle.std.proofs.lemmas.List.Elements.{All-append, All-head, All-tail}
 use Rattle.std.proofs.lemmas.List.Folds.{flat_map-map}
 use Rattle.std.proofs.lemmas.Simd.{map-map}
-use Rattle.grid_run.specs.Backs.{BackTask, RequestsFor, back_seats, back_task, queue_seats}
-use Rattle.grid_run.specs.Backs.{seats_of_task}
-use Rattle.grid_run.specs.Banks.{HaveServed, NothingWaitsIn, WasAsked, bank_task, tasks_of_banks}
-use Rattle.grid_run.specs.declared.back.Back.{Back}
+use Rattle.grid_run.specs.Backs.{BackTask, SharedTask, back_seats, back_task, each_task}
+use Rattle.grid_run.specs.Backs.{RequestsFor, queue_seats, seats_of_shared, task_of_shelf}
+use Rattle.grid_run.specs.Banks.{HaveServed, NothingWaitsIn, WasAsked, bank_task, each_of}
+use Rattle.grid_run.specs.Banks.{tasks_of_banks}
+use Rattle.grid_run.specs.declared.plan.BackShelf.{BackShelf}
 use Rattle.grid_run.specs.declared.bank.Bank.{Bank}
 use Rattle.grid_run.specs.declared.queue.Queue.{Queue}
 use Rattle.grid_run.proofs.Slices.{on-items, told-items}
+
+-- what each user does of two runs of second levels
+pub each-append : (xs ys : List SharedTask) → each_of (xs ++ ys) ≡ each_of xs ++ each_of ys
+each-append xs ys = flat_map-append each_task xs ys
+
+-- more second levels do what the next shelves ask
+pub more-done : (done more : List BackTask) (shelves part behind : List BackShelf)
+    → more ≡ map task_of_shelf part → part ++ behind ≡ shelves
+    → (done ++ more) ++ map task_of_shelf behind ≡ done ++ map task_of_shelf shelves
+more-done done more shelves part behind does cut =
+    append_assoc done more (map task_of_shelf behind)
+    ∙ ap (λ (ts : List BackTask). done ++ (ts ++ map task_of_shelf behind)) does
+    ∙ ap (λ (ts : List BackTask). done ++ ts)
+    (sym (map-append task_of_shelf part behind) ∙ ap (map task_of_shelf) cut)
 
 -- banks that do the same have second levels that do the same
 pub tasks-told : (xs ys : List Bank) → map bank_task xs ≡ map bank_task ys
     → tasks_of_banks xs ≡ tasks_of_banks ys
 tasks-told xs ys told =
-    sym (flat_map-map (λ (ts : List BackTask). ts) bank_task xs)
-    ∙ ap (flat_map (λ (ts : List BackTask). ts)) told
-    ∙ flat_map-map (λ (ts : List BackTask). ts) bank_task ys
+    sym (flat_map-map (λ (ts : List SharedTask). ts) bank_task xs)
+    ∙ ap (flat_map (λ (ts : List SharedTask). ts)) told
+    ∙ flat_map-map (λ (ts : List SharedTask). ts) bank_task ys
 
 -- banks that were lent, and came back with the same to do
 module _ (banks : Vec Bank) (lent new : List Bank) (are : lent ≡ banks.items)
@@ -40,9 +56,9 @@ module _ (banks : Vec Bank) (lent new : List Bank) (are : lent ≡ banks.items)
   lent-told = tasks-told _ _ (told-items bank_task banks lent new are told)
 
 -- the seats of second levels are those of what they do
-pub seats-of-bank : (b : Bank) → map seats_of_task (bank_task b) ≡ map back_seats b.backs.items
+pub seats-of-bank : (b : Bank) → map seats_of_shared (bank_task b) ≡ map back_seats b.backs.items
 unfolding bank_task back_task
-seats-of-bank b = map-map seats_of_task back_task b.backs.items
+seats-of-bank b = map-map seats_of_shared back_task b.backs.items
 
 -- what holds of all of two lists holds of all of each
 module _ {X : Type 0} (P : X → Type 0) (xs ys : List X) (all : All P (xs ++ ys)) where
@@ -108,47 +124,15 @@ module _ {banks : List Bank} (bank : Bank) (rest : List Bank) (is : banks ≡ ba
   tasks-from : tasks_of_banks banks ≡ bank_task bank ++ tasks_of_banks rest
   tasks-from = ap tasks_of_banks is
 
-  -- the first indices are those of its second levels
-  pub task-of-first : (k : ℕ) (b : Back) (other : BackTask) → k < length bank.backs.items
-      → b ≡ get_or bank.backs.items k b → back_task b ≡ get_or (tasks_of_banks banks) k other
-  unfolding bank_task
-  task-of-first k b other lt at =
-      ap back_task at ∙ sym (get_or-map back_task bank.backs.items k b other lt)
-      ∙ sym (get_or_append_left (bank_task bank) (tasks_of_banks rest) other k
-      (omega (arith, lt, long-task bank)))
-      ∙ ap (λ ts. get_or ts k other) (sym tasks-from)
-
-  -- and those behind them are of the others
-  module _ (n k : ℕ) (long : n ≡ length bank.backs.items) (behind : n ≤ k) where
-    pub inside-rest : k < length (tasks_of_banks banks) → k - n < length (tasks_of_banks rest)
-    inside-rest lt =
-        omega (
-          arith,
-          lt,
-          long,
-          behind,
-          ap length tasks-from,
-          length-append (bank_task bank) (tasks_of_banks rest),
-          long-task bank,
-        )
-
-    pub task-of-rest : (other : BackTask) →
-        get_or (tasks_of_banks rest) (k - n) other ≡ get_or (tasks_of_banks banks) k other
-    task-of-rest other =
-        let there : length (bank_task bank) + (k - n) ≡ k =
-        omega (arith, long, behind, long-task bank) in
-        sym (get_or-append-add (bank_task bank) (tasks_of_banks rest) (k - n) other)
-        ∙ ap (λ i. get_or (bank_task bank ++ tasks_of_banks rest) i other) there
-        ∙ ap (λ ts. get_or ts k other) (sym tasks-from)
-
   -- queues behind the seats of all
-  module _ (qs : List Queue) (same : map queue_seats qs ≡ map seats_of_task (tasks_of_banks banks))
+  module _ (qs : List Queue)
+      (same : map queue_seats qs ≡ map seats_of_shared (tasks_of_banks banks))
     where
       all-seats : map queue_seats qs
-          ≡ map seats_of_task (bank_task bank) ++ map seats_of_task (tasks_of_banks rest)
+          ≡ map seats_of_shared (bank_task bank) ++ map seats_of_shared (tasks_of_banks rest)
       all-seats =
-          same ∙ ap (map seats_of_task) tasks-from
-          ∙ map-append seats_of_task (bank_task bank) (tasks_of_banks rest)
+          same ∙ ap (map seats_of_shared) tasks-from
+          ∙ map-append seats_of_shared (bank_task bank) (tasks_of_banks rest)
 
       -- are enough for the first
       pub enough-queues : length bank.backs.items ≤ length qs
@@ -156,34 +140,34 @@ module _ {banks : List Bank} (bank : Bank) (rest : List Bank) (is : banks ≡ ba
           omega (
             arith,
             ap length all-seats,
-            length-append (map seats_of_task (bank_task bank))
-                (map seats_of_task (tasks_of_banks rest)),
+            length-append (map seats_of_shared (bank_task bank))
+                (map seats_of_shared (tasks_of_banks rest)),
             length-map qs queue_seats,
-            length-map (bank_task bank) seats_of_task,
+            length-map (bank_task bank) seats_of_shared,
             long-task bank,
           )
 
       module _ (near behind : List Queue) (cut : qs ≡ near ++ behind)
           (long : length near ≡ length bank.backs.items) where
-        first-long : length (map queue_seats near) ≡ length (map seats_of_task (bank_task bank))
+        first-long : length (map queue_seats near) ≡ length (map seats_of_shared (bank_task bank))
         first-long =
             omega (
               arith,
               long,
               length-map near queue_seats,
-              length-map (bank_task bank) seats_of_task,
+              length-map (bank_task bank) seats_of_shared,
               long-task bank,
             )
 
         both : map queue_seats near ++ map queue_seats behind
-            ≡ map seats_of_task (bank_task bank) ++ map seats_of_task (tasks_of_banks rest)
+            ≡ map seats_of_shared (bank_task bank) ++ map seats_of_shared (tasks_of_banks rest)
         both =
             sym (map-append queue_seats near behind) ∙ ap (map queue_seats) (sym cut) ∙ all-seats
 
         -- and these are behind its seats
-        pub near-seats : map queue_seats near ≡ map seats_of_task (bank_task bank)
+        pub near-seats : map queue_seats near ≡ map seats_of_shared (bank_task bank)
         near-seats = same-front _ _ _ _ first-long both
 
         -- and the others behind those of the rest
-        pub behind-seats : map queue_seats behind ≡ map seats_of_task (tasks_of_banks rest)
+        pub behind-seats : map queue_seats behind ≡ map seats_of_shared (tasks_of_banks rest)
         behind-seats = same-rest _ _ _ _ first-long both

@@ -9,8 +9,9 @@ use Rattle.grid_core.proofs.ListLoops.{told-at}
 use Rattle.stage_core.specs.SecondLevel.{parts_of}
 use Rattle.stage_core.specs.declared.message.Side.{Side}
 use Rattle.stage_core.specs.declared.message.What.{What}
-use Rattle.grid_run.specs.Backs.{AreWaiting, IsSeatIn, IsSeatedOn, RequestsFor, followed_by}
-use Rattle.grid_run.specs.Backs.{queue_seats, seat_on, sent_for}
+use Rattle.grid_run.specs.Backs.{AreSeatedOn, AreWaiting, IsSeatIn, IsSeatedOn, RequestsFor}
+use Rattle.grid_run.specs.Backs.{followed_by, queue_seats, sent_for}
+use Rattle.grid_run.specs.Senders.{no_seats, seat_on, seats_at}
 use Rattle.grid_run.specs.Fronts.{HasSent, IsSilent, front_rules}
 use Rattle.grid_run.specs.Seats.{SeatRules, rules_of_seat}
 use Rattle.grid_run.specs.Sending.{event_of}
@@ -63,23 +64,25 @@ silent-at-seat fs seat on silent s h q sent =
 
 -- what waits of some requests waits of others that are the same
 pub waiting-same : (given before after : RequestsFor) (qs : List Queue)
-    → ((k : ℕ) (q : Queue) → k < length qs
-    → before (queue_seats (get_or qs k q)) ≡ after (queue_seats (get_or qs k q)))
+    → ((k : ℕ) (q : Queue) (j : ℕ) → k < length qs → j < length (get_or qs k q).users.items
+    → before (seats_at (get_or qs k q).users.items j)
+    ≡ after (seats_at (get_or qs k q).users.items j))
     → All (AreWaiting given before) qs → All (AreWaiting given after) qs
 waiting-same given before after qs same all k q lt =
-    record { all = sym (same k q lt) ∙ (all k q lt).all }
+    record { all = λ j inside. sym (same k q j lt inside) ∙ (all k q lt).all j inside }
 
 -- silent caches of a side ask for nothing
 pub nothing-asked : (fs : List Front) (old : SeatRules) → map front_rules fs ≡ old → (s : Side)
-    (qs : List Queue) → All (IsSeatedOn s old) (map queue_seats qs) → All IsSilent fs
+    (qs : List Queue) → All (AreSeatedOn s old) (map queue_seats qs) → All IsSilent fs
     → (h : History) (q : Request) → All (HasSent h q) fs
     → (given before : RequestsFor) → All (AreWaiting given before) qs
     → All (AreWaiting given (followed_by before (sent_for s old h (event_of q)))) qs
+unfolding queue_seats
 nothing-asked fs old rules s qs placed silent h q sent given before =
     waiting-same given before (followed_by before (sent_for s old h (event_of q))) qs
-    (λ k d lt.
-    let p = queue_seats (get_or qs k d) in
-    let on = told-at queue_seats (IsSeatedOn s old) qs placed k d lt in
+    (λ k d j lt inside.
+    let p = seats_at (get_or qs k d).users.items j in
+    let on = (told-at queue_seats (AreSeatedOn s old) qs placed k d lt).each j no_seats inside in
     let none : parts_of (rules_of_seat old (seat_on s p)) s h (event_of q) ≡ [] =
     subst (λ (rs : SeatRules). parts_of (rules_of_seat rs (seat_on s p)) s h (event_of q) ≡ [])
     rules

@@ -1,31 +1,33 @@
 -- What first levels sent for the records that they were given.
-use Rattle.std.proofs.Common.{◌≡◌, ◌≤◌, ◌*◌, ◌^◌, ◌++◌, ℕ, List, length, get_or, map, ap, sym}
+use Rattle.std.proofs.Common.{◌≡◌, ◌≤◌, ◌*◌, ◌^◌, ◌++◌, ◌∷◌, [], ℕ, List, length, get_or, map}
+use Rattle.std.proofs.Common.{ap, sym}
 use Rattle.std.proofs.Common.{subst}
 use Rattle.std.proofs.Common.{◌∙◌, append-nil, arith, length-append}
 use Rattle.std.specs.Global.{Vec}
 use Rattle.std.specs.List.{All}
-use Rattle.std.proofs.lemmas.List.Elements.{All-map}
+use Rattle.std.proofs.lemmas.List.Elements.{All-cons}
 use Rattle.din_trace.specs.declared.record.DinRecord.{DinRecord}
 use Rattle.grid_core.proofs.ListLoops.{told-at}
 use Rattle.stage_core.specs.Events.{events}
 use Rattle.stage_core.specs.Laws.{SecondLevelSeesAtMostTwo, SelectionsMakeAtMostTwo}
 use Rattle.stage_core.specs.SecondLevel.{second_history}
 use Rattle.stage_core.proofs.Worked.{length-second_history, the_hierarchy}
-use Rattle.grid_run.specs.Backs.{AreFewRequests, AreSeatsIn, HasNone, IsPlacedIn, RequestsFor}
-use Rattle.grid_run.specs.Backs.{queue_seats, seats_of_task, sent_behind, task_of_shelf}
-use Rattle.grid_run.specs.Banks.{WasAsked}
+use Rattle.grid_run.specs.Backs.{AreFewRequests, AreSeatedIn, HasNone, IsPlacedIn, RequestsFor}
+use Rattle.grid_run.specs.Backs.{SharedSeats, SharedTask, each_task, queue_seats}
+use Rattle.grid_run.specs.Senders.{seats_at}
+use Rattle.grid_run.specs.Backs.{seats_of_shared, sent_behind, task_at}
+use Rattle.grid_run.specs.Banks.{WasAsked, each_of}
 use Rattle.grid_run.specs.FirstLevels.{FirstTask, WasGiven, first_task, numbered_by, sent_by}
 use Rattle.grid_run.specs.Fronts.{front_rules}
-use Rattle.grid_run.specs.Numbering.{what_of}
+use Rattle.grid_run.specs.Numbering.{sent_to}
 use Rattle.grid_run.specs.Picking.{picked_by}
 use Rattle.grid_run.specs.Seats.{SeatRules, rules_of_seat}
 use Rattle.grid_run.specs.Lanes.{FirstLevelsHaveServed, HasGiven}
 use Rattle.grid_run.specs.declared.bank.Bank.{Bank}
 use Rattle.grid_run.specs.declared.first_levels.FirstLevels.{FirstLevels}
 use Rattle.grid_run.specs.declared.lane.Lane.{Lane}
-use Rattle.grid_run.specs.declared.plan.BackShelf.{BackShelf}
 use Rattle.grid_run.specs.declared.queue.Queue.{Queue}
-use Rattle.grid_run.specs.declared.seat.BothSeats.{BothSeats}
+use Rattle.grid_run.proofs.BankLemmas.{all-behind, all-front}
 
 -- for few records they sent few requests
 pub few-sent : SecondLevelSeesAtMostTwo → SelectionsMakeAtMostTwo → (t : FirstTask)
@@ -60,12 +62,18 @@ few-asked sees makes l lent records are few taken =
     )
 
 -- where second levels are behind seats of a lane, so are their queues
-pub seated : (i d : SeatRules) (shelves : List BackShelf)
-    → All (IsPlacedIn i d) (map task_of_shelf shelves)
-    → All (AreSeatsIn i d) (map (λ shelf. seats_of_task (task_of_shelf shelf)) shelves)
-seated i d shelves placed =
-    All-map (AreSeatsIn i d) (λ shelf. seats_of_task (task_of_shelf shelf)) shelves
-    (told-at task_of_shelf (IsPlacedIn i d) shelves placed)
+pub seated : (i d : SeatRules) (ts : List SharedTask) → All (IsPlacedIn i d) (each_of ts)
+    → All (AreSeatedIn i d) (map seats_of_shared ts)
+seated i d [] placed = λ k p lt. absurd (omega arith)
+seated i d (t ∷ ts) placed =
+    let own : AreSeatedIn i d t.seats = record {
+      each = λ k p lt.
+          let there = told-at (task_at t.rules) (IsPlacedIn i d) t.seats.users
+          (all-front (IsPlacedIn i d) (each_task t) (each_of ts) placed) k p lt in
+          record { on_i = there.on_i; on_d = there.on_d };
+    } in
+    All-cons (AreSeatedIn i d) t.seats (map seats_of_shared ts) own
+    (seated i d ts (all-behind (IsPlacedIn i d) (each_task t) (each_of ts) placed))
 
 -- first levels whose queues are empty have given all that they sent to the second levels
 pub emptied : (f : FirstLevels) (qs : Vec Queue) (records : List DinRecord)
@@ -79,15 +87,17 @@ emptied f qs records before seats none given =
     let ds = map front_rules f.d.items in
     let sent = sent_behind is ds (events (picked_by f.picker) records) in
     record {
-      seated = subst (λ (ps : List BothSeats). All (AreSeatsIn is ds) ps) (sym seats) given.seated;
+      seated = subst (λ (ps : List SharedSeats). All (AreSeatedIn is ds) ps) (sym seats)
+          given.seated;
       picked = given.picked;
       served = record {
         i = given.served.i;
         d = given.served.d;
         queues = λ k q lt.
-            let p = queue_seats (get_or qs.items k q) in
             record {
-              all = sym (ap (λ ws. sent p ++ map what_of ws) (none k q lt).none
+              all = λ j inside.
+                  let p = seats_at (get_or qs.items k q).users.items j in
+                  sym (ap (λ ws. sent p ++ sent_to j ws) (none k q lt).none
                   ∙ append-nil (sent p));
             };
       };

@@ -1,8 +1,10 @@
 pub mod TableLemmas
 pub mod WrittenWords
 pub mod Families
+pub mod SentTo
 pub mod Rooms
 pub mod SecondTurns
+pub mod SenderCells
 pub mod Events
 pub mod Sent
 pub mod Fetching
@@ -20,4 +22,6 @@ pub mod Each
 pub mod Slices
 pub mod LoopTurns
 pub mod BankLemmas
+pub mod UserTasks
+pub mod Alikes
 pub mod Given

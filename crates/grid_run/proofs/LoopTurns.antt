@@ -6,7 +6,7 @@ use Rattle.cache_core.specs.History.{History}
 use Rattle.stage_core.specs.declared.message.Side.{Side}
 use Rattle.cache_core.specs.Lists.{IsBeginning}
 use Rattle.grid_run.specs.Backs.{AreWaiting, HasNumbers, NothingWaits, RequestsFor, WereAsked}
-use Rattle.grid_run.specs.Backs.{StaysNumbered, followed_by, queue_seats, sent_for}
+use Rattle.grid_run.specs.Backs.{SharedSeats, StaysNumbered, followed_by, queue_seats, sent_for}
 use Rattle.grid_run.specs.Banks.{NothingWaitsIn, WasAsked}
 use Rattle.grid_run.specs.Fronts.{FrontAt, HasSent, front_rules}
 use Rattle.grid_run.specs.Numbering.{IsNumbered}
@@ -16,7 +16,6 @@ use Rattle.grid_run.specs.declared.bank.Bank.{Bank}
 use Rattle.grid_run.specs.declared.front.Front.{Front}
 use Rattle.grid_run.specs.declared.queue.Queue.{Queue}
 use Rattle.grid_run.specs.declared.requests.Request.{Request}
-use Rattle.grid_run.specs.declared.seat.BothSeats.{BothSeats}
 use Rattle.grid_run.proofs.MoreNumbers.{front-more}
 use Rattle.grid_run.proofs.StayNumbered.{queue-more}
 
@@ -59,10 +58,11 @@ pub asks-next : (s : Side) (fronts : List Front) (start before after : List ℕ)
     → All (HasSent h q) fronts → AreWaiting given all old → AreWaiting given
     (followed_by all (sent_for s (map front_rules fronts) h (event_of q))) new)
     → StaysNumbered before old after new → Asks s fronts start after old new
+unfolding queue_seats
 asks-next s fronts start before after on old new seats asked stays = record {
   asked = asked;
   numbers = λ has. record {
-    each = subst (λ (p : BothSeats). All (IsNumbered after (bsize_of p.first)) new.waiting.items)
+    each = subst (λ (p : SharedSeats). All (IsNumbered after (bsize_of p.first)) new.waiting.items)
         (sym seats) (stays.each (queue-more start before old on has).each);
   };
 }

@@ -20,7 +20,7 @@ use Rattle.grid_run.specs.declared.numbered.Known.{Known}
 use Rattle.grid_run.specs.declared.numbered.Numbered.{Numbered}
 use Rattle.grid_run.specs.declared.second_caches.SecondCaches.{SecondCaches}
 use Rattle.grid_run.specs.declared.second_caches.SecondCaches.TheVariants as caches
-use Rattle.stamped_cache.proofs.MoreNumbers.{cache-more}
+use Rattle.stamped_cache.proofs.MoreNumbers.{caches-more}
 
 module _ (blocks more : List ℕ) (on : IsBeginning blocks more) where
   -- a request keeps its number
@@ -55,17 +55,18 @@ module _ (blocks more : List ℕ) (on : IsBeginning blocks more) where
   fronts-more h fs all k d lt = front-more h _ (all k d lt)
 
   -- the caches of a second level
-  second-more : (u : SecondCaches) (h : History) → SecondStandsBy blocks u h
-      → SecondStandsBy more u h
-  second-more (caches.Lone l) h st = record { cache = cache-more blocks more l.cache h on st.cache }
-  second-more (caches.Family l) h st = family-more l h st
+  second-more : (u : SecondCaches) (q : ℕ) (h : History) → SecondStandsBy blocks u q h
+      → SecondStandsBy more u q h
+  second-more (caches.Twins l) q h st =
+      record { cache = caches-more blocks more l.caches q h on st.cache }
+  second-more (caches.Family l) q h st = family-more l h st
 
   asked-more : (requests : RequestsFor) (b : Back) → WereAsked blocks requests b
       → WereAsked more requests b
   asked-more requests b asked = record {
     second = record {
       served = asked.second.served;
-      stands = second-more b.second.caches _ asked.second.stands;
+      stands = λ q lt. second-more b.second.caches q _ (asked.second.stands q lt);
       all = asked.second.all;
       numbered = all-numbered-more _ _ asked.second.numbered;
     };

@@ -48,6 +48,22 @@ lone-rules (x ∷ []) p one lru loads g at =
     λ k. rules_from (sym at k) (record { repl = lru k; wback = p.wback; walloc = loads k }) ∷ []
 lone-rules (x ∷ y ∷ gs) p one lru loads g at = absurd (omega arith)
 
+-- single geometries that are the same, with the same policy, give the same rules
+pub like-rules : (gs hs : List Geometry) (p q : Policy) → length gs ≡ 1 → length hs ≡ 1 → p ≡ q
+    → (g h : Geometry) → g ≡ get_or gs 0 g → h ≡ get_or hs 0 h → bsize_of g ≡ bsize_of h
+    → blocks_of g ≡ blocks_of h → sets_of g ≡ sets_of h
+    → map (λ s. rules_from s q) hs ≡ map (λ s. rules_from s p) gs
+like-rules [] hs p q one two same g h at there bytes blocks sets = absurd (omega arith)
+like-rules (x ∷ []) [] p q one two same g h at there bytes blocks sets = absurd (omega arith)
+like-rules (x ∷ []) (y ∷ []) p q one two same g h at there bytes blocks sets =
+    ap (λ (r : Rules). r ∷ []) (ap (rules_from y) (sym same)
+    ∙ same-rules y x p (ap bsize_of (sym there) ∙ sym bytes ∙ ap bsize_of at)
+    (ap blocks_of (sym there) ∙ sym blocks ∙ ap blocks_of at)
+    (ap sets_of (sym there) ∙ sym sets ∙ ap sets_of at))
+like-rules (x ∷ []) (y ∷ z ∷ hs) p q one two same g h at there bytes blocks sets =
+    absurd (omega arith)
+like-rules (x ∷ y ∷ gs) hs p q one two same g h at there bytes blocks sets = absurd (omega arith)
+
 -- the same geometry and policy give the same rules
 pub same-from : (a b : Geometry) (p q : Policy) → a ≡ b → p ≡ q → rules_from a p ≡ rules_from b q
 same-from a b p q at by = ap (λ g. rules_from g p) at ∙ ap (rules_from b) by

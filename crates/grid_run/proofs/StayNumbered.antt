@@ -42,7 +42,7 @@ stay-on {start = start} {before = before} {after = after} one other = record {
 pub queue-more : (before after : List ℕ) (q : Queue) → IsBeginning before after
     → HasNumbers before q → HasNumbers after q
 queue-more before after q on has = record {
-  each = all-numbered-more before after on (bsize_of q.seats.first) q.waiting.items has.each;
+  each = all-numbered-more before after on (bsize_of q.first) q.waiting.items has.each;
 }
 
 -- queues that are given nothing

@@ -6,15 +6,15 @@ use Rattle.grid_core.specs.Numbered.{blocks_in}
 use Rattle.stage_core.specs.Events.{events, history}
 use Rattle.stage_core.specs.declared.message.Side.TheVariants as side
 use Rattle.stage_core.specs.declared.selection.Selection.{Selection}
-use Rattle.grid_run.specs.Backs.{AreSeatsIn, AreWaiting, QueuesStayNumbered}
-use Rattle.grid_run.specs.Backs.{RequestsFor, queue_seats, seats_of_task, sent_behind}
-use Rattle.grid_run.specs.Backs.{task_of_shelf}
+use Rattle.grid_run.specs.Backs.{AreSeatedIn, AreWaiting, QueuesStayNumbered, RequestsFor}
+use Rattle.grid_run.specs.Backs.{SharedSeats, queue_seats, seats_of_shared, sent_behind}
+use Rattle.grid_run.specs.Banks.{tasks_of_banks}
 use Rattle.grid_run.specs.Fronts.{FrontAt, front_rules}
 use Rattle.grid_run.specs.Picking.{HasPicked, picked_by}
 use Rattle.grid_run.specs.Seats.{SeatRules, rules_on}
+use Rattle.grid_run.specs.declared.bank.Bank.{Bank}
 use Rattle.grid_run.specs.declared.first_levels.FirstLevels.{FirstLevels}
 use Rattle.grid_run.specs.declared.plan.LanePlan.{LanePlan}
-use Rattle.grid_run.specs.declared.seat.BothSeats.{BothSeats}
 
 -- what first-level caches do: their selection, the rules of the caches of both sides, and the
 -- seats to which second levels listen
@@ -22,7 +22,7 @@ pub record FirstTask : Type 0 where
   pub selection : Selection
   pub i : SeatRules
   pub d : SeatRules
-  pub seats : List BothSeats
+  pub seats : List SharedSeats
 
 -- what these do
 unfoldable pub first_task : FirstLevels → FirstTask
@@ -33,13 +33,13 @@ first_task f = record {
   seats = map queue_seats f.queues.items;
 }
 
--- what those of this plan do
-unfoldable pub first_of_plan : LanePlan → FirstTask
-first_of_plan p = record {
+-- what those of this plan do in front of these banks
+unfoldable pub first_of_plan : LanePlan → List Bank → FirstTask
+first_of_plan p banks = record {
   selection = p.selection;
   i = map rules_on p.i.items;
   d = map rules_on p.d.items;
-  seats = map (λ shelf. seats_of_task (task_of_shelf shelf)) p.backs.items;
+  seats = map seats_of_shared (tasks_of_banks banks);
 }
 
 -- the blocks that have numbers
@@ -54,7 +54,7 @@ StaysNumberedIn old new =
 
 -- all queues are behind caches of these first levels
 abbrev pub AreSeated : FirstTask → Type 0
-AreSeated t = All (AreSeatsIn t.i t.d) t.seats
+AreSeated t = All (AreSeatedIn t.i t.d) t.seats
 
 -- all that such caches send for what is selected of these records
 abbrev pub sent_by : FirstTask → List DinRecord → RequestsFor

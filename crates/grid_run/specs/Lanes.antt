@@ -3,9 +3,9 @@ use Rattle.std.specs.Prelude.{◌≡◌, ◌≤◌, List, length, map}
 use Rattle.std.specs.List.{All}
 use Rattle.din_trace.specs.declared.record.DinRecord.{DinRecord}
 use Rattle.stage_core.specs.declared.selection.Selection.{Selection}
-use Rattle.grid_run.specs.Backs.{BackTask, HasNumbers, IsPlacedIn, queue_seats, seats_of_task}
-use Rattle.grid_run.specs.Backs.{task_of_shelf}
-use Rattle.grid_run.specs.Banks.{NothingWaitsIn, WasAsked, tasks_of_banks}
+use Rattle.grid_run.specs.Backs.{BackTask, HasNumbers, IsPlacedIn, queue_seats}
+use Rattle.grid_run.specs.Backs.{seats_of_shared, task_of_shelf}
+use Rattle.grid_run.specs.Banks.{NothingWaitsIn, WasAsked, each_of, tasks_of_banks}
 use Rattle.grid_run.specs.FirstLevels.{WasGiven, first_task, numbered_by, sent_by}
 use Rattle.grid_run.specs.Fronts.{front_rules}
 use Rattle.grid_run.specs.Picking.{picked_by}
@@ -26,7 +26,7 @@ lane_task l = record {
   selection = picked_by l.first.picker;
   i = map front_rules l.first.i.items;
   d = map front_rules l.first.d.items;
-  backs = tasks_of_banks l.banks.items;
+  backs = each_of (tasks_of_banks l.banks.items);
 }
 
 -- what a lane of this plan does
@@ -45,7 +45,7 @@ IsPlaced t = All (IsPlacedIn t.i t.d) t.backs
 -- each queue is behind the seats of one of the second levels, in their order
 abbrev pub AreMatched : Lane → Type 0
 AreMatched l = map queue_seats l.first.queues.items
-    ≡ map seats_of_task (tasks_of_banks l.banks.items)
+    ≡ map seats_of_shared (tasks_of_banks l.banks.items)
 
 -- the first levels of a lane were given records, and its second levels all that these sent for
 -- `past`; what they sent for later ones waits in the queues

@@ -1,13 +1,15 @@
 pub mod Table
 pub mod Grids
 pub mod Families
-pub mod Lones
-pub mod SecondCaches
 pub mod Numbering
+pub mod Twins
+pub mod SecondCaches
 pub mod Sending
 pub mod Fronts
 pub mod Seats
+pub mod Senders
 pub mod Backs
+pub mod Alike
 pub mod Banks
 pub mod Fetching
 pub mod Picking

@@ -1,6 +1,7 @@
 -- Requests with the numbers of their blocks.
-use Rattle.std.specs.Prelude.{◌≡◌, ℕ, List, Option, None, Some}
-use Rattle.std.specs.List.{All}
+use Rattle.std.specs.Prelude.{◌≡◌, ℕ, Bool, true, false, ◌||◌, if◌then◌else◌, List, []}
+use Rattle.std.specs.Prelude.{◌∷◌, Option, None, Some}
+use Rattle.std.specs.List.{All, flat_map}
 use Rattle.cache_core.specs.declared.access.Access.{Access}
 use Rattle.cache_core.specs.History.{Event, access, flush}
 use Rattle.cache_core.specs.declared.access.Class.{Class}
@@ -9,6 +10,8 @@ use Rattle.grid_core.specs.Numbers.{IsNumberOf, number_at}
 use Rattle.stage_core.specs.SecondLevel.{read_as}
 use Rattle.stage_core.specs.declared.message.What.{What}
 use Rattle.stage_core.specs.declared.message.What.TheVariants as what
+use Rattle.shared_list.specs.Users.{is_user}
+use Rattle.shared_list.specs.declared.users.Users.{Users}
 use Rattle.grid_run.specs.declared.numbered.Known.{Known}
 use Rattle.grid_run.specs.declared.numbered.Numbered.{Numbered}
 use Rattle.grid_run.specs.declared.numbered.Sort.{Sort}
@@ -24,6 +27,29 @@ what_at sort.FlushAll a = what.FlushAll
 -- the request without its number
 abbrev pub what_of : Numbered → What
 what_of w = what_at w.sort w.addr
+
+-- a request to flush is for all users
+abbrev pub is_flush : What → Bool
+is_flush (what.Back a) = false
+is_flush (what.Fetch c a) = false
+is_flush (what.Through a) = false
+is_flush what.FlushAll = true
+
+-- a request for these users is for user k
+abbrev pub is_to : ℕ → Users → What → Bool
+is_to k users w = is_flush w || is_user users k
+
+-- what user k gets of a request for these users: the request, or nothing
+abbrev pub part_to : ℕ → Users → What → List What
+part_to k users w = if is_to k users w then w ∷ [] else []
+
+-- the request is for user k
+abbrev pub is_for : ℕ → Numbered → Bool
+is_for k w = is_to k w.users (what_of w)
+
+-- the requests for user k, without their numbers
+abbrev pub sent_to : ℕ → List Numbered → List What
+sent_to k ws = flat_map (λ w. part_to k w.users (what_of w)) ws
 
 -- the access of a class to an address, or a flush where there is no class
 abbrev pub event_at : Option Class → ℕ → Event

@@ -1,42 +1,62 @@
-//! Second levels behind one cache of each side.
+//! Second levels, each behind one cache of each side, that share a queue.
 
-ghost use Rattle.std.specs.Prelude.{◌≡◌};
+ghost use Rattle.std.specs.Prelude.{◌≡◌, length};
 ghost use Rattle.cache_core.specs.Geometry.{bsize_of};
-ghost use Rattle.grid_run.specs.SecondCaches.{second_bsize};
+ghost use Rattle.grid_run.specs.SecondCaches.{second_bsize, second_users};
+ghost use Rattle.grid_run.specs.Senders.{MayShare};
 
-use crate::plan::BackShelf;
 use crate::queue::Queue;
 use crate::seat::BothSeats;
 use crate::second::Second;
-use cache_core::NoMemory;
+use crate::second_caches::SecondCaches;
+use cache_core::{Geometry, NoMemory};
 use std::alloc::Global;
 
-/// Second-level caches of one block size and one policy, behind the same two first-level caches.
+/// Second-level caches of one block size and one policy that share a queue: those of each user are
+/// behind the same two first-level caches.
 #[derive(Drop)]
 pub(crate) struct Back {
-    seats: BothSeats,
+    /// The block size, as that of a geometry.
+    pub first: Geometry,
+    /// The seats in front of each user.
+    pub users: Vec<BothSeats>,
     pub second: Second,
-    ghost sized: { second_bsize second.caches ≡ bsize_of seats.first },
+    ghost sized: { second_bsize second.caches ≡ bsize_of first },
+    ghost as_many: { second_users second.caches ≡ length users.items },
+    ghost share: { MayShare users.items },
 }
 
-#[tactic(auto, unfolding(crate::specs::Backs::back_task, crate::specs::Backs::task_of_shelf))]
+#[tactic(auto, unfolding(crate::specs::Backs::back_task, crate::specs::Backs::back_seats))]
 impl Back {
-    ghost use Rattle.std.specs.Prelude.{◌≡◌, List, ℕ, IfOk, OnOk, length};
+    ghost use Rattle.std.specs.Prelude.{◌≡◌, ◌<◌, [], List, ℕ, OnOk, length};
+    ghost use Rattle.cache_core.specs.Geometry.{bsize_of};
     ghost use Rattle.grid_run.specs.Backs.{AreFewRequests, AreWaiting, HasNone, HasNumbers};
     ghost use Rattle.grid_run.specs.Backs.{NothingWaits, RequestsFor, WereAsked, back_seats};
-    ghost use Rattle.grid_run.specs.Backs.{back_task, no_requests, queue_seats, task_of_shelf};
+    ghost use Rattle.grid_run.specs.Backs.{back_task, no_requests, queue_seats};
+    ghost use Rattle.grid_run.specs.SecondCaches.{SecondStandsBy, second_bsize, second_rules};
+    ghost use Rattle.grid_run.specs.SecondCaches.{second_users};
+    ghost use Rattle.grid_run.specs.Senders.{MayShare};
 
-    /// The empty caches of a shelf.
-    pub fn new(alloc: Global, shelf: &BackShelf) -> Result<Back, NoMemory>
-        ensures asked { IfOk result (λ back. (blocks : List ℕ) →
-            WereAsked blocks no_requests back) }
-        ensures settled { IfOk result NothingWaits }
-        ensures task { IfOk result (λ back. back_task back ≡ task_of_shelf shelf.now) }
+    /// Second levels of this block size, for which nothing waits, of the users behind these seats.
+    pub fn new(first: Geometry, users: Vec<BothSeats>, caches: SecondCaches, alloc: Global) -> Back
+        requires share { MayShare users.items }
+        requires as_many { second_users caches ≡ length users.items }
+        requires bsize { second_bsize caches ≡ bsize_of first }
+        ensures asked { (blocks : List ℕ) →
+            ((q : ℕ) → q < second_users caches → SecondStandsBy blocks caches q []) →
+            WereAsked blocks no_requests result }
+        ensures settled { NothingWaits result }
+        ensures task { back_task result ≡ record {
+          seats = record { first = first; users = users.items };
+          rules = second_rules caches;
+        } }
+        ensures users { result.users ≡ users }
     {
-        Ok(Back {
-            seats: shelf.seats(),
-            second: Second::new(alloc, &shelf.shelf)?,
-        })
+        Back {
+            first,
+            users,
+            second: Second::new(alloc, caches),
+        }
     }
 
     /// Takes over what waits in the queue behind the same seats. The queue gets an empty list.

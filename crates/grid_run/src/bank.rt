@@ -4,9 +4,11 @@ ghost use Rattle.std.specs.Prelude.{◌≡◌, ℕ, List, IfOk, OnOk, map};
 ghost use Rattle.std.specs.List.{All};
 ghost use Rattle.grid_run.specs.Backs.{AreFewRequests, NothingWaits, RequestsFor, WereAsked};
 ghost use Rattle.grid_run.specs.Backs.{back_task, no_requests, task_of_shelf};
+ghost use Rattle.grid_run.specs.Banks.{each_of};
 
 use crate::back::Back;
-use crate::lists::made_for_each;
+use crate::backs::back_for;
+use crate::lists::add_to;
 use crate::plan::BackShelf;
 use crate::queue::Queue;
 use cache_core::NoMemory;
@@ -18,15 +20,24 @@ pub(crate) struct Bank {
     pub backs: Vec<Back>,
 }
 
-/// The empty second levels of these shelves.
+/// The empty second levels of these shelves. Those beside one another share a queue where they
+/// can.
 fn backs_for(alloc: Global, shelves: &[BackShelf]) -> Result<Vec<Back>, NoMemory>
     ensures tasks { IfOk result (λ backs.
-        map back_task backs.items ≡ map task_of_shelf shelves.now) }
+        each_of (map back_task backs.items) ≡ map task_of_shelf shelves.now) }
     ensures asked { IfOk result (λ backs. (blocks : List ℕ) →
         All (WereAsked blocks no_requests) backs.items) }
     ensures settled { IfOk result (λ backs. All NothingWaits backs.items) }
 {
-    made_for_each!(alloc, shelves, shelf => Back::new(alloc, shelf)?)
+    let mut backs = Vec::new(alloc);
+    let mut rest = shelves;
+    'backs: while !rest.is_empty() {
+        let back = back_for(alloc, rest)?;
+        let (_, behind) = rest.split_at(back.users.len());
+        add_to(&mut backs, back)?;
+        rest = behind;
+    }
+    Ok(backs)
 }
 
 /// Serves all requests that wait, for one second level after another.
@@ -49,13 +60,14 @@ impl Bank {
     ghost use Rattle.std.specs.Prelude.{◌≡◌, ℕ, List, IfOk, OnOk, map};
     ghost use Rattle.std.specs.List.{All};
     ghost use Rattle.grid_run.specs.Backs.{AreFewRequests, AreWaiting, HasNone, HasNumbers};
-    ghost use Rattle.grid_run.specs.Backs.{RequestsFor, no_requests, queue_seats, seats_of_task};
-    ghost use Rattle.grid_run.specs.Backs.{task_of_shelf};
-    ghost use Rattle.grid_run.specs.Banks.{NothingWaitsIn, WasAsked, bank_task};
+    ghost use Rattle.grid_run.specs.Backs.{RequestsFor, no_requests, queue_seats};
+    ghost use Rattle.grid_run.specs.Backs.{seats_of_shared, task_of_shelf};
+    ghost use Rattle.grid_run.specs.Banks.{NothingWaitsIn, WasAsked, bank_task, each_of};
 
     /// The empty second levels of these shelves.
     pub fn new(alloc: Global, shelves: &[BackShelf]) -> Result<Bank, NoMemory>
-        ensures task { IfOk result (λ bank. bank_task bank ≡ map task_of_shelf shelves.now) }
+        ensures tasks { IfOk result (λ bank.
+            each_of (bank_task bank) ≡ map task_of_shelf shelves.now) }
         ensures asked { IfOk result (λ bank. (blocks : List ℕ) → WasAsked blocks no_requests bank) }
         ensures settled { IfOk result NothingWaitsIn }
     {
@@ -66,7 +78,7 @@ impl Bank {
 
     /// Each second level takes over what waits in the queue behind its seats.
     pub fn take_over(&mut self, queues: &mut [Queue])
-        requires seats { map queue_seats queues.old ≡ map seats_of_task (bank_task self.old) }
+        requires seats { map queue_seats queues.old ≡ map seats_of_shared (bank_task self.old) }
         requires settled { NothingWaitsIn self.old }
         ensures asked { (blocks : List ℕ) (served all : RequestsFor) →
             All (AreWaiting served all) queues.old → All (HasNumbers blocks) queues.old →

@@ -1,12 +1,12 @@
 //! The second levels of a lane.
 
-ghost use Rattle.std.specs.Prelude.{◌≡◌, ◌<◌, ℕ, List, IfOk, OnOk, get_or, length, map};
+ghost use Rattle.std.specs.Prelude.{◌≡◌, ◌<◌, ◌++◌, ℕ, List, IfOk, OnOk, length, map};
 ghost use Rattle.std.specs.List.{All};
-ghost use Rattle.grid_run.specs.Backs.{AreFewRequests, AreWaiting, BackTask, HasNone, HasNumbers};
+ghost use Rattle.grid_run.specs.Backs.{AreFewRequests, AreWaiting, HasNone, HasNumbers};
 ghost use Rattle.grid_run.specs.Backs.{NothingWaits, RequestsFor, WereAsked, back_task};
-ghost use Rattle.grid_run.specs.Backs.{no_requests, queue_seats, seats_of_task, task_of_shelf};
-ghost use Rattle.grid_run.specs.Banks.{HaveServed, NothingWaitsIn, WasAsked, bank_task};
-ghost use Rattle.grid_run.specs.Banks.{tasks_of_banks};
+ghost use Rattle.grid_run.specs.Backs.{no_requests, queue_seats, seats_of_shared, task_of_shelf};
+ghost use Rattle.grid_run.specs.Banks.{HaveServed, IsUserAt, NothingWaitsIn, WasAsked, bank_task};
+ghost use Rattle.grid_run.specs.Banks.{each_of, tasks_of_banks};
 
 use crate::back::Back;
 use crate::bank::Bank;
@@ -39,7 +39,7 @@ pub(crate) fn banks_for(
     threads: usize,
 ) -> Result<Vec<Bank>, NoMemory>
     ensures tasks { IfOk result (λ banks.
-        tasks_of_banks banks.items ≡ map task_of_shelf shelves.now) }
+        each_of (tasks_of_banks banks.items) ≡ map task_of_shelf shelves.now) }
     ensures asked { IfOk result (λ banks. (blocks : List ℕ) →
         All (WasAsked blocks no_requests) banks.items) }
 {
@@ -56,7 +56,7 @@ pub(crate) fn banks_for(
 
 /// All second levels take over what waits in the queues, each from the queue behind its seats.
 pub(crate) fn take_over_all(queues: &mut [Queue], banks: &mut [Bank])
-    requires seats { map queue_seats queues.old ≡ map seats_of_task (tasks_of_banks banks.old) }
+    requires seats { map queue_seats queues.old ≡ map seats_of_shared (tasks_of_banks banks.old) }
     requires settled { All NothingWaitsIn banks.old }
     ensures asked { (blocks : List ℕ) (served all : RequestsFor) →
         All (AreWaiting served all) queues.old → All (HasNumbers blocks) queues.old →
@@ -144,21 +144,38 @@ pub(crate) fn settle_on<T: Threads + Sync>(
     settle_both(rt, front, behind)
 }
 
-/// The second levels at an index, of those of all banks.
-pub(crate) fn back_at(banks: &[Bank], index: usize) -> &Back
-    requires { index < length (tasks_of_banks banks.now) }
-    ensures task { (other : BackTask) →
-        back_task result.now ≡ get_or (tasks_of_banks banks.now) index other }
-    ensures asked { (blocks : List ℕ) (all : RequestsFor) →
-        All (WasAsked blocks all) banks.now → WereAsked blocks all result.now }
-    ensures settled { All NothingWaitsIn banks.now → NothingWaits result.now }
+/// The user at an index, of those of these second levels, and then of all banks: of which second
+/// levels it is one, and which of their users.
+fn user_from<'a>(backs: &'a [Back], banks: &'a [Bank], index: usize) -> (&'a Back, usize)
+    requires { index
+        < length (each_of (map back_task backs.now ++ tasks_of_banks banks.now)) }
+    ensures user { IsUserAt (each_of (map back_task backs.now ++ tasks_of_banks banks.now))
+        index result.0.now result.1 }
+    ensures asked { (blocks : List ℕ) (all : RequestsFor) → All (WereAsked blocks all) backs.now →
+        All (WasAsked blocks all) banks.now → WereAsked blocks all result.0.now }
+    ensures settled { All NothingWaits backs.now → All NothingWaitsIn banks.now →
+        NothingWaits result.0.now }
 {
-    let Some((bank, banks)) = banks.split_first() else {
-        unreachable!()
+    let Some((back, others)) = backs.split_first() else {
+        let Some((bank, behind)) = banks.split_first() else {
+            unreachable!()
+        };
+        return user_from(&bank.backs, behind, index);
     };
-    let count = bank.backs.len();
+    let count = back.users.len();
     if index < count {
-        return &bank.backs[index];
+        return (back, index);
     }
-    back_at(banks, index - count)
+    user_from(others, banks, index - count)
+}
+
+/// The user at an index, of those of all banks: of which second levels, and which of their users.
+pub(crate) fn back_at(banks: &[Bank], index: usize) -> (&Back, usize)
+    requires { index < length (each_of (tasks_of_banks banks.now)) }
+    ensures user { IsUserAt (each_of (tasks_of_banks banks.now)) index result.0.now result.1 }
+    ensures asked { (blocks : List ℕ) (all : RequestsFor) →
+        All (WasAsked blocks all) banks.now → WereAsked blocks all result.0.now }
+    ensures settled { All NothingWaitsIn banks.now → NothingWaits result.0.now }
+{
+    user_from(&[], banks, index)
 }

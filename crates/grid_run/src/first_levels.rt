@@ -7,7 +7,7 @@ ghost use Rattle.cache_core.specs.History.{History};
 ghost use Rattle.grid_core.specs.Numbered.{blocks_in};
 ghost use Rattle.din_trace.specs.declared.record.DinRecord.{DinRecord};
 ghost use Rattle.stage_core.specs.Events.{IsBounded, history};
-ghost use Rattle.grid_run.specs.Backs.{AreWaiting, HasNone, IsSeatedOn, QueuesStayNumbered};
+ghost use Rattle.grid_run.specs.Backs.{AreSeatedOn, AreWaiting, HasNone, QueuesStayNumbered};
 ghost use Rattle.grid_run.specs.Backs.{RequestsFor, followed_by, no_requests, queue_seats};
 ghost use Rattle.grid_run.specs.Backs.{sent_for, sent_on_side};
 ghost use Rattle.grid_run.specs.FirstLevels.{AreSeated, HasServed, StaysNumberedIn, WasGiven};
@@ -15,6 +15,7 @@ ghost use Rattle.grid_run.specs.FirstLevels.{first_of_plan, first_task};
 ghost use Rattle.grid_run.specs.Fronts.{FrontAt, front_rules};
 ghost use Rattle.grid_run.specs.Sending.{event_of};
 
+use crate::bank::Bank;
 use crate::front::Front;
 use crate::fronts::{are_silent, fronts_for, serve_again, serve_fetches, serve_fronts};
 use crate::picker::Picker;
@@ -50,7 +51,7 @@ fn serve_request(
     side: Side,
     request: Request,
 ) -> Result<(), NoMemory>
-    requires placed { All (IsSeatedOn side (map front_rules fronts.old.items))
+    requires placed { All (AreSeatedOn side (map front_rules fronts.old.items))
         (map queue_seats queues.old.items) }
     requires room { (h : History) × All (FrontAt (blocks_in numbers.old) h) fronts.old.items
         × (length h < 2 ^ 44) }
@@ -85,7 +86,7 @@ fn serve_side(
     side: Side,
     event: DinRecord,
 ) -> Result<(), NoMemory>
-    requires placed { All (IsSeatedOn side (map front_rules fronts.old.items))
+    requires placed { All (AreSeatedOn side (map front_rules fronts.old.items))
         (map queue_seats queues.old.items) }
     requires room { (es : List DinRecord)
         × All (FrontAt (blocks_in numbers.old) (history side es)) fronts.old.items
@@ -115,19 +116,20 @@ fn serve_side(
 
 #[tactic(auto, unfolding(crate::specs::FirstLevels::first_task, crate::specs::FirstLevels::first_of_plan))]
 impl FirstLevels {
-    /// The empty caches of a plan.
-    pub fn new(alloc: Global, plan: &LanePlan) -> Result<FirstLevels, NoMemory>
+    /// The empty caches of a plan, in front of these banks.
+    pub fn new(alloc: Global, plan: &LanePlan, banks: &[Bank]) -> Result<FirstLevels, NoMemory>
         requires bounded { IsBounded plan.now.selection }
-        requires seated { AreSeated (first_of_plan plan.now) }
+        requires seated { AreSeated (first_of_plan plan.now banks.now) }
         ensures given { IfOk result (WasGiven no_requests []) }
         ensures none { IfOk result (λ first. All HasNone first.queues.items) }
-        ensures task { IfOk result (λ first. first_task first ≡ first_of_plan plan.now) }
+        ensures task { IfOk result (λ first.
+            first_task first ≡ first_of_plan plan.now banks.now) }
     {
         Ok(FirstLevels {
             picker: Picker::new(plan.selection),
             i: fronts_for(alloc, &plan.i)?,
             d: fronts_for(alloc, &plan.d)?,
-            queues: queues_for(alloc, &plan.backs)?,
+            queues: queues_for(alloc, banks)?,
             numbers: BlockNumbers::new(alloc),
         })
     }

@@ -1,15 +1,18 @@
 //! First-level caches of one side, and what each sends to the second level.
 
-ghost use Rattle.std.specs.Prelude.{◌≡◌, if◌then◌else◌};
+ghost use Rattle.std.specs.Prelude.{◌≡◌, ◌&&◌, ◌||◌, ℕ, if◌then◌else◌};
+ghost use Rattle.shared_list.specs.Users.{is_user};
 ghost use Rattle.grid_run.specs.declared.front.Last.TheVariants as last;
 
 use crate::family::Family;
 use crate::numbered::{Known, Numbered, number_of};
-use crate::parts::{ask_parts, ask_write_backs};
+use crate::parts::{ask_part, ask_write_backs};
 use crate::requests::Request;
+use crate::senders::Sender;
 use crate::shelf::Shelf;
 use cache_core::{Access, Geometry, NoMemory};
 use grid_core::BlockNumbers;
+use shared_list::Users;
 use stage_core::{Side, back_part, fetch_part, flush_part, through_part};
 use std::alloc::Global;
 
@@ -46,19 +49,29 @@ fn last_of(access: Access, sent_nothing: bool) -> Last
     }
 }
 
+/// These users, and the others if they join them.
+#[inline(always)]
+fn joined(users: Users, others: Users, join: bool) -> Users
+    ensures { (k : ℕ) → is_user result k ≡ (is_user users k || (is_user others k && join)) }
+{
+    if join { users.union(others) } else { users }
+}
+
 impl Front {
-    ghost use Rattle.std.specs.Prelude.{◌≡◌, ◌<◌, ◌^◌, ◌++◌, ◌∷◌, [], IfOk, OnOk};
+    ghost use Rattle.std.specs.Prelude.{◌≡◌, ◌<◌, ◌^◌, ◌∷◌, [], IfOk, OnOk};
     ghost use Rattle.std.specs.Prelude.{true, false, length, map, List, ℕ};
     ghost use Rattle.cache_core.specs.Geometry.{bsize_of};
     ghost use Rattle.cache_core.specs.Lists.{IsBeginning};
     ghost use Rattle.cache_core.specs.History.{History, access as accessed, flush as flushed};
     ghost use Rattle.grid_core.specs.Numbered.{blocks_in};
-    ghost use Rattle.grid_core.specs.Written.{rules_at_index};
-    ghost use Rattle.stage_core.specs.SecondLevel.{parts_of};
+    ghost use Rattle.grid_core.specs.Cells.{items_of};
+    ghost use Rattle.grid_core.specs.Written.{written_by};
     ghost use Rattle.grid_run.specs.declared.requests.Request.{Request};
     ghost use Rattle.grid_run.specs.declared.requests.Request.TheVariants as asked;
     ghost use Rattle.grid_run.specs.Fronts.{FrontAt, HasSent, IsSilent, front_rules};
-    ghost use Rattle.grid_run.specs.Numbering.{KnowsNumber, StayNumbered, what_of};
+    ghost use Rattle.grid_run.specs.Families.{HasServedLast};
+    ghost use Rattle.grid_run.specs.Numbering.{KnowsNumber, StayNumbered};
+    ghost use Rattle.grid_run.specs.Senders.{AreCellsOf, AreSent};
     ghost use Rattle.grid_run.specs.Sending.{event_of};
     ghost use Rattle.grid_run.specs.Seats.{rules_on};
 
@@ -153,39 +166,95 @@ impl Front {
         matches!(self.last, Last::Silence)
     }
 
-    /// Adds what one cache sent for the last request to what waits for a second level of the block
-    /// size of `first`. The blocks get numbers, if they have none yet.
-    pub fn send(
+    /// Adds what these caches sent for the last request, which was this access, to what waits for
+    /// second levels of the block size of `first`.
+    fn send_access(
         &self,
-        cell: usize,
+        access: Access,
+        senders: &[Sender],
         side: Side,
         first: Geometry,
         numbers: &mut BlockNumbers,
         waiting: &mut Vec<Numbered>,
     ) -> Result<(), NoMemory>
-        requires inside { cell < length (front_rules self.now) }
+        requires inside { AreCellsOf (front_rules self.now) senders.now }
+        requires known { KnowsNumber (blocks_in numbers.old) self.now.known }
+        ensures sent { OnOk result ((h : History) → HasServedLast self.now.family h access →
+            AreSent (front_rules self.now) side h (accessed access) senders.now waiting.old.items
+            waiting.new.items) }
+        ensures numbers { OnOk result (StayNumbered (bsize_of first) (blocks_in numbers.old)
+            waiting.old.items (blocks_in numbers.new) waiting.new.items) }
+    {
+        let mut fetching = Users::none();
+        let mut writing = Users::none();
+        for sender in senders {
+            let outcome = self.family.outcome(sender.cell);
+            let back = back_part(outcome.back);
+            ask_part(waiting, numbers, self.known, first, back, sender.users)?;
+            fetching = joined(fetching, sender.users, outcome.fetch);
+            writing = joined(writing, sender.users, outcome.through);
+        }
+        let block = self.family.first_byte(access.addr);
+        let fetch = fetch_part(side, !fetching.is_empty(), block);
+        ask_part(waiting, numbers, self.known, first, fetch, fetching)?;
+        let through = through_part(!writing.is_empty(), access.addr);
+        ask_part(waiting, numbers, self.known, first, through, writing)
+    }
+
+    /// Adds what these caches sent for the last request, which was a flush, to what waits for
+    /// second levels of the block size of `first`.
+    fn send_flush(
+        &self,
+        senders: &[Sender],
+        side: Side,
+        first: Geometry,
+        numbers: &mut BlockNumbers,
+        waiting: &mut Vec<Numbered>,
+    ) -> Result<(), NoMemory>
+        requires inside { AreCellsOf (front_rules self.now) senders.now }
+        requires lists { length self.now.lists.items ≡ length (front_rules self.now) }
+        requires known { KnowsNumber (blocks_in numbers.old) self.now.known }
+        ensures sent { OnOk result ((h : History) →
+            map items_of self.now.lists.items ≡ map (written_by h) (front_rules self.now) →
+            AreSent (front_rules self.now) side h flushed senders.now waiting.old.items
+            waiting.new.items) }
+        ensures numbers { OnOk result (StayNumbered (bsize_of first) (blocks_in numbers.old)
+            waiting.old.items (blocks_in numbers.new) waiting.new.items) }
+    {
+        for sender in senders {
+            let list = &self.lists[sender.cell];
+            ask_write_backs(waiting, numbers, self.known, first, list, sender.users)?;
+        }
+        let flush = flush_part(side);
+        ask_part(waiting, numbers, self.known, first, flush, Users::none())
+    }
+
+    /// Adds what these caches sent for the last request to what waits for second levels of the
+    /// block size of `first`. Each user gets what the cache at its cell sent. The blocks get
+    /// numbers, if they have none yet.
+    pub fn send(
+        &self,
+        senders: &[Sender],
+        side: Side,
+        first: Geometry,
+        numbers: &mut BlockNumbers,
+        waiting: &mut Vec<Numbered>,
+    ) -> Result<(), NoMemory>
+        requires inside { AreCellsOf (front_rules self.now) senders.now }
         requires last { (h : History) × (q : Request) × HasSent h q self.now }
         requires known { KnowsNumber (blocks_in numbers.old) self.now.known }
         ensures sent { OnOk result ((h : History) (q : Request) → HasSent h q self.now →
-            map what_of waiting.new.items ≡ map what_of waiting.old.items
-            ++ parts_of (rules_at_index (front_rules self.now) cell) side h (event_of q)) }
+            AreSent (front_rules self.now) side h (event_of q) senders.now waiting.old.items
+            waiting.new.items) }
         ensures numbers { OnOk result (StayNumbered (bsize_of first) (blocks_in numbers.old)
             waiting.old.items (blocks_in numbers.new) waiting.new.items) }
     {
         match self.last {
             Last::Silence => Ok(()),
             Last::Access(access) => {
-                let outcome = self.family.outcome(cell);
-                let block = self.family.first_byte(access.addr);
-                let fetch = fetch_part(side, outcome.fetch, block);
-                let through = through_part(outcome.through, access.addr);
-                let back = back_part(outcome.back);
-                ask_parts(waiting, numbers, self.known, first, back, fetch, through)
+                self.send_access(access, senders, side, first, numbers, waiting)
             }
-            Last::Flush => {
-                let list = &self.lists[cell];
-                ask_write_backs(waiting, numbers, self.known, first, list, flush_part(side))
-            }
+            Last::Flush => self.send_flush(senders, side, first, numbers, waiting),
         }
     }
 }

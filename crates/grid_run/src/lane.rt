@@ -39,10 +39,9 @@ impl Lane {
         ensures taken { IfOk result (FirstLevelsHaveServed []) }
         ensures task { IfOk result (λ lane. lane_task lane ≡ task_of_plan plan.now) }
     {
-        Ok(Lane {
-            first: FirstLevels::new(alloc, plan)?,
-            banks: banks_for(alloc, &plan.backs, threads)?,
-        })
+        let banks = banks_for(alloc, &plan.backs, threads)?;
+        let first = FirstLevels::new(alloc, plan, &banks)?;
+        Ok(Lane { first, banks })
     }
 
     /// The first levels take records, and beside that the second levels serve what they were given.
@@ -155,17 +154,18 @@ impl Lane {
     {
         let i = &self.first.i[place.i.family].family;
         let d = &self.first.d[place.d.family].family;
-        let u = &back_at(&self.banks, place.u.family).second.caches;
+        let (back, user) = back_at(&self.banks, place.u.family);
+        let u = &back.second.caches;
         Figures {
             totals: Totals {
                 i: i.counts(place.i.cell),
                 d: d.counts(place.d.cell),
-                u: u.counts(place.u.cell),
+                u: u.counts(user, place.u.cell),
             },
             shadows: ShadowMisses {
                 i: i.shadow_misses(place.i.cell),
                 d: d.shadow_misses(place.d.cell),
-                u: u.shadow_misses(place.u.cell),
+                u: u.shadow_misses(user, place.u.cell),
             },
         }
     }

@@ -8,12 +8,14 @@
 //! one portion that have one selection; what these have in common is done once. In it, a `picker`
 //! makes events of the records. The first-level caches of a side that have one block size and one
 //! policy are a `family`, which an engine of grid_core serves (`front`, `fronts`, `fetches`), and
-//! what each pair of them sends waits in a queue (`queue`, `queues`, `parts`), with the number of
+//! what these send waits in queues (`queue`, `queues`, `senders`, `parts`), with the number of
 //! its block (`numbered`): these are the `first_levels`.
 //! Behind each queue are second levels (`second`, `back`), which take it over and serve what waits.
-//! Their caches (`second_caches`) are a family too, or a `lone` LRU cache, which stamped_cache
-//! serves. One thread serves the second levels of a `bank`, so that different threads can serve the
-//! `banks` of a lane. `beside` does both at once. `requests` has what an event asks of each cache.
+//! Their caches (`second_caches`) are a family too, or `twins`: LRU caches of one geometry, each
+//! behind first-level caches of its own, which stamped_cache serves; `backs` says which second
+//! levels share a queue. One thread serves the second levels of a `bank`, so that different threads
+//! can serve the `banks` of a lane. `beside` does both at once. `requests` has what an event asks
+//! of each cache.
 //!
 //! `plan` finds the place of each row: its lane, and a `seat` among the caches of each kind, which
 //! a `shelf` lists. A lane is the work of a `worker`; `crew` gives records to all workers in
@@ -30,6 +32,7 @@
 #![tactic(auto)]
 
 mod back;
+mod backs;
 mod bank;
 mod banks;
 mod beside;
@@ -44,7 +47,6 @@ mod fronts;
 mod grid;
 mod lane;
 mod lists;
-mod lone;
 mod numbered;
 mod numbers;
 mod parts;
@@ -57,10 +59,12 @@ mod run;
 mod seat;
 mod second;
 mod second_caches;
+mod senders;
 mod sharing;
 mod shelf;
 mod simulation;
 mod table;
+mod twins;
 mod worker;
 
 pub use fault::GridFault;

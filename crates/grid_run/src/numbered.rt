@@ -9,6 +9,7 @@ ghost use Rattle.grid_run.specs.Numbering.{IsNumberFor, IsNumbered, KnowsNumber,
 
 use cache_core::{Class, Geometry, NoMemory};
 use grid_core::BlockNumbers;
+use shared_list::Users;
 use stage_core::What;
 
 /// What a request asks for, besides its address.
@@ -20,19 +21,20 @@ pub(crate) enum Sort {
     FlushAll,
 }
 
-/// A request to a second level, with the number of its block. Of a flush, neither the address nor
-/// the number counts.
+/// A request to second levels that share a queue, with the number of its block, and the users that
+/// get it. Of a flush, neither the address nor the number counts, and all users get it.
 #[derive(Clone, Copy)]
 pub(crate) struct Numbered {
     pub addr: u64,
     pub number: u32,
+    pub users: Users,
     pub sort: Sort,
 }
 
 impl Numbered {
-    ghost use Rattle.std.specs.Prelude.{◌≡◌};
+    ghost use Rattle.std.specs.Prelude.{◌≡◌, ◌<◌};
     ghost use Rattle.stage_core.specs.SecondLevel.{read_as};
-    ghost use Rattle.grid_run.specs.Numbering.{event_at, what_of};
+    ghost use Rattle.grid_run.specs.Numbering.{event_at, is_for, what_of};
 
     /// The class of the access that it is at the second level, or none if it is a flush.
     pub fn class(self) -> Option<Class>
@@ -42,6 +44,18 @@ impl Numbered {
             Sort::Back | Sort::Through => Some(Class::Write),
             Sort::Fetch(class) => Some(class),
             Sort::FlushAll => None,
+        }
+    }
+
+    /// Whether a user gets it.
+    #[inline(always)]
+    pub fn is_for(self, user: usize) -> bool
+        requires { user < 32 }
+        ensures { result ≡ is_for user self }
+    {
+        match self.sort {
+            Sort::Back | Sort::Fetch(_) | Sort::Through => self.users.has(user),
+            Sort::FlushAll => true,
         }
     }
 }
@@ -106,10 +120,11 @@ fn number_for(
     number_near(numbers, known, first.block(addr))
 }
 
-/// A request with this number.
-fn with_number(what: What, number: u32) -> Numbered
+/// A request with this number, for these users.
+fn with_number(what: What, number: u32, users: Users) -> Numbered
     ensures what { what_of result ≡ what }
     ensures number { result.number ≡ number }
+    ensures users { result.users ≡ users }
 {
     let (addr, sort) = match what {
         What::Back(addr) => (addr, Sort::Back),
@@ -117,21 +132,29 @@ fn with_number(what: What, number: u32) -> Numbered
         What::Through(addr) => (addr, Sort::Through),
         What::FlushAll => (0, Sort::FlushAll),
     };
-    Numbered { addr, number, sort }
+    Numbered {
+        addr,
+        number,
+        users,
+        sort,
+    }
 }
 
-/// A request with the number of its block, of the block size of `first`. It may be known.
+/// A request for these users, with the number of its block, of the block size of `first`. It may be
+/// known.
 pub(crate) fn numbered_request(
     numbers: &mut BlockNumbers,
     known: Option<Known>,
     first: Geometry,
     what: What,
+    users: Users,
 ) -> Result<Numbered, NoMemory>
     requires known { KnowsNumber (blocks_in numbers.old) known }
     ensures what { IfOk result (λ asked. what_of asked ≡ what) }
+    ensures users { IfOk result (λ asked. asked.users ≡ users) }
     ensures number { IfOk result (IsNumbered (blocks_in numbers.new) (bsize_of first)) }
     ensures grows { IsBeginning (blocks_in numbers.old) (blocks_in numbers.new) }
 {
     let number = number_for(numbers, known, first, what)?;
-    Ok(with_number(what, number))
+    Ok(with_number(what, number, users))
 }

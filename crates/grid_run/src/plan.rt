@@ -31,18 +31,27 @@ pub(crate) struct BackShelf {
 
 #[tactic(auto, unfolding(crate::specs::Backs::task_of_shelf))]
 impl BackShelf {
-    ghost use Rattle.std.specs.Prelude.{◌≡◌};
+    ghost use Rattle.std.specs.Prelude.{◌≡◌, true};
     ghost use Rattle.grid_run.specs.Backs.{seats_of_task, task_of_shelf};
+    ghost use Rattle.grid_run.specs.Alike.{IsAlike};
 
-    /// The seats in front of the caches, and their block size.
+    /// The seats in front of the caches.
     pub fn seats(&self) -> BothSeats
         ensures { result ≡ seats_of_task (task_of_shelf self.now) }
     {
         BothSeats {
             i: self.i,
             d: self.d,
-            first: self.shelf.first(),
         }
+    }
+
+    /// Whether another shelf is for the same caches, behind caches of the same families.
+    pub fn is_like(&self, other: &BackShelf) -> bool
+        ensures { result ≡ true → IsAlike self.now other.now }
+    {
+        self.i.family == other.i.family
+            && self.d.family == other.d.family
+            && self.shelf.is_like(&other.shelf)
     }
 }
 

@@ -1,20 +1,21 @@
 //! The queues behind the first-level caches of a lane.
 
-ghost use Rattle.std.specs.Prelude.{◌≡◌, IfOk, OnOk, map};
+ghost use Rattle.std.specs.Prelude.{◌≡◌, ◌++◌, IfOk, OnOk, map};
 ghost use Rattle.std.specs.List.{All};
 ghost use Rattle.cache_core.specs.History.{History};
 ghost use Rattle.grid_core.specs.Numbered.{blocks_in};
-ghost use Rattle.grid_run.specs.Backs.{AreWaiting, HasNone, IsSeatedOn, QueuesStayNumbered};
-ghost use Rattle.grid_run.specs.Backs.{RequestsFor, followed_by, queue_seats, seats_of_task};
-ghost use Rattle.grid_run.specs.Backs.{sent_for, task_of_shelf};
+ghost use Rattle.grid_run.specs.Backs.{AreSeatedOn, AreWaiting, HasNone, QueuesStayNumbered};
+ghost use Rattle.grid_run.specs.Backs.{RequestsFor, back_seats, followed_by, queue_seats};
+ghost use Rattle.grid_run.specs.Backs.{seats_of_shared, sent_for};
+ghost use Rattle.grid_run.specs.Banks.{tasks_of_banks};
 ghost use Rattle.grid_run.specs.Fronts.{HasSent, KnowsLast, front_rules};
 ghost use Rattle.grid_run.specs.Sending.{event_of};
-ghost use Rattle.grid_run.specs.declared.plan.BackShelf.{BackShelf};
 ghost use Rattle.grid_run.specs.declared.requests.Request.{Request};
 
+use crate::back::Back;
+use crate::bank::Bank;
 use crate::front::Front;
-use crate::lists::made_for_each;
-use crate::plan::BackShelf;
+use crate::lists::add_to;
 use crate::queue::Queue;
 use cache_core::NoMemory;
 use grid_core::BlockNumbers;
@@ -29,21 +30,30 @@ const MUCH_EACH: usize = 65_536;
 /// It does so, too, as soon as there are so many for all second levels of a lane.
 const MUCH: usize = 2_097_152;
 
-/// An empty queue for the second levels of a shelf.
-fn queue_for(alloc: Global, shelf: &BackShelf) -> Queue
-    ensures seats { queue_seats result ≡ seats_of_task (task_of_shelf shelf.now) }
-    ensures none { HasNone result }
+/// Adds an empty queue in front of each of these second levels.
+fn add_queues(alloc: Global, backs: &[Back], queues: &mut Vec<Queue>) -> Result<(), NoMemory>
+    ensures seats { OnOk result (map queue_seats queues.new.items
+        ≡ map queue_seats queues.old.items ++ map back_seats backs.now) }
+    ensures none { OnOk result (All HasNone queues.old.items → All HasNone queues.new.items) }
 {
-    Queue::new(alloc, shelf.seats())
+    for back in backs {
+        let queue = Queue::new(alloc, back.first, &back.users)?;
+        add_to(queues, queue)?;
+    }
+    Ok(())
 }
 
-/// An empty queue for the second levels of each of these shelves.
-pub(crate) fn queues_for(alloc: Global, shelves: &[BackShelf]) -> Result<Vec<Queue>, NoMemory>
+/// An empty queue in front of each of the second levels of these banks, in their order.
+pub(crate) fn queues_for(alloc: Global, banks: &[Bank]) -> Result<Vec<Queue>, NoMemory>
     ensures seats { IfOk result (λ queues. map queue_seats queues.items
-        ≡ map (λ (shelf : BackShelf). seats_of_task (task_of_shelf shelf)) shelves.now) }
+        ≡ map seats_of_shared (tasks_of_banks banks.now)) }
     ensures none { IfOk result (λ queues. All HasNone queues.items) }
 {
-    made_for_each!(alloc, shelves, shelf => queue_for(alloc, shelf))
+    let mut queues = Vec::new(alloc);
+    for bank in banks {
+        add_queues(alloc, &bank.backs, &mut queues)?;
+    }
+    Ok(queues)
 }
 
 /// All queues take what the first-level caches of a side sent for the last request.
@@ -53,7 +63,7 @@ pub(crate) fn ask_queues(
     side: Side,
     numbers: &mut BlockNumbers,
 ) -> Result<(), NoMemory>
-    requires placed { All (IsSeatedOn side (map front_rules fronts.now))
+    requires placed { All (AreSeatedOn side (map front_rules fronts.now))
         (map queue_seats queues.old.items) }
     requires sent { (h : History) × (q : Request) × All (HasSent h q) fronts.now }
     requires known { All (KnowsLast (blocks_in numbers.old)) fronts.now }

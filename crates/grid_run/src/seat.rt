@@ -8,6 +8,7 @@ ghost use Rattle.grid_run.specs.Seats.{IsSeatOf, Keeps, rules_on};
 use crate::lists::add_to;
 use crate::shelf::Shelf;
 use cache_core::{Geometry, NoMemory, Policy};
+use stage_core::Side;
 use std::alloc::Global;
 
 /// Which family, of those of a side or of the second levels, and which cache of it. A family is the
@@ -18,13 +19,26 @@ pub(crate) struct Seat {
     pub cell: usize,
 }
 
-/// The seats of the two first-level caches in front of second levels, and the block size of these,
-/// as that of a geometry.
+/// The seats of the two first-level caches in front of a second level.
 #[derive(Clone, Copy, Debug)]
 pub(crate) struct BothSeats {
     pub i: Seat,
     pub d: Seat,
-    pub first: Geometry,
+}
+
+impl BothSeats {
+    ghost use Rattle.std.specs.Prelude.{◌≡◌};
+    ghost use Rattle.grid_run.specs.Senders.{seat_on};
+
+    /// The seat of the first-level cache on a side.
+    pub fn on(self, side: Side) -> Seat
+        ensures { result ≡ seat_on side self }
+    {
+        match side {
+            Side::I => self.i,
+            Side::D => self.d,
+        }
+    }
 }
 
 /// The index of a shelf for this block size and policy, if there is one.

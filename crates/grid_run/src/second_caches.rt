@@ -1,111 +1,117 @@
-//! The caches of a second level: one LRU cache, or others that are served together.
+//! The caches of second levels that share a queue: of each user one LRU cache, or of a single user
+//! others that are served together.
 
-ghost use Rattle.std.specs.Prelude.{◌≡◌, ◌++◌, List, ℕ, OnOk, map};
+ghost use Rattle.std.specs.Prelude.{◌≡◌, ◌++◌, ◌∷◌, List, ℕ, OnOk, if◌then◌else◌};
 ghost use Rattle.std.specs.List.{All};
 ghost use Rattle.stage_core.specs.declared.message.What.{What};
-ghost use Rattle.grid_run.specs.Families.{bsize_on, family_rules};
-ghost use Rattle.grid_run.specs.Numbering.{IsNumbered, what_of};
-ghost use Rattle.grid_run.specs.Sending.{SecondHasRoom, SecondServed};
+ghost use Rattle.cache_core.specs.History.{History};
+ghost use Rattle.stage_core.specs.SecondLevel.{read_as};
+ghost use Rattle.grid_run.specs.Families.{FamilyStandsBy, bsize_on, family_rules};
+ghost use Rattle.grid_run.specs.Numbering.{IsNumbered, is_for, sent_to, what_of};
+ghost use Rattle.grid_run.specs.Sending.{SecondCanServe, SecondHasRoom, SecondServed};
 
 use crate::family::Family;
-use crate::lone::{Lone, serve_alone};
 use crate::numbered::Numbered;
-use crate::shelf::Shelf;
+use crate::twins::{Twins, serve_twins};
 use cache_core::{Counts, NoMemory, PerClass};
-use std::alloc::Global;
 
-/// Second-level caches of one block size and one policy. A single LRU cache of few ways that
-/// allocates at writes is served in a faster way than several caches, or any other one.
+/// Second-level caches of one block size and one policy, of the users of a queue. Single LRU caches
+/// of few ways that allocate at writes are served in a faster way than several caches, or any other
+/// one.
 #[derive(Drop)]
 pub(crate) enum SecondCaches {
-    /// One LRU cache of few ways that allocates at writes.
-    Lone(Lone),
-    /// Others, served together.
+    /// One LRU cache of few ways that allocates at writes for each user.
+    Twins(Twins),
+    /// Others, of one user, served together.
     Family(Family),
+}
+
+/// Serves a request, if the user of these caches gets it.
+#[inline(always)]
+fn serve_own(family: &mut Family, asked: Numbered) -> Result<(), NoMemory>
+    requires room { SecondCanServe (SecondCaches.Family family.old) asked }
+    ensures stands { OnOk result ((blocks : List ℕ) (h : History) →
+        IsNumbered blocks (bsize_on family.old) asked → FamilyStandsBy blocks family.old h →
+        FamilyStandsBy blocks family.new
+        (if is_for 0 asked then read_as (what_of asked) ∷ h else h)) }
+    ensures bsize { bsize_on family.new ≡ bsize_on family.old }
+    ensures rules { family_rules family.new ≡ family_rules family.old }
+{
+    if !asked.is_for(0) {
+        return Ok(());
+    }
+    family.serve(asked)
 }
 
 /// Serves requests in their order.
 fn serve_together(family: &mut Family, requests: &[Numbered]) -> Result<(), NoMemory>
     requires room { (blocks : List ℕ)
         × SecondHasRoom blocks (SecondCaches.Family family.old) requests.now }
-    ensures served { OnOk result ((blocks : List ℕ) (ws : List What) →
+    ensures served { OnOk result ((blocks : List ℕ) (ws : ℕ → List What) →
         All (IsNumbered blocks (bsize_on family.old)) requests.now →
-        SecondServed blocks ws (SecondCaches.Family family.old) →
-        SecondServed blocks (ws ++ map what_of requests.now) (SecondCaches.Family family.new)) }
+        SecondServed blocks ws (SecondCaches.Family family.old) → SecondServed blocks
+        (λ q. ws q ++ sent_to q requests.now) (SecondCaches.Family family.new)) }
     ensures bsize { bsize_on family.new ≡ bsize_on family.old }
     ensures rules { family_rules family.new ≡ family_rules family.old }
 {
     for asked in requests {
-        family.serve(*asked)?;
+        serve_own(family, *asked)?;
     }
     Ok(())
 }
 
 impl SecondCaches {
-    ghost use Rattle.std.specs.Prelude.{◌≡◌, ◌<◌, ◌++◌, [], List, ℕ, IfOk, OnOk, length, map};
+    ghost use Rattle.std.specs.Prelude.{◌≡◌, ◌<◌, ◌++◌, List, ℕ, OnOk, length};
     ghost use Rattle.std.specs.List.{All};
     ghost use Rattle.cache_core.specs.Counts.{counts_of};
-    ghost use Rattle.cache_core.specs.Geometry.{bsize_of};
     ghost use Rattle.cache_core.specs.History.{History};
     ghost use Rattle.grid_core.specs.FullyAssociative.{shadow_misses};
     ghost use Rattle.grid_core.specs.Written.{rules_at_index};
     ghost use Rattle.stage_core.specs.declared.message.What.{What};
-    ghost use Rattle.grid_run.specs.Numbering.{IsNumbered, what_of};
-    ghost use Rattle.grid_run.specs.Seats.{rules_on};
+    ghost use Rattle.grid_run.specs.Numbering.{IsNumbered, sent_to};
     ghost use Rattle.grid_run.specs.SecondCaches.{SecondStandsBy, second_bsize, second_rules};
+    ghost use Rattle.grid_run.specs.SecondCaches.{second_users};
     ghost use Rattle.grid_run.specs.Sending.{SecondHasRoom, SecondServed};
-
-    /// The empty caches of a shelf.
-    pub fn new(alloc: Global, shelf: &Shelf) -> Result<SecondCaches, NoMemory>
-        ensures stands { IfOk result (λ caches. (blocks : List ℕ) →
-            SecondStandsBy blocks caches []) }
-        ensures bsize { IfOk result (λ caches. second_bsize caches ≡ bsize_of shelf.now.first) }
-        ensures rules { IfOk result (λ caches. second_rules caches ≡ rules_on shelf.now) }
-    {
-        if let Some(geometry) = shelf.lone() {
-            let lone = Lone::new(alloc, geometry, shelf.policy().wback)?;
-            return Ok(SecondCaches::Lone(lone));
-        }
-        let family = Family::new(alloc, shelf)?;
-        Ok(SecondCaches::Family(family))
-    }
 
     /// Serves requests in their order.
     pub fn serve_each(&mut self, requests: &[Numbered]) -> Result<(), NoMemory>
         requires room { (blocks : List ℕ) × SecondHasRoom blocks self.old requests.now }
-        ensures served { OnOk result ((blocks : List ℕ) (ws : List What) →
+        ensures served { OnOk result ((blocks : List ℕ) (ws : ℕ → List What) →
             All (IsNumbered blocks (second_bsize self.old)) requests.now →
             SecondServed blocks ws self.old →
-            SecondServed blocks (ws ++ map what_of requests.now) self.new) }
+            SecondServed blocks (λ q. ws q ++ sent_to q requests.now) self.new) }
+        ensures users { second_users self.new ≡ second_users self.old }
         ensures bsize { second_bsize self.new ≡ second_bsize self.old }
         ensures rules { second_rules self.new ≡ second_rules self.old }
     {
         match self {
-            SecondCaches::Lone(lone) => serve_alone(lone, requests),
+            SecondCaches::Twins(twins) => serve_twins(twins, requests),
             SecondCaches::Family(family) => serve_together(family, requests),
         }
     }
 
-    /// The counts of one cache.
-    pub fn counts(&self, cell: usize) -> Counts
-        requires { cell < length (second_rules self.now) }
-        ensures { (blocks : List ℕ) (h : History) → SecondStandsBy blocks self.now h →
+    /// The counts of one cache of a user.
+    pub fn counts(&self, user: usize, cell: usize) -> Counts
+        requires user { user < second_users self.now }
+        requires cell { cell < length (second_rules self.now) }
+        ensures { (blocks : List ℕ) (h : History) → SecondStandsBy blocks self.now user h →
             result ≡ counts_of (rules_at_index (second_rules self.now) cell) h }
     {
         match self {
-            SecondCaches::Lone(lone) => lone.counts(),
+            SecondCaches::Twins(twins) => twins.counts(user),
             SecondCaches::Family(family) => family.counts(cell),
         }
     }
 
-    /// How often the shadow of one cache missed.
-    pub fn shadow_misses(&self, cell: usize) -> PerClass
-        requires { cell < length (second_rules self.now) }
-        ensures { (blocks : List ℕ) (h : History) → SecondStandsBy blocks self.now h →
+    /// How often the shadow of one cache of a user missed.
+    pub fn shadow_misses(&self, user: usize, cell: usize) -> PerClass
+        requires user { user < second_users self.now }
+        requires cell { cell < length (second_rules self.now) }
+        ensures { (blocks : List ℕ) (h : History) → SecondStandsBy blocks self.now user h →
             result ≡ shadow_misses (rules_at_index (second_rules self.now) cell) h }
     {
         match self {
-            SecondCaches::Lone(lone) => lone.shadow_misses(),
+            SecondCaches::Twins(twins) => twins.shadow_misses(user),
             SecondCaches::Family(family) => family.shadow_misses(cell),
         }
     }

@@ -75,6 +75,24 @@ impl Shelf {
         add_to(&mut self.geometries, geometry)
     }
 
+    /// Whether another shelf has the same geometry, and no other one, and the same policy. May be
+    /// `false` though they have the same geometries.
+    pub fn is_like(&self, other: &Shelf) -> bool
+        ensures rules { result ≡ true → rules_on other.now ≡ rules_on self.now }
+    {
+        if self.geometries.len() != 1 || other.geometries.len() != 1 {
+            return false;
+        }
+        let (own, its) = (self.geometries[0], other.geometries[0]);
+        if self.policy != other.policy {
+            return false;
+        }
+        if own.bsize() != its.bsize() || own.blocks() != its.blocks() {
+            return false;
+        }
+        own.sets() == its.sets()
+    }
+
     /// The geometry, if there is just one, of few ways, and the policy is LRU with write
     /// allocation.
     pub fn lone(&self) -> Option<Geometry>

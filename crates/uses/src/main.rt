@@ -40,8 +40,8 @@ fn print_caches(rt: &HostRuntime) -> anyhow::Result<()> {
         bail!("no grid");
     };
     println!(rt; "grid_core: {misses:?}")?;
-    let Ok(Some(misses)) = stamped::misses_with_shadow(alloc) else {
-        bail!("no second level");
+    let Ok(Some(misses)) = stamped::misses_with_shadows(alloc) else {
+        bail!("no second levels");
     };
     println!(rt; "stamped_cache: {misses:?}")?;
     Ok(())

@@ -1,25 +1,41 @@
 //! A use of stamped_cache.
 
-use cache_core::{Access, Class, Geometry, MAX_EVENTS, NoMemory};
+use cache_core::{Access, Class, Geometry, NoMemory};
 use grid_core::BlockNumbers;
-use stamped_cache::StampedCache;
+use shared_list::Users;
+use stamped_cache::StampedCaches;
 use std::alloc::Global;
 
-/// The misses of a two-way cache of four blocks, and those of its shadow.
-pub fn misses_with_shadow(alloc: Global) -> Result<Option<[u128; 2]>, NoMemory> {
+/// The misses of two two-way caches of four blocks, and those of their shadows. Both get the same
+/// reads but one, which only the second cache gets.
+pub fn misses_with_shadows(alloc: Global) -> Result<Option<[[u128; 2]; 2]>, NoMemory> {
     let Ok(geometry) = Geometry::new(64, 16, 2) else {
         return Ok(None);
     };
     let mut numbers = BlockNumbers::new(alloc);
-    let mut cache = StampedCache::new(alloc, geometry, true)?;
-    for addr in [0x0, 0x20, 0x40, 0x0, 0x10u64] {
-        if cache.served() >= MAX_EVENTS {
+    let mut caches = StampedCaches::new(alloc, geometry, true, 2)?;
+    let second = Users::one(1);
+    let both = second.with(0);
+    for (addr, users) in [
+        (0x0, both),
+        (0x20, both),
+        (0x40, both),
+        (0x0, second),
+        (0x10, both),
+    ] {
+        if !caches.have_room() {
             return Ok(None);
         }
         let number = numbers.number(geometry.block(addr))?;
         let class = Class::Read;
-        cache.access(Access { class, addr }, number)?;
+        caches.access(Access { class, addr }, number, users)?;
     }
-    let misses = cache.counts().misses.total();
-    Ok(Some([misses, cache.shadow_misses().total()]))
+    let mut misses = [[0; 2]; 2];
+    for (user, misses) in misses.iter_mut().enumerate() {
+        if user < caches.users() {
+            let counted = caches.counts(user).misses.total();
+            *misses = [counted, caches.shadow_misses(user).total()];
+        }
+    }
+    Ok(Some(misses))
 }

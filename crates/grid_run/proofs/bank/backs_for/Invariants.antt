@@ -1,11 +1,18 @@
-use Rattle.std.proofs.Common.{ℕ, List}
+use Rattle.std.proofs.Common.{◌≡◌, ◌++◌, ℕ, List, length, map}
+use Rattle.std.specs.List.{All}
 use Rattle.grid_run.specs.Backs.{NothingWaits, WereAsked, back_task, no_requests, task_of_shelf}
-use Rattle.grid_run.proofs.Each.{AreMade}
+use Rattle.grid_run.specs.Banks.{each_of}
 use Rattle.grid_run.proofs.bank.backs_for.Given as goal
 
--- there are the second levels of each shelf that was passed
-abbrev pub invariant-loop-shelf : goal.invariant-loop-shelf
-invariant-loop-shelf l =
-    AreMade back_task task_of_shelf
-    (λ b. ((blocks : List ℕ) → WereAsked blocks no_requests b) × NothingWaits b) l.shelves
-    l.shelf-index l.made.items
+-- there are second levels for the shelves that were passed
+abbrev pub invariant-backs : goal.invariant-backs
+invariant-backs l = record {
+  tasks : each_of (map back_task l.backs.items) ++ map task_of_shelf l.rest
+      ≡ map task_of_shelf l.shelves;
+  asked : (blocks : List ℕ) → All (WereAsked blocks no_requests) l.backs.items;
+  settled : All NothingWaits l.backs.items;
+}
+
+-- each turn leaves fewer shelves
+abbrev pub decreases-backs : goal.decreases-backs
+decreases-backs l = length l.rest

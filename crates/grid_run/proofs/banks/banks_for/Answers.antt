@@ -1,27 +1,22 @@
 use Rattle.std.proofs.Common.{◌≡◌, ◌≢◌, ◌++◌, [], ◌∷◌, List, length, map, take, ap, sym, ◌∙◌}
-use Rattle.std.proofs.Common.{append-nil, append_assoc, arith}
+use Rattle.std.proofs.Common.{append-nil, arith}
 use Rattle.std.proofs.lemmas.Bool.{eqb-false, eqb-true}
-use Rattle.std.proofs.lemmas.List.{flat_map_more, map-append, nil_from_length, take-append-drop}
-use Rattle.grid_run.specs.Backs.{BackTask, no_requests, task_of_shelf}
-use Rattle.grid_run.specs.Banks.{WasAsked, bank_task, tasks_of_banks}
+use Rattle.std.proofs.lemmas.List.{flat_map_more, nil_from_length, take-append-drop}
+use Rattle.grid_run.specs.Backs.{no_requests, task_of_shelf}
+use Rattle.grid_run.specs.Banks.{WasAsked, bank_task, each_of, tasks_of_banks}
 use Rattle.grid_run.specs.declared.bank.Bank.{Bank}
 use Rattle.grid_run.specs.declared.plan.BackShelf.{BackShelf}
+use Rattle.grid_run.proofs.BankLemmas.{each-append, more-done}
 use Rattle.grid_run.proofs.Growing.{all-push}
 use Rattle.grid_run.proofs.banks.banks_for.Goals as goal
 
--- one more bank does what the next shelves ask
-one-more : (old new : List Bank) (bank : Bank) (shelves part behind : List BackShelf)
-    → new ≡ old ++ bank ∷ [] → bank_task bank ≡ map task_of_shelf part → part ++ behind ≡ shelves
-    → tasks_of_banks new ++ map task_of_shelf behind
-    ≡ tasks_of_banks old ++ map task_of_shelf shelves
-one-more old new bank shelves part behind is task cut =
-    ap (λ (l : List Bank). tasks_of_banks l ++ map task_of_shelf behind) is
-    ∙ ap (λ (ts : List BackTask). ts ++ map task_of_shelf behind)
-    (sym (flat_map_more bank_task [] old bank))
-    ∙ append_assoc (tasks_of_banks old) (bank_task bank) (map task_of_shelf behind)
-    ∙ ap (λ (ts : List BackTask). tasks_of_banks old ++ (ts ++ map task_of_shelf behind)) task
-    ∙ ap (λ (ts : List BackTask). tasks_of_banks old ++ ts)
-    (sym (map-append task_of_shelf part behind) ∙ ap (map task_of_shelf) cut)
+-- what the users of one more bank do comes last
+one-more : (old new : List Bank) (bank : Bank) → new ≡ old ++ bank ∷ []
+    → each_of (tasks_of_banks new) ≡ each_of (tasks_of_banks old) ++ each_of (bank_task bank)
+one-more old new bank is =
+    ap (λ (l : List Bank). each_of (tasks_of_banks l)) is
+    ∙ ap each_of (sym (flat_map_more bank_task [] old bank))
+    ∙ each-append (tasks_of_banks old) (bank_task bank)
 
 pub banks-smaller : goal.banks-smaller
 banks-smaller c =
@@ -45,8 +40,10 @@ banks-preserved c =
     let cut = c.split_at.ensures in
     let joined = c.in_ok-add_to.ensures.joined in
     record {
-      tasks = one-more c.banks.banks.items c.add_to.new.list.items bank rest
-          part behind joined c.in_ok-new.ensures.task
+      tasks = ap (λ ts. ts ++ map task_of_shelf behind)
+          (one-more c.banks.banks.items c.add_to.new.list.items bank joined)
+          ∙ more-done (each_of (tasks_of_banks c.banks.banks.items)) (each_of (bank_task bank)) rest
+          part behind c.in_ok-new.ensures.tasks
           (ap (λ l. l ++ behind) cut.front ∙ ap (λ l. take n rest ++ l) cut.back
           ∙ take-append-drop n rest)
           ∙ c.banks.invariant.tasks;
@@ -58,12 +55,12 @@ banks-preserved c =
 pub returns : goal.returns
 returns c =
     let rest = c.banks.rest.now in
+    let done = each_of (tasks_of_banks c.banks.banks.items) in
     let none : rest ≡ [] =
     nil_from_length rest (eqb-true (length rest) 0 (sym c.banks-test.ensures)) in
     record {
-      tasks = sym (append-nil (tasks_of_banks c.banks.banks.items))
-          ∙ ap (λ (l : List BackShelf). tasks_of_banks c.banks.banks.items ++ map task_of_shelf l)
-          (sym none)
+      tasks = sym (append-nil done)
+          ∙ ap (λ (l : List BackShelf). done ++ map task_of_shelf l) (sym none)
           ∙ c.banks.invariant.tasks;
       asked = c.banks.invariant.asked;
     }

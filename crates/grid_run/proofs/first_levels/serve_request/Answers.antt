@@ -2,7 +2,8 @@ use Rattle.std.proofs.Common.{◌≡◌, ◌∷◌, List, map, ap, sym, refl, su
 use Rattle.std.specs.List.{All}
 use Rattle.std.proofs.lemmas.Result.{on_ok_weaker}
 use Rattle.grid_core.specs.Numbered.{blocks_in}
-use Rattle.grid_run.specs.Backs.{AreWaiting, QueuesStayNumbered, followed_by, sent_for}
+use Rattle.grid_run.specs.Backs.{AreSeatedOn, AreWaiting, QueuesStayNumbered, followed_by}
+use Rattle.grid_run.specs.Backs.{queue_seats, sent_for}
 use Rattle.grid_run.specs.Fronts.{HasSent, IsSilent, KnowsLast, front_rules}
 use Rattle.grid_run.specs.Seats.{SeatRules}
 use Rattle.grid_run.specs.Sending.{event_of}
@@ -25,6 +26,12 @@ returns-then-are_silent-clause-asked c = λ given h before all was.
 pub returns-then-are_silent-clause-numbers : goal.returns-then-are_silent-clause-numbers
 returns-then-are_silent-clause-numbers c =
     queues-more _ _ _ c.in_ok-serve_fronts.ensures.grows
+
+pub ask_queues-requires-clause-placed : goal.ask_queues-requires-clause-placed
+ask_queues-requires-clause-placed c =
+    let same = ap (map front_rules) c.deref-2.ensures.value ∙ c.serve_fronts.ensures.rules in
+    subst (λ (fs : SeatRules). All (AreSeatedOn c.args.side fs)
+    (map queue_seats c.args.queues.now.items)) (sym same) c.requires.placed
 
 pub ask_queues-requires-clause-sent : goal.ask_queues-requires-clause-sent
 ask_queues-requires-clause-sent c =

@@ -5,7 +5,9 @@ use Rattle.cache_core.specs.History.{History}
 use Rattle.grid_core.specs.Numbered.{blocks_in}
 use Rattle.stage_core.specs.Events.{history}
 use Rattle.stage_core.specs.declared.message.What.{What}
-use Rattle.grid_run.specs.Backs.{queue_seats, followed_by, seat_on, sent_for, sent_on_side}
+use Rattle.grid_run.specs.Backs.{AreSeatedOn, AreWaiting, followed_by, queue_seats, sent_for}
+use Rattle.grid_run.specs.Backs.{sent_on_side}
+use Rattle.grid_run.specs.Senders.{seat_on, seats_at}
 use Rattle.grid_run.specs.Fronts.{FrontAt, front_rules}
 use Rattle.grid_run.specs.Seats.{SeatRules, rules_of_seat}
 use Rattle.grid_run.specs.Sending.{event_of}
@@ -31,8 +33,8 @@ returns-then-serve_again-clause-asked c = λ given es before all was.
     let again = c.if-serve_again.ensures in
     waiting-same given (followed_by before (sent_for s fronts (history s es) (event_of q)))
     (followed_by before (sent_on_side s fronts es c.args.event)) bs
-    (λ k b lt.
-    let t = queue_seats (get_or bs k b) in
+    (λ k b j lt inside.
+    let t = seats_at (get_or bs k b).users.items j in
     ap (λ (ws : List What). before t ++ ws)
     (sent-one s es c.args.event (rules_of_seat fronts (seat_on s t)) q c.in-Some.ensures))
     (nothing-asked c.serve_again.new.fronts.items fronts c.serve_again.ensures.rules s bs
@@ -48,6 +50,11 @@ serve_again-requires c =
     record {
       room = (_, history c.args.side room.0, room.1, few-served c.args.side room.0 room.2);
     }
+
+pub serve_request-requires-clause-placed : goal.serve_request-requires-clause-placed
+serve_request-requires-clause-placed c =
+    subst (λ (fs : SeatRules). All (AreSeatedOn c.args.side fs)
+    (map queue_seats c.args.queues.now.items)) (sym c.serve_again.ensures.rules) c.requires.placed
 
 pub serve_request-requires-clause-room : goal.serve_request-requires-clause-room
 serve_request-requires-clause-room c =
@@ -68,3 +75,24 @@ returns-clause-stands c =
     (history-one c.args.side es c.args.event c.in-Some.request c.in-Some.ensures)
     (served past (subst (λ (fs : List Front). All (FrontAt (blocks_in c.args.numbers.now) past) fs)
     (sym (c.if-serve_again.ensures.leaves refl)) all))) c.serve_request.ensures.stands
+
+pub returns-clause-asked : goal.returns-clause-asked
+returns-clause-asked c =
+    let s = c.args.side in
+    let q = c.in-Some.request in
+    let bs = c.serve_request.new.queues.items in
+    let fronts : SeatRules = map front_rules c.args.fronts.now.items in
+    let leaves = c.if-serve_again.ensures.leaves refl in
+    on_ok_weaker c.serve_request.result (λ asked given es before all was.
+    let past = history s es in
+    let there = subst (λ (fs : List Front). All (FrontAt (blocks_in c.args.numbers.now) past) fs)
+    (sym leaves) all in
+    waiting-same given (followed_by before (sent_for s fronts past (event_of q)))
+    (followed_by before (sent_on_side s fronts es c.args.event)) bs
+    (λ k b j lt inside.
+    let t = seats_at (get_or bs k b).users.items j in
+    ap (λ (ws : List What). before t ++ ws)
+    (sent-one s es c.args.event (rules_of_seat fronts (seat_on s t)) q c.in-Some.ensures))
+    (subst (λ (fs : SeatRules). All (AreWaiting given (followed_by before (sent_for s fs past
+    (event_of q)))) bs) c.serve_again.ensures.rules (asked given past before there was)))
+    c.serve_request.ensures.asked

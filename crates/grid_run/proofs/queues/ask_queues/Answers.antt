@@ -3,7 +3,7 @@ use Rattle.grid_core.specs.Numbered.{blocks_in}
 use Rattle.grid_core.proofs.ListLoops.{all_changed, changed_more, changed_so, told_failed}
 use Rattle.grid_core.proofs.ListLoops.{told_still}
 use Rattle.grid_core.proofs.MoreNumbers.{on-further}
-use Rattle.grid_run.specs.Backs.{IsSeatedOn}
+use Rattle.grid_run.specs.Backs.{AreSeatedOn}
 use Rattle.grid_run.specs.Fronts.{front_rules}
 use Rattle.grid_run.proofs.LoopTurns.{asks-more, asks-next}
 use Rattle.grid_run.proofs.MoreNumbers.{right-more}
@@ -23,7 +23,7 @@ loop-queue-init c = record {
 pub ask-requires : goal.ask-requires
 ask-requires c = record {
   placed = told_still c.loop-queue.invariant.changed c.deref_mut-queue-items.ensures.value
-      (IsSeatedOn c.args.side (map front_rules c.args.fronts.now)) (omega arith)
+      (AreSeatedOn c.args.side (map front_rules c.args.fronts.now)) (omega arith)
       c.requires.placed c.queue-item.result;
   sent = c.requires.sent;
   known = λ k d lt. record {

@@ -1,7 +1,7 @@
 use Rattle.std.proofs.Common.{◌≡◌, ℕ, ◌<◌, List, length, map, ap, sym, subst, ◌∙◌, arith, get_or}
 use Rattle.std.proofs.lemmas.List.{get_or-map, length-map}
 use Rattle.grid_core.proofs.ListLoops.{all_changed, changed_more, next}
-use Rattle.grid_run.specs.Backs.{AreWaiting, HasNumbers, back_seats, queue_seats, seats_of_task}
+use Rattle.grid_run.specs.Backs.{AreWaiting, HasNumbers, back_seats, queue_seats, seats_of_shared}
 use Rattle.grid_run.specs.Banks.{bank_task}
 use Rattle.grid_run.specs.declared.back.Back.{Back}
 use Rattle.grid_run.specs.declared.bank.Bank.{Bank}
@@ -10,7 +10,7 @@ use Rattle.grid_run.proofs.BankLemmas.{seats-of-bank}
 use Rattle.grid_run.proofs.bank.Bank.take_over.Goals as goal
 
 module _ (qs : List Queue) (bank : Bank) (k : ℕ) (lt : k < length bank.backs.items)
-    (same : map queue_seats qs ≡ map seats_of_task (bank_task bank)) where
+    (same : map queue_seats qs ≡ map seats_of_shared (bank_task bank)) where
   -- there is a queue where there are second levels
   queue-inside : k < length qs
   queue-inside =

@@ -1,10 +1,7 @@
 use Rattle.std.proofs.Common.{map, ap, sym, subst, ◌∙◌}
-use Rattle.grid_run.specs.Backs.{seats_of_task}
-use Rattle.grid_run.specs.Backs.{task_of_shelf}
 use Rattle.grid_run.specs.FirstLevels.{AreSeated, first_of_plan, first_task}
-use Rattle.grid_run.specs.Numbering.{what_of}
+use Rattle.grid_run.specs.Numbering.{sent_to}
 use Rattle.grid_run.specs.Seats.{rules_on}
-use Rattle.grid_run.specs.declared.plan.BackShelf.{BackShelf}
 use Rattle.grid_run.proofs.Placed.{same-first}
 use Rattle.grid_run.proofs.first_levels.FirstLevels.new.Goals as goal
 
@@ -13,10 +10,7 @@ unfolding first_task first_of_plan
 returns c =
     let i = c.in_ok-fronts_for.ensures.rules ∙ ap (map rules_on) c.deref.ensures.value in
     let d = c.in_ok-fronts_for-2.ensures.rules ∙ ap (map rules_on) c.deref-2.ensures.value in
-    let seats = c.in_ok-queues_for.ensures.seats
-    ∙ ap (map (λ (shelf : BackShelf). seats_of_task (task_of_shelf shelf)))
-    c.deref-3.ensures.value in
-    let same = same-first c.new.ensures.selection i d seats in
+    let same = same-first c.new.ensures.selection i d c.in_ok-queues_for.ensures.seats in
     record {
       given = record {
         seated = subst AreSeated (sym same) c.requires.seated;
@@ -25,7 +19,7 @@ returns c =
           i = c.in_ok-fronts_for.ensures.stands _;
           d = c.in_ok-fronts_for-2.ensures.stands _;
           queues = λ k q lt. record {
-            all = sym (ap (map what_of) (c.in_ok-queues_for.ensures.none k q lt).none);
+            all = λ j inside. sym (ap (sent_to j) (c.in_ok-queues_for.ensures.none k q lt).none);
           };
         };
       };

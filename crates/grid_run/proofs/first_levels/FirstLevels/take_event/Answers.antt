@@ -9,12 +9,12 @@ use Rattle.grid_core.specs.Numbered.{blocks_in}
 use Rattle.stage_core.specs.Events.{asked, asked_by, history}
 use Rattle.stage_core.specs.SecondLevel.{parts_of}
 use Rattle.stage_core.specs.declared.message.Side.TheVariants as side
-use Rattle.grid_run.specs.Backs.{IsSeatedOn, QueuesStayNumbered, followed_by, queue_seats, seat_on}
+use Rattle.grid_run.specs.Backs.{AreSeatedOn, QueuesStayNumbered, SharedSeats, followed_by}
+use Rattle.grid_run.specs.Senders.{seat_on, seats_at}
 use Rattle.grid_run.specs.Backs.{sent_behind, sent_on_side}
 use Rattle.grid_run.specs.FirstLevels.{first_task}
 use Rattle.grid_run.specs.Fronts.{FrontAt, front_rules}
 use Rattle.grid_run.specs.Seats.{rules_of_seat}
-use Rattle.grid_run.specs.declared.seat.BothSeats.{BothSeats}
 use Rattle.grid_run.proofs.Behind.{waiting-same}
 use Rattle.grid_run.proofs.Events.{history-none}
 use Rattle.grid_run.proofs.MoreNumbers.{fronts-more}
@@ -42,7 +42,7 @@ serve_side-requires-2 c =
     let room = c.requires.room in
     let ds = map front_rules c.args.self.now.d.items in
     record {
-      placed = subst (λ (ps : List BothSeats). All (IsSeatedOn side.D ds) ps)
+      placed = subst (λ (ps : List SharedSeats). All (AreSeatedOn side.D ds) ps)
           (sym c.serve_side.ensures.seats) (seated-on-d _ c.requires.seated);
       room = (
         room.1,
@@ -73,7 +73,7 @@ returns-then-matches-clause-served c = λ given es past.
           (fronts-more _ _ done.numbers.grows _ _ past.d);
       queues = served-same given (es ++ e ∷ []) qs c.serve_side.ensures.rules refl
           (waiting-same given after-i (sent_behind is ds (es ++ e ∷ [])) qs
-          (λ k q lt. let p = queue_seats (get_or qs k q) in
+          (λ k q j lt inside. let p = seats_at (get_or qs k q).users.items j in
           sym (append-nil (after-i p))
           ∙ ap (λ (l : List Event). after-i p ++ flat_map (parts_of (rules_of_seat ds
           (seat_on side.D p)) side.D (history side.D es)) l) (sym none)
@@ -101,7 +101,7 @@ returns-clause-served c =
       queues = served-same given (es ++ e ∷ []) qs c.serve_side.ensures.rules
           c.serve_side-2.ensures.rules
           (waiting-same given after-d (sent_behind is ds (es ++ e ∷ [])) qs
-          (λ k q lt. both-sides is ds es e (queue_seats (get_or qs k q)))
+          (λ k q j lt inside. both-sides is ds es e (seats_at (get_or qs k q).users.items j))
           (asked given es after-i d (first.asked given es before past.i past.queues)));
     }) c.serve_side-2.ensures.stands c.serve_side-2.ensures.asked
     c.serve_side-2.ensures.numbers

@@ -6,7 +6,8 @@ use Rattle.grid_core.specs.Numbered.{blocks_in}
 use Rattle.grid_core.proofs.ListLoops.{told-at}
 use Rattle.stage_core.specs.Events.{events}
 use Rattle.stage_core.proofs.Selections.{events-themselves}
-use Rattle.grid_run.specs.Backs.{AreSeatsIn, parts_at, queue_seats, sent_behind}
+use Rattle.grid_run.specs.Backs.{AreSeatedIn, parts_at, queue_seats, sent_behind}
+use Rattle.grid_run.specs.Senders.{no_seats, seats_at}
 use Rattle.grid_run.specs.FirstLevels.{AreSeated, HasServed, first_task}
 use Rattle.grid_run.specs.Fronts.{FrontAt, front_rules}
 use Rattle.grid_run.specs.Picking.{picked_by}
@@ -26,7 +27,7 @@ serve_fetches-requires c =
     }
 
 pub returns-clause-given : goal.returns-clause-given
-unfolding first_task
+unfolding first_task queue_seats
 returns-clause-given c = λ given past was.
     let f = c.args.self.now in
     let more = take c.serve_fetches.result c.args.part.now in
@@ -50,9 +51,10 @@ returns-clause-given c = λ given past was.
                 (data-stay past more done.no_data) served.d;
             queues = served-same given (past ++ more) qs done.rules refl
                 (waiting-same given (sent_behind is ds past) (sent_behind is ds (past ++ more)) qs
-                (λ k q inside.
-                let on = told-at queue_seats (AreSeatsIn is ds) qs was.seated k q inside in
-                requests-stay (parts_at is ds (queue_seats (get_or qs k q))) past more
+                (λ k q j lt inside.
+                let here = told-at queue_seats (AreSeatedIn is ds) qs was.seated k q lt in
+                let on = here.each j no_seats inside in
+                requests-stay (parts_at is ds (seats_at (get_or qs k q).users.items j)) past more
                 (done.silent _ past served.i _ on.on_i) done.no_data)
                 served.queues);
           });

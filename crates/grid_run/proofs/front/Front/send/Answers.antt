@@ -1,14 +1,14 @@
-use Rattle.std.proofs.Common.{◌++◌, ap, map, option_to_list, subst, sym, ◌∙◌}
-use Rattle.std.proofs.Common.{append-nil, arith}
+use Rattle.std.proofs.Common.{◌++◌, length, ap, subst, sym, ◌∙◌, append-nil}
+use Rattle.std.proofs.lemmas.List.{length-map}
 use Rattle.std.proofs.lemmas.Result.{on_ok_weaker}
-use Rattle.grid_core.specs.Written.{rules_at_index}
-use Rattle.grid_run.specs.Fronts.{WasLast}
+use Rattle.grid_core.specs.Cells.{items_of}
+use Rattle.grid_core.specs.Written.{rules_at_index, written_by}
+use Rattle.grid_run.specs.Fronts.{WasLast, front_rules}
 use Rattle.grid_run.specs.Families.{family_rules}
-use Rattle.grid_run.specs.Numbering.{what_of}
+use Rattle.grid_run.specs.Numbering.{sent_to}
 use Rattle.grid_run.specs.declared.front.Last.{Last}
-use Rattle.grid_run.proofs.Events.{access-parts, flush-parts}
+use Rattle.grid_run.proofs.SenderCells.{cell-of}
 use Rattle.grid_run.proofs.Sent.{sent-access, sent-by-silent, sent-flush}
-use Rattle.grid_run.proofs.Families.{list-at, list-inside}
 use Rattle.grid_run.proofs.StayNumbered.{stay-same}
 use Rattle.grid_run.proofs.front.Front.send.Goals as goal
 
@@ -16,55 +16,42 @@ pub returns-in-Silence-clause-numbers : goal.returns-in-Silence-clause-numbers
 returns-in-Silence-clause-numbers c = stay-same _ _ _
 
 pub returns-in-Silence-clause-sent : goal.returns-in-Silence-clause-sent
-returns-in-Silence-clause-sent c = λ h q sent.
-    let ws = map what_of c.args.waiting.now.items in
-    sym (ap (λ l. ws ++ l) (sent-by-silent c.args.self.now h c.args.cell c.args.side q
-    c.requires.inside c.in-Silence.is sent) ∙ append-nil ws)
+returns-in-Silence-clause-sent c = λ h q sent k cell is.
+    let f = c.args.self.now in
+    let ws = sent_to k c.args.waiting.now.items in
+    let inside = cell-of (length (front_rules f)) k c.args.senders.now cell c.requires.inside is in
+    sym (ap (λ l. ws ++ l) (sent-by-silent f h cell c.args.side q inside c.in-Silence.is sent)
+    ∙ append-nil ws)
 
 pub returns-in-Access-clause-sent : goal.returns-in-Access-clause-sent
 returns-in-Access-clause-sent c =
     let family = c.args.self.now.family in
-    let r = rules_at_index (family_rules family) c.args.cell in
-    let x = c.in-Access.access in
-    let ws = map what_of c.args.waiting.now.items in
-    on_ok_weaker c.ask_parts.result (λ longer h q last.
     let lists = c.args.self.now.lists.items in
+    let x = c.in-Access.access in
+    on_ok_weaker c.send_access.result (λ longer h q last k cell is.
     let was = subst (λ (w : Last). WasLast family h w lists q) c.in-Access.is last.last in
+    let r = rules_at_index (family_rules family) cell in
     let sent = sent-access family h lists r c.args.side x q was in
-    let parts = access-parts r c.args.side h x c.outcome-outcome.result
-    c.first_byte-block.result _ _ _ (c.outcome-outcome.ensures h x sent.1)
-    (c.first_byte-block.ensures c.args.cell c.requires.inside)
-    c.back_part-back.ensures c.fetch_part-fetch.ensures c.through_part-through.ensures in
-    longer ∙ ap (λ l. ws ++ l) (parts ∙ sym sent.0)) c.ask_parts.ensures.asked
+    longer h sent.1 k cell is
+    ∙ ap (λ l. sent_to k c.args.waiting.now.items ++ l) (sym sent.0)) c.send_access.ensures.sent
 
-pub index-list-requires : goal.index-list-requires
-index-list-requires c =
+pub send_flush-requires-clause-lists : goal.send_flush-requires-clause-lists
+send_flush-requires-clause-lists c =
     let family = c.args.self.now.family in
-    let r = rules_at_index (family_rules family) c.args.cell in
     let h = c.requires.last.0 in
     let q = c.requires.last.1 in
-    let v = c.args.self.now.lists in
-    let was = subst (λ (w : Last). WasLast family h w v.items q) c.in-Flush.is
-    c.requires.last.2.last in
-    let sent = sent-flush family h v.items r c.args.side q was in
-    omega (
-      arith,
-      list-inside h (family_rules family) v.items sent.1 c.args.cell c.requires.inside,
-      v.ok.0,
-    )
+    let v = c.args.self.now.lists.items in
+    let was = subst (λ (w : Last). WasLast family h w v q) c.in-Flush.is c.requires.last.2.last in
+    let sent = sent-flush family h v (rules_at_index (family_rules family) 0) c.args.side q was in
+    sym (length-map v items_of) ∙ ap length sent.1 ∙ length-map (family_rules family) (written_by h)
 
 pub returns-in-Flush-clause-sent : goal.returns-in-Flush-clause-sent
 returns-in-Flush-clause-sent c =
     let family = c.args.self.now.family in
-    let r = rules_at_index (family_rules family) c.args.cell in
-    let v = c.args.self.now.lists in
-    let ws = map what_of c.args.waiting.now.items in
-    on_ok_weaker c.ask_write_backs.result (λ longer h q last.
-    let was = subst (λ (w : Last). WasLast family h w v.items q) c.in-Flush.is last.last in
-    let sent = sent-flush family h v.items r c.args.side q was in
-    let backs = c.deref.ensures.value
-    ∙ list-at h (family_rules family) v.items sent.1 c.args.cell c.index-list.result.now
-    c.requires.inside c.index-list.ensures in
-    let parts = flush-parts r c.args.side h c.deref.result.now
-    (option_to_list c.flush_part.result) backs c.flush_part.ensures in
-    longer ∙ ap (λ l. ws ++ l) (parts ∙ sym sent.0)) c.ask_write_backs.ensures.asked
+    let lists = c.args.self.now.lists.items in
+    on_ok_weaker c.send_flush.result (λ longer h q last k cell is.
+    let was = subst (λ (w : Last). WasLast family h w lists q) c.in-Flush.is last.last in
+    let r = rules_at_index (family_rules family) cell in
+    let sent = sent-flush family h lists r c.args.side q was in
+    longer h sent.1 k cell is
+    ∙ ap (λ l. sent_to k c.args.waiting.now.items ++ l) (sym sent.0)) c.send_flush.ensures.sent

@@ -1,8 +1,8 @@
 use Rattle.std.proofs.Common.{map, ap, refl, sym, subst, ◌∙◌}
 use Rattle.std.specs.List.{All}
 use Rattle.std.specs.Vec.{with_items}
-use Rattle.grid_run.specs.Backs.{AreWaiting, HasNone, HasNumbers, queue_seats, seats_of_task}
-use Rattle.grid_run.specs.Banks.{NothingWaitsIn, WasAsked, bank_task, tasks_of_banks}
+use Rattle.grid_run.specs.Backs.{AreWaiting, HasNone, HasNumbers, queue_seats, seats_of_shared}
+use Rattle.grid_run.specs.Banks.{NothingWaitsIn, WasAsked, bank_task, each_of, tasks_of_banks}
 use Rattle.grid_run.specs.FirstLevels.{first_task, numbered_by, sent_by}
 use Rattle.grid_run.specs.Lanes.{lane_task}
 use Rattle.grid_run.proofs.BankLemmas.{tasks-told}
@@ -15,7 +15,7 @@ use Rattle.grid_run.proofs.lane.Lane.pass_on.Goals as goal
 pub take_over_all-requires-clause-seats : goal.take_over_all-requires-clause-seats
 take_over_all-requires-clause-seats c =
     ap (map queue_seats) c.deref_mut.ensures.value ∙ c.requires.taken.1.lane.matched
-    ∙ sym (ap (λ bs. map seats_of_task (tasks_of_banks bs)) c.deref_mut-2.ensures.value)
+    ∙ sym (ap (λ bs. map seats_of_shared (tasks_of_banks bs)) c.deref_mut-2.ensures.value)
 
 pub take_over_all-requires-clause-settled : goal.take_over_all-requires-clause-settled
 take_over_all-requires-clause-settled c =
@@ -47,7 +47,7 @@ returns-clause-given c = λ past records was.
           (subst (All (AreWaiting served all)) (sym are-queues) was.given.served.queues)
           (subst (All (HasNumbers blocks)) (sym are-queues) was.numbered))
           was.asked;
-      matched = told ∙ was.matched ∙ sym (ap (map seats_of_task)
+      matched = told ∙ was.matched ∙ sym (ap (map seats_of_shared)
           (tasks-told _ _ (told-items bank_task l.banks bs new-bs are-banks over.tasks)));
     }
 
@@ -56,5 +56,5 @@ unfolding lane_task
 returns-clause-task c =
     let l = c.args.self.now in
     same-lane refl refl refl
-    (tasks-told _ _ (told-items bank_task l.banks c.deref_mut-2.result.now
-    c.take_over_all.new.banks c.deref_mut-2.ensures.value c.take_over_all.ensures.tasks))
+    (ap each_of (tasks-told _ _ (told-items bank_task l.banks c.deref_mut-2.result.now
+    c.take_over_all.new.banks c.deref_mut-2.ensures.value c.take_over_all.ensures.tasks)))

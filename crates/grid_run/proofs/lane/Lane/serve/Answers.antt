@@ -1,6 +1,7 @@
 use Rattle.std.proofs.Common.{map, ap, refl, sym, ◌∙◌}
 use Rattle.std.proofs.lemmas.Result.{on_ok_weaker}
-use Rattle.grid_run.specs.Backs.{seats_of_task}
+use Rattle.grid_run.specs.Backs.{seats_of_shared}
+use Rattle.grid_run.specs.Banks.{each_of}
 use Rattle.grid_run.specs.Lanes.{lane_task}
 use Rattle.grid_run.proofs.BankLemmas.{lent-served, lent-told}
 use Rattle.grid_run.proofs.Given.{few-asked}
@@ -25,7 +26,7 @@ returns-clause-given g c =
       numbered = was.numbered;
       asked = (lent-served banks lent bs are done.tasks served).asked _ _ was.asked;
       matched = was.matched
-          ∙ sym (ap (map seats_of_task) (lent-told banks lent bs are done.tasks));
+          ∙ sym (ap (map seats_of_shared) (lent-told banks lent bs are done.tasks));
     }) done.served
 
 pub returns-clause-idle : goal.returns-clause-idle
@@ -39,5 +40,5 @@ returns-clause-idle g c =
 pub returns-clause-task : goal.returns-clause-task
 unfolding lane_task
 returns-clause-task g c =
-    same-lane refl refl refl (lent-told c.args.self.now.banks c.deref_mut.result.now
-    c.settle_on.new.banks c.deref_mut.ensures.value c.settle_on.ensures.tasks)
+    same-lane refl refl refl (ap each_of (lent-told c.args.self.now.banks c.deref_mut.result.now
+    c.settle_on.new.banks c.deref_mut.ensures.value c.settle_on.ensures.tasks))

@@ -1,8 +1,8 @@
 use Rattle.std.proofs.Common.{◌++◌, drop, length, map, take, ap, sym, subst, ◌∙◌, arith}
 use Rattle.std.specs.List.{All}
 use Rattle.std.proofs.lemmas.Result.{on_ok_weaker}
-use Rattle.grid_run.specs.Backs.{seats_of_task}
-use Rattle.grid_run.specs.Banks.{WasAsked}
+use Rattle.grid_run.specs.Backs.{seats_of_shared}
+use Rattle.grid_run.specs.Banks.{WasAsked, each_of}
 use Rattle.grid_run.specs.FirstLevels.{FirstTask, WasGiven, first_task, numbered_by, sent_by}
 use Rattle.grid_run.specs.Lanes.{lane_task}
 use Rattle.grid_run.proofs.BankLemmas.{lent-served, lent-told}
@@ -40,7 +40,7 @@ returns-clause-given g c =
           (banks-more (numbered_by l.first) (numbered_by f) took.numbers.grows _ _
           ((lent-served l.banks lent bs are done.tasks served).asked _ _ was.asked));
       matched = ap (λ (t : FirstTask). t.seats) done.task ∙ was.matched
-          ∙ sym (ap (map seats_of_task) (lent-told l.banks lent bs are done.tasks));
+          ∙ sym (ap (map seats_of_shared) (lent-told l.banks lent bs are done.tasks));
     }) done.served done.taken
 
 pub returns-clause-idle : goal.returns-clause-idle
@@ -57,5 +57,5 @@ returns-clause-task g c =
     let done = c.take_on.ensures in
     same-lane (ap (λ (t : FirstTask). t.selection) done.task)
     (ap (λ (t : FirstTask). t.i) done.task) (ap (λ (t : FirstTask). t.d) done.task)
-    (lent-told c.args.self.now.banks c.deref_mut.result.now c.take_on.new.banks
-    c.deref_mut.ensures.value done.tasks)
+    (ap each_of (lent-told c.args.self.now.banks c.deref_mut.result.now c.take_on.new.banks
+    c.deref_mut.ensures.value done.tasks))
