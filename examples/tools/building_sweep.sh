@@ -49,5 +49,6 @@ sweep_there --l3-usize 4 "${grid[@]}"
 verdict 'nor does it refuse a word by what that one says' $?
 echo >>"$fresh/crates/grid_run/src/lib.rt"
 sweep_there "${grid[@]}"
-is_swept 12 && grep -q '^sweep: proved and built dinero_grid' "$err"
+# Two lines before the first proof, one for each of ten libraries, and one behind them.
+is_swept 13 && grep -q '^sweep: proved and built dinero_grid' "$err"
 verdict 'a sweep of sources that were changed builds the simulator' $?
