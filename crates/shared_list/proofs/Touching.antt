@@ -1,14 +1,17 @@
 -- A list when a user uses the block of the use that was begun.
-use Rattle.std.proofs.Common.{◌≤◌, ◌≡◌, ◌≢◌, ℕ, ◌-◌, ◌^◌, ◌<◌, ◌&&◌, true, false, cond, eqb, ltb}
-use Rattle.std.proofs.Common.{not, List, ◌∷◌, length, set, get_or, Option, Some, None, refl, sym}
+use Rattle.std.proofs.Common.{◌≤◌, ◌≡◌, ◌≢◌, ℕ, Bool, ◌-◌, ◌^◌, ◌<◌, ◌&&◌, true, false, cond, eqb, ltb}
+use Rattle.std.proofs.Common.{not, ◌||◌, List, ◌∷◌, length, set, get_or, Option, Some, None, refl, sym}
 use Rattle.std.proofs.Common.{ap, subst, ◌∙◌}
 use Rattle.std.proofs.Common.{arith, get_or-set_same, get_or-set_other}
 use Rattle.std.proofs.lemmas.Bool.{eqb-true, eqb-false, eq-eqb, le-ltb, ltb-true, ltb-false}
+use Rattle.std.proofs.lemmas.Bool.{ne_eqb, true≢false}
+use Rattle.std.proofs.lemmas.Option.{none-some}
 use Rattle.std.proofs.lemmas.List.{get_or-reverse, length-set}
 use Rattle.cache_core.proofs.Cases.{by_cases}
 use Rattle.marked_list.specs.Marks.{IsMark, IsUseAfter, counted_with, covers}
 use Rattle.marked_list.specs.Recency.{brought_front, is_among}
-use Rattle.marked_list.specs.Uses.{dead, last_in, living, stamp_at, used_next}
+use Rattle.marked_list.specs.Uses.{dead, has_stamp, last_in, living, never, stamp_at, stamped_place}
+use Rattle.marked_list.specs.Uses.{used_next}
 use Rattle.marked_list.proofs.Counted.{count-next, living-le}
 use Rattle.marked_list.proofs.LastUse.{last-there}
 use Rattle.marked_list.proofs.Latest.{front-stays}
@@ -19,7 +22,7 @@ use Rattle.shared_list.specs.declared.log.Use.{Use}
 use Rattle.shared_list.specs.declared.stamps.Stamps.{Stamps}
 use Rattle.shared_list.specs.declared.window.Window.{Window}
 use Rattle.shared_list.specs.Log.{no_use, seen_by}
-use Rattle.shared_list.specs.Shared.{IsBegun}
+use Rattle.shared_list.specs.Shared.{IsBegun, window_of}
 use Rattle.shared_list.specs.Stamps.{stamps_of, users_in}
 use Rattle.shared_list.specs.Windows.{IsKept, mark_of, no_window}
 use Rattle.shared_list.proofs.Kept.{after-rest, kept-next, kept-same, last-rest, living-rest}
@@ -60,12 +63,67 @@ module _ (self : SharedList) (u b : ℕ) (lu : u < length self.windows.items)
   order-stays = front-stays b (begun-low self b begun) seen-there (self.kept u lu).once
       (omega (arith, begun.some, long-there)) first-is
 
-  pub window-keeps : true ≡ is_among b (living seen-there) self.size
-  window-keeps = let k = self.kept u lu in
-      let w = get_or self.windows.items u no_window in
-      sym (ap (covers w.place) at
-      ∙ ap not (le-ltb (length self.log.items - 1) w.place (omega (arith, k.inside, long-there))))
-      ∙ mark-covers seen-there b (begun-low self b begun) (mark_of self.size w) k.mark
+  -- and it was used before
+  pub used-stays : (n : ℕ) → has_stamp (stamps_of self.stamps u) n
+      ≡ (eqb b n || has_stamp (stamps_of self.stamps u) n)
+  used-stays n = by_cases (eqb b n)
+      (λ e. subst (λ k. has_stamp (stamps_of self.stamps u) k ≡ true) (eqb-true b n e) stamp-there
+      ∙ sym (ap (λ t. t || has_stamp (stamps_of self.stamps u) n) e))
+      (λ e. sym (ap (λ t. t || has_stamp (stamps_of self.stamps u) n) e))
+    where
+      stamp-there : has_stamp (stamps_of self.stamps u) b ≡ true
+      stamp-there = by_cases (eqb (stamp_at (stamps_of self.stamps u) b) never)
+          (λ e. let none : stamped_place (stamp_at (stamps_of self.stamps u) b) ≡ None =
+          ap stamped_place (eqb-true (stamp_at (stamps_of self.stamps u) b) never e) in
+          absurd (none-some (length self.log.items - 1) (sym none
+          ∙ (self.kept u lu).stamped b (begun-low self b begun) ∙ at)))
+          (λ e. ap not e)
+
+differ : (u q : ℕ) → q ≢ u → eqb u q ≡ false
+differ u q apart = by_cases (eqb u q) (λ e. absurd (apart (sym (eqb-true u q e)))) (λ e. e)
+
+-- which user used which block, once the user has its stamp
+module _ (self : SharedList) (u b : ℕ) (stamps : Stamps)
+    (stamped : (q n : ℕ) → q < users_in self.stamps → stamp_at (stamps_of stamps q) n
+    ≡ cond (eqb b n && eqb u q) (length self.log.items - 1)
+    (stamp_at (stamps_of self.stamps q) n)) where
+  abbrev pick : ℕ → ℕ → Bool → ℕ
+  pick q n t = cond t (length self.log.items - 1) (stamp_at (stamps_of self.stamps q) n)
+
+  pub used-then : (n : ℕ) → u < length self.windows.items → has_stamp (stamps_of stamps u) n
+      ≡ (eqb b n || has_stamp (stamps_of self.stamps u) n)
+  used-then n lu = ap (λ k. not (eqb k never)) (stamped u n (omega (arith, lu, self.users))
+      ∙ ap (λ t. pick u n (eqb b n && t)) (eq-eqb u u refl)) ∙ by_cases (eqb b n)
+      (λ e. ap (λ t. not (eqb (pick u n (t && true)) never)) e
+      ∙ ap not (ne_eqb (length self.log.items - 1) never (λ same. let short = self.short in
+      absurd (omega (arith, same, short))))
+      ∙ sym (ap (λ t. t || has_stamp (stamps_of self.stamps u) n) e))
+      (λ e. ap (λ t. not (eqb (pick u n (t && true)) never)) e
+      ∙ sym (ap (λ t. t || has_stamp (stamps_of self.stamps u) n) e))
+
+  pub unused-then : (q n : ℕ) → q < length self.windows.items → q ≢ u
+      → has_stamp (stamps_of stamps q) n ≡ has_stamp (stamps_of self.stamps q) n
+  unused-then q n lq apart = ap (λ k. not (eqb k never))
+      (stamped q n (omega (arith, lq, self.users)) ∙ by_cases (eqb b n)
+      (λ e. ap (λ t. pick q n (t && eqb u q)) e ∙ ap (pick q n) (differ u q apart))
+      (λ e. ap (λ t. pick q n (t && eqb u q)) e))
+
+-- whether the window has the last use of the block
+module _ (self : SharedList) (u b : ℕ) (lu : u < length self.windows.items)
+    (begun : IsBegun self b) (last : Option ℕ)
+    (last-is : last ≡ last_in (seen_by u self.log.items) b) where
+  pub window-has : covers (window_of self u).place last
+      ≡ is_among b (living (seen_by u self.log.items)) self.size
+  window-has = ap (covers (window_of self u).place) last-is
+      ∙ mark-covers (seen_by u self.log.items) b (begun-low self b begun)
+      (mark_of self.size (window_of self u)) (self.kept u lu).mark
+
+  -- where it does not, that is not the latest use of all
+  pub far-before : covers (window_of self u).place last ≡ false
+      → last ≢ Some (length self.log.items - 1)
+  far-before far e = absurd (true≢false (sym (ap (covers (window_of self u).place) e
+      ∙ ap not (le-ltb (length self.log.items - 1) (window_of self u).place
+      (omega (arith, (self.kept u lu).inside, length-seen-by u self.log.items)))) ∙ far))
 
 module _ (self : SharedList) (u b : ℕ) (lu : u < length self.windows.items)
     (begun : IsBegun self b) (last : Option ℕ)
@@ -118,11 +176,7 @@ module _ (self : SharedList) (u b : ℕ) (lu : u < length self.windows.items)
   pub few-used : w.used < 2 ^ 32
   few-used = omega (arith, was.used, living-le (seen_by u log), length-seen-by u log, self.short)
 
-  -- whether the window has the block, and the order then
-  pub window-has : covers w.place last ≡ is_among b (living (seen_by u log)) self.size
-  window-has = ap (covers w.place) last-is
-      ∙ mark-covers (seen_by u log) b low (mark_of self.size w) was.mark
-
+  -- the order then
   pub order-next : (log₂ : List Use) → seen_by u log₂ ≡ used_next b rest
       → living (seen_by u log₂) ≡ brought_front b (living (seen_by u log))
   order-next log₂ seen = ap living seen ∙ living-next b rest low
@@ -169,12 +223,9 @@ module _ (self : SharedList) (u b : ℕ) (lu : u < length self.windows.items)
         (λ n. stamped q n (omega (arith, lq, self.users)) ∙ by_cases (eqb b n)
         (λ e. ap (λ t. cond (t && eqb u q) (length log - 1)
         (stamp_at (stamps_of self.stamps q) n)) e
-        ∙ ap (λ t. cond t (length log - 1) (stamp_at (stamps_of self.stamps q) n)) (differ q apart))
+        ∙ ap (λ t. cond t (length log - 1) (stamp_at (stamps_of self.stamps q) n)) (differ u q apart))
         (λ e. ap (λ t. cond (t && eqb u q) (length log - 1) (stamp_at (stamps_of self.stamps q) n))
         e))))
-      where
-        differ : (q : ℕ) → q ≢ u → eqb u q ≡ false
-        differ q apart = by_cases (eqb u q) (λ e. absurd (apart (sym (eqb-true u q e)))) (λ e. e)
 
     -- each user sees as many uses as before, or one more
     pub more-seen : (q : ℕ) → q < length self.windows.items

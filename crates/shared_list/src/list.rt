@@ -1,7 +1,6 @@
 //! A list of blocks in order of last use for each user of a log.
 
-ghost use Rattle.std.specs.Prelude.{◌≡◌, ◌≢◌, ◌<◌, ◌≤◌, ◌+◌, ◌*◌, ◌^◌, ℕ, [], length, Some};
-ghost use Rattle.std.specs.Prelude.{true, false};
+ghost use Rattle.std.specs.Prelude.{◌≡◌, ◌<◌, ◌≤◌, ◌+◌, ◌*◌, ◌^◌, ℕ, [], length};
 ghost use Rattle.std.specs.List.{All};
 ghost use Rattle.marked_list.specs.Uses.{dead, living};
 ghost use Rattle.shared_list.specs.Log.{seen_by, seen_uses};
@@ -12,7 +11,7 @@ use crate::latest::use_latest;
 use crate::log::Use;
 use crate::shorten::{keep_used, kept_before, move_windows, restamp, unstamp};
 use crate::stamps::{FORGOTTEN, NEVER, Stamps};
-use crate::window::{Window, has_use, restart_each, window_after};
+use crate::window::{Window, near_use, restart_each, window_after};
 use std::alloc::{AllocError, Global};
 
 /// A log with fewer uses is not shortened.
@@ -41,28 +40,17 @@ pub struct SharedList {
     ghost limited: { limit ≤ 4096 + 2 * seen_uses log.items (length windows.items) },
 }
 
-/// Whether a use is at a place.
-#[inline(always)]
-fn is_at(last: Option<usize>, place: usize) -> bool
-    ensures at { result ≡ true → last ≡ Some place }
-    ensures before { result ≡ false → last ≢ Some place }
-{
-    match last {
-        None => false,
-        Some(last) => last == place,
-    }
-}
-
 #[tactic(auto, unfolding(crate::specs::Shared::order_by, crate::specs::Shared::was_used_by, crate::specs::Shared::users_of, crate::specs::Shared::size_of_list, crate::specs::Shared::kept_in))]
 impl SharedList {
     ghost use Rattle.std.specs.Prelude.{◌≡◌, ◌≢◌, ◌<◌, ◌≤◌, ◌==◌, ◌||◌, ℕ, [], OnOk, IfOk};
-    ghost use Rattle.std.specs.Prelude.{IsErr, length, get_or, true, false};
+    ghost use Rattle.std.specs.Prelude.{IsErr, Some, length, get_or, true, false};
     ghost use Rattle.std.specs.List.{All, list_any};
+    ghost use Rattle.marked_list.specs.Marks.{covers};
     ghost use Rattle.marked_list.specs.Recency.{brought_front, index_in, is_among};
     ghost use Rattle.marked_list.specs.Uses.{dead, last_in};
     ghost use Rattle.shared_list.specs.Log.{seen_by};
-    ghost use Rattle.shared_list.specs.Shared.{IsBegun, IsShort, order_by, size_of_list};
-    ghost use Rattle.shared_list.specs.Shared.{users_of, was_used_by};
+    ghost use Rattle.shared_list.specs.Shared.{IsBegun, IsShort, IsTouched, order_by};
+    ghost use Rattle.shared_list.specs.Shared.{size_of_list, users_of, was_used_by, window_of};
 
     /// An empty list for each of so many users, of which there are at most [`MAX_USERS`]. A use
     /// tells whether the block was among the last ones, as many as the size says.
@@ -202,14 +190,44 @@ impl SharedList {
     #[inline(always)]
     fn last_use(&self, user: usize, number: usize) -> Option<usize>
         requires user { user < users_of self.now }
-        requires low { number ≢ dead }
+        requires begun { IsBegun self.now number }
         ensures { result ≡ last_in (seen_by user self.now.log.items) number }
     {
-        let stamp = self.stamps.at(number, user);
+        let stamp = self.stamps.of(number, user);
         if stamp < FORGOTTEN {
             return Some(stamp as usize);
         }
         None
+    }
+
+    /// The user uses the block of the use that was begun. It used it last at this place, which is in
+    /// its window.
+    #[inline(always)]
+    fn touch_near(&mut self, user: usize, number: usize, place: usize)
+        requires user { user < users_of self.old }
+        requires begun { IsBegun self.old number }
+        requires last { last_in (seen_by user self.old.log.items) number ≡ Some place }
+        requires near { covers (window_of self.old user).place (Some place) ≡ true }
+        ensures { IsTouched user number self.old self.new }
+    {
+        if place != self.log.len() - 1 {
+            use_latest(&mut self.log, &mut self.stamps, user, number, Some(place));
+        }
+    }
+
+    /// The user uses the block of the use that was begun. If it used it before, it did so last at
+    /// this place, which is not in its window.
+    #[inline(always)]
+    fn touch_far(&mut self, user: usize, number: usize, last: Option<usize>)
+        requires user { user < users_of self.old }
+        requires begun { IsBegun self.old number }
+        requires last { last ≡ last_in (seen_by user self.old.log.items) number }
+        requires far { covers (window_of self.old user).place last ≡ false }
+        ensures { IsTouched user number self.old self.new }
+    {
+        use_latest(&mut self.log, &mut self.stamps, user, number, last);
+        let window = self.windows[user];
+        self.windows[user] = window_after(window, self.size, &self.log, user, last);
     }
 
     /// The user uses the block of the use that was begun. Answers whether the block was among those
@@ -231,14 +249,16 @@ impl SharedList {
         ensures size { size_of_list self.new ≡ size_of_list self.old }
         ensures few { IsShort self.new }
     {
-        let latest = self.log.len() - 1;
         let last = self.last_use(user, number);
-        if is_at(last, latest) {
-            return true;
+        match near_use(self.windows[user], last) {
+            Some(place) => {
+                self.touch_near(user, number, place);
+                true
+            }
+            None => {
+                self.touch_far(user, number, last);
+                false
+            }
         }
-        use_latest(&mut self.log, &mut self.stamps, user, number, last);
-        let window = self.windows[user];
-        self.windows[user] = window_after(window, self.size, &self.log, user, last);
-        has_use(window, last)
     }
 }

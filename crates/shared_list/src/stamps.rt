@@ -41,14 +41,23 @@ impl Stamps {
         }
     }
 
-    /// The stamp that a user has of a block.
+    /// The stamp that a user has of a block for which there is room.
     #[inline(always)]
+    pub fn of(&self, number: usize, user: usize) -> u32
+        requires user { user < users_in self.now }
+        requires room { number < blocks_in self.now }
+        ensures { result ≡ stamp_at (stamps_of self.now user) number }
+    {
+        self.stamps[number * self.users + user]
+    }
+
+    /// The stamp that a user has of a block.
     pub fn at(&self, number: usize, user: usize) -> u32
         requires { user < users_in self.now }
         ensures { result ≡ stamp_at (stamps_of self.now user) number }
     {
         if number < self.blocks {
-            return self.stamps[number * self.users + user];
+            return self.of(number, user);
         }
         NEVER
     }

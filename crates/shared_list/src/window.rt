@@ -1,6 +1,7 @@
 //! The blocks that a user of a log used last.
 
-ghost use Rattle.std.specs.Prelude.{◌≡◌, ◌<◌, ℕ, List, length, get_or};
+ghost use Rattle.std.specs.Prelude.{◌≡◌, ◌<◌, ℕ, List, Option, None, Some, true, false};
+ghost use Rattle.std.specs.Prelude.{length, get_or};
 ghost use Rattle.std.specs.List.{All};
 ghost use Rattle.marked_list.specs.Marks.{IsMark, IsUseAfter, counted_with, covers};
 ghost use Rattle.marked_list.specs.Uses.{dead, used_next};
@@ -17,37 +18,39 @@ pub(crate) struct Window {
     pub used: usize,
 }
 
-/// Whether the last use of a block is in a window.
+/// The place of the last use of a block, if a window has it.
 #[inline(always)]
-pub(crate) fn has_use(window: Window, last: Option<usize>) -> bool
-    ensures { result ≡ covers window.place last }
+pub(crate) fn near_use(window: Window, last: Option<usize>) -> Option<usize>
+    ensures near { (p : ℕ) → result ≡ Some p →
+        (last ≡ Some p) × (covers window.place last ≡ true) }
+    ensures far { result ≡ None → covers window.place last ≡ false }
 {
-    match last {
-        None => false,
-        Some(last) => last >= window.place,
+    let place = last?;
+    if place < window.place {
+        return None;
     }
+    Some(place)
 }
 
-/// Where the window of a user begins after a use, by the last use of the block before it.
+/// Where the window of a user begins after a use of a block that it does not have.
 #[inline(always)]
-fn place_after(window: Window, size: usize, log: &[Use], user: usize, last: Option<usize>) -> usize
+fn place_after(window: Window, size: usize, log: &[Use], user: usize) -> usize
     requires inside { window.place < length log.now }
     requires user { user < 32 }
     requires low { All (λ u. u.number < dead) log.now }
-    ensures { (ms : List ℕ) (b : ℕ) → seen_by user log.now ≡ used_next b ms →
-        IsUseAfter ms b last window.used → IsMark ms (mark_of size window) →
+    ensures { (ms : List ℕ) (b : ℕ) (last : Option ℕ) → seen_by user log.now ≡ used_next b ms →
+        IsUseAfter ms b last window.used → covers window.place last ≡ false →
+        IsMark ms (mark_of size window) →
         IsMark (used_next b ms) (record { size = size; place = result }) }
 {
-    if has_use(window, last) {
-        return window.place;
-    }
     if window.used < size {
         return window.place;
     }
     behind_next(log, user, window.place)
 }
 
-/// The window of a user after a use, by the last use of the block before it.
+/// The window of a user after a use of a block that it does not have, by the last use of the block
+/// before it.
 #[inline(always)]
 pub(crate) fn window_after(
     window: Window,
@@ -60,12 +63,13 @@ pub(crate) fn window_after(
     requires user { user < 32 }
     requires low { All (λ u. u.number < dead) log.now }
     requires used { window.used < usize.MAX }
+    requires far { covers window.place last ≡ false }
     ensures mark { (ms : List ℕ) (b : ℕ) → seen_by user log.now ≡ used_next b ms →
         IsUseAfter ms b last window.used → IsMark ms (mark_of size window) →
         IsMark (used_next b ms) (mark_of size result) }
     ensures used { result.used ≡ counted_with last window.used }
 {
-    let place = place_after(window, size, log, user, last);
+    let place = place_after(window, size, log, user);
     let used = match last {
         None => window.used + 1,
         Some(_) => window.used,

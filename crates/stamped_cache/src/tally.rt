@@ -27,7 +27,9 @@ fn add_hit(counts: &mut Counts, access: Access, through: bool)
     ensures { counts.new ≡ with_access access (hit_made through) counts.old }
 {
     counts.fetches.count(access, true);
-    counts.sent_on += through as u64;
+    if through {
+        counts.sent_on += 1;
+    }
 }
 
 /// Adds an access that loads its block. A dirty block may leave, and it may be a write that is sent
@@ -83,7 +85,9 @@ impl Tally {
         if !near {
             self.far.count(access, true);
         }
-        self.first_writes += (write && !written) as u64;
+        if write && !written {
+            self.first_writes += 1;
+        }
         self.served += 1;
     }
 

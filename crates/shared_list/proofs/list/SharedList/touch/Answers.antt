@@ -1,171 +1,30 @@
-use Rattle.std.proofs.Common.{◌≡◌, ◌≢◌, ◌<◌, ◌-◌, Option, Some, length, get_or, arith}
-use Rattle.std.proofs.Common.{sym, ap, subst, ◌∙◌}
-use Rattle.std.proofs.lemmas.List.{get_or_default, length-set}
-use Rattle.std.specs.List.{All}
-use Rattle.marked_list.specs.Marks.{IsMark, IsUseAfter, counted_with, covers}
-use Rattle.marked_list.specs.Uses.{dead, living}
-use Rattle.shared_list.specs.declared.list.SharedList.{SharedList}
-use Rattle.shared_list.specs.declared.log.Use.{Use}
+use Rattle.std.proofs.Common.{sym, ap, ◌∙◌}
+use Rattle.std.proofs.lemmas.List.{get_or_default}
+use Rattle.marked_list.specs.Marks.{covers}
 use Rattle.shared_list.specs.declared.window.Window.{Window}
-use Rattle.shared_list.specs.Log.{no_use, seen_by, seen_uses}
 use Rattle.shared_list.specs.Shared.{order_by, size_of_list, users_of}
-use Rattle.shared_list.specs.Stamps.{blocks_in}
-use Rattle.shared_list.specs.Windows.{mark_of, no_window}
-use Rattle.shared_list.proofs.Seen.{length-same, number-at, numbers-low}
-use Rattle.shared_list.proofs.Touching.{after, before-latest, few-used, kept-all, mark}
-use Rattle.shared_list.proofs.SeenUses.{seen-more}
-use Rattle.shared_list.proofs.Touching.{more-seen}
-use Rattle.shared_list.proofs.Touching.{order-next, order-stays, rest, unseen-latest}
-use Rattle.shared_list.proofs.Touching.{window-has, window-keeps}
+use Rattle.shared_list.specs.Windows.{no_window}
+use Rattle.shared_list.proofs.Touching.{window-has}
 use Rattle.shared_list.proofs.list.SharedList.touch.Goals as goal
 
--- where a test said no, the use is not the latest one
-not-latest : (l : SharedList) (n : _) (last : Option _) → n ≡ length l.log.items
-    → last ≢ Some (n - 1) → last ≢ Some (length l.log.items - 1)
-not-latest l n last is ne e = ne (e ∙ ap (λ k. Some (k - 1)) (sym is))
-
-latest-at : (l : SharedList) (n : _) → n ≡ length l.log.items → {o : Option _} → o ≡ Some (n - 1)
-    → o ≡ Some (length l.log.items - 1)
-latest-at l n is e = e ∙ ap (λ k. Some (k - 1)) is
-
-pub use_latest-requires-clause-before : goal.use_latest-requires-clause-before
-unfolding users_of
-use_latest-requires-clause-before c = let self = c.args.self.now in
-    before-latest self c.args.user c.args.number
-    c.requires.user c.requires.begun c.last_use-last.result c.last_use-last.ensures
-    (not-latest self c.len-latest.result c.last_use-last.result
-    (omega (arith, c.len-latest.ensures, self.log.ok.0))
-    (c.is_at.ensures.before c.if-is_at.false))
-
-pub window_after-requires-clause-low : goal.window_after-requires-clause-low
-window_after-requires-clause-low c = subst (All (λ (u : Use). u.number < dead))
-    (sym c.deref.ensures.value)
-    (numbers-low dead c.args.self.now.log.items c.use_latest.new.log.items
-    c.use_latest.ensures.numbers
-    c.args.self.now.low)
-
-pub window_after-requires-clause-used : goal.window_after-requires-clause-used
-unfolding users_of
-window_after-requires-clause-used c = let self = c.args.self.now in
-    let few = few-used self c.args.user c.args.number
-    c.requires.user c.requires.begun c.last_use-last.result c.last_use-last.ensures
-    (not-latest self c.len-latest.result c.last_use-last.result
-    (omega (arith, c.len-latest.ensures, self.log.ok.0))
-    (c.is_at.ensures.before c.if-is_at.false)) in
-    let is = ap (λ (w : Window). w.used) (c.index-window.ensures
-    ∙ get_or_default self.windows.items c.args.user c.index-window.result.now no_window
-    c.requires.user) in
-    omega (arith, few, is)
-
-pub returns-then-is_at-clause-near : goal.returns-then-is_at-clause-near
+pub returns-in-Some-clause-near : goal.returns-in-Some-clause-near
 unfolding order_by size_of_list users_of
-returns-then-is_at-clause-near c = let self = c.args.self.now in
-    window-keeps self c.args.user c.args.number c.requires.user c.requires.begun
-    (latest-at self c.len-latest.result (omega (arith, c.len-latest.ensures, self.log.ok.0))
-    (sym c.last_use-last.ensures ∙ c.is_at.ensures.at c.if-is_at.true))
-
-pub returns-then-is_at-clause-order : goal.returns-then-is_at-clause-order
-unfolding order_by users_of
-returns-then-is_at-clause-order c = let self = c.args.self.now in
-    order-stays self c.args.user c.args.number c.requires.user c.requires.begun
-    (latest-at self c.len-latest.result (omega (arith, c.len-latest.ensures, self.log.ok.0))
-    (sym c.last_use-last.ensures ∙ c.is_at.ensures.at c.if-is_at.true))
-
-pub invariant_of-self : goal.invariant_of-self
-unfolding users_of
-invariant_of-self c = let self = c.args.self.now in
+returns-in-Some-clause-near c =
+    let self = c.args.self.now in
     let u = c.args.user in
-    let b = c.args.number in
     let last = c.last_use-last.result in
-    let is = c.last_use-last.ensures in
-    let lu = c.requires.user in
-    let begun = c.requires.begun in
-    let ne = not-latest self c.len-latest.result last
-    (omega (arith, c.len-latest.ensures, self.log.ok.0))
-    (c.is_at.ensures.before c.if-is_at.false) in
-    let log = c.use_latest.new.log.items in
-    let v = c.window_after.result in
-    let w = get_or self.windows.items u no_window in
-    let after-use = after self u b lu begun last is ne in
-    let seen = c.use_latest.ensures.seen (rest self u b lu begun last is ne)
-    (unseen-latest self u b lu begun last is ne) after-use.once after-use.low after-use.before in
-    let window : c.index-window.result.now ≡ w = c.index-window.ensures
-    ∙ get_or_default self.windows.items u c.index-window.result.now no_window lu in
-    let same = c.deref.ensures.value in
-    let long = length-same log self.log.items c.use_latest.ensures.numbers in
-    let moved = c.window_after.ensures.mark (rest self u b lu begun last is ne) b
-    (ap (seen_by u) same ∙ seen)
-    (subst (λ (z : Window). IsUseAfter (rest self u b lu begun last is ne) b last z.used)
-    (sym window) after-use)
-    (subst (λ (z : Window). IsMark (rest self u b lu begun last is ne)
-    (mark_of self.size z)) (sym window) (mark self u b lu begun last is ne)) in
-    let used = c.window_after.ensures.used
-    ∙ ap (λ (z : Window). counted_with last z.used) window in
-    record {
-      kept = kept-all self u b lu begun last is ne log c.use_latest.new.stamps v seen
-          c.use_latest.ensures.others c.use_latest.ensures.stamps
-          moved used;
-      users = c.use_latest.ensures.users ∙ self.users ∙ sym (length-set self.windows.items u v);
-      few = (let few = self.few in omega (arith, few, length-set self.windows.items u v));
-      none = λ q past lq. ap living (c.use_latest.ensures.others q lq
-          (λ e. let few = length-set self.windows.items u v in omega (arith, past, few, lu, e)))
-          ∙ self.none q
-          (let few = length-set self.windows.items u v in omega (arith, past, few)) lq;
-      low = numbers-low dead self.log.items log c.use_latest.ensures.numbers self.low;
-      room = subst (λ n. All (λ (z : Use). z.number < n) log)
-          (sym c.use_latest.ensures.blocks) (numbers-low (blocks_in self.stamps) self.log.items log
-          c.use_latest.ensures.numbers self.room);
-      short = (let short = self.short in omega (arith, short, long));
-      fit = c.use_latest.ensures.fit self.fit;
-      long = (let below = self.long in omega (arith, below, long));
-      limited = (let limited = self.limited in
-          let more = seen-more self.log.items log (length self.windows.items)
-          (more-seen self u b lu begun last is ne log c.use_latest.new.stamps v seen
-          c.use_latest.ensures.others c.use_latest.ensures.stamps moved used) in
-          let all = ap (seen_uses log) (length-set self.windows.items u v) in
-          omega (arith, limited, more, all));
-    }
+    sym (c.near_use.ensures.near c.in-Some.place c.in-Some.is).1
+    ∙ ap (λ (w : Window). covers w.place last) (c.index.ensures
+    ∙ get_or_default self.windows.items u c.index.result.now no_window c.requires.user)
+    ∙ window-has self u c.args.number c.requires.user c.requires.begun last c.last_use-last.ensures
 
-pub returns-clause-near : goal.returns-clause-near
+pub returns-in-None-clause-near : goal.returns-in-None-clause-near
 unfolding order_by size_of_list users_of
-returns-clause-near c = let self = c.args.self.now in
+returns-in-None-clause-near c =
+    let self = c.args.self.now in
     let u = c.args.user in
     let last = c.last_use-last.result in
-    let ne = not-latest self c.len-latest.result last
-    (omega (arith, c.len-latest.ensures, self.log.ok.0))
-    (c.is_at.ensures.before c.if-is_at.false) in
-    c.has_use.ensures
-    ∙ ap (λ (z : Window). covers z.place last) (c.index-window.ensures
-    ∙ get_or_default self.windows.items u c.index-window.result.now no_window c.requires.user)
-    ∙ window-has self u c.args.number c.requires.user c.requires.begun last
-    c.last_use-last.ensures ne
-
-pub returns-clause-order : goal.returns-clause-order
-unfolding order_by users_of
-returns-clause-order c = let self = c.args.self.now in
-    let u = c.args.user in
-    let b = c.args.number in
-    let last = c.last_use-last.result in
-    let is = c.last_use-last.ensures in
-    let lu = c.requires.user in
-    let begun = c.requires.begun in
-    let ne = not-latest self c.len-latest.result last
-    (omega (arith, c.len-latest.ensures, self.log.ok.0))
-    (c.is_at.ensures.before c.if-is_at.false) in
-    let after-use = after self u b lu begun last is ne in
-    order-next self u b lu begun last is ne c.use_latest.new.log.items
-    (c.use_latest.ensures.seen (rest self u b lu begun last is ne)
-    (unseen-latest self u b lu begun last is ne) after-use.once after-use.low after-use.before)
-
-pub returns-clause-begun : goal.returns-clause-begun
-returns-clause-begun c = let self = c.args.self.now in
-    let log = c.use_latest.new.log.items in
-    let begun = c.requires.begun in
-    let long = length-same log self.log.items c.use_latest.ensures.numbers in
-    record {
-      some = omega (arith, long, begun.some);
-      room = omega (arith, begun.room, c.use_latest.ensures.blocks);
-      block = ap (λ n. (get_or log (n - 1) (no_use 0)).number) long
-          ∙ number-at log self.log.items (length self.log.items - 1)
-          c.use_latest.ensures.numbers ∙ begun.block;
-    }
+    sym (c.near_use.ensures.far c.in-None.is)
+    ∙ ap (λ (w : Window). covers w.place last) (c.index.ensures
+    ∙ get_or_default self.windows.items u c.index.result.now no_window c.requires.user)
+    ∙ window-has self u c.args.number c.requires.user c.requires.begun last c.last_use-last.ensures

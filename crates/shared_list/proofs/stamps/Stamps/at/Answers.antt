@@ -1,24 +1,13 @@
 use Rattle.std.proofs.Common.{◌+◌, ◌*◌, ◌≤◌, sym, ◌∙◌, arith}
 use Rattle.std.proofs.Math.Nat.{mul-le-mul_right}
-use Rattle.std.proofs.lemmas.List.{get_or_default, get_or_past}
+use Rattle.std.proofs.lemmas.List.{get_or_past}
 use Rattle.marked_list.specs.Uses.{never}
-use Rattle.shared_list.specs.Stamps.{stamps_of, users_in}
-use Rattle.shared_list.proofs.Columns.{column-at, place-inside}
+use Rattle.shared_list.specs.Stamps.{blocks_in, stamps_of, users_in}
+use Rattle.shared_list.proofs.Columns.{column-at}
 use Rattle.shared_list.proofs.stamps.Stamps.at.Goals as goal
 
-pub returns-then-number-self : goal.returns-then-number-self
-unfolding stamps_of users_in
-returns-then-number-self c =
-    let s = c.args.self.now in
-    let n = c.args.number in
-    let q = c.args.user in
-    c.index.ensures
-    ∙ get_or_default s.stamps.items (n * s.users + q) c.index.result.now never
-    (omega (arith, place-inside n s.blocks s.users q c.if-number-self.true c.requires, s.wide))
-    ∙ sym (column-at s.users s.blocks s.stamps.items s.wide q n c.requires)
-
 pub returns : goal.returns
-unfolding stamps_of users_in
+unfolding stamps_of users_in blocks_in
 returns c =
     let s = c.args.self.now in
     let n = c.args.number in
