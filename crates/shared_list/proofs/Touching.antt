@@ -1,8 +1,8 @@
 -- A list when a user uses the block of the use that was begun.
-use Rattle.std.proofs.Common.{◌≤◌, ◌≡◌, ◌≢◌, ℕ, Bool, ◌-◌, ◌^◌, ◌<◌, ◌&&◌, true, false, cond, eqb, ltb}
-use Rattle.std.proofs.Common.{not, ◌||◌, List, ◌∷◌, length, set, get_or, Option, Some, None, refl, sym}
-use Rattle.std.proofs.Common.{ap, subst, ◌∙◌}
+use Rattle.std.proofs.Common.{◌≤◌, ◌≡◌, ◌≢◌, ℕ, Bool, ◌-◌, ◌^◌, ◌<◌, ◌&&◌, ◌||◌, not, true, false}
+use Rattle.std.proofs.Common.{cond, eqb, ltb, List, ◌∷◌, length, set, get_or, Option, Some, None}
 use Rattle.std.proofs.Common.{arith, get_or-set_same, get_or-set_other}
+use Rattle.std.proofs.Common.{refl, sym, ap, subst, ◌∙◌}
 use Rattle.std.proofs.lemmas.Bool.{eqb-true, eqb-false, eq-eqb, le-ltb, ltb-true, ltb-false}
 use Rattle.std.proofs.lemmas.Bool.{ne_eqb, true≢false}
 use Rattle.std.proofs.lemmas.Option.{none-some}
@@ -223,7 +223,8 @@ module _ (self : SharedList) (u b : ℕ) (lu : u < length self.windows.items)
         (λ n. stamped q n (omega (arith, lq, self.users)) ∙ by_cases (eqb b n)
         (λ e. ap (λ t. cond (t && eqb u q) (length log - 1)
         (stamp_at (stamps_of self.stamps q) n)) e
-        ∙ ap (λ t. cond t (length log - 1) (stamp_at (stamps_of self.stamps q) n)) (differ u q apart))
+        ∙ ap (λ t. cond t (length log - 1) (stamp_at (stamps_of self.stamps q) n))
+        (differ u q apart))
         (λ e. ap (λ t. cond (t && eqb u q) (length log - 1) (stamp_at (stamps_of self.stamps q) n))
         e))))
 

@@ -200,8 +200,8 @@ impl SharedList {
         None
     }
 
-    /// The user uses the block of the use that was begun. It used it last at this place, which is in
-    /// its window.
+    /// The user uses the block of the use that was begun, which it used last at this place of its
+    /// window.
     #[inline(always)]
     fn touch_near(&mut self, user: usize, number: usize, place: usize)
         requires user { user < users_of self.old }
@@ -215,8 +215,8 @@ impl SharedList {
         }
     }
 
-    /// The user uses the block of the use that was begun. If it used it before, it did so last at
-    /// this place, which is not in its window.
+    /// The user uses the block of the use that was begun, which its window does not have. `last` is
+    /// the place where it used the block last, if it did.
     #[inline(always)]
     fn touch_far(&mut self, user: usize, number: usize, last: Option<usize>)
         requires user { user < users_of self.old }

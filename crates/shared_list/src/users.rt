@@ -52,7 +52,7 @@ pub struct Users {
 
 impl Users {
     ghost use Rattle.std.specs.Prelude.{◌≡◌, ◌<◌, ◌==◌, ◌&&◌, ◌||◌, not, ℕ, true, false};
-    ghost use Rattle.std.specs.Prelude.{None, Some};
+    ghost use Rattle.std.specs.Prelude.{◌≤◌, None, Some, nat_lt};
     ghost use Rattle.shared_list.specs.Users.{bits_of, is_user};
 
     /// No user.
@@ -70,6 +70,18 @@ impl Users {
         ensures { (q : ℕ) → q < 32 → is_user result q ≡ (q == user) }
     {
         Users::none().with(user)
+    }
+
+    /// So many users, from the first one on, of which there are at most [`MAX_USERS`].
+    pub fn below(count: usize) -> Users
+        requires { count ≤ 32 }
+        ensures { (q : ℕ) → q < 32 → is_user result q ≡ nat_lt q count }
+    {
+        let mut users = Users::none();
+        for user in 0..count {
+            users = users.with(user);
+        }
+        users
     }
 
     /// Whether a user is among them.
@@ -112,6 +124,16 @@ impl Users {
     {
         Users {
             bits: self.bits | others.bits,
+        }
+    }
+
+    /// Those of them that are among others.
+    #[inline(always)]
+    pub fn common(self, others: Users) -> Users
+        ensures { (q : ℕ) → is_user result q ≡ (is_user self q && is_user others q) }
+    {
+        Users {
+            bits: self.bits & others.bits,
         }
     }
 

@@ -1,8 +1,9 @@
 //! Many LRU caches that share one log.
 
-ghost use Rattle.std.specs.Prelude.{◌≡◌, ◌≤◌, ◌*◌};
+ghost use Rattle.std.specs.Prelude.{◌≡◌, ◌<◌, ◌≤◌, ◌*◌, ℕ, nat_lt};
 ghost use Rattle.cache_core.specs.Geometry.{assoc_of, blocks_of, sets_of};
 ghost use Rattle.shared_list.specs.Shared.{size_of_list, users_of};
+ghost use Rattle.shared_list.specs.Users.{is_user};
 ghost use Rattle.stamped_cache.specs.Tallies.{tallies_in};
 ghost use Rattle.stamped_cache.specs.Rows.{rows_in, set_ways};
 ghost use Rattle.stamped_cache.specs.States.{state_users};
@@ -27,6 +28,8 @@ pub struct StampedCaches {
     wback: bool,
     /// How many caches there are.
     users: usize,
+    /// The users that have a cache.
+    all: Users,
     /// For each cache, the blocks in order of last use.
     list: SharedList,
     /// What each cache knows of each block.
@@ -36,6 +39,7 @@ pub struct StampedCaches {
     tallies: Tallies,
     failed: bool,
     ghost few: { users ≤ 32 },
+    ghost named: { (q : ℕ) → q < 32 → is_user all q ≡ nat_lt q users },
     ghost listed: { users_of list ≡ users },
     ghost sized: { size_of_list list ≡ blocks_of geometry },
     ghost stated: { state_users states ≡ users },
@@ -53,7 +57,6 @@ impl StampedCaches {
     ghost use Rattle.grid_core.specs.FullyAssociative.{shadow_misses};
     ghost use Rattle.grid_core.specs.Numbers.{IsNumberOf};
     ghost use Rattle.grid_core.specs.Standing.{stack_rules};
-    ghost use Rattle.shared_list.specs.Users.{is_user};
     ghost use Rattle.stamped_cache.specs.Serving.{IsReady, IsSameCache, IsSameSet};
     ghost use Rattle.stamped_cache.specs.Stamped.{StampedStandsBy, stamped_counts};
     ghost use Rattle.stamped_cache.specs.Stamped.{stamped_has_failed, stamped_rules};
@@ -93,6 +96,7 @@ impl StampedCaches {
             geometry,
             wback,
             users,
+            all: Users::below(users),
             list,
             states: States::new(alloc, users),
             rows,

@@ -115,12 +115,10 @@ impl StampedCaches {
         ensures { ServesThose access number (is_user users) self.old self.new }
     {
         let first = self.states.first(number);
-        let mut rest = users;
+        let mut rest = users.common(self.all);
         while let Some(user) = rest.first() {
             rest = rest.without(user);
-            if user < self.users {
-                self.serve_one(access, number, user, first);
-            }
+            self.serve_one(access, number, user, first);
         }
     }
 }

@@ -1,6 +1,7 @@
-use Rattle.std.proofs.Common.{◌≡◌, ◌≢◌, ◌<◌, ◌-◌, ℕ, List, Some, length, get_or, set, unwrap_or, arith}
-use Rattle.std.proofs.Common.{refl, sym, ap, subst, ◌∙◌}
+use Rattle.std.proofs.Common.{◌≡◌, ◌≢◌, ◌<◌, ◌-◌, ℕ, List, Some, length, get_or, set, unwrap_or}
+use Rattle.std.proofs.Common.{arith, refl, sym, ap, subst, ◌∙◌}
 use Rattle.std.proofs.lemmas.List.{set-get_or}
+use Rattle.std.specs.List.{All}
 use Rattle.marked_list.specs.Marks.{IsMark, covers}
 use Rattle.marked_list.specs.Uses.{dead, living, used_next}
 use Rattle.marked_list.proofs.Living.{once-is}
@@ -67,7 +68,7 @@ invariant_of-self c = let self = c.args.self.now in
       none = λ q past lq. ap living (c.use_latest.ensures.others q lq
           (λ e. omega (arith, past, lu, e))) ∙ self.none q past lq;
       low = numbers-low dead self.log.items log c.use_latest.ensures.numbers self.low;
-      room = subst (λ n. Rattle.std.specs.List.All (λ (z : Use). z.number < n) log)
+      room = subst (λ n. All (λ (z : Use). z.number < n) log)
           (sym c.use_latest.ensures.blocks) (numbers-low (blocks_in self.stamps) self.log.items log
           c.use_latest.ensures.numbers self.room);
       short = (let short = self.short in omega (arith, short, long));

@@ -1,4 +1,4 @@
-use Rattle.std.proofs.Common.{◌≢◌, ℕ, ◌<◌, ◌+◌, ◌&&◌, not, cond, sym, ap, subst, ◌∙◌, arith}
+use Rattle.std.proofs.Common.{ℕ, ◌<◌, ◌+◌, ◌&&◌, not, cond, sym, ap, ◌∙◌, arith}
 use Rattle.shared_list.specs.Users.{is_user}
 use Rattle.stamped_cache.specs.Stamped.{stamped_served, stamped_users}
 use Rattle.stamped_cache.proofs.Named.{all}
@@ -16,7 +16,7 @@ serve_one-requires-clause-few c =
     let first = c.first.ensures.some u c.in-Some.is in
     let done = c.loop-user.invariant.done in
     let before = c.args.self.now in
-    let low = subst (λ n. u < n) done.same.users c.if-user-self.true in
+    let low = c.loop-user.invariant.low u first.0 first.1 in
     let named = is_user c.args.users in
     let left = is_user c.loop-user.rest in
     let rest = is_user c.without-rest.result in
@@ -26,25 +26,26 @@ serve_one-requires-clause-few c =
     let few = c.requires.few u low (c.loop-user.invariant.some u first.0 first.1) in
     omega arith
 
-pub loop-user-smaller-then-user-self : goal.loop-user-smaller-then-user-self
-loop-user-smaller-then-user-self c =
+pub loop-user-smaller : goal.loop-user-smaller
+loop-user-smaller c =
     let first = c.first.ensures.some c.in-Some.user c.in-Some.is in
     c.without-rest.ensures.less first.1
 
-pub loop-user-preserved-then-user-self : goal.loop-user-preserved-then-user-self
+pub loop-user-preserved : goal.loop-user-preserved
 unfolding stamped_users
-loop-user-preserved-then-user-self c =
+loop-user-preserved c =
     let u = c.in-Some.user in
     let first = c.first.ensures.some u c.in-Some.is in
     let inv = c.loop-user.invariant in
     let old = c.args.self.now in
-    let low = subst (λ n. u < n) inv.done.same.users c.if-user-self.true in
+    let low = inv.low u first.0 first.1 in
     let named = is_user c.args.users in
     let left = is_user c.loop-user.rest in
     let rest = is_user c.without-rest.result in
     let is = c.without-rest.ensures.is in
     record {
       some = λ q lt e. inv.some q lt (left-before named left rest u first.0 first.1 is q lt e);
+      low = λ q lt e. inv.low q lt (left-before named left rest u first.0 first.1 is q lt e);
       done = those-next c.args.access c.args.number old c.loop-user.self
           (λ q. named q && not (left q)) (λ q. named q && not (rest q)) inv.done u
           c.serve_one.new.self c.serve_one.ensures low
@@ -56,33 +57,6 @@ loop-user-preserved-then-user-self c =
   where
     few : (q : ℕ) → q < c.args.self.now.users → q < 32
     few q lt = let le = c.args.self.now.few in omega arith
-
-pub loop-user-preserved : goal.loop-user-preserved
-unfolding stamped_users
-loop-user-preserved c =
-    let u = c.in-Some.user in
-    let first = c.first.ensures.some u c.in-Some.is in
-    let inv = c.loop-user.invariant in
-    let old = c.args.self.now in
-    let named = is_user c.args.users in
-    let left = is_user c.loop-user.rest in
-    let rest = is_user c.without-rest.result in
-    let is = c.without-rest.ensures.is in
-    record {
-      some = λ q lt e. inv.some q lt (left-before named left rest u first.0 first.1 is q lt e);
-      done = those-same c.args.access c.args.number old c.loop-user.self
-          (λ q. named q && not (left q)) (λ q. named q && not (rest q)) inv.done
-          (λ q lt. as-left named left rest u first.0 first.1 is q (few q lt) (other q lt));
-      ready = inv.ready;
-    }
-  where
-    few : (q : ℕ) → q < c.args.self.now.users → q < 32
-    few q lt = let le = c.args.self.now.few in omega arith
-
-    other : (q : ℕ) → q < c.args.self.now.users → q ≢ c.in-Some.user
-    other q lt same = let high = c.if-user-self.false in
-        let users = c.loop-user.invariant.done.same.users in
-        absurd (omega arith)
 
 pub returns : goal.returns
 returns c = those-same c.args.access c.args.number c.args.self.now c.loop-user.self
