@@ -4,7 +4,7 @@
 ghost use Rattle.std.specs.Prelude.{◌≡◌, ◌<◌};
 ghost use Rattle.shared_list.specs.Shared.{IsBegun, users_of};
 
-use shared_list::SharedList;
+use shared_list::{SharedList, Users};
 use std::alloc::Global;
 use std::process::Abort;
 
@@ -138,4 +138,14 @@ fn refuses(rt: &impl Abort, list: &mut SharedList) {
 fn a_number_of_u32_max_or_more_is_refused(rt: HostRuntime) {
     let mut list = of_three(&rt, rt.alloc(), 2);
     refuses(&rt, &mut list);
+}
+
+#[test]
+fn some_users_are_those_that_were_put_in(rt: HostRuntime) {
+    let users = Users::below(3).without(1).with(31);
+    assert!(&rt; users.has(0) && !users.has(1) && users.has(2) && !users.has(3) && users.has(31));
+    let few = users.common(Users::below(2)).union(Users::one(5));
+    assert!(&rt; few.has(0) && !few.has(2) && few.has(5) && !few.has(31));
+    assert!(&rt; few.first() == Some(0) && !few.is_empty());
+    assert!(&rt; Users::below(0).is_empty() && Users::below(32).has(31));
 }
