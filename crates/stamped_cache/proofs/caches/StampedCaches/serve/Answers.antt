@@ -1,4 +1,4 @@
-use Rattle.std.proofs.Common.{ℕ, ◌<◌, ◌+◌, ◌&&◌, not, cond, sym, ap, ◌∙◌, arith}
+use Rattle.std.proofs.Common.{ℕ, ◌<◌, ◌+◌, ◌&&◌, not, cond, sym, ap, subst, ◌∙◌, arith}
 use Rattle.shared_list.specs.Users.{is_user}
 use Rattle.stamped_cache.specs.Stamped.{stamped_served, stamped_users}
 use Rattle.stamped_cache.proofs.Named.{all}
@@ -8,6 +8,14 @@ use Rattle.stamped_cache.proofs.caches.StampedCaches.serve.Goals as goal
 
 pub without-rest-requires : goal.without-rest-requires
 without-rest-requires c = (c.first.ensures.some c.in-Some.user c.in-Some.is).0
+
+pub serve_one-requires-clause-user : goal.serve_one-requires-clause-user
+unfolding stamped_users
+serve_one-requires-clause-user c =
+    let u = c.in-Some.user in
+    let first = c.first.ensures.some u c.in-Some.is in
+    let inv = c.loop-user.invariant in
+    subst (λ n. u < n) (sym inv.done.same.users) (inv.low u first.0 first.1)
 
 pub serve_one-requires-clause-few : goal.serve_one-requires-clause-few
 unfolding stamped_users
